@@ -1,0 +1,88 @@
+-- A fact of every element of a list. Assumes nothing.
+use Prim.Native.Nat.{_≤_, suc, zero, ℕ}
+use Rattle.laws.proofs.Tests.{and-l, and-of, and-r}
+use Rattle.laws.specs.Lists.{all, greatest, head, keep, rest}
+use lib.Dec.{T}
+use lib.ListN.{drop, length, take}
+use mathlib.Core.Bool.{Bool, cond, false, true}
+use mathlib.Core.List.{List, [], _++_, _∷_, map}
+use native.Mathlib.Nat.{not-suc-le-zero}
+use native.Mathlib.Omega.{arith}
+
+abbrev pub Every : {A : Type 0} → (A → Type 0) → List A → Type 0
+Every P [] = Unit {0}
+Every P (x ∷ xs) = P x × Every P xs
+
+module _ {A : Type 0} where
+  pub every-append : (P : A → Type 0) (xs ys : List A) → Every P xs → Every P ys → Every P (xs ++ ys)
+  every-append P [] ys h k = k
+  every-append P (x ∷ xs) ys h k = (h .0, every-append P xs ys (h .1) k)
+
+  pub every-left : (P : A → Type 0) (xs ys : List A) → Every P (xs ++ ys) → Every P xs
+  every-left P [] ys h = tt
+  every-left P (x ∷ xs) ys h = (h .0, every-left P xs ys (h .1))
+
+  pub every-right : (P : A → Type 0) (xs ys : List A) → Every P (xs ++ ys) → Every P ys
+  every-right P [] ys h = h
+  every-right P (x ∷ xs) ys h = every-right P xs ys (h .1)
+
+  pub every-rest : (P : A → Type 0) (xs : List A) → Every P xs → Every P (rest xs)
+  every-rest P [] h = tt
+  every-rest P (x ∷ xs) h = h .1
+
+  pub every-take : (P : A → Type 0) (k : ℕ) (xs : List A) → Every P xs → Every P (take k xs)
+  every-take P zero xs h = tt
+  every-take P (suc k) [] h = tt
+  every-take P (suc k) (x ∷ xs) h = (h .0, every-take P k xs (h .1))
+
+  pub every-drop : (P : A → Type 0) (k : ℕ) (xs : List A) → Every P xs → Every P (drop k xs)
+  every-drop P zero xs h = h
+  every-drop P (suc k) [] h = tt
+  every-drop P (suc k) (x ∷ xs) h = every-drop P k xs (h .1)
+
+  pub every-keep : (P : A → Type 0) (p : A → Bool) (xs : List A) → Every P xs → Every P (keep p xs)
+  every-keep P p [] h = tt
+  every-keep P p (a ∷ xs) h = go (p a) (every-keep P p xs (h .1))
+    where
+      go : (b : Bool) → Every P (keep p xs) → Every P (cond b (a ∷ keep p xs) (keep p xs))
+      go true k = (h .0, k)
+      go false k = k
+
+  pub every-of : (P Q : A → Type 0) → ((a : A) → P a → Q a) → (xs : List A) → Every P xs → Every Q xs
+  every-of P Q f [] h = tt
+  every-of P Q f (x ∷ xs) h = (f x (h .0), every-of P Q f xs (h .1))
+
+  pub every-both : (P Q R : A → Type 0) → ((a : A) → P a → Q a → R a) → (xs : List A) → Every P xs → Every Q xs → Every R xs
+  every-both P Q R f [] h k = tt
+  every-both P Q R f (x ∷ xs) h k = (f x (h .0) (k .0), every-both P Q R f xs (h .1) (k .1))
+
+  pub every-all : (P : A → Type 0) → ((a : A) → P a) → (xs : List A) → Every P xs
+  every-all P f [] = tt
+  every-all P f (x ∷ xs) = (f x, every-all P f xs)
+
+  -- the test `all`, as a fact of every element
+  pub all-every : (f : A → Bool) (xs : List A) → T (all f xs) → Every (λ a. T (f a)) xs
+  all-every f [] t = tt
+  all-every f (x ∷ xs) t = (and-l (f x) (all f xs) t, all-every f xs (and-r (f x) (all f xs) t))
+
+  pub all-of : (f : A → Bool) (xs : List A) → Every (λ a. T (f a)) xs → T (all f xs)
+  all-of f [] h = tt
+  all-of f (x ∷ xs) h = and-of (f x) (all f xs) (h .0) (all-of f xs (h .1))
+
+module _ {A B : Type 0} where
+  pub every-map : (P : B → Type 0) (f : A → B) (xs : List A) → Every (λ a. P (f a)) xs → Every P (map f xs)
+  every-map P f [] h = tt
+  every-map P f (x ∷ xs) h = (h .0, every-map P f xs (h .1))
+
+  pub every-unmap : (P : B → Type 0) (f : A → B) (xs : List A) → Every P (map f xs) → Every (λ a. P (f a)) xs
+  every-unmap P f [] h = tt
+  every-unmap P f (x ∷ xs) h = (h .0, every-unmap P f xs (h .1))
+
+pub every-head : (P : ℕ → Type 0) (xs : List ℕ) → 1 ≤ length xs → Every P xs → P (head xs)
+every-head P [] w h = absurd (not-suc-le-zero w)
+every-head P (x ∷ xs) w h = h .0
+
+-- no number is above the greatest
+pub greatest-le : (xs : List ℕ) → Every (λ a. a ≤ greatest xs) xs
+greatest-le [] = tt
+greatest-le (x ∷ xs) = (omega arith, every-of (λ a. a ≤ greatest xs) (λ a. a ≤ greatest (x ∷ xs)) (λ a h. omega arith) xs (greatest-le xs))

@@ -1,0 +1,40 @@
+-- Laws of the shared functions on lists. Assumes nothing.
+use Prim.Native.Nat.{_+_, ℕ}
+use Rattle.laws.specs.Lists.{rest, tally}
+use lib.ListN.{length}
+use mathlib.Core.Bool.{Bool, true}
+use mathlib.Core.List.{List, [], _++_, _∷_, map}
+use mathlib.Core.Path.{_≡_, ap, refl}
+use native.Mathlib.Omega.{arith}
+
+-- ---- map
+module _ {A B : Type 0} (f : A → B) where
+  pub map-append : (xs ys : List A) → map f (xs ++ ys) ≡ map f xs ++ map f ys
+  map-append [] ys = refl
+  map-append (x ∷ xs) ys = ap (λ zs. f x ∷ zs) (map-append xs ys)
+
+  pub rest-map : (xs : List A) → rest (map f xs) ≡ map f (rest xs)
+  rest-map [] = refl
+  rest-map (x ∷ xs) = refl
+
+pub map-map : {A B C : Type 0} (f : B → C) (g : A → B) (xs : List A) → map (λ a. f (g a)) xs ≡ map f (map g xs)
+map-map f g [] = refl
+map-map f g (x ∷ xs) = ap (λ l. f (g x) ∷ l) (map-map f g xs)
+
+pub map-id : (xs : List ℕ) → map (λ i. i) xs ≡ xs
+map-id [] = refl
+map-id (x ∷ xs) = ap (λ zs. x ∷ zs) (map-id xs)
+
+-- numbers paired with anything are the numbers
+pub paired : {A B : Type 0} (f : A → ℕ) (v : A → B) (xs : List A) → map (λ p. p .0) (map {B = ℕ × B} (λ a. (f a, v a)) xs) ≡ map f xs
+paired f v [] = refl
+paired f v (x ∷ xs) = ap (λ zs. f x ∷ zs) (paired f v xs)
+
+-- ---- tally
+pub tally-append : {A : Type 0} (f : A → Bool) (xs ys : List A) → tally f (xs ++ ys) ≡ tally f xs + tally f ys
+tally-append f [] ys = omega arith
+tally-append f (x ∷ xs) ys = omega (arith, tally-append f xs ys)
+
+pub tally-length : {A : Type 0} (xs : List A) → tally (λ a. true) xs ≡ length xs
+tally-length [] = refl
+tally-length (x ∷ xs) = omega (arith, tally-length xs)

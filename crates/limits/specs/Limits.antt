@@ -1,0 +1,30 @@
+-- The fixed limits of the index kind. Assumes nothing.
+use Prim.Native.Nat.{ℕ}
+use lib.Dec.{leb}
+use mathlib.Core.Bool.{Bool, _&&_}
+
+-- 01, What the library holds: at most this many columns, rows and levels below the root
+abbrev pub maxColumns : ℕ
+maxColumns = 16
+
+abbrev pub maxRows : ℕ
+maxRows = 1_048_576
+
+abbrev pub maxDepth : ℕ
+maxDepth = 24
+
+-- 01, The tree, Shape: no radius and no distance is above this
+abbrev pub maxDistance : ℕ
+maxDistance = 1_048_560
+
+-- x is one of low .. high
+abbrev pub within : ℕ → ℕ → ℕ → Bool
+within low high x = leb low x && leb x high
+
+-- 01, What the library holds: a table may have c columns
+abbrev pub columnsOk : ℕ → Bool
+columnsOk c = within 1 maxColumns c
+
+-- 01, What the library holds: an inner node may have m centres and a leaf l rows
+abbrev pub shareOk : ℕ → ℕ → Bool
+shareOk m l = within 2 64 m && within m 1_024 l

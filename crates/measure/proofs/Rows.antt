@@ -1,0 +1,31 @@
+-- A row as a part of its table, and a distance column by column. Assumes nothing.
+use Prim.Native.Nat.{ℕ, suc, _+_, _-_, _*_, _≤_, _<_}
+use native.Mathlib.Nat.{add-sub-cancel-left, mul-le-mul-left, mul-suc}
+use native.Mathlib.Omega.{arith}
+use mathlib.Core.List.{List}
+use mathlib.Core.Path.{_≡_, refl, subst}
+use lib.ListN.{drop, getD, length, length-drop, length-take, take}
+use Rattle.laws.proofs.Upto.{sum-next, sum-none}
+use Rattle.measure.specs.Distance.{apart, l1}
+use Rattle.measure.specs.Table.{row}
+
+-- the part from c * i to c * i + c
+pub row-part : (T : List ℕ) (c i : ℕ) → take (c * i + c - c * i) (drop (c * i) T) ≡ row T c i
+row-part T c i = rw add-sub-cancel-left
+
+pub row-length : (T : List ℕ) (c i : ℕ) → c * i + c ≤ length T → length (row T c i) ≡ c
+row-length T c i h = simp (length-take, length-drop) (omega arith)
+
+-- row i of n lies in the table
+pub row-ends : (c n i : ℕ) → i < n → c * i + c ≤ c * n
+row-ends c n i h = subst (λ (k : ℕ). k ≤ c * n) (mul-suc c i) (mul-le-mul-left c h)
+
+-- ---- a distance, column by column
+module _ (a b : List ℕ) where
+  pub l1-none : l1 0 a b ≡ 0
+  unfolding l1
+  l1-none = sum-none (λ j. apart (getD a j 0) (getD b j 0))
+
+  pub l1-next : (i : ℕ) → l1 (i + 1) a b ≡ l1 i a b + apart (getD a i 0) (getD b i 0)
+  unfolding l1
+  l1-next i = sum-next (λ j. apart (getD a j 0) (getD b j 0)) i

@@ -1,0 +1,77 @@
+-- `measure::distance` meets its contract: the sum so far is the distance over the columns passed. The measure is what is left of them.
+-- Assumes nothing.
+use Prim.Native.Nat.{_*_, _+_, _-_, _≤_}
+use borrow.Author.Needs.{needs}
+use lib.ListN.{length}
+use mathlib.Core.Path.{_∙_, _≡_, ap, sym}
+use native.Mathlib.Omega.{arith}
+use Rattle.measure.proofs.Rows.{l1-next, l1-none}
+use Rattle.measure.proofs.distance.Statement.{statement}
+use Rattle.measure.proofs.distance.Tie as tie
+use Rattle.measure.specs.Distance.{l1}
+
+abbrev Inv-loop : tie.InvT-loop
+Inv-loop a b sum₀ i₀ sum i = (i ≤ length a) × (sum ≤ 65535 * i) × (sum ≡ l1 i a b)
+
+abbrev μ-loop : tie.MeasureT-loop
+μ-loop a b sum₀ i₀ sum i = length a - i
+
+loop-holds : tie.Need-loop-holds Inv-loop μ-loop
+loop-holds c =
+    let a = c .before .before .args in
+    (search needs, search needs, sym (l1-none (a .a .now) (a .b .now)))
+
+mul-column : tie.Need-mul-column Inv-loop μ-loop
+mul-column c = search needs
+
+shared-slice-read-column : tie.Need-shared-slice-read-column Inv-loop μ-loop
+shared-slice-read-column c = search needs
+
+mul-column-2 : tie.Need-mul-column-2 Inv-loop μ-loop
+mul-column-2 c = search needs
+
+shared-slice-read-column-2 : tie.Need-shared-slice-read-column-2 Inv-loop μ-loop
+shared-slice-read-column-2 c = search needs
+
+column-requires : tie.Need-column-requires Inv-loop μ-loop
+column-requires c κs = search needs
+
+add-sum : tie.Need-add-sum Inv-loop μ-loop
+add-sum c = search needs
+
+add-i : tie.Need-add-i Inv-loop μ-loop
+add-i c = search needs
+
+loop-less : tie.Need-loop-less Inv-loop μ-loop
+loop-less c = search needs
+
+loop-again : tie.Need-loop-again Inv-loop μ-loop
+loop-again c =
+    let at-loop = c .before .before .before .before in
+    let a = at-loop .before .before .before .args in
+    (search needs, search needs, omega (arith, c .column .ensures .0, at-loop .loop .inv .2, l1-next (a .a .now) (a .b .now) (at-loop .loop .i)))
+
+returns : tie.Need-returns Inv-loop μ-loop
+returns c =
+    let at-loop = c .before in
+    let a = at-loop .before .before .before .args in
+    let e : at-loop .loop .i ≡ length (a .a .now) = omega arith in
+    (at-loop .loop .inv .2 ∙ ap (λ k. l1 k (a .a .now) (a .b .now)) e, omega arith)
+
+pub distance-spec : {M : Type 1} → statement M
+distance-spec =
+    tie.close
+    (tie.spec
+    Inv-loop
+    μ-loop
+    loop-holds
+    mul-column
+    shared-slice-read-column
+    mul-column-2
+    shared-slice-read-column-2
+    column-requires
+    add-sum
+    add-i
+    loop-less
+    loop-again
+    returns)

@@ -1,0 +1,37 @@
+-- `measure::row_of` meets its contract: the part starts at c times i, and c numbers are there.
+-- Assumes nothing.
+use borrow.Author.Needs.{needs}
+use mathlib.Core.Path.{_∙_, ap}
+use lib.ListN.{length}
+use Rattle.measure.proofs.Rows.{row-length, row-part}
+use Rattle.measure.proofs.row_of.Statement.{statement}
+use Rattle.measure.proofs.row_of.Tie as tie
+
+mul-start : tie.Need-mul-start
+mul-start c = search needs
+
+add-end : tie.Need-add-end
+add-end c = search needs
+
+mul-result : tie.Need-mul-result
+mul-result c = search needs
+
+sub-result : tie.Need-sub-result
+sub-result c = search needs
+
+part-result-start : tie.Need-part-result-start
+part-result-start c = search needs
+
+part-result-end : tie.Need-part-result-end
+part-result-end c = search needs
+
+returns : tie.Need-returns
+returns c =
+    let a = c .before .args in
+    let p = row-part (a .table .now) (a .c) (a .i) in
+    (p, ap length p ∙ row-length (a .table .now) (a .c) (a .i) (c .before .pre))
+
+pub row-of-spec : {M : Type 1} → statement M
+row-of-spec =
+    tie.close
+    (tie.spec mul-start add-end mul-result sub-result part-result-start part-result-end returns)

@@ -1,0 +1,58 @@
+// A row of the lent table, and the distance of two rows measured where they stand.
+ghost use Prim.Native.Nat.{_*_, _+_, _≤_};
+ghost use Rattle.limits.specs.Limits.{maxColumns, maxDistance};
+ghost use Rattle.measure.specs.Distance.{apart, l1};
+ghost use Rattle.measure.specs.Table.{between, from, row};
+ghost use lib.ListN.{length};
+ghost use mathlib.Core.Path.{_≡_};
+
+// Row i of a table of c columns: the part of the caller's table that it is.
+pub fn row_of(table: &[u16], c: usize, i: usize) -> &[u16]
+    requires { ⌜ c * i + c ≤ length (now table) ⌝ }
+    ensures { λ r. ⌜ (now r ≡ row (now (table .entry)) c i) × (length (now r) ≡ c) ⌝ }
+{
+    let start = c * i;
+    let end = start + c;
+    &table[start..end]
+}
+
+// How far two numbers of one column are apart.
+fn column(x: u16, y: u16) -> u32
+    ensures { λ r. ⌜ (r ≡ apart x y) × (r ≤ 65535) ⌝ }
+{
+    if x < y {
+        (y - x) as u32
+    } else {
+        (x - y) as u32
+    }
+}
+
+// The distance of two rows.
+pub fn distance(a: &[u16], b: &[u16]) -> u32
+    requires { ⌜ (length (now a) ≡ length (now b)) × (length (now a) ≤ maxColumns) ⌝ }
+    ensures { λ r. ⌜ (r ≡ l1 (length (now (a .entry))) (now (a .entry)) (now (b .entry))) × (r ≤ maxDistance) ⌝ }
+{
+    let mut sum: u32 = 0;
+    let mut i = 0;
+    while i < a.len() {
+        sum += column(a[i], b[i]);
+        i += 1;
+    }
+    sum
+}
+
+// The distance of rows i and j.
+pub fn row_distance(table: &[u16], c: usize, i: usize, j: usize) -> u32
+    requires { ⌜ (c ≤ maxColumns) × (c * i + c ≤ length (now table)) × (c * j + c ≤ length (now table)) ⌝ }
+    ensures { λ r. ⌜ (r ≡ between (now (table .entry)) c i j) × (r ≤ maxDistance) ⌝ }
+{
+    distance(row_of(table, c, i), row_of(table, c, j))
+}
+
+// The distance of a query from row i.
+pub fn query_distance(table: &[u16], c: usize, query: &[u16], i: usize) -> u32
+    requires { ⌜ (c ≤ maxColumns) × (c * i + c ≤ length (now table)) × (length (now query) ≡ c) ⌝ }
+    ensures { λ r. ⌜ (r ≡ from (now (table .entry)) c (now (query .entry)) i) × (r ≤ maxDistance) ⌝ }
+{
+    distance(query, row_of(table, c, i))
+}

@@ -1,0 +1,81 @@
+-- The words by place, and the small tests on them. Assumes nothing.
+use Prim.Native.Nat.{_+_, _<_, _≤_, ℕ}
+use Rattle.laws.proofs.Tests.{go-on, stop}
+use Rattle.limits.specs.Limits.{maxDepth, maxDistance}
+use Rattle.words.specs.Pass.{fits, roomy}
+use Rattle.words.specs.Shape.{brood, nodeFits, rootFits, tile}
+use Rattle.words.specs.Words.{N#, child#, count#, l#, m#, n#, radius#, start#}
+use borrow.Author.Tests.{eq-eqb, le-leb, leb-true, lt-leb, ne-eqb}
+use lib.Dec.{eqb, leb}
+use mathlib.Core.Bool.{and-false, false, true}
+use mathlib.Core.List.{List}
+use mathlib.Core.Path.{_∙_, _≡_}
+use types.Kit.{some}
+
+module _ (w : List ℕ) where
+  pub brood-leaf : (k : ℕ) → child# w k ≡ 0 → 0 ≡ brood w k
+  brood-leaf k e = rw (eq-eqb (child# w k) 0 e)
+
+  pub brood-inner : (k : ℕ) → (child# w k ≡ 0 → ⊥) → m# w ≡ brood w k
+  brood-inner k h = rw (ne-eqb (child# w k) 0 h)
+
+  pub root-off : (start# w 0 ≡ 0 → ⊥) → false ≡ rootFits w
+  root-off h = rw (ne-eqb (start# w 0) 0 h)
+
+  pub root-on : start# w 0 ≡ 0 → eqb (count# w 0) (n# w) ≡ rootFits w
+  root-on e = rw (eq-eqb (start# w 0) 0 e)
+
+  -- the same runs by other names
+  pub tile-same : {j j′ m m′ s s′ c c′ : ℕ} → j ≡ j′ → m ≡ m′ → s ≡ s′ → c ≡ c′ → tile w j m s (s + c) ≡ tile w j′ m′ s′ (s′ + c′)
+  tile-same p q r t = rw (p, q, r, t)
+
+-- ---- the room for a node's children
+module _ (w : List ℕ) (k next : ℕ) where
+  pub room-leaf : child# w k ≡ 0 → true ≡ roomy w k next
+  room-leaf e = rw (eq-eqb (child# w k) 0 e)
+
+  pub room-inner : (child# w k ≡ 0 → ⊥) → leb (next + m# w) (N# w) ≡ roomy w k next
+  room-inner h = rw (ne-eqb (child# w k) 0 h)
+
+  -- an inner node's children are nodes
+  pub room-is : roomy w k next ≡ true → (child# w k ≡ 0 → ⊥) → next + m# w ≤ N# w
+  room-is e h = leb-true (next + m# w) (N# w) (room-inner h ∙ e)
+
+-- ---- a node's test, by its ends in the code's order
+module _ (w : List ℕ) (k next depth : ℕ) where
+  pub fit-crowd : roomy w k next ≡ false → false ≡ fits w k next depth
+  fit-crowd e = stop (nodeFits w k next (leb maxDepth depth)) e
+
+  module _ (room : roomy w k next ≡ true) where
+    pub fit-empty : count# w k < 1 → false ≡ fits w k next depth
+    fit-empty h = go-on room (simp (lt-leb 1 (count# w k) h))
+
+    pub fit-far : maxDistance < radius# w k → false ≡ fits w k next depth
+    fit-far h = go-on room (simp (lt-leb (radius# w k) maxDistance h, and-false))
+
+    module _ (some : 1 ≤ count# w k) (near : radius# w k ≤ maxDistance) where
+      pub fit-few : count# w k ≤ l# w → eqb (child# w k) 0 ≡ fits w k next depth
+      fit-few h = go-on room (simp (le-leb 1 (count# w k) some, le-leb (radius# w k) maxDistance near, le-leb (count# w k) (l# w) h))
+
+      module _ (many : l# w < count# w k) where
+        pub fit-deep : maxDepth ≤ depth → eqb (child# w k) 0 ≡ fits w k next depth
+        fit-deep h =
+            go-on room
+            (simp (le-leb 1 (count# w k) some, le-leb (radius# w k) maxDistance near, lt-leb (count# w k) (l# w) many, le-leb maxDepth depth h))
+
+        module _ (shallow : depth < maxDepth) where
+          pub fit-other : (child# w k ≡ next → ⊥) → false ≡ fits w k next depth
+          fit-other h =
+              go-on room (simp (lt-leb (count# w k) (l# w) many, lt-leb maxDepth depth shallow, ne-eqb (child# w k) next h, and-false))
+
+          pub fit-tiled : child# w k ≡ next
+              → tile w (child# w k) (m# w) (start# w k) (start# w k + count# w k) ≡ fits w k next depth
+          fit-tiled e =
+              go-on room
+              (simp (
+                le-leb 1 (count# w k) some,
+                le-leb (radius# w k) maxDistance near,
+                lt-leb (count# w k) (l# w) many,
+                lt-leb maxDepth depth shallow,
+                eq-eqb (child# w k) next e,
+              ))

@@ -1,0 +1,62 @@
+-- The header test, word by word: any one bad word makes it impossible. Assumes nothing.
+use Prim.Native.Nat.{_*_, _-_, _<_, _≤_, suc, zero, ℕ}
+use Rattle.limits.specs.Limits.{columnsOk, maxRows, shareOk, within}
+use Rattle.words.specs.Words.{N#, c#, edition#, headerOk, kind#, l#, last#, m#, n#, nodesOk, wordsOf, wordsOk}
+use borrow.Author.Tests.{eq-eqb, le-leb, lt-leb, ne-eqb}
+use lib.Dec.{eqb, leb}
+use lib.ListN.{length}
+use mathlib.Core.Bool.{and-false, false, true}
+use mathlib.Core.List.{List}
+use mathlib.Core.Path.{_≡_, refl}
+
+-- ---- the node count
+pub nodes-none : (n N : ℕ) → n ≡ 0 → eqb N 0 ≡ nodesOk n N
+nodes-none n N e = rw e
+
+pub nodes-some : (n N : ℕ) → (n ≡ 0 → ⊥) → within 1 (2 * n - 1) N ≡ nodesOk n N
+nodes-some zero N h = absurd (h refl)
+nodes-some (suc n) N h = refl
+
+-- ---- the header
+module _ (w : List ℕ) where
+  pub bad-edition : (edition# w ≡ 1 → ⊥) → false ≡ headerOk w
+  unfolding headerOk
+  bad-edition h = simp (ne-eqb (edition# w) 1 h)
+
+  pub bad-rows : maxRows < n# w → false ≡ headerOk w
+  unfolding headerOk
+  bad-rows h = simp (lt-leb (n# w) maxRows h, and-false)
+
+  pub bad-columns : columnsOk (c# w) ≡ false → false ≡ headerOk w
+  unfolding headerOk
+  bad-columns e = simp (e, and-false)
+
+  pub bad-share : shareOk (m# w) (l# w) ≡ false → false ≡ headerOk w
+  unfolding headerOk
+  bad-share e = simp (e, and-false)
+
+  pub bad-nodes : nodesOk (n# w) (N# w) ≡ false → false ≡ headerOk w
+  unfolding headerOk
+  bad-nodes e = simp (e, and-false)
+
+  pub bad-kind : (kind# w ≡ 1 → ⊥) → false ≡ headerOk w
+  unfolding headerOk
+  bad-kind h = simp (ne-eqb (kind# w) 1 h, and-false)
+
+  pub good-header : edition# w ≡ 1 → n# w ≤ maxRows → columnsOk (c# w) ≡ true → shareOk (m# w) (l# w) ≡ true → nodesOk (n# w) (N# w) ≡ true
+      → kind# w ≡ 1 → eqb (last# w) 0 ≡ headerOk w
+  unfolding headerOk
+  good-header e h c s k d = simp (eq-eqb (edition# w) 1 e, le-leb (n# w) maxRows h, c, s, k, eq-eqb (kind# w) 1 d)
+
+  -- ---- the words
+  pub few-words : length w < 8 → false ≡ wordsOk w
+  unfolding wordsOk
+  few-words h = simp (lt-leb 8 (length w) h)
+
+  pub bad-header : headerOk w ≡ false → false ≡ wordsOk w
+  unfolding wordsOk
+  bad-header e = simp (e, and-false)
+
+  pub good-words : 8 ≤ length w → headerOk w ≡ true → leb (wordsOf w) (length w) ≡ wordsOk w
+  unfolding wordsOk
+  good-words h e = simp (le-leb 8 (length w) h, e)

@@ -1,0 +1,10 @@
+pub mod Levels
+pub mod Tiles
+pub mod Nodes
+pub mod Pass
+pub mod Fits
+pub mod Headers
+pub mod InShape
+pub mod Positions
+pub mod Index
+pub mod Listed

@@ -1,0 +1,26 @@
+-- `words::header::nodes_ok` meets its contract: no rows have no nodes, and else the count is in its range.
+-- Assumes nothing.
+use Rattle.words.proofs.Headers.{nodes-none, nodes-some}
+use Rattle.words.proofs.header.nodes_ok.Statement.{statement}
+use Rattle.words.proofs.header.nodes_ok.Tie as tie
+use borrow.Author.Needs.{needs}
+use mathlib.Core.Path.{_∙_}
+
+returns : tie.Need-returns
+returns c = nodes-none _ _ (c .if1 .taken)
+
+mul-is-within : tie.Need-mul-is-within
+mul-is-within c = search needs
+
+sub-is-within : tie.Need-sub-is-within
+sub-is-within c = search needs
+
+is-within-requires : tie.Need-is-within-requires
+is-within-requires c κs = search needs
+
+returns-2 : tie.Need-returns-2
+returns-2 c = c .is-within .ensures ∙ nodes-some _ _ (c .before .if1 .left)
+
+pub nodes-ok-spec : {M : Type 1} → statement M
+nodes-ok-spec =
+    tie.close (tie.spec returns mul-is-within sub-is-within is-within-requires returns-2)

@@ -1,0 +1,21 @@
+-- `words::places::word` meets its contract: the word is the one at its place, and fits 32 bits.
+-- Assumes nothing.
+use Rattle.words.proofs.places.word.Statement.{statement}
+use Rattle.words.proofs.places.word.Tie as tie
+use borrow.Author.Needs.{needs}
+use native.Mathlib.Omega.{arith}
+
+mul-result : tie.Need-mul-result
+mul-result c = search needs
+
+shared-slice-read-result : tie.Need-shared-slice-read-result
+shared-slice-read-result c = search needs
+
+cast-result : tie.Need-cast-result
+cast-result c = omega (arith, c .shared-slice-known .given (c .before .args .i))
+
+returns : tie.Need-returns
+returns c = (search needs, omega (arith, c .shared-slice-known .given (c .before .args .i)))
+
+pub word-spec : {M : Type 1} → statement M
+word-spec = tie.close (tie.spec mul-result shared-slice-read-result cast-result returns)

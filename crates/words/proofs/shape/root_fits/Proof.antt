@@ -1,0 +1,30 @@
+-- `words::shape::root_fits` meets its contract: the two tests, one after the other.
+-- Assumes nothing.
+use Rattle.words.proofs.Fits.{root-off, root-on}
+use Rattle.words.proofs.shape.root_fits.Statement.{statement}
+use Rattle.words.proofs.shape.root_fits.Tie as tie
+use borrow.Author.Needs.{needs}
+use denote.Ref.{now}
+use mathlib.Core.Path.{_∙_, sym}
+
+node-start-requires : tie.Need-node-start-requires
+node-start-requires c κs = search needs
+
+returns : tie.Need-returns
+returns c = root-off (c .before .before .before .args .index .now) (λ e. c .if1 .taken (c .before .node-start .ensures .0 ∙ e))
+
+node-count-requires : tie.Need-node-count-requires
+node-count-requires c κs = search needs
+
+rows-requires : tie.Need-rows-requires
+rows-requires c κs = search needs
+
+returns-2 : tie.Need-returns-2
+returns-2 c =
+    let at1 = c .before .before in
+    let w = at1 .before .before .before .args .index .now in
+    rw (c .before .node-count .ensures .0, c .rows .ensures .0) (root-on w (sym (at1 .before .node-start .ensures .0) ∙ at1 .if1 .left))
+
+pub root-fits-spec : {M : Type 1} → statement M
+root-fits-spec =
+    tie.close (tie.spec node-start-requires returns node-count-requires rows-requires returns-2)

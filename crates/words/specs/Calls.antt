@@ -1,0 +1,29 @@
+-- What an index's words alone decide: two refusals, and the listing of a node. Assumes nothing.
+use Prim.Native.Nat.{_*_, _<_, _≤_, ℕ}
+use Rattle.limits.specs.Said.{Said, fault}
+use Rattle.words.specs.Shape.{shapeOk}
+use Rattle.words.specs.Words.{N#, c#, count#, headerOk, n#, pairAt, start#, wordsOf, wordsOk}
+use lib.Dec.{eqb, ltb}
+use lib.ListN.{drop, length, take}
+use mathlib.Core.Bool.{_&&_, cond, false, not}
+use mathlib.Core.List.{List, [], _++_}
+use mathlib.Core.Path.{_≡_}
+
+-- 01, Numbers given back, 8 and 9, for a table of n rows of c columns
+unfoldable pub indexFaults : List ℕ → ℕ → ℕ → List Said
+indexFaults w n c = fault 8 (not (wordsOk w && eqb (n# w) n && eqb (c# w) c)) ++ fault 9 (not (shapeOk w))
+
+-- the part of the index words with the pairs of node k's run
+abbrev pub pairs : List ℕ → ℕ → List ℕ
+pairs w k = take (2 * count# w k) (drop (pairAt w (start# w k)) w)
+
+-- 01, Which rows are measured, Listing a node
+unfoldable pub listed : List ℕ → ℕ → List ℕ
+listed w k = cond (wordsOk w && shapeOk w && ltb k (N# w)) (pairs w k) []
+
+-- the four cases in which nothing is listed. (Fewer than 8 words are fewer than any header asks for.)
+pub data Unlisted (w : List ℕ) (k : ℕ) : Type 0 where
+  missing : length w < wordsOf w → Unlisted w k
+  impossible : headerOk w ≡ false → Unlisted w k
+  wrong : shapeOk w ≡ false → Unlisted w k
+  beyond : N# w ≤ k → Unlisted w k

@@ -1,0 +1,6 @@
+pub mod Words
+pub mod Shape
+pub mod Pass
+pub mod InShape
+pub mod Calls
+pub mod Image

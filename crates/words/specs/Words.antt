@@ -1,0 +1,94 @@
+-- The index words: 01, The tree, Index words. Assumes nothing.
+use Prim.Native.Nat.{_*_, _+_, _-_, suc, zero, ℕ}
+use Rattle.laws.specs.Lists.{range}
+use Rattle.limits.specs.Limits.{columnsOk, maxRows, shareOk, within}
+use lib.Dec.{eqb, leb}
+use lib.ListN.{getD, length}
+use mathlib.Core.Bool.{Bool, _&&_}
+use mathlib.Core.List.{List}
+
+-- word i, 0 past the end
+abbrev pub at : List ℕ → ℕ → ℕ
+at w i = getD w i 0
+
+-- ---- the header's eight words: edition, n, c, m, l, node count N, distance kind, and a last one
+abbrev pub edition# : List ℕ → ℕ
+edition# w = at w 0
+
+abbrev pub n# : List ℕ → ℕ
+n# w = at w 1
+
+abbrev pub c# : List ℕ → ℕ
+c# w = at w 2
+
+abbrev pub m# : List ℕ → ℕ
+m# w = at w 3
+
+abbrev pub l# : List ℕ → ℕ
+l# w = at w 4
+
+abbrev pub N# : List ℕ → ℕ
+N# w = at w 5
+
+abbrev pub kind# : List ℕ → ℕ
+kind# w = at w 6
+
+abbrev pub last# : List ℕ → ℕ
+last# w = at w 7
+
+-- how many nodes n rows can have: none for none, else 1 to 2n - 1
+abbrev pub nodesOk : ℕ → ℕ → Bool
+nodesOk zero N = eqb N 0
+nodesOk (suc n) N = within 1 (2 * suc n - 1) N
+
+-- the header is not impossible
+unfoldable pub headerOk : List ℕ → Bool
+headerOk w =
+    eqb (edition# w) 1 && leb (n# w) maxRows && columnsOk (c# w) && shareOk (m# w) (l# w)
+    && nodesOk (n# w) (N# w) && eqb (kind# w) 1 && eqb (last# w) 0
+
+-- ---- the nodes, `width` words each after the header: start, count, first child's number (0 for a leaf), radius
+abbrev pub width : ℕ
+width = 4
+
+-- where node k's words stand
+abbrev pub nodeAt : ℕ → ℕ
+nodeAt k = 8 + width * k
+
+abbrev pub start# : List ℕ → ℕ → ℕ
+start# w k = at w (nodeAt k)
+
+abbrev pub count# : List ℕ → ℕ → ℕ
+count# w k = at w (nodeAt k + 1)
+
+abbrev pub child# : List ℕ → ℕ → ℕ
+child# w k = at w (nodeAt k + 2)
+
+abbrev pub radius# : List ℕ → ℕ → ℕ
+radius# w k = at w (nodeAt k + 3)
+
+-- ---- the positions, two words each after the nodes: row number, distance from its leaf's first
+-- where position p's words stand
+abbrev pub pairAt : List ℕ → ℕ → ℕ
+pairAt w p = nodeAt (N# w) + 2 * p
+
+abbrev pub row# : List ℕ → ℕ → ℕ
+row# w p = at w (pairAt w p)
+
+abbrev pub dist# : List ℕ → ℕ → ℕ
+dist# w p = at w (pairAt w p + 1)
+
+-- how many words the header asks for: 8 + 4N + 2n
+abbrev pub wordsOf : List ℕ → ℕ
+wordsOf w = pairAt w (n# w)
+
+-- a header is there and possible, and no word is missing
+unfoldable pub wordsOk : List ℕ → Bool
+wordsOk w = leb 8 (length w) && headerOk w && leb (wordsOf w) (length w)
+
+-- ---- a node's positions, and its first: the row at its run's start
+abbrev pub run# : List ℕ → ℕ → List ℕ
+run# w k = range (start# w k) (count# w k)
+
+abbrev pub first# : List ℕ → ℕ → ℕ
+first# w k = row# w (start# w k)

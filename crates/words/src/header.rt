@@ -1,0 +1,64 @@
+// The header's test, and that no word is missing.
+ghost use Prim.Native.Nat.{_≤_};
+ghost use Rattle.limits.specs.Limits.{maxRows};
+ghost use Rattle.words.specs.Words.{headerOk, nodesOk, wordsOk};
+ghost use lib.ListN.{length};
+ghost use mathlib.Core.Path.{_≡_};
+use crate::places::HEADER;
+use crate::places::WIDTH;
+use crate::places::word;
+use limits::Params;
+use limits::columns_ok;
+use limits::is_within;
+use limits::share_ok;
+
+// n rows can have this many nodes.
+fn nodes_ok(n: usize, nodes: usize) -> bool
+    requires { ⌜ n ≤ maxRows ⌝ }
+    ensures { λ r. ⌜ r ≡ nodesOk n nodes ⌝ }
+{
+    if n == 0 {
+        return nodes == 0;
+    }
+    is_within(1, 2 * n - 1, nodes)
+}
+
+// The eight header words are possible.
+pub fn header_ok(index: &[u32]) -> bool
+    requires { ⌜ 8 ≤ length (now index) ⌝ }
+    ensures { λ r. ⌜ r ≡ headerOk (now (index .entry)) ⌝ }
+{
+    if word(index, 0) != 1 {
+        return false;
+    }
+    let n = word(index, 1);
+    if Params::MOST_ROWS < n {
+        return false;
+    }
+    if !columns_ok(word(index, 2)) {
+        return false;
+    }
+    if !share_ok(word(index, 3), word(index, 4)) {
+        return false;
+    }
+    if !nodes_ok(n, word(index, 5)) {
+        return false;
+    }
+    if word(index, 6) != 1 {
+        return false;
+    }
+    word(index, 7) == 0
+}
+
+// The header words are there and possible, and no word is missing.
+pub fn words_ok(index: &[u32]) -> bool
+    ensures { λ r. ⌜ r ≡ wordsOk (now (index .entry)) ⌝ }
+{
+    if index.len() < HEADER {
+        return false;
+    }
+    if !header_ok(index) {
+        return false;
+    }
+    HEADER + WIDTH * crate::places::nodes(index) + 2 * crate::places::rows(index) <= index.len()
+}

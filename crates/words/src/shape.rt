@@ -1,0 +1,176 @@
+// The shape test: one pass over the nodes, one over the positions, with no workspace.
+ghost use Prim.Native.Nat.{_*_, _+_, _<_, _≤_, max};
+ghost use Rattle.laws.specs.Lists.{all, range};
+ghost use Rattle.words.specs.InShape.{Whole};
+ghost use Rattle.words.specs.Pass.{fits, roomy};
+ghost use Rattle.words.specs.Shape.{brood, positionOk, rootFits, shapeOk, tile, treeFits};
+ghost use Rattle.words.specs.Words.{N#, n#, nodeAt, wordsOk};
+ghost use lib.ListN.{length};
+ghost use mathlib.Core.Bool.{true};
+ghost use mathlib.Core.Path.{_≡_};
+use crate::places::centres;
+use crate::places::leaf_size;
+use crate::places::node_child;
+use crate::places::node_count;
+use crate::places::node_radius;
+use crate::places::node_start;
+use crate::places::nodes;
+use crate::places::pair_at;
+use crate::places::rows;
+use limits::Params;
+
+// The runs of m nodes from number j on tile the positions s up to e, in order.
+fn tiles(index: &[u32], j: usize, m: usize, s: usize, e: usize) -> bool
+    requires { ⌜ (m ≤ 64) × (s < 4294967296) × (nodeAt (j + m) ≤ length (now index)) ⌝ }
+    ensures { λ r. ⌜ r ≡ tile (now (index .entry)) j m s e ⌝ }
+{
+    let mut at = s;
+    let mut i = 0;
+    while i < m {
+        if node_start(index, j + i) != at {
+            return false;
+        }
+        at += node_count(index, j + i);
+        i += 1;
+    }
+    at == e
+}
+
+// The children of node k, if it has any, have numbers below the node count.
+fn has_room(index: &[u32], k: usize, next: usize) -> bool
+    requires { ⌜ Whole (now index) ⌝ }
+    requires { ⌜ (k < N# (now index)) × (next ≤ 64 * k + 1) ⌝ }
+    ensures { λ r. ⌜ r ≡ roomy (now (index .entry)) k next ⌝ }
+{
+    if node_child(index, k) == 0 {
+        return true;
+    }
+    next + centres(index) <= nodes(index)
+}
+
+// Node k fits, at the given depth, if `next` is the number that its first child must have.
+fn node_fits(index: &[u32], k: usize, next: usize, depth: usize) -> bool
+    requires { ⌜ Whole (now index) ⌝ }
+    requires { ⌜ (k < N# (now index)) × (k < next) × (next ≤ 64 * k + 1) ⌝ }
+    ensures { λ r. ⌜ r ≡ fits (now (index .entry)) k next depth ⌝ }
+{
+    if !has_room(index, k, next) {
+        return false;
+    }
+    let start = node_start(index, k);
+    let count = node_count(index, k);
+    let child = node_child(index, k);
+    if count < 1 {
+        return false;
+    }
+    if Params::MOST_DISTANCE < node_radius(index, k) {
+        return false;
+    }
+    if count <= leaf_size(index) {
+        return child == 0;
+    }
+    if Params::MOST_DEPTH <= depth {
+        return child == 0;
+    }
+    if child != next {
+        return false;
+    }
+    tiles(index, child, centres(index), start, start + count)
+}
+
+// How many children node k has.
+fn brood_of(index: &[u32], k: usize) -> usize
+    requires { ⌜ nodeAt k + 3 < length (now index) ⌝ }
+    ensures { λ r. ⌜ r ≡ brood (now (index .entry)) k ⌝ }
+{
+    if node_child(index, k) == 0 {
+        return 0;
+    }
+    centres(index)
+}
+
+// The root's run is everything.
+fn root_fits(index: &[u32]) -> bool
+    requires { ⌜ nodeAt 1 ≤ length (now index) ⌝ }
+    ensures { λ r. ⌜ r ≡ rootFits (now (index .entry)) ⌝ }
+{
+    if node_start(index, 0) != 0 {
+        return false;
+    }
+    node_count(index, 0) == rows(index)
+}
+
+// The nodes in number order: `next` is the number that the next first child must have, `edge` where the next level starts.
+fn tree_fits(index: &[u32]) -> bool
+    requires { ⌜ Whole (now index) ⌝ }
+    ensures { λ r. ⌜ r ≡ treeFits (now (index .entry)) ⌝ }
+{
+    let total = nodes(index);
+    if total == 0 {
+        return true;
+    }
+    if !root_fits(index) {
+        return false;
+    }
+    let mut next: usize = 1;
+    let mut edge: usize = 1;
+    let mut depth: usize = 0;
+    let mut k: usize = 0;
+    while k < total {
+        if next <= k {
+            return false;
+        }
+        if !node_fits(index, k, next, depth) {
+            return false;
+        }
+        next += brood_of(index, k);
+        k += 1;
+        if k == edge {
+            edge = next;
+            depth += 1;
+        }
+    }
+    next == total
+}
+
+// The greater of two.
+fn greater(a: u32, b: u32) -> u32
+    ensures { λ r. ⌜ r ≡ max a b ⌝ }
+{
+    if a < b { b } else { a }
+}
+
+// The positions: the greatest row number and the greatest distance are looked at once, at the end, so that the loop has no branch.
+fn positions_fit(index: &[u32]) -> bool
+    requires { ⌜ Whole (now index) ⌝ }
+    ensures { λ r. ⌜ r ≡ all (positionOk (now (index .entry))) (range 0 (n# (now (index .entry)))) ⌝ }
+{
+    let n = rows(index);
+    if n == 0 {
+        return true;
+    }
+    let base = pair_at(index, 0);
+    let mut row: u32 = 0;
+    let mut far: u32 = 0;
+    let mut p = 0;
+    while p < n {
+        row = greater(row, index[base + 2 * p]);
+        far = greater(far, index[base + 2 * p + 1]);
+        p += 1;
+    }
+    if n as u32 <= row {
+        return false;
+    }
+    far <= Params::MOST_DISTANCE
+}
+
+// The shape is right.
+pub fn shape_ok(index: &[u32]) -> bool
+    requires { ⌜ wordsOk (now index) ≡ true ⌝ }
+    ensures { λ r. ⌜ r ≡ shapeOk (now (index .entry)) ⌝ }
+{
+    if !tree_fits(index) {
+        return false;
+    }
+    positions_fit(index)
+}
