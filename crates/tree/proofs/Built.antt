@@ -1,0 +1,107 @@
+-- The tree that the build grows is well made, and so its index is accepted. Assumes nothing.
+use Prim.Native.Nat.{_<_, _≤_, suc, zero, ℕ}
+use Rattle.laws.proofs.Every.{Every, every-all, every-append, every-map}
+use Rattle.laws.proofs.Lists.{tally-length}
+use Rattle.laws.proofs.Ranges.{range-every, range-length}
+use Rattle.laws.proofs.Tests.{and-r, holds}
+use Rattle.laws.proofs.Times.{range-times}
+use Rattle.laws.specs.Lists.{head, range, same, tally}
+use Rattle.limits.proofs.Numbers.{one}
+use Rattle.limits.specs.Limits.{columnsOk, maxColumns, maxDepth, maxDistance, maxRows, shareOk}
+use Rattle.measure.proofs.Metric.{between-most, metric}
+use Rattle.measure.specs.Table.{between, rowsOf}
+use Rattle.tree.proofs.Full.{Full}
+use Rattle.tree.proofs.Good.{Good, empty-accepted, encode-accepted, share-is}
+use Rattle.tree.proofs.Grow.{Run, every-same, forest-span, grown-even, grown-fine, grown-span, grown-tally, split-length, split-runs}
+use Rattle.tree.proofs.Grown.{grown-sound}
+use Rattle.tree.specs.Build.{build, grow, leafOf, plant, radius, split}
+use Rattle.tree.specs.Check.{Accepted}
+use Rattle.tree.specs.Encode.{encode}
+use Rattle.tree.specs.Grove.{Grove, bare, entries, fork, rowsIn}
+use borrow.Author.Tests.{leb-false}
+use lib.Dec.{T, eqb, leb, leb→le}
+use lib.ListN.{length, length-map}
+use mathlib.Core.Bool.{Bool, cond, false, true}
+use mathlib.Core.List.{List, [], _∷_, foldr, map}
+use mathlib.Core.Path.{_∙_, _≡_, refl, subst, sym}
+use native.Mathlib.Nat.{add-zero, zero-add}
+use native.Mathlib.Omega.{arith}
+
+module _ (d : ℕ → ℕ → ℕ) (self : (i : ℕ) → d i i ≡ 0) (D : (i j : ℕ) → d i j ≤ maxDistance) (m l : ℕ) (m1 : 1 ≤ m) (ml : m ≤ l) where
+  grown-full : (deep : ℕ) (run : List ℕ) (g : Grove) → Run run → Full g → Full (grow d m l deep run g)
+  unfolding grow
+  grown-full zero run g r h = (rw length-map (r .0), h)
+  grown-full (suc deep) run g r h = go (λ q f k u. grown-full deep q f k u) (leb (length run) l) refl
+    where
+      forest : ((run : List ℕ) (g : Grove) → Run run → Full g → Full (grow d m l deep run g)) → (gs : List (List ℕ)) → Every Run gs → Full (foldr (grow d m l deep) bare gs)
+      forest ih [] h = tt
+      forest ih (q ∷ gs) h = ih q (foldr (grow d m l deep) bare gs) (h .0) (forest ih gs (h .1))
+
+      go : ((run : List ℕ) (g : Grove) → Run run → Full g → Full (grow d m l deep run g)) → (b : Bool) → leb (length run) l ≡ b
+          → Full (cond b (leafOf d run g) (fork (radius d run) (foldr (grow d m l deep) bare (split d m run)) g))
+      go ih true e = (rw length-map (r .0), h)
+      go ih false e =
+          let k : m ≤ length run = omega (arith, leb-false (length run) l e) in
+          (omega (arith, forest-span d m l m1 ml deep (split d m run), split-length d m l m1 ml run), forest ih (split d m run) (split-runs d m l m1 ml run r k), h)
+
+  grown-dists : (deep : ℕ) (run : List ℕ) (g : Grove) → Every (λ e. e .1 ≤ maxDistance) (entries g) → Every (λ e. e .1 ≤ maxDistance) (entries (grow d m l deep run g))
+  unfolding grow
+  grown-dists zero run g h = leafy run g h
+    where
+      leafy : (run : List ℕ) (g : Grove) → Every (λ e. e .1 ≤ maxDistance) (entries g) → Every (λ e. e .1 ≤ maxDistance) (entries (leafOf d run g))
+      leafy run g h =
+          every-append (λ e. e .1 ≤ maxDistance) (map (λ i. (i, d (head run) i)) run) (entries g)
+          (every-map (λ e. e .1 ≤ maxDistance) (λ i. (i, d (head run) i)) run (every-all (λ i. d (head run) i ≤ maxDistance) (λ i. D (head run) i) run)) h
+  grown-dists (suc deep) run g h = go (λ q f k. grown-dists deep q f k) (leb (length run) l)
+    where
+      forest : ((run : List ℕ) (g : Grove) → Every (λ e. e .1 ≤ maxDistance) (entries g) → Every (λ e. e .1 ≤ maxDistance) (entries (grow d m l deep run g)))
+          → (gs : List (List ℕ)) → Every (λ e. e .1 ≤ maxDistance) (entries (foldr (grow d m l deep) bare gs))
+      forest ih [] = tt
+      forest ih (q ∷ gs) = ih q (foldr (grow d m l deep) bare gs) (forest ih gs)
+
+      go : ((run : List ℕ) (g : Grove) → Every (λ e. e .1 ≤ maxDistance) (entries g) → Every (λ e. e .1 ≤ maxDistance) (entries (grow d m l deep run g))) → (b : Bool)
+          → Every (λ e. e .1 ≤ maxDistance) (entries (cond b (leafOf d run g) (fork (radius d run) (foldr (grow d m l deep) bare (split d m run)) g)))
+      go ih true =
+          every-append (λ e. e .1 ≤ maxDistance) (map (λ i. (i, d (head run) i)) run) (entries g)
+          (every-map (λ e. e .1 ≤ maxDistance) (λ i. (i, d (head run) i)) run (every-all (λ i. d (head run) i ≤ maxDistance) (λ i. D (head run) i) run)) h
+      go ih false = every-append (λ e. e .1 ≤ maxDistance) (entries (foldr (grow d m l deep) bare (split d m run))) (entries g) (forest ih (split d m run)) h
+
+  pub planted : (n : ℕ) → (length (entries (plant d m l (suc n))) ≡ suc n) × Good d m l (plant d m l (suc n))
+  planted n =
+      let run : List ℕ = range 0 (suc n) in
+      let r : Run run = (omega (arith, range-length 0 (suc n)), λ i. range-times i 0 (suc n)) in
+      let t : Grove = plant d m l (suc n) in
+      let same : (f : ℕ → Bool) → tally f (rowsIn t) ≡ tally f run = λ f. grown-tally d m l m1 ml maxDepth f run bare r ∙ add-zero (tally f run) in
+      let len : length (entries t) ≡ suc n =
+      sym (length-map (entries t) (λ e. e .0)) ∙ sym (tally-length (rowsIn t)) ∙ same (λ i. true) ∙ tally-length run ∙ range-length 0 (suc n) in
+      let st = grown-sound d self m l m1 ml maxDepth run bare r (tt, tt) in (
+        len,
+        record {
+          one = grown-span d m l m1 ml maxDepth run bare;
+          full = grown-full maxDepth run bare r tt;
+          even = grown-even d m l m1 ml maxDepth run bare tt;
+          fine = grown-fine d m l m1 ml D maxDepth run bare r tt;
+          sound = st .0;
+          tight = st .1;
+          rows = every-same (λ i. i < length (entries t)) run (rowsIn t) (λ i. same (eqb i))
+              (range-every (λ i. i < length (entries t)) 0 (suc n) (λ i h. subst (λ k. k < length (entries t)) (sym (zero-add i)) (omega arith)));
+          once = λ i. omega (arith, same (eqb i), range-times i 0 (suc n));
+          dists = grown-dists maxDepth run bare tt;
+        },
+      )
+
+-- WHAT THE BUILD WRITES IS ACCEPTED
+pub build-accepted : (T : List ℕ) (c m l : ℕ) → columnsOk c ≡ true → shareOk m l ≡ true → rowsOf T c ≤ maxRows → Every (λ v. v ≤ 65535) T
+    → Accepted (between T c) (build T c m l)
+unfolding build
+build-accepted T c m l hc hs hn small = go (rowsOf T c) hn
+  where
+    few : c ≤ maxColumns
+    few = leb→le c maxColumns (and-r (leb 1 c) (leb c maxColumns) (holds (columnsOk c) hc))
+
+    go : (n : ℕ) → n ≤ maxRows → Accepted (between T c) (encode c m l (plant (between T c) m l n))
+    go zero h = empty-accepted (between T c) c m l hc hs
+    go (suc n) h =
+        let s = share-is m l hs in
+        let p = planted (between T c) (metric T c .self) (between-most T c few small) m l (omega arith) (s .1) n in
+        encode-accepted (between T c) c m l (plant (between T c) m l (suc n)) hc hs (omega (arith, p .0)) (p .1)

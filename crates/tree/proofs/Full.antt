@@ -1,0 +1,45 @@
+-- Trees with no empty leaf and no childless inner node: their firsts are members. Assumes nothing.
+use Prim.Native.Nat.{_≤_, ℕ}
+use Rattle.laws.proofs.Every.{Every, every-head, every-left, every-right}
+use Rattle.laws.proofs.Lists.{map-append}
+use Rattle.laws.proofs.Times.{lefts}
+use Rattle.laws.specs.Lists.{head}
+use Rattle.tree.specs.Grove.{Grove, bare, entries, first, firsts, fork, leaf, rowsIn}
+use lib.ListN.{length}
+use mathlib.Core.List.{List, [], _++_, _∷_}
+use mathlib.Core.Path.{_≡_, refl}
+use native.Mathlib.Nat.{not-suc-le-zero}
+use native.Mathlib.Omega.{arith}
+
+-- no leaf is empty and no inner node is childless
+abbrev pub Full : Grove → Type 0
+Full bare = Unit {0}
+Full (leaf R es g) = (1 ≤ length es) × Full g
+Full (fork R ks g) = (1 ≤ length (firsts ks)) × Full ks × Full g
+
+-- the first of the first node stands at the start of the run
+pub first-row : (g : Grove) → Full g → 1 ≤ length (firsts g) → (1 ≤ length (rowsIn g)) × (head (rowsIn g) ≡ first g)
+first-row bare w h = absurd (not-suc-le-zero h)
+first-row (leaf R [] g) w h = absurd (not-suc-le-zero (w .0))
+first-row (leaf R (e ∷ es) g) w h = (omega arith, refl)
+first-row (fork R ks g) w h = go (entries ks) (first-row ks (w .1) (w .0))
+  where
+    go : (es : List (ℕ × ℕ)) → (1 ≤ length (lefts es)) × (head (lefts es) ≡ first ks)
+        → (1 ≤ length (lefts (es ++ entries g))) × (head (lefts (es ++ entries g)) ≡ first ks)
+    go [] k = absurd (not-suc-le-zero (k .0))
+    go (e ∷ es) k = (omega arith, k .1)
+
+-- every fact of two lists' rows is one of each list's
+pub rows-left : (P : ℕ → Type 0) (es fs : List (ℕ × ℕ)) → Every P (lefts (es ++ fs)) → Every P (lefts es)
+rows-left P es fs h = every-left P (lefts es) (lefts fs) (rw map-append at h)
+
+pub rows-right : (P : ℕ → Type 0) (es fs : List (ℕ × ℕ)) → Every P (lefts (es ++ fs)) → Every P (lefts fs)
+rows-right P es fs h = every-right P (lefts es) (lefts fs) (rw map-append at h)
+
+-- a node's first is one of its rows
+pub firsts-rows : (P : ℕ → Type 0) (g : Grove) → Full g → Every P (rowsIn g) → Every P (firsts g)
+firsts-rows P bare w h = tt
+firsts-rows P (leaf R [] g) w h = absurd (not-suc-le-zero (w .0))
+firsts-rows P (leaf R (e ∷ es) g) w h = (h .0, firsts-rows P g (w .1) (rows-right P (e ∷ es) (entries g) h))
+firsts-rows P (fork R ks g) w h =
+    (every-head P (firsts ks) (w .0) (firsts-rows P ks (w .1) (rows-left P (entries ks) (entries g) h)), firsts-rows P g (w .2) (rows-right P (entries ks) (entries g) h))

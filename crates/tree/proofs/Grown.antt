@@ -1,0 +1,164 @@
+-- The tree that the build grows fits its table. Assumes nothing.
+use Prim.Native.Nat.{_-_, _≤_, suc, zero, ℕ}
+use Rattle.laws.proofs.Every.{Every, every-all, every-map, every-unmap, greatest-le}
+use Rattle.laws.proofs.Lists.{map-id, paired}
+use Rattle.laws.proofs.Times.{lefts}
+use Rattle.laws.specs.Lists.{greatest, head, keep, rest, same, times, without}
+use Rattle.tree.proofs.Grow.{Run, chosen, closest-least, every-same, forest-tally, greatest-under, left, split-runs, split-tally}
+use Rattle.tree.proofs.Sound.{Close, Sound}
+use Rattle.tree.specs.Build.{choose, closest, farthest, grow, leafOf, radius, split}
+use Rattle.tree.specs.Grove.{Grove, bare, first, firsts, fork, leaf, rowsIn}
+use borrow.Author.Tests.{eqb-true, leb-false}
+use lib.Dec.{eqb, leb}
+use lib.ListN.{length}
+use mathlib.Core.Bool.{Bool, cond, false, true}
+use mathlib.Core.List.{List, [], _++_, _∷_, foldr, map}
+use mathlib.Core.Path.{_∙_, _≡_, ap, refl, subst, sym}
+use native.Mathlib.Omega.{arith}
+
+-- radii are exact
+abbrev pub Tight : (ℕ → ℕ → ℕ) → Grove → Type 0
+Tight d bare = Unit {0}
+Tight d (leaf R es g) = (R ≡ greatest (map (d (head (lefts es))) (lefts es))) × Tight d g
+Tight d (fork R ks g) = (R ≡ greatest (map (d (first ks)) (rowsIn ks))) × Tight d ks × Tight d g
+
+greatest-same : (f : ℕ → ℕ) (xs ys : List ℕ) → ((i : ℕ) → times i ys ≡ times i xs) → greatest (map f xs) ≡ greatest (map f ys)
+greatest-same f xs ys e =
+    let a = greatest-under (greatest (map f ys)) (map f xs) (every-map (λ v. v ≤ greatest (map f ys)) f xs
+    (every-same (λ i. f i ≤ greatest (map f ys)) ys xs (λ i. sym (e i)) (every-unmap (λ v. v ≤ greatest (map f ys)) f ys (greatest-le (map f ys))))) in
+    let b = greatest-under (greatest (map f xs)) (map f ys) (every-map (λ v. v ≤ greatest (map f xs)) f ys
+    (every-same (λ i. f i ≤ greatest (map f xs)) xs ys e (every-unmap (λ v. v ≤ greatest (map f xs)) f xs (greatest-le (map f xs))))) in
+    omega arith
+
+rows-paired : (d : ℕ → ℕ → ℕ) (run : List ℕ) → lefts (map (λ i. (i, d (head run) i)) run) ≡ run
+rows-paired d run = paired (λ i. i) (d (head run)) run ∙ map-id run
+
+choose-head : (d : ℕ → ℕ → ℕ) (k c : ℕ) (cs is : List ℕ) → head ((choose d k (c ∷ cs) is) .0) ≡ c
+unfolding choose
+choose-head d zero c cs is = refl
+choose-head d (suc k) c cs is = choose-head d k c (cs ++ farthest d (c ∷ cs) is ∷ []) (without (farthest d (c ∷ cs) is) is)
+
+-- the rows of centre a's group have a for their closest centre
+keep-closest : (d : ℕ → ℕ → ℕ) (cs : List ℕ) (a : ℕ) (is : List ℕ) → Every (λ i. Every (λ c. d a i ≤ d c i) cs) (keep (λ i. eqb (closest d cs i) a) is)
+keep-closest d cs a [] = tt
+keep-closest d cs a (i ∷ is) = go (eqb (closest d cs i) a) refl (keep-closest d cs a is)
+  where
+    go : (b : Bool) → eqb (closest d cs i) a ≡ b → Every (λ i. Every (λ c. d a i ≤ d c i) cs) (keep (λ i. eqb (closest d cs i) a) is)
+        → Every (λ i. Every (λ c. d a i ≤ d c i) cs) (cond b (i ∷ keep (λ i. eqb (closest d cs i) a) is) (keep (λ i. eqb (closest d cs i) a) is))
+    go true e h = (subst (λ k. Every (λ c. d k i ≤ d c i) cs) (eqb-true (closest d cs i) a e) (closest-least d cs i), h)
+    go false e h = h
+
+module _ (d : ℕ → ℕ → ℕ) (self : (i : ℕ) → d i i ≡ 0) (m l : ℕ) (m1 : 1 ≤ m) (ml : m ≤ l) where
+  -- each row of a run of the split is as close to its own centre as to any
+  abbrev Near : List ℕ → List ℕ → Type 0
+  Near cs r = Every (λ i. Every (λ c. d (head r) i ≤ d c i) cs) r
+
+  split-near : (run : List ℕ) → Every (Near (chosen d m l m1 ml run)) (split d m run)
+  unfolding split chosen left
+  split-near run =
+      let cs : List ℕ = chosen d m l m1 ml run in
+      every-map (Near cs) (λ a. a ∷ keep (λ i. eqb (closest d cs i) a) (left d m l m1 ml run)) cs
+      (every-all (λ a. Near cs (a ∷ keep (λ i. eqb (closest d cs i) a) (left d m l m1 ml run)))
+      (λ a. (every-all (λ c. d a a ≤ d c a) (λ c. omega (arith, self a)) cs, keep-closest d cs a (left d m l m1 ml run))) cs)
+
+  split-heads : (run : List ℕ) → map head (split d m run) ≡ chosen d m l m1 ml run
+  unfolding split chosen left
+  split-heads run = go (chosen d m l m1 ml run)
+    where
+      go : (cs : List ℕ) → map head (map (λ a. a ∷ keep (λ i. eqb (closest d (chosen d m l m1 ml run) i) a) (left d m l m1 ml run)) cs) ≡ cs
+      go [] = refl
+      go (c ∷ cs) = ap (λ k. c ∷ k) (go cs)
+
+  chosen-head : (run : List ℕ) → head (chosen d m l m1 ml run) ≡ head run
+  unfolding chosen
+  chosen-head run = choose-head d (m - 1) (head run) [] (rest run)
+
+  -- a grown node's first is its run's head
+  grown-firsts : (deep : ℕ) (run : List ℕ) (g : Grove) → firsts (grow d m l deep run g) ≡ head run ∷ firsts g
+  unfolding grow
+  grown-firsts zero run g = ap (λ is. head is ∷ firsts g) (rows-paired d run)
+  grown-firsts (suc deep) run g = go (λ q f. grown-firsts deep q f) (leb (length run) l)
+    where
+      forest : ((run : List ℕ) (g : Grove) → firsts (grow d m l deep run g) ≡ head run ∷ firsts g) → (gs : List (List ℕ))
+          → firsts (foldr (grow d m l deep) bare gs) ≡ map head gs
+      forest ih [] = refl
+      forest ih (q ∷ gs) = ih q (foldr (grow d m l deep) bare gs) ∙ ap (λ k. head q ∷ k) (forest ih gs)
+
+      go : ((run : List ℕ) (g : Grove) → firsts (grow d m l deep run g) ≡ head run ∷ firsts g) → (b : Bool)
+          → firsts (cond b (leafOf d run g) (fork (radius d run) (foldr (grow d m l deep) bare (split d m run)) g)) ≡ head run ∷ firsts g
+      go ih true = ap (λ is. head is ∷ firsts g) (rows-paired d run)
+      go ih false = ap (λ i. i ∷ firsts g) (ap head (forest ih (split d m run) ∙ split-heads run) ∙ chosen-head run)
+
+  forest-firsts : (deep : ℕ) (gs : List (List ℕ)) → firsts (foldr (grow d m l deep) bare gs) ≡ map head gs
+  forest-firsts deep [] = refl
+  forest-firsts deep (q ∷ gs) = grown-firsts deep q (foldr (grow d m l deep) bare gs) ∙ ap (λ k. head q ∷ k) (forest-firsts deep gs)
+
+  -- the children of a run: their rows are the run's, their first is its first
+  kids-same : (deep : ℕ) (run : List ℕ) → Run run → m ≤ length run → (i : ℕ) → times i (rowsIn (foldr (grow d m l deep) bare (split d m run))) ≡ times i run
+  kids-same deep run r k i = forest-tally d m l m1 ml deep (eqb i) (split d m run) (split-runs d m l m1 ml run r k) ∙ split-tally d m l m1 ml (eqb i) run r k
+
+  kids-head : (deep : ℕ) (run : List ℕ) → first (foldr (grow d m l deep) bare (split d m run)) ≡ head run
+  kids-head deep run = ap head (forest-firsts deep (split d m run) ∙ split-heads run) ∙ chosen-head run
+
+  grown-close : (cs : List ℕ) (deep : ℕ) (run : List ℕ) (g : Grove) → Run run → Near cs run → Close d cs g → Close d cs (grow d m l deep run g)
+  unfolding grow
+  grown-close cs zero run g r h c = (subst (λ is. Near cs is) (sym (rows-paired d run)) h, c)
+  grown-close cs (suc deep) run g r h c = go (leb (length run) l) refl
+    where
+      go : (b : Bool) → leb (length run) l ≡ b → Close d cs (cond b (leafOf d run g) (fork (radius d run) (foldr (grow d m l deep) bare (split d m run)) g))
+      go true e = (subst (λ is. Near cs is) (sym (rows-paired d run)) h, c)
+      go false e =
+          let k : m ≤ length run = omega (arith, leb-false (length run) l e) in
+          let ks : Grove = foldr (grow d m l deep) bare (split d m run) in (
+            subst (λ f. Every (λ i. Every (λ c. d f i ≤ d c i) cs) (rowsIn ks)) (sym (kids-head deep run))
+                (every-same (λ i. Every (λ c. d (head run) i ≤ d c i) cs) run (rowsIn ks) (kids-same deep run r k) h),
+            c,
+          )
+
+  forest-close : (cs : List ℕ) (deep : ℕ) (gs : List (List ℕ)) → Every Run gs → Every (Near cs) gs → Close d cs (foldr (grow d m l deep) bare gs)
+  forest-close cs deep [] r h = tt
+  forest-close cs deep (q ∷ gs) r h = grown-close cs deep q (foldr (grow d m l deep) bare gs) (r .0) (h .0) (forest-close cs deep gs (r .1) (h .1))
+
+  leaf-sound : (run : List ℕ) (g : Grove) → Sound d g → Sound d (leafOf d run g)
+  leaf-sound run g h =
+      let e = sym (rows-paired d run) in (
+        subst (λ is. Every (λ (e : ℕ × ℕ). d (head is) (e .0) ≡ e .1) (map (λ i. (i, d (head run) i)) run)) e
+            (every-map (λ e. d (head run) (e .0) ≡ e .1) (λ i. (i, d (head run) i)) run (every-all (λ i. d (head run) i ≡ d (head run) i) (λ i. refl) run)),
+        subst (λ is. Every (λ i. d (head is) i ≤ radius d run) is) e
+            (every-unmap (λ v. v ≤ radius d run) (d (head run)) run (greatest-le (map (d (head run)) run))),
+        h,
+      )
+
+  -- THE GROWN TREE FITS ITS TABLE, AND ITS RADII ARE EXACT
+  pub grown-sound : (deep : ℕ) (run : List ℕ) (g : Grove) → Run run → Sound d g × Tight d g → Sound d (grow d m l deep run g) × Tight d (grow d m l deep run g)
+  unfolding grow
+  grown-sound zero run g r h = (leaf-sound run g (h .0), (ap (λ is. greatest (map (d (head is)) is)) (sym (rows-paired d run)), h .1))
+  grown-sound (suc deep) run g r h = go (λ q f k u. grown-sound deep q f k u) (leb (length run) l) refl
+    where
+      forest : ((run : List ℕ) (g : Grove) → Run run → Sound d g × Tight d g → Sound d (grow d m l deep run g) × Tight d (grow d m l deep run g))
+          → (gs : List (List ℕ)) → Every Run gs → Sound d (foldr (grow d m l deep) bare gs) × Tight d (foldr (grow d m l deep) bare gs)
+      forest ih [] h = (tt, tt)
+      forest ih (q ∷ gs) h = ih q (foldr (grow d m l deep) bare gs) (h .0) (forest ih gs (h .1))
+
+      go : ((run : List ℕ) (g : Grove) → Run run → Sound d g × Tight d g → Sound d (grow d m l deep run g) × Tight d (grow d m l deep run g))
+          → (b : Bool) → leb (length run) l ≡ b
+          → Sound d (cond b (leafOf d run g) (fork (radius d run) (foldr (grow d m l deep) bare (split d m run)) g))
+          × Tight d (cond b (leafOf d run g) (fork (radius d run) (foldr (grow d m l deep) bare (split d m run)) g))
+      go ih true e = (leaf-sound run g (h .0), (ap (λ is. greatest (map (d (head is)) is)) (sym (rows-paired d run)), h .1))
+      go ih false e =
+          let k : m ≤ length run = omega (arith, leb-false (length run) l e) in
+          let rs = split-runs d m l m1 ml run r k in
+          let ks : Grove = foldr (grow d m l deep) bare (split d m run) in
+          let f = forest ih (split d m run) rs in
+          let same = kids-same deep run r k in (
+            (
+              subst (λ cs. Close d cs ks) (sym (forest-firsts deep (split d m run) ∙ split-heads run))
+                  (forest-close (chosen d m l m1 ml run) deep (split d m run) rs (split-near run)),
+              subst (λ f. Every (λ i. d f i ≤ radius d run) (rowsIn ks)) (sym (kids-head deep run))
+                  (every-same (λ i. d (head run) i ≤ radius d run) run (rowsIn ks) same
+                  (every-unmap (λ v. v ≤ radius d run) (d (head run)) run (greatest-le (map (d (head run)) run)))),
+              f .0,
+              h .0,
+            ),
+            (greatest-same (d (head run)) run (rowsIn ks) same ∙ ap (λ i. greatest (map (d i) (rowsIn ks))) (sym (kids-head deep run)), f .1, h .1),
+          )

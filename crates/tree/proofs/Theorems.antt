@@ -1,0 +1,106 @@
+-- The theorems on an index that the full check accepts, over any distance and any query. Assumes nothing.
+use Prim.Native.Nat.{_<_, _≤_, min, ℕ}
+use Rattle.laws.proofs.Every.{every-map}
+use Rattle.laws.proofs.Ranges.{at-every}
+use Rattle.laws.proofs.Times.{lefts, look-every, look-fact}
+use Rattle.laws.specs.Lists.{has, keep, look, range, times}
+use Rattle.measure.specs.Distance.{l1}
+use Rattle.measure.specs.Space.{Point}
+use Rattle.measure.specs.Table.{from, row}
+use Rattle.tree.proofs.Accepted.{each-once, once-of, shape-of, sound-tree}
+use Rattle.tree.proofs.Exact.{Exact, marks-exact}
+use Rattle.tree.proofs.Grow.{times-every}
+use Rattle.tree.proofs.Homes.{homes-rows}
+use Rattle.tree.proofs.Marks.{how-at, marks-rows}
+use Rattle.tree.proofs.Rows.{full-tree, rows-low, rows-once}
+use Rattle.tree.proofs.Sorted.{best-of}
+use Rattle.tree.proofs.Sound.{homes-below}
+use Rattle.tree.proofs.TwoNearest.{in-upTo}
+use Rattle.tree.proofs.TwoRadius.{Agree, same-marks}
+use Rattle.tree.specs.Check.{Accepted}
+use Rattle.tree.specs.Grove.{rowsIn, treeOf}
+use Rattle.tree.specs.Homes.{homes}
+use Rattle.tree.specs.Nearest.{Own, answers, best, candidates, isMeasured, lastDistance, nearHow, rowsUpTo, sort}
+use Rattle.tree.specs.Radius.{marks, radiusHow}
+use Rattle.words.specs.Words.{n#}
+use lib.Dec.{T}
+use lib.ListN.{getD, take}
+use mathlib.Core.Bool.{Bool, true}
+use mathlib.Core.List.{List, map}
+use mathlib.Core.Logic.{_↔_}
+use mathlib.Core.Path.{_∙_, _≡_, ap, subst, sym}
+use native.Mathlib.Omega.{arith}
+
+module _ (d : ℕ → ℕ → ℕ) (w : List ℕ) (A : Accepted d w) where
+  -- EACH ROW HAS EXACTLY ONE HOME
+  pub one-home : (x : ℕ → ℕ) (i : ℕ) → i < n# w → times i (lefts (homes x (treeOf w))) ≡ 1
+  one-home x i h = homes-rows x i (treeOf w) (full-tree w (shape-of d w A)) ∙ each-once d w A i h
+
+  -- no row is marked twice, and only rows of the table are
+  marks-once : (x : ℕ → ℕ) (r i : ℕ) → times i (lefts (marks x r (treeOf w))) ≤ 1
+  marks-once x r i = omega (arith, marks-rows x r i (treeOf w) (full-tree w (shape-of d w A)), rows-once w (shape-of d w A) (once-of d w A) i)
+
+  homes-once : (x : ℕ → ℕ) (i : ℕ) → times i (lefts (homes x (treeOf w))) ≤ 1
+  homes-once x i = omega (arith, homes-rows x i (treeOf w) (full-tree w (shape-of d w A)), rows-once w (shape-of d w A) (once-of d w A) i)
+
+  row-low : (i : ℕ) → 1 ≤ times i (rowsIn (treeOf w)) → i < n# w
+  row-low i k = times-every (λ i. i < n# w) (rowsIn (treeOf w)) (rows-low w (shape-of d w A)) i k
+
+  -- ---- with a query at the distances x
+  module _ (x : ℕ → ℕ) (P : Point d x) where
+    -- NO ROW IS CLOSER THAN ITS HOME BOUND
+    pub home-below : (i : ℕ) → i < n# w → look i (homes x (treeOf w)) ≤ x i
+    home-below i h =
+        look-fact (λ h. h .1 ≤ x (h .0)) i (homes x (treeOf w)) (homes-below d x P (treeOf w) (full-tree w (shape-of d w A)) (sound-tree d w A))
+        (omega (arith, one-home x i h))
+
+    -- A RADIUS SEARCH MARKS A ROW IN EXACTLY IF ITS DISTANCE IS AT MOST r
+    pub radius-exact : (r i : ℕ) → i < n# w → (2 ≤ getD (radiusHow x r (n# w) (treeOf w)) i 0) ↔ (x i ≤ r)
+    radius-exact r i h =
+        let F = full-tree w (shape-of d w A) in
+        rw (how-at x r (n# w) (treeOf w) i h)
+        (look-fact (Exact x r) i (marks x r (treeOf w)) (marks-exact d x r P (treeOf w) F (sound-tree d w A))
+        (omega (arith, marks-rows x r i (treeOf w) F, each-once d w A i h)))
+
+    -- THE FIRST k OF THE ROWS WITH HOME BOUND AT MOST D ARE THE FIRST k OF ALL, D the distance of the last of these
+    pub nearest-own : (k : ℕ) → k ≤ n# w → best x (n# w) (treeOf w) k (lastDistance (answers x (n# w) k)) ≡ answers x (n# w) k
+    unfolding best answers
+    nearest-own k h =
+        let l : List (ℕ × ℕ) = candidates x (n# w) in
+        let p : ℕ → ℕ × ℕ → Bool = λ D a. has (a .0) (rowsUpTo x (treeOf w) D) in
+        let D : ℕ = lastDistance (take k (sort l)) in
+        let b : take k (sort (keep (p D) l)) ≡ take k (sort l) =
+        best-of (p D) k l
+        (every-map (λ a. a .1 ≤ D → p D a ≡ true) (λ i. (i, x i)) (range 0 (n# w))
+        (at-every (λ i. x i ≤ D → p D (i, x i) ≡ true) (n# w)
+        (λ i v u. in-upTo i D (homes x (treeOf w)) (omega (arith, one-home x i v)) (omega (arith, home-below i v))))) in
+        let e : min k (n# w) ≡ k = omega arith in
+        subst (λ n. take k (sort (keep (p (lastDistance (take n (sort l)))) l)) ≡ take n (sort l)) (sym e) b
+
+  -- ---- the statement on two tables: y are the distances in another table, which need not fit the index
+  module _ (x y : ℕ → ℕ) where
+    -- RADIUS: WHERE THE TABLES AGREE IN EVERY MEASURED ROW, ALL HOW-BYTES ARE THE SAME
+    pub radius-two-tables : (r : ℕ) → ((i : ℕ) → i < n# w → T (isMeasured (getD (radiusHow x r (n# w) (treeOf w)) i 0)) → x i ≡ y i)
+        → radiusHow x r (n# w) (treeOf w) ≡ radiusHow y r (n# w) (treeOf w)
+    unfolding radiusHow
+    radius-two-tables r agree =
+        ap (λ ms. map (λ i. look i ms) (range 0 (n# w)))
+        (same-marks x y r (treeOf w)
+        (look-every (Agree x y r) (marks x r (treeOf w)) (marks-once x r)
+        (λ i k m.
+        let h = row-low i (omega (arith, marks-rows x r i (treeOf w) (full-tree w (shape-of d w A)))) in
+        agree i h (subst (λ v. T (isMeasured v)) (sym (how-at x r (n# w) (treeOf w) i h)) m))))
+
+    -- NEAREST: WHERE THE TABLES AGREE IN EVERY MEASURED ROW, THE OTHER ONE'S FIRST k OF THE SAME ROWS ARE THE ANSWERS, AND D IS ITS OWN
+    pub nearest-two-tables : Point d x → (k : ℕ) → 1 ≤ k → k ≤ n# w
+        → ((i : ℕ) → i < n# w → T (isMeasured (getD (nearHow x (n# w) (treeOf w) k) i 0)) → x i ≡ y i)
+        → (rowsUpTo y (treeOf w) (lastDistance (answers x (n# w) k)) ≡ rowsUpTo x (treeOf w) (lastDistance (answers x (n# w) k)))
+        × (best y (n# w) (treeOf w) k (lastDistance (answers x (n# w) k)) ≡ answers x (n# w) k)
+        × Own y (n# w) (treeOf w) k (lastDistance (answers x (n# w) k))
+    nearest-two-tables P k h1 h agree = ?
+
+-- ---- in words of tables
+-- rows that are equal are equally far from a query
+pub same-row : (T T′ : List ℕ) (c : ℕ) (q : List ℕ) (i : ℕ) → row T c i ≡ row T′ c i → from T c q i ≡ from T′ c q i
+unfolding from
+same-row T T′ c q i e = ap (l1 c q) e

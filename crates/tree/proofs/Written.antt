@@ -1,0 +1,98 @@
+-- What encode writes is read back, and is in shape. Assumes nothing.
+use Prim.Native.Nat.{_*_, _+_, _<_, _≤_, suc, zero, ℕ}
+use Rattle.laws.proofs.Every.{Every, all-of, every-of}
+use Rattle.laws.proofs.Tests.{and-l, and-of, and-r, eq-test}
+use Rattle.laws.specs.Lists.{all, each, range}
+use Rattle.limits.proofs.Numbers.{one}
+use Rattle.limits.specs.Limits.{maxDepth, maxDistance}
+use Rattle.tree.proofs.Encode.{Even, Fine, Holds, Ok, family-tile, holds-left, nodes-head, nodes-ok}
+use Rattle.tree.specs.Encode.{Node, encode, family, levelNodes, nodeWords, nodes, numbered, pairWords, span}
+use Rattle.tree.specs.Grove.{Grove, entries}
+use Rattle.words.specs.Shape.{born, level, nodeOk, positionOk, rootOk, shapeOk, tile}
+use Rattle.words.specs.Words.{N#, at, count#, dist#, l#, m#, n#, row#, start#, width}
+use lib.Dec.{T, eqb, eqb→eq, leb, le→leb, ltb, lt→ltb}
+use lib.ListN.{getD, length, length-append}
+use lib.Seq.{getD-append-add}
+use mathlib.Core.Bool.{_&&_}
+use mathlib.Core.List.{List, [], _++_, _∷_, append-assoc}
+use mathlib.Core.Path.{_∙_, _≡_, ap, refl, subst, sym}
+use native.Mathlib.Nat.{zero-add}
+use native.Mathlib.Omega.{arith}
+
+-- at place n behind a prefix
+pub at-behind : (pre ys : List ℕ) (i n : ℕ) → i ≡ length pre + n → at (pre ++ ys) i ≡ at ys n
+at-behind pre ys i n e = ap (λ k. getD (pre ++ ys) k 0) e ∙ getD-append-add pre ys n 0
+
+-- NODE WORDS ARE READ BACK
+pub read-nodes : (vs : List Node) (pre z : List ℕ) (j : ℕ) → length pre ≡ 8 + width * j → Holds (pre ++ (each nodeWords vs ++ z)) j vs
+read-nodes [] pre z j e = tt
+read-nodes (v ∷ vs) pre z j e =
+    let ys : List ℕ = nodeWords v ++ each nodeWords vs ++ z in
+    let w : List ℕ = pre ++ ys in
+    let pre′ : List ℕ = pre ++ nodeWords v in
+    let q : pre′ ++ (each nodeWords vs ++ z) ≡ w = append-assoc pre (nodeWords v) (each nodeWords vs ++ z) in (
+      at-behind pre ys (8 + width * j) 0 (omega arith),
+      at-behind pre ys (8 + width * j + 1) 1 (omega arith),
+      at-behind pre ys (8 + width * j + 2) 2 (omega arith),
+      at-behind pre ys (8 + width * j + 3) 3 (omega arith),
+      subst (λ l. Holds l (suc j) vs) q (read-nodes vs pre′ z (suc j) (omega (arith, length-append pre (nodeWords v)))),
+    )
+
+pub each-words : (vs : List Node) → length (each nodeWords vs) ≡ width * length vs
+each-words [] = refl
+each-words (v ∷ vs) = omega (arith, each-words vs)
+
+-- POSITION WORDS ARE READ BACK: a fact of each pair is one of each position
+pub read-pairs : (P : ℕ → ℕ → Type 0) (es : List (ℕ × ℕ)) (pre : List ℕ) (w : List ℕ) (p : ℕ) → pre ++ each pairWords es ≡ w → length pre ≡ 8 + width * N# w + 2 * p
+    → Every (λ e. P (e .0) (e .1)) es → Every (λ p. P (row# w p) (dist# w p)) (range p (length es))
+read-pairs P [] pre w p e l h = tt
+read-pairs P (x ∷ es) pre w p e l h =
+    let ys : List ℕ = each pairWords (x ∷ es) in
+    let a : row# w p ≡ x .0 = ap (λ l. at l (8 + width * N# w + 2 * p)) (sym e) ∙ at-behind pre ys (8 + width * N# w + 2 * p) 0 (omega arith) in
+    let b : dist# w p ≡ x .1 = ap (λ l. at l (8 + width * N# w + 2 * p + 1)) (sym e) ∙ at-behind pre ys (8 + width * N# w + 2 * p + 1) 1 (omega arith) in (
+      subst (λ s. P s (dist# w p)) (sym a) (subst (P (x .0)) (sym b) (h .0)),
+      read-pairs P es (pre ++ pairWords x) w (suc p) (append-assoc pre (pairWords x) (each pairWords es) ∙ e) (omega (arith, length-append pre (pairWords x))) (h .1),
+    )
+
+-- the root's words
+root-ok : (w : List ℕ) (N e : ℕ) → T (tile w 0 1 0 e) → n# w ≡ e → born w N ≡ N → T (rootOk w N)
+unfolding tile
+root-ok w zero e t q b = tt
+root-ok w (suc N) e t q b =
+    let s = eqb (start# w 0) 0 in
+    let u : 0 + count# w 0 ≡ e = eqb→eq (0 + count# w 0) e (and-r s (eqb (0 + count# w 0) e) t) in
+    and-of (s && eqb (count# w 0) (n# w)) (eqb (born w (suc N)) (suc N))
+    (and-of s (eqb (count# w 0) (n# w)) (and-l s (eqb (0 + count# w 0) e) t) (eq-test (count# w 0) (n# w) (omega arith)))
+    (eq-test (born w (suc N)) (suc N) b)
+
+module _ (m l : ℕ) (t : Grove) (one : span t ≡ 1) (ev : Even m t) (fi : Fine l maxDepth t) where
+  -- words that hold the numbered tree
+  pub written : (w : List ℕ) → m# w ≡ m → l# w ≡ l → N# w ≡ length (numbered t) → n# w ≡ length (entries t) → Holds w 0 (numbered t)
+      → Every (λ p. T (positionOk w p)) (range 0 (length (entries t))) → T (shapeOk w)
+  unfolding numbered shapeOk levelNodes level born
+  written w em el eN en h ps =
+      let fs : List (ℕ × Grove) = (0, t) ∷ [] in
+      let r = nodes-ok w maxDepth 0 0 (span t) fs h (subst (λ k. Even k t) (sym em) ev, tt) (subst (λ k. Fine k maxDepth t) (sym el) fi, tt)
+      (omega arith) (omega arith) refl (sym one) refl in
+      let hd = nodes-head w maxDepth 0 (span t) fs h in
+      let tl = family-tile w 0 (span t) 0 t (holds-left w 0 (family (span t) 0 t) [] hd) in
+      let tl′ : T (tile w 0 1 0 (length (entries t))) = subst (λ k. T (tile w 0 k 0 (length (entries t)))) one (subst (λ e. T (tile w 0 (span t) 0 e)) (zero-add (length (entries t))) tl) in
+      let b : born w (N# w) ≡ N# w = subst (λ k. born w k ≡ k) (zero-add (length (nodes maxDepth (span t) fs)) ∙ sym eN) (r .1) in
+      and-of (rootOk w (N# w) && all (nodeOk w) (range 0 (N# w))) (all (positionOk w) (range 0 (n# w)))
+      (and-of (rootOk w (N# w)) (all (nodeOk w) (range 0 (N# w))) (root-ok w (N# w) (length (entries t)) tl′ en b)
+      (all-of (nodeOk w) (range 0 (N# w)) (subst (Ok w 0) (sym eN) (r .0))))
+      (all-of (positionOk w) (range 0 (n# w)) (subst (λ k. Every (λ p. T (positionOk w p)) (range 0 k)) (sym en) ps))
+
+  -- WHAT ENCODE WRITES IS IN SHAPE
+  pub encode-shape : (c : ℕ) → Every (λ e. (e .0 < length (entries t)) × (e .1 ≤ maxDistance)) (entries t) → T (shapeOk (encode c m l t))
+  unfolding encode
+  encode-shape c ok =
+      let w : List ℕ = encode c m l t in
+      let H : List ℕ = 1 ∷ length (entries t) ∷ c ∷ m ∷ l ∷ length (numbered t) ∷ 1 ∷ 0 ∷ [] in
+      let B : List ℕ = each nodeWords (numbered t) in
+      let Z : List ℕ = each pairWords (entries t) in
+      written w refl refl refl refl (read-nodes (numbered t) H Z 0 refl)
+      (read-pairs (λ r s. T (ltb r (length (entries t)) && leb s maxDistance)) (entries t) (H ++ B) w 0 (append-assoc H B Z)
+      (omega (arith, length-append H B, each-words (numbered t)))
+      (every-of (λ e. (e .0 < length (entries t)) × (e .1 ≤ maxDistance)) (λ e. T (ltb (e .0) (length (entries t)) && leb (e .1) maxDistance))
+      (λ e h. and-of (ltb (e .0) (length (entries t))) (leb (e .1) maxDistance) (lt→ltb (e .0) (length (entries t)) (h .0)) (le→leb (e .1) maxDistance (h .1))) (entries t) ok))

@@ -1,0 +1,118 @@
+-- The cases of 01, The five-row table, as one table: those marked P, and ours where P would let a wrong reading pass. Assumes nothing.
+use Prim.Native.Nat.{ℕ}
+use Rattle.laws.specs.Lists.{each, range, same}
+use Rattle.laws.specs.Upto.{sumTo}
+use Rattle.limits.specs.Said.{tableFaults}
+use Rattle.measure.specs.Distance.{l1}
+use Rattle.measure.specs.Table.{between, from}
+use Rattle.tree.specs.Build.{build, choose, grow, split}
+use Rattle.tree.specs.Calls.{saidCheck}
+use Rattle.tree.specs.Check.{again, faults, strays, wrongDist, wrongRadius}
+use Rattle.tree.specs.Encode.{broods, encode, family, levelNodes, nodes, numbered, pairWords}
+use Rattle.tree.specs.Grove.{treeAt, treeOf}
+use Rattle.tree.specs.Homes.{homes, homesIn}
+use Rattle.tree.specs.Nearest.{answers, measured, nearHow, passes}
+use Rattle.tree.specs.Radius.{inside, marks, marksIn, radiusHow}
+use Rattle.words.specs.Calls.{indexFaults}
+use Rattle.words.specs.Image.{checkFrom, checkWord, rotate, step, window}
+use Rattle.words.specs.Shape.{born, level, nodeOk, shapeOk, tile}
+use Rattle.words.specs.Words.{N#, headerOk, n#, row#, wordsOk}
+use lib.Dec.{eqb}
+use lib.ListN.{length, set}
+use mathlib.Core.Bool.{Bool, _&&_}
+use mathlib.Core.List.{List, [], _∷_, map}
+
+-- every case has one column, m = 2 and l = 2
+abbrev pub five : List ℕ
+five = 0 ∷ 1 ∷ 10 ∷ 11 ∷ 20 ∷ []
+
+abbrev pub fiveWords : List ℕ
+fiveWords =
+    1 ∷ 5 ∷ 1 ∷ 2 ∷ 2 ∷ 5 ∷ 1 ∷ 0
+    ∷ 0 ∷ 5 ∷ 1 ∷ 20
+    ∷ 0 ∷ 3 ∷ 3 ∷ 10
+    ∷ 3 ∷ 2 ∷ 0 ∷ 9
+    ∷ 0 ∷ 2 ∷ 0 ∷ 1
+    ∷ 2 ∷ 1 ∷ 0 ∷ 0
+    ∷ 0 ∷ 0 ∷ 1 ∷ 1 ∷ 2 ∷ 0 ∷ 4 ∷ 0 ∷ 3 ∷ 9 ∷ []
+
+-- the same rows with 10 and 11 exchanged: row 3, at 11, stands with the centre 0 and is closer to 20
+abbrev pub strayWords : List ℕ
+strayWords =
+    1 ∷ 5 ∷ 1 ∷ 2 ∷ 2 ∷ 5 ∷ 1 ∷ 0
+    ∷ 0 ∷ 5 ∷ 1 ∷ 20
+    ∷ 0 ∷ 3 ∷ 3 ∷ 11
+    ∷ 3 ∷ 2 ∷ 0 ∷ 10
+    ∷ 0 ∷ 2 ∷ 0 ∷ 1
+    ∷ 2 ∷ 1 ∷ 0 ∷ 0
+    ∷ 0 ∷ 0 ∷ 1 ∷ 1 ∷ 3 ∷ 0 ∷ 4 ∷ 0 ∷ 2 ∷ 10 ∷ []
+
+pub data Case : Type 0 where
+  -- the table is built to these words, and the check accepts them
+  words : List ℕ → List ℕ → Case
+  -- the table is built to this order of rows and this N
+  order : List ℕ → List ℕ → ℕ → Case
+  -- in the table, query and r give these how-bytes, in and measured
+  radius : List ℕ → ℕ → ℕ → List ℕ → ℕ → ℕ → Case
+  -- in the table, query and w give these answers, and measured
+  nearest : List ℕ → ℕ → ℕ → List (ℕ × ℕ) → ℕ → Case
+  -- in the table, query and w give these how-bytes
+  near : List ℕ → ℕ → ℕ → List ℕ → Case
+  -- a block with this number, these words and zeros has this check word
+  block : ℕ → List ℕ → ℕ → Case
+  -- the check of these words for the five-row table gives a number and two places
+  check : List ℕ → ℕ → ℕ → ℕ → Case
+  -- a call's number is this one
+  number : ℕ → ℕ → Case
+
+unfoldable pub right : Case → Bool
+unfolding sumTo tableFaults l1 between from headerOk wordsOk born level tile nodeOk shapeOk indexFaults again wrongDist wrongRadius strays faults treeAt treeOf family broods levelNodes nodes numbered encode choose split grow build homesIn homes answers passes nearHow marksIn marks radiusHow rotate step checkFrom checkWord window saidCheck
+right (words T w) = same (build T 1 2 2) w && eqb (saidCheck T 1 w 30 .0) 0
+right (order T is N) = let w = build T 1 2 2 in same (map (row# w) (range 0 (n# w))) is && eqb (N# w) N
+right (radius T q r how i k) =
+    let h = radiusHow (from T 1 (q ∷ [])) r (length T) (treeOf (build T 1 2 2)) in
+    same h how && eqb (inside h) i && eqb (measured h) k
+right (nearest T q w as′ k) =
+    let x = from T 1 (q ∷ []) in
+    same (each pairWords (answers x (length T) w)) (each pairWords as′) && eqb (measured (nearHow x (length T) (treeOf (build T 1 2 2)) w)) k
+right (near T q w how) = same (nearHow (from T 1 (q ∷ [])) (length T) (treeOf (build T 1 2 2)) w) how
+right (block b ws s) = eqb (checkWord b (window ws 0 127)) s
+right (check w k p p′) = let s = saidCheck five 1 w 30 in eqb (s .0) k && eqb (s .1) p && eqb (s .2) p′
+right (number a b) = eqb a b
+
+-- the cases that 01 marks P
+abbrev pub marked : List Case
+marked =
+    words five fiveWords
+    ∷ radius five 9 1 (1 ∷ 0 ∷ 3 ∷ 0 ∷ 1 ∷ []) 1 3
+    ∷ radius five 0 20 (3 ∷ 2 ∷ 2 ∷ 2 ∷ 2 ∷ []) 5 1
+    ∷ radius five 10 5 (1 ∷ 0 ∷ 3 ∷ 3 ∷ 1 ∷ []) 2 4
+    ∷ nearest five 9 1 ((2, 1) ∷ []) 3
+    ∷ nearest five 9 2 ((2, 1) ∷ (3, 2) ∷ []) 4
+    ∷ nearest five 5 2 ((1, 4) ∷ (0, 5) ∷ []) 4
+    ∷ nearest five 9 9 ((2, 1) ∷ (3, 2) ∷ (1, 8) ∷ (0, 9) ∷ (4, 11) ∷ []) 5
+    ∷ order (7 ∷ 7 ∷ 7 ∷ 7 ∷ []) (0 ∷ 3 ∷ 2 ∷ 1 ∷ []) 5
+    ∷ block 0 [] 2_147_483_648
+    ∷ block 1 [] 1
+    ∷ words [] (1 ∷ 0 ∷ 1 ∷ 2 ∷ 2 ∷ 0 ∷ 1 ∷ 0 ∷ [])
+    ∷ block 0 (1 ∷ 0 ∷ 1 ∷ 2 ∷ 2 ∷ 0 ∷ 1 ∷ 0 ∷ []) 3_909_091_328
+    ∷ []
+
+-- ours: (x - y)/2 rounded down, a home bound equal to D left out, a stray, and each other fault of the check
+abbrev pub ours : List Case
+ours =
+    radius (4 ∷ 2 ∷ 2 ∷ 6 ∷ 7 ∷ []) 6 0 (1 ∷ 0 ∷ 0 ∷ 3 ∷ 1 ∷ []) 1 3
+    ∷ near (6 ∷ 9 ∷ 5 ∷ 3 ∷ 0 ∷ []) 10 1 (1 ∷ 3 ∷ 0 ∷ 0 ∷ 1 ∷ [])
+    ∷ near five 6 2 (1 ∷ 3 ∷ 3 ∷ 1 ∷ 1 ∷ [])
+    ∷ check strayWords 13 0 2
+    ∷ check (set fiveWords 0 2) 8 0 0
+    ∷ check (set fiveWords 1 4) 8 0 0
+    ∷ check (set fiveWords 5 4) 9 0 0
+    ∷ check (set fiveWords 8 1) 9 0 0
+    ∷ check (set fiveWords 10 0) 9 0 0
+    ∷ check (set fiveWords 13 2) 9 0 0
+    ∷ check (set fiveWords 28 5) 9 0 0
+    ∷ check (set fiveWords 30 0) 10 1 0
+    ∷ check (set fiveWords 31 2) 11 1 0
+    ∷ check (set fiveWords 11 19) 12 0 0
+    ∷ []

@@ -1,0 +1,63 @@
+-- A tree, numbered and written as index words: 01, The tree, the numbering and Index words. Assumes nothing.
+use Prim.Native.Nat.{_+_, suc, zero, ℕ}
+use Rattle.laws.specs.Lists.{each}
+use Rattle.limits.specs.Limits.{maxDepth}
+use Rattle.tree.specs.Grove.{Grove, bare, entries, firsts, fork, leaf}
+use lib.ListN.{length}
+use mathlib.Core.List.{List, [], _++_, _∷_}
+
+-- a node's words: start, count, first child's number, radius
+abbrev pub Node : Type 0
+Node = ℕ × ℕ × ℕ × ℕ
+
+abbrev pub nodeWords : Node → List ℕ
+nodeWords v = v .0 ∷ v .1 ∷ v .2 ∷ v .3 ∷ []
+
+-- a position's words: row number, distance
+abbrev pub pairWords : ℕ × ℕ → List ℕ
+pairWords e = e .0 ∷ e .1 ∷ []
+
+-- how many nodes stand side by side
+abbrev pub span : Grove → ℕ
+span g = length (firsts g)
+
+-- ---- level by level: the children of one node together, in the order of their parents
+-- nodes side by side from position s on; `next` is the number of the first child among their children
+unfoldable pub family : ℕ → ℕ → Grove → List Node
+family next s bare = []
+family next s (leaf R es g) = (s, length es, 0, R) ∷ family next (s + length es) g
+family next s (fork R ks g) = (s, length (entries ks), next, R) ∷ family (next + span ks) (s + length (entries ks)) g
+
+-- the families of their children, each with its position
+unfoldable pub broods : ℕ → Grove → List (ℕ × Grove)
+broods s bare = []
+broods s (leaf R es g) = broods (s + length es) g
+broods s (fork R ks g) = (s, ks) ∷ broods (s + length (entries ks)) g
+
+-- how many nodes some families have
+abbrev pub members : List (ℕ × Grove) → ℕ
+members [] = 0
+members (f ∷ fs) = span (f .1) + members fs
+
+-- the nodes of one level, family by family
+unfoldable pub levelNodes : ℕ → List (ℕ × Grove) → List Node
+levelNodes next [] = []
+levelNodes next (f ∷ fs) = family next (f .0) (f .1) ++ levelNodes (next + members (broods (f .0) (f .1))) fs
+
+-- the families of the next level
+abbrev pub below : List (ℕ × Grove) → List (ℕ × Grove)
+below fs = each (λ f. broods (f .0) (f .1)) fs
+
+-- the nodes of a level and of those below it
+unfoldable pub nodes : ℕ → ℕ → List (ℕ × Grove) → List Node
+nodes zero next fs = levelNodes next fs
+nodes (suc deep) next fs = levelNodes next fs ++ nodes deep (next + members (below fs)) (below fs)
+
+-- all nodes, in number order
+unfoldable pub numbered : Grove → List Node
+numbered t = nodes maxDepth (span t) ((0, t) ∷ [])
+
+-- the words: header, nodes, positions
+unfoldable pub encode : ℕ → ℕ → ℕ → Grove → List ℕ
+encode c m l t =
+    (1 ∷ length (entries t) ∷ c ∷ m ∷ l ∷ length (numbered t) ∷ 1 ∷ 0 ∷ []) ++ (each nodeWords (numbered t) ++ each pairWords (entries t))

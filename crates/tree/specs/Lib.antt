@@ -1,0 +1,9 @@
+pub mod Grove
+pub mod Encode
+pub mod Build
+pub mod Check
+pub mod Homes
+pub mod Nearest
+pub mod Radius
+pub mod Calls
+pub mod Cases

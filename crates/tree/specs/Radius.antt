@@ -1,0 +1,45 @@
+-- The radius search: 01, Which rows are measured, Radius. Over the distance x of each row from the query. Assumes nothing.
+use Prim.Native.Nat.{_+_, ℕ}
+use Rattle.laws.specs.Lists.{gap, head, look, range, rest, tally}
+use Rattle.tree.specs.Grove.{Grove, bare, first, firsts, fork, leaf, rowsIn}
+use Rattle.tree.specs.Homes.{childBound, nearestOf}
+use lib.Dec.{leb, ltb}
+use mathlib.Core.Bool.{cond}
+use mathlib.Core.List.{List, [], _++_, map}
+
+module _ (x : ℕ → ℕ) (r : ℕ) where
+  -- a measured row: 3 in, 1 out
+  abbrev pub byDistance : ℕ → ℕ
+  byDistance i = cond (leb (x i) r) 3 1
+
+  -- a row of an opened leaf whose first is f, by its stored distance: 0 out, 2 in, else it is measured
+  abbrev pub inLeaf : ℕ → ℕ × ℕ → ℕ
+  inLeaf f e = cond (ltb r (gap (x f) (e .1))) 0 (cond (leb (x f + e .1) r) 2 (byDistance (e .0)))
+
+  -- the marks of a node's rows but its first, which is at x: swept, closed or opened, in this order
+  abbrev pub visit : ℕ → ℕ → ℕ → List ℕ → List (ℕ × ℕ) → List (ℕ × ℕ)
+  visit x R b others opened = cond (leb (x + R) r) (map (λ i. (i, 2)) others) (cond (ltb r b) (map (λ i. (i, 0)) others) opened)
+
+  -- every row but the nodes' firsts, with its how-byte; β gives a node's bound. An opened inner node measures every centre.
+  unfoldable pub marksIn : (ℕ → ℕ → ℕ) → Grove → List (ℕ × ℕ)
+  marksIn β bare = []
+  marksIn β (leaf R es g) =
+      let f = head (map (λ e. e .0) es) in
+      visit (x f) R (β (x f) R) (rest (map (λ e. e .0) es)) (map (λ e. (e .0, inLeaf f e)) (rest es)) ++ marksIn β g
+  marksIn β (fork R ks g) =
+      let f = first ks in
+      visit (x f) R (β (x f) R) (rest (rowsIn ks))
+      (map (λ i. (i, byDistance i)) (rest (firsts ks)) ++ marksIn (childBound (β (x f) R) (nearestOf x ks)) ks)
+      ++ marksIn β g
+
+  -- the root's first is measured to begin with
+  unfoldable pub marks : Grove → List (ℕ × ℕ)
+  marks t = map (λ f. (f, byDistance f)) (firsts t) ++ marksIn (λ x R. 0) t
+
+  -- the how-bytes by row number
+  unfoldable pub radiusHow : ℕ → Grove → List ℕ
+  radiusHow n t = map (λ i. look i (marks t)) (range 0 n)
+
+-- how many rows are in
+abbrev pub inside : List ℕ → ℕ
+inside how = tally (leb 2) how
