@@ -7,6 +7,7 @@ pub mod Marks
 pub mod TwoRadius
 pub mod Sorted
 pub mod TwoNearest
+pub mod Answers
 pub mod Members
 pub mod Rows
 pub mod Fitting

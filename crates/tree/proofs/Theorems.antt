@@ -1,13 +1,14 @@
 -- The theorems on an index that the full check accepts, over any distance and any query. Assumes nothing.
 use Prim.Native.Nat.{_<_, _≤_, min, ℕ}
-use Rattle.laws.proofs.Every.{every-map}
+use Rattle.laws.proofs.Every.{Every, every-map}
 use Rattle.laws.proofs.Ranges.{at-every}
 use Rattle.laws.proofs.Times.{lefts, look-every, look-fact}
-use Rattle.laws.specs.Lists.{has, keep, look, range, times}
+use Rattle.laws.specs.Lists.{has, keep, look, range, same, times}
 use Rattle.measure.specs.Distance.{l1}
 use Rattle.measure.specs.Space.{Point}
 use Rattle.measure.specs.Table.{from, row}
 use Rattle.tree.proofs.Accepted.{each-once, once-of, shape-of, sound-tree}
+use Rattle.tree.proofs.Answers.{answers-length, answers-same, near-at, passes-all, passes-near}
 use Rattle.tree.proofs.Exact.{Exact, marks-exact}
 use Rattle.tree.proofs.Grow.{times-every}
 use Rattle.tree.proofs.Homes.{homes-rows}
@@ -15,17 +16,17 @@ use Rattle.tree.proofs.Marks.{how-at, marks-rows}
 use Rattle.tree.proofs.Rows.{full-tree, rows-low, rows-once}
 use Rattle.tree.proofs.Sorted.{best-of}
 use Rattle.tree.proofs.Sound.{homes-below}
-use Rattle.tree.proofs.TwoNearest.{in-upTo}
+use Rattle.tree.proofs.TwoNearest.{AgreeUpTo, in-upTo, same-best, same-homes, same-own}
 use Rattle.tree.proofs.TwoRadius.{Agree, same-marks}
 use Rattle.tree.specs.Check.{Accepted}
-use Rattle.tree.specs.Grove.{rowsIn, treeOf}
+use Rattle.tree.specs.Grove.{Grove, rowsIn, treeOf}
 use Rattle.tree.specs.Homes.{homes}
-use Rattle.tree.specs.Nearest.{Own, answers, best, candidates, isMeasured, lastDistance, nearHow, rowsUpTo, sort}
+use Rattle.tree.specs.Nearest.{Own, answers, best, candidates, isMeasured, lastDistance, nearHow, passes, rowsUpTo, sort}
 use Rattle.tree.specs.Radius.{marks, radiusHow}
 use Rattle.words.specs.Words.{n#}
 use lib.Dec.{T}
-use lib.ListN.{getD, take}
-use mathlib.Core.Bool.{Bool, true}
+use lib.ListN.{getD, length, take}
+use mathlib.Core.Bool.{Bool, cond, false, true}
 use mathlib.Core.List.{List, map}
 use mathlib.Core.Logic.{_↔_}
 use mathlib.Core.Path.{_∙_, _≡_, ap, subst, sym}
@@ -91,13 +92,41 @@ module _ (d : ℕ → ℕ → ℕ) (w : List ℕ) (A : Accepted d w) where
         let h = row-low i (omega (arith, marks-rows x r i (treeOf w) (full-tree w (shape-of d w A)))) in
         agree i h (subst (λ v. T (isMeasured v)) (sym (how-at x r (n# w) (treeOf w) i h)) m))))
 
+    -- a row that passes is measured
+    near-measured : (k i : ℕ) → i < n# w → passes x (n# w) k (look i (homes x (treeOf w))) ≡ true
+        → T (isMeasured (getD (nearHow x (n# w) (treeOf w) k) i 0))
+    near-measured k i h e = subst (λ v. T (isMeasured v)) (sym (near-at x (n# w) (treeOf w) k i h)) (go (has i (lefts (answers x (n# w) k))))
+      where
+        go : (a : Bool) → T (isMeasured (cond a 3 (cond (passes x (n# w) k (look i (homes x (treeOf w)))) 1 0)))
+        go true = tt
+        go false = rw e tt
+
     -- NEAREST: WHERE THE TABLES AGREE IN EVERY MEASURED ROW, THE OTHER ONE'S FIRST k OF THE SAME ROWS ARE THE ANSWERS, AND D IS ITS OWN
-    pub nearest-two-tables : Point d x → (k : ℕ) → 1 ≤ k → k ≤ n# w
+    pub nearest-two-tables : Point d x → (k : ℕ) → k ≤ n# w
         → ((i : ℕ) → i < n# w → T (isMeasured (getD (nearHow x (n# w) (treeOf w) k) i 0)) → x i ≡ y i)
         → (rowsUpTo y (treeOf w) (lastDistance (answers x (n# w) k)) ≡ rowsUpTo x (treeOf w) (lastDistance (answers x (n# w) k)))
         × (best y (n# w) (treeOf w) k (lastDistance (answers x (n# w) k)) ≡ answers x (n# w) k)
         × Own y (n# w) (treeOf w) k (lastDistance (answers x (n# w) k))
-    nearest-two-tables P k h1 h agree = ?
+    nearest-two-tables P k h agree =
+        let t : Grove = treeOf w in
+        let D : ℕ = lastDistance (answers x (n# w) k) in
+        let own : best x (n# w) t k D ≡ answers x (n# w) k = nearest-own x P k h in
+        let same : Every (AgreeUpTo x y D) (homes x t) =
+        look-every (AgreeUpTo x y D) (homes x t) (homes-once x)
+        (λ i c b.
+        let low = row-low i (omega (arith, homes-rows x i t (full-tree w (shape-of d w A)))) in
+        agree i low (near-measured k i low (passes-near x (n# w) k (look i (homes x t)) b))) in (
+          ap lefts (sym (same-homes x y D t same)),
+          sym (same-best x y D (n# w) t k same) ∙ own,
+          same-own x y D (n# w) t k same (record { enough = ap length own ∙ answers-length x (n# w) k h; reached = ap lastDistance own }),
+        )
+
+    -- with more wanted than there are rows every row is measured, and so the tables are one
+    pub nearest-two-tables-all : (k : ℕ) → n# w < k
+        → ((i : ℕ) → i < n# w → T (isMeasured (getD (nearHow x (n# w) (treeOf w) k) i 0)) → x i ≡ y i)
+        → answers x (n# w) k ≡ answers y (n# w) k
+    nearest-two-tables-all k h agree =
+        answers-same x y (n# w) k (at-every (λ i. x i ≡ y i) (n# w) (λ i low. agree i low (near-measured k i low (passes-all x (n# w) k (look i (homes x (treeOf w))) h))))
 
 -- ---- in words of tables
 -- rows that are equal are equally far from a query
