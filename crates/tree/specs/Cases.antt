@@ -18,7 +18,7 @@ use Rattle.words.specs.Image.{checkFrom, checkWord, rotate, step, window}
 use Rattle.words.specs.Shape.{born, level, nodeOk, shapeOk, tile}
 use Rattle.words.specs.Words.{N#, headerOk, n#, row#, wordsOk}
 use lib.Dec.{eqb}
-use lib.ListN.{length, set}
+use lib.ListN.{length, set, take}
 use mathlib.Core.Bool.{Bool, _&&_}
 use mathlib.Core.List.{List, [], _∷_, map}
 
@@ -62,11 +62,14 @@ pub data Case : Type 0 where
   block : ℕ → List ℕ → ℕ → Case
   -- the check of these words for the five-row table gives a number and two places
   check : List ℕ → ℕ → ℕ → ℕ → Case
-  -- a call's number is this one
-  number : ℕ → ℕ → Case
+  -- for the five-row table: the number of a build with c, m, l, room and workspace
+  buildSays : ℕ → ℕ → ℕ → ℕ → ℕ → ℕ → Case
+  -- of a radius search with these words and query, and of a nearest search that wants so many, by what they are lent
+  radiusSays : List ℕ → List ℕ → ℕ → ℕ → Case
+  nearestSays : List ℕ → List ℕ → ℕ → ℕ → ℕ → ℕ → ℕ → Case
 
 unfoldable pub right : Case → Bool
-unfolding sumTo tableFaults l1 between from headerOk wordsOk born level tile nodeOk shapeOk indexFaults again wrongDist wrongRadius strays faults treeAt treeOf family broods levelNodes nodes numbered encode choose split grow build homesIn homes answers passes nearHow marksIn marks radiusHow rotate step checkFrom checkWord window saidCheck
+unfolding sumTo tableFaults l1 between from headerOk wordsOk born level tile nodeOk shapeOk indexFaults again wrongDist wrongRadius strays faults treeAt treeOf family broods levelNodes nodes numbered encode choose split grow build homesIn homes answers passes nearHow marksIn marks radiusHow rotate step checkFrom checkWord window saidBuild saidCheck saidRadius saidNearest
 right (words T w) = same (build T 1 2 2) w && eqb (saidCheck T 1 w 30 .0) 0
 right (order T is N) = let w = build T 1 2 2 in same (map (row# w) (range 0 (n# w))) is && eqb (N# w) N
 right (radius T q r how i k) =
@@ -78,7 +81,9 @@ right (nearest T q w as′ k) =
 right (near T q w how) = same (nearHow (from T 1 (q ∷ [])) (length T) (treeOf (build T 1 2 2)) w) how
 right (block b ws s) = eqb (checkWord b (window ws 0 127)) s
 right (check w k p p′) = let s = saidCheck five 1 w 30 in eqb (s .0) k && eqb (s .1) p && eqb (s .2) p′
-right (number a b) = eqb a b
+right (buildSays c m l room work k) = eqb (saidBuild five c m l room work .0) k
+right (radiusSays w q how k) = eqb (saidRadius five 1 w q how .0) k
+right (nearestSays w q wanted room how work k) = eqb (saidNearest five 1 w q wanted room how work .0) k
 
 -- the cases that 01 marks P
 abbrev pub marked : List Case
@@ -98,7 +103,7 @@ marked =
     ∷ block 0 (1 ∷ 0 ∷ 1 ∷ 2 ∷ 2 ∷ 0 ∷ 1 ∷ 0 ∷ []) 3_909_091_328
     ∷ []
 
--- ours: (x - y)/2 rounded down, a home bound equal to D left out, a stray, and each other fault of the check
+-- ours: (x - y)/2 rounded down, a home bound equal to D left out, a stray, each other fault of the check, and each refusal of a call
 abbrev pub ours : List Case
 ours =
     radius (4 ∷ 2 ∷ 2 ∷ 6 ∷ 7 ∷ []) 6 0 (1 ∷ 0 ∷ 0 ∷ 3 ∷ 1 ∷ []) 1 3
@@ -115,4 +120,19 @@ ours =
     ∷ check (set fiveWords 30 0) 10 1 0
     ∷ check (set fiveWords 31 2) 11 1 0
     ∷ check (set fiveWords 11 19) 12 0 0
+    ∷ buildSays 17 2 1 0 0 1
+    ∷ buildSays 1 2 1 0 0 2
+    ∷ buildSays 2 2 2 0 0 3
+    ∷ buildSays 1 2 2 57 30 5
+    ∷ buildSays 1 2 2 58 29 5
+    ∷ buildSays 1 2 2 58 30 0
+    ∷ radiusSays fiveWords (9 ∷ []) 4 5
+    ∷ radiusSays fiveWords [] 5 6
+    ∷ radiusSays (take 37 fiveWords) (9 ∷ []) 5 8
+    ∷ radiusSays (set fiveWords 9 4) (9 ∷ []) 5 9
+    ∷ radiusSays fiveWords (9 ∷ []) 5 0
+    ∷ nearestSays fiveWords (9 ∷ []) 2 1 5 30 5
+    ∷ nearestSays fiveWords [] 0 0 5 30 6
+    ∷ nearestSays fiveWords (9 ∷ []) 0 0 5 30 7
+    ∷ nearestSays fiveWords (9 ∷ []) 9 5 5 30 0
     ∷ []
