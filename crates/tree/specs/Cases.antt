@@ -6,7 +6,7 @@ use Rattle.limits.specs.Said.{tableFaults}
 use Rattle.measure.specs.Distance.{l1}
 use Rattle.measure.specs.Table.{between, from}
 use Rattle.tree.specs.Build.{build, choose, grow, split}
-use Rattle.tree.specs.Calls.{saidCheck}
+use Rattle.tree.specs.Calls.{saidBuild, saidCheck, saidNearest, saidRadius}
 use Rattle.tree.specs.Check.{again, faults, strays, wrongDist, wrongRadius}
 use Rattle.tree.specs.Encode.{broods, encode, family, levelNodes, nodes, numbered, pairWords}
 use Rattle.tree.specs.Grove.{treeAt, treeOf}
