@@ -4,5 +4,6 @@ pub mod Every
 pub mod Ranges
 pub mod Empty
 pub mod Times
+pub mod Shares
 pub mod Pigeon
 pub mod Upto

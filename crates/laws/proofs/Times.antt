@@ -2,7 +2,7 @@
 use Prim.Native.Nat.{_+_, _<_, _≤_, suc, zero, ℕ}
 use Rattle.laws.proofs.Every.{Every}
 use Rattle.laws.proofs.Lists.{map-append, tally-append}
-use Rattle.laws.specs.Lists.{any, head, look, range, rest, times}
+use Rattle.laws.specs.Lists.{any, head, look, range, rest, tally, times}
 use borrow.Author.Tests.{eq-eqb, eqb-true}
 use lib.Dec.{T, eqb}
 use lib.ListN.{length}
@@ -20,8 +20,8 @@ pub times-split : (i : ℕ) (xs : List ℕ) → 1 ≤ length xs → times i xs �
 times-split i [] h = absurd (not-suc-le-zero h)
 times-split i (x ∷ xs) h = omega arith
 
-pub times-lefts : {B : Type 0} (i : ℕ) (xs ys : List (ℕ × B)) → times i (lefts (xs ++ ys)) ≡ times i (lefts xs) + times i (lefts ys)
-times-lefts i xs ys = rw (map-append, tally-append)
+pub tally-lefts : {B : Type 0} (f : ℕ → Bool) (xs ys : List (ℕ × B)) → tally f (lefts (xs ++ ys)) ≡ tally f (lefts xs) + tally f (lefts ys)
+tally-lefts f xs ys = rw (map-append, tally-append)
 
 -- not there exactly if it stands there 0 times
 pub not-any : (i : ℕ) (xs : List ℕ) → any (eqb i) xs ≡ false → times i xs ≡ 0
@@ -61,6 +61,14 @@ times-every P (x ∷ xs) h i k = go (λ q. times-every P xs (h .1) i q) (eqb i x
     go : (1 ≤ times i xs → P i) → (b : Bool) → eqb i x ≡ b → 1 ≤ cond b 1 0 + times i xs → P i
     go f true e k = subst P (sym (eqb-true i x e)) (h .0)
     go f false e k = f (omega arith)
+
+pub every-times : (P : ℕ → Type 0) (xs : List ℕ) → ((i : ℕ) → 1 ≤ times i xs → P i) → Every P xs
+every-times P [] f = tt
+every-times P (x ∷ xs) f = (f x (rw (eq-eqb x x refl) (omega arith)), every-times P xs (λ i k. f i (omega arith)))
+
+-- the same rows, in another order
+pub every-same : (P : ℕ → Type 0) (xs ys : List ℕ) → ((i : ℕ) → times i ys ≡ times i xs) → Every P xs → Every P ys
+every-same P xs ys e h = every-times P ys (λ i k. times-every P xs h i (omega (arith, e i)))
 
 -- a fact of every pair holds of what is looked up
 pub look-fact : (P : ℕ × ℕ → Type 0) (i : ℕ) (ms : List (ℕ × ℕ)) → Every P ms → 1 ≤ times i (lefts ms) → P (i, look i ms)

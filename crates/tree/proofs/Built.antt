@@ -4,15 +4,16 @@ use Rattle.laws.proofs.Every.{Every, every-all, every-append, every-map}
 use Rattle.laws.proofs.Lists.{tally-length}
 use Rattle.laws.proofs.Ranges.{range-every, range-length}
 use Rattle.laws.proofs.Tests.{and-r, holds}
-use Rattle.laws.proofs.Times.{range-times}
+use Rattle.laws.proofs.Times.{every-same, range-times}
 use Rattle.laws.specs.Lists.{head, range, same, tally}
 use Rattle.limits.proofs.Numbers.{one}
 use Rattle.limits.specs.Limits.{columnsOk, maxColumns, maxDepth, maxDistance, maxRows, shareOk}
 use Rattle.measure.proofs.Metric.{between-most, metric}
+use Rattle.measure.specs.Space.{Space}
 use Rattle.measure.specs.Table.{between, rowsOf}
 use Rattle.tree.proofs.Full.{Full}
 use Rattle.tree.proofs.Good.{Good, empty-accepted, encode-accepted, share-is}
-use Rattle.tree.proofs.Grow.{Run, every-same, forest-span, grown-even, grown-fine, grown-span, grown-tally, split-length, split-runs}
+use Rattle.tree.proofs.Grow.{Run, forest-span, grown-even, grown-fine, grown-span, grown-tally, split-length, split-runs}
 use Rattle.tree.proofs.Grown.{grown-sound}
 use Rattle.tree.specs.Build.{build, grow, leafOf, plant, radius, split}
 use Rattle.tree.specs.Check.{Accepted}
@@ -27,7 +28,7 @@ use mathlib.Core.Path.{_∙_, _≡_, refl, subst, sym}
 use native.Mathlib.Nat.{add-zero, zero-add}
 use native.Mathlib.Omega.{arith}
 
-module _ (d : ℕ → ℕ → ℕ) (self : (i : ℕ) → d i i ≡ 0) (D : (i j : ℕ) → d i j ≤ maxDistance) (m l : ℕ) (m1 : 1 ≤ m) (ml : m ≤ l) where
+module _ (d : ℕ → ℕ → ℕ) (S : Space d) (D : (i j : ℕ) → d i j ≤ maxDistance) (m l : ℕ) (m1 : 1 ≤ m) (ml : m ≤ l) where
   grown-full : (deep : ℕ) (run : List ℕ) (g : Grove) → Run run → Full g → Full (grow d m l deep run g)
   unfolding grow
   grown-full zero run g r h = (rw length-map (r .0), h)
@@ -74,7 +75,7 @@ module _ (d : ℕ → ℕ → ℕ) (self : (i : ℕ) → d i i ≡ 0) (D : (i j 
       let same : (f : ℕ → Bool) → tally f (rowsIn t) ≡ tally f run = λ f. grown-tally d m l m1 ml maxDepth f run bare r ∙ add-zero (tally f run) in
       let len : length (entries t) ≡ suc n =
       sym (length-map (entries t) (λ e. e .0)) ∙ sym (tally-length (rowsIn t)) ∙ same (λ i. true) ∙ tally-length run ∙ range-length 0 (suc n) in
-      let st = grown-sound d self m l m1 ml maxDepth run bare r (tt, tt) in (
+      let st = grown-sound d (S .self) m l m1 ml maxDepth run bare r (tt, tt) in (
         len,
         record {
           one = grown-span d m l m1 ml maxDepth run bare;
@@ -103,5 +104,5 @@ build-accepted T c m l hc hs hn small = go (rowsOf T c) hn
     go zero h = empty-accepted (between T c) c m l hc hs
     go (suc n) h =
         let s = share-is m l hs in
-        let p = planted (between T c) (metric T c .self) (between-most T c few small) m l (omega arith) (s .1) n in
+        let p = planted (between T c) (metric T c) (between-most T c few small) m l (omega arith) (s .1) n in
         encode-accepted (between T c) c m l (plant (between T c) m l (suc n)) hc hs (omega (arith, p .0)) (p .1)

@@ -1,35 +1,24 @@
 -- The tree that the build grows is well made. Assumes nothing.
 use Prim.Native.Nat.{_+_, _-_, _≤_, suc, zero, ℕ}
 use Rattle.laws.proofs.Every.{Every, every-all, every-both, every-map, every-of}
-use Rattle.laws.proofs.Lists.{map-append, map-id, paired, tally-append, tally-length}
-use Rattle.laws.specs.Lists.{each, greatest, head, keep, rest, tally, times, without}
+use Rattle.laws.proofs.Lists.{map-id, paired, tally-append, tally-length}
+use Rattle.laws.proofs.Shares.{every-∀, heads-tally, joined, part-times, share, tally-split, without-tally}
+use Rattle.laws.proofs.Times.{tally-lefts}
+use Rattle.laws.specs.Lists.{greatest, head, keep, rest, tally, times, without}
 use Rattle.limits.proofs.Numbers.{one}
 use Rattle.limits.specs.Limits.{maxDistance}
 use Rattle.tree.proofs.Encode.{Even, Fine}
 use Rattle.tree.specs.Build.{choose, closest, farthest, grow, leafOf, nearness, radius, split}
 use Rattle.tree.specs.Encode.{span}
 use Rattle.tree.specs.Grove.{Grove, bare, entries, fork, rowsIn}
-use borrow.Author.Tests.{eq-eqb, eqb-true, leb-false, leb-true}
+use borrow.Author.Tests.{eq-eqb, leb-false, leb-true}
 use lib.Dec.{T, eqb, leb, ltb}
 use lib.ListN.{length, length-append, length-map}
 use mathlib.Core.Bool.{Bool, _&&_, _||_, cond, false, true}
 use mathlib.Core.List.{List, [], _++_, _∷_, foldr, map}
-use mathlib.Core.Path.{_∙_, _≡_, ap, ap₂, refl, subst, sym}
+use mathlib.Core.Path.{_∙_, _≡_, ap, refl, sym}
 use native.Mathlib.Nat.{not-suc-le-zero}
 use native.Mathlib.Omega.{arith}
-
-abbrev pub bit : Bool → ℕ
-bit b = cond b 1 0
-
--- removing an element that is there
-without-tally : (f : ℕ → Bool) (i : ℕ) (xs : List ℕ) → 1 ≤ times i xs → tally f xs ≡ bit (f i) + tally f (without i xs)
-without-tally f i [] h = absurd (not-suc-le-zero h)
-without-tally f i (x ∷ xs) h = go (λ q. without-tally f i xs q) (eqb i x) refl h
-  where
-    go : (1 ≤ times i xs → tally f xs ≡ bit (f i) + tally f (without i xs)) → (b : Bool) → eqb i x ≡ b → 1 ≤ bit b + times i xs
-        → bit (f x) + tally f xs ≡ bit (f i) + tally f (cond b xs (x ∷ without i xs))
-    go ih true e h = ap (λ k. bit (f k) + tally f xs) (sym (eqb-true i x e))
-    go ih false e h = omega (arith, ih (omega arith))
 
 module _ (d : ℕ → ℕ → ℕ) where
   -- the farthest is one of them
@@ -76,7 +65,7 @@ module _ (d : ℕ → ℕ → ℕ) where
       go true q = rw (eq-eqb a a refl) (omega arith)
       go false q = omega arith
 
-  -- ".. and as close as any"
+  -- and none of them is closer
   pub closest-least : (cs : List ℕ) (i : ℕ) → Every (λ c. d (closest d cs i) i ≤ d c i) cs
   closest-least [] i = tt
   closest-least (a ∷ []) i = (omega arith, tt)
@@ -89,88 +78,13 @@ module _ (d : ℕ → ℕ → ℕ) where
       go true e h = (omega arith, every-of (λ c. d k i ≤ d c i) (λ c. d a i ≤ d c i) (λ c q. omega (arith, leb-true (d a i) (d k i) e)) (b ∷ cs) h)
       go false e h = (omega (arith, leb-false (d a i) (d k i) e), h)
 
--- sharing rows out by a key, each key being once among the keys
-share-cons : (f : ℕ → Bool) (κ : ℕ → ℕ) (i : ℕ) (is cs : List ℕ)
-    → tally f (each (λ a. keep (λ j. eqb (κ j) a) (i ∷ is)) cs) ≡ cond (f i) (times (κ i) cs) 0 + tally f (each (λ a. keep (λ j. eqb (κ j) a) is) cs)
-share-cons f κ i is [] = go (f i)
-  where
-    go : (b : Bool) → 0 ≡ cond b 0 0 + 0
-    go true = omega arith
-    go false = omega arith
-share-cons f κ i is (c ∷ cs) =
-    let A : List ℕ = keep (λ j. eqb (κ j) c) is in
-    let B : List ℕ = each (λ a. keep (λ j. eqb (κ j) a) (i ∷ is)) cs in
-    let B′ : List ℕ = each (λ a. keep (λ j. eqb (κ j) a) is) cs in
-    tally-append f (cond (eqb (κ i) c) (i ∷ A) A) B
-    ∙ go (eqb (κ i) c) (f i) refl A (tally f B) (tally f B′) (share-cons f κ i is cs)
-    ∙ ap (λ n. cond (f i) (bit (eqb (κ i) c) + times (κ i) cs) 0 + n) (sym (tally-append f A B′))
-  where
-    go : (s b : Bool) → f i ≡ b → (A : List ℕ) (n n′ : ℕ) → n ≡ cond (f i) (times (κ i) cs) 0 + n′
-        → tally f (cond s (i ∷ A) A) + n ≡ cond (f i) (bit s + times (κ i) cs) 0 + (tally f A + n′)
-    go true true e A n n′ h = rw e (omega (arith, rw e at h))
-    go true false e A n n′ h = rw e (omega (arith, rw e at h))
-    go false true e A n n′ h = rw e (omega (arith, rw e at h))
-    go false false e A n n′ h = rw e (omega (arith, rw e at h))
-
-pub share : (f : ℕ → Bool) (κ : ℕ → ℕ) (is cs : List ℕ) → ((i : ℕ) → times (κ i) cs ≡ 1) → tally f (each (λ a. keep (λ j. eqb (κ j) a) is) cs) ≡ tally f is
-share f κ [] cs h = none cs
-  where
-    none : (cs : List ℕ) → tally f (each (λ a. keep (λ j. eqb (κ j) a) []) cs) ≡ 0
-    none [] = refl
-    none (c ∷ cs) = none cs
-share f κ (i ∷ is) cs h = share-cons f κ i is cs ∙ ap₂ (λ a b. cond (f i) a 0 + b) (h i) (share f κ is cs h)
-
--- a fact of all rows, by how often they stand there
-pub times-every : (P : ℕ → Type 0) (xs : List ℕ) → Every P xs → (i : ℕ) → 1 ≤ times i xs → P i
-times-every P [] h i k = absurd (not-suc-le-zero k)
-times-every P (x ∷ xs) h i k = go (λ q. times-every P xs (h .1) i q) (eqb i x) refl k
-  where
-    go : (1 ≤ times i xs → P i) → (b : Bool) → eqb i x ≡ b → 1 ≤ bit b + times i xs → P i
-    go f true e k = subst P (sym (eqb-true i x e)) (h .0)
-    go f false e k = f (omega arith)
-
-pub every-times : (P : ℕ → Type 0) (xs : List ℕ) → ((i : ℕ) → 1 ≤ times i xs → P i) → Every P xs
-every-times P [] f = tt
-every-times P (x ∷ xs) f = (f x (rw (eq-eqb x x refl) (omega arith)), every-times P xs (λ i k. f i (omega arith)))
-
--- the same rows, in another order
-pub every-same : (P : ℕ → Type 0) (xs ys : List ℕ) → ((i : ℕ) → times i ys ≡ times i xs) → Every P xs → Every P ys
-every-same P xs ys e h = every-times P ys (λ i k. times-every P xs h i (omega (arith, e i)))
-
 -- a run: not empty, no row twice
 abbrev pub Run : List ℕ → Type 0
 Run r = (1 ≤ length r) × ((i : ℕ) → times i r ≤ 1)
 
-tally-split : (f : ℕ → Bool) (xs : List ℕ) → 1 ≤ length xs → tally f (head xs ∷ []) + tally f (rest xs) ≡ tally f xs
-tally-split f [] h = absurd (not-suc-le-zero h)
-tally-split f (x ∷ xs) h = omega arith
-
--- the rows of all the runs
-abbrev pub joined : List (List ℕ) → List ℕ
-joined gs = each (λ r. r) gs
-
-heads-tally : (f : ℕ → Bool) (K : ℕ → List ℕ) (cs : List ℕ) → tally f (joined (map (λ a. a ∷ K a) cs)) ≡ tally f cs + tally f (each K cs)
-heads-tally f K [] = refl
-heads-tally f K (c ∷ cs) =
-    omega (arith, heads-tally f K cs, tally-append f (c ∷ K c) (joined (map (λ a. a ∷ K a) cs)), tally-append f (K c) (each K cs))
-
-part-times : (i : ℕ) (gs : List (List ℕ)) → Every (λ r. times i r ≤ times i (joined gs)) gs
-part-times i [] = tt
-part-times i (r ∷ gs) = (
-  omega (arith, tally-append (eqb i) r (joined gs)),
-  every-of (λ q. times i q ≤ times i (joined gs)) (λ q. times i q ≤ times i (joined (r ∷ gs))) (λ q h. omega (arith, tally-append (eqb i) r (joined gs))) gs (part-times i gs),
-)
-
-every-∀ : (P : List ℕ → ℕ → Type 0) (gs : List (List ℕ)) → ((i : ℕ) → Every (λ r. P r i) gs) → Every (λ r. (i : ℕ) → P r i) gs
-every-∀ P [] f = tt
-every-∀ P (r ∷ gs) f = ((λ i. (f i) .0), every-∀ P gs (λ i. (f i) .1))
-
-rows-tally : (f : ℕ → Bool) (es fs : List (ℕ × ℕ)) → tally f (map (λ e. e .0) (es ++ fs)) ≡ tally f (map (λ e. e .0) es) + tally f (map (λ e. e .0) fs)
-rows-tally f es fs = rw (map-append, tally-append)
-
 leaf-tally : (d : ℕ → ℕ → ℕ) (f : ℕ → Bool) (run : List ℕ) (g : Grove) → tally f (rowsIn (leafOf d run g)) ≡ tally f run + tally f (rowsIn g)
 leaf-tally d f run g =
-    rows-tally f (map (λ i. (i, d (head run) i)) run) (entries g)
+    tally-lefts f (map (λ i. (i, d (head run) i)) run) (entries g)
     ∙ ap (λ is. tally f is + tally f (rowsIn g)) (paired (λ i. i) (d (head run)) run ∙ map-id run)
 
 pub greatest-under : (b : ℕ) (xs : List ℕ) → Every (λ a. a ≤ b) xs → greatest xs ≤ b
@@ -260,7 +174,7 @@ module _ (d : ℕ → ℕ → ℕ) (m l : ℕ) (m1 : 1 ≤ m) (ml : m ≤ l) whe
       go ih false e =
           let k : m ≤ length run = omega (arith, leb-false (length run) l e) in
           let ks : Grove = foldr (grow d m l deep) bare (split d m run) in
-          omega (arith, rows-tally f (entries ks) (entries g), forest ih (split d m run) (split-runs run r k), split-tally f run r k)
+          omega (arith, tally-lefts f (entries ks) (entries g), forest ih (split d m run) (split-runs run r k), split-tally f run r k)
 
   pub forest-tally : (deep : ℕ) (f : ℕ → Bool) (gs : List (List ℕ)) → Every Run gs → tally f (rowsIn (foldr (grow d m l deep) bare gs)) ≡ tally f (joined gs)
   forest-tally deep f [] h = refl

@@ -2,14 +2,14 @@
 use Prim.Native.Nat.{_+_, _<_, ℕ}
 use Rattle.laws.proofs.Lists.{map-append, map-id, paired, tally-append}
 use Rattle.laws.proofs.Ranges.{getD-range}
-use Rattle.laws.proofs.Times.{lefts, times-lefts, times-split}
+use Rattle.laws.proofs.Times.{lefts, tally-lefts, times-split}
 use Rattle.laws.specs.Lists.{look, rest, times}
 use Rattle.tree.proofs.Full.{Full, first-row}
 use Rattle.tree.specs.Encode.{below}
 use Rattle.tree.specs.Grove.{Grove, bare, entries, first, firsts, fork, leaf, rowsIn}
 use Rattle.tree.specs.Homes.{childBound, nearestOf}
 use Rattle.tree.specs.Radius.{byDistance, inLeaf, marks, marksIn, radiusHow, visit}
-use lib.Dec.{leb, ltb}
+use lib.Dec.{eqb, leb, ltb}
 use lib.ListN.{getD}
 use mathlib.Core.Bool.{Bool, cond, false, true}
 use mathlib.Core.List.{List, [], _++_, _∷_, map}
@@ -37,10 +37,10 @@ module _ (x : ℕ → ℕ) (r : ℕ) where
       let opened : List (ℕ × ℕ) = map (λ e. (e .0, inLeaf x r f e)) es in
       omega (
         arith,
-        times-lefts i (visit x r (x f) R (β (x f) R) (lefts es) opened) (marksIn x r β g),
+        tally-lefts (eqb i) (visit x r (x f) R (β (x f) R) (lefts es) opened) (marksIn x r β g),
         visit-rows i (x f) R (β (x f) R) (lefts es) opened (ap (times i) (paired (λ e. e .0) (inLeaf x r f) es)),
         marksIn-rows i β g (w .1),
-        times-lefts i es (entries g),
+        tally-lefts (eqb i) es (entries g),
       )
   marksIn-rows i β (fork R ks g) w =
       let f : ℕ = first ks in
@@ -51,7 +51,7 @@ module _ (x : ℕ → ℕ) (r : ℕ) where
       let opens : times i (map (λ p. p .0) (centres ++ below)) ≡ times i (rest (rowsIn ks)) =
       omega (
         arith,
-        times-lefts i centres below,
+        tally-lefts (eqb i) centres below,
         ap (times i) (paired (λ i. i) (byDistance x r) (rest (firsts ks)) ∙ map-id (rest (firsts ks))),
         marksIn-rows i (childBound b (nearestOf x ks)) ks (w .1),
         times-split i (firsts ks) (w .0),
@@ -60,10 +60,10 @@ module _ (x : ℕ → ℕ) (r : ℕ) where
       ) in
       omega (
         arith,
-        times-lefts i (visit x r (x f) R b (rest (rowsIn ks)) (centres ++ below)) (marksIn x r β g),
+        tally-lefts (eqb i) (visit x r (x f) R b (rest (rowsIn ks)) (centres ++ below)) (marksIn x r β g),
         visit-rows i (x f) R b (rest (rowsIn ks)) (centres ++ below) opens,
         marksIn-rows i β g (w .2),
-        times-lefts i (entries ks) (entries g),
+        tally-lefts (eqb i) (entries ks) (entries g),
         times-split i (rowsIn ks) (s .0),
         ap (λ k. times i (k ∷ [])) (s .1),
       )

@@ -1,4 +1,4 @@
--- The nearest search: the w best of the rows whose home bound is at most D are the w best of all. Assumes nothing.
+-- Answers in order: sorted lists, and a test that the first w pass may be put before the sorting. Assumes nothing.
 use Prim.Native.Nat.{_≤_, suc, zero, ℕ}
 use Rattle.laws.proofs.Every.{Every, every-both, every-keep, every-of, every-take}
 use Rattle.laws.specs.Lists.{keep}
@@ -11,7 +11,7 @@ use mathlib.Core.List.{List, [], _∷_}
 use mathlib.Core.Path.{_∙_, _≡_, ap, ap₂, refl, subst, sym}
 use native.Mathlib.Omega.{arith}
 
--- "ordered by distance, then row number"
+-- the order of answers, as a fact: by distance, and of equals by row number
 abbrev pub Le : ℕ × ℕ → ℕ × ℕ → Type 0
 Le a b = (a .1 ≤ b .1) × (a .1 ≡ b .1 → a .0 ≤ b .0)
 

@@ -2,7 +2,7 @@
 use Prim.Native.Nat.{_<_, _≤_, min, ℕ}
 use Rattle.laws.proofs.Every.{Every, every-map}
 use Rattle.laws.proofs.Ranges.{at-every}
-use Rattle.laws.proofs.Times.{lefts, look-every, look-fact}
+use Rattle.laws.proofs.Times.{lefts, look-every, look-fact, times-every}
 use Rattle.laws.specs.Lists.{has, keep, look, range, same, times}
 use Rattle.measure.specs.Distance.{l1}
 use Rattle.measure.specs.Space.{Point}
@@ -10,7 +10,6 @@ use Rattle.measure.specs.Table.{from, row}
 use Rattle.tree.proofs.Accepted.{each-once, once-of, shape-of, sound-tree}
 use Rattle.tree.proofs.Answers.{answers-length, answers-same, near-at, passes-all, passes-near}
 use Rattle.tree.proofs.Exact.{Exact, marks-exact}
-use Rattle.tree.proofs.Grow.{times-every}
 use Rattle.tree.proofs.Homes.{homes-rows}
 use Rattle.tree.proofs.Marks.{how-at, marks-rows}
 use Rattle.tree.proofs.Rows.{full-tree, rows-low, rows-once}
