@@ -6,13 +6,13 @@ use Rattle.laws.specs.Lists.{range}
 use Rattle.limits.specs.Limits.{maxDepth, maxDistance}
 use Rattle.tree.specs.Encode.{Node, below, broods, family, levelNodes, members, nodes, span}
 use Rattle.tree.specs.Grove.{Grove, bare, entries, fork, leaf}
-use Rattle.words.proofs.Levels.{born-inner}
+use Rattle.words.proofs.Levels.{born-inner, born-leaf, inner-is}
 use Rattle.words.specs.Shape.{born, inner, level, nodeOk, tile}
 use Rattle.words.specs.Words.{child#, count#, l#, m#, radius#, start#}
 use borrow.Author.Tests.{eq-eqb, le-leb, lt-leb, ne-eqb}
 use lib.Dec.{T, eqb, eqb-refl, leb}
 use lib.ListN.{length, length-append}
-use mathlib.Core.Bool.{Bool, _&&_, _||_, cond, false, not, true}
+use mathlib.Core.Bool.{Bool, _&&_, _||_, cond, false, true}
 use mathlib.Core.List.{List, [], _++_, _∷_}
 use mathlib.Core.Path.{_∙_, _≡_, ap, ap₂, refl, subst, sym}
 use native.Mathlib.Nat.{add-assoc, add-suc, add-zero, suc-add}
@@ -44,32 +44,28 @@ family-length nx s bare = refl
 family-length nx s (leaf R es g) = ap suc (family-length nx (s + length es) g)
 family-length nx s (fork R ks g) = ap suc (family-length (nx + span ks) (s + length (entries ks)) g)
 
+-- one more tile in front
+tile-cons : (w : List ℕ) (j s c k e : ℕ) → start# w j ≡ s → count# w j ≡ c → T (tile w (suc j) k (s + c) e) → T (tile w j (suc k) s e)
+unfolding tile
+tile-cons w j s c k e p q t = rw (eq-eqb (start# w j) s p, q) t
+
 -- a family's runs tile its part of the positions
 pub family-tile : (w : List ℕ) (j nx s : ℕ) (g : Grove) → Holds w j (family nx s g) → T (tile w j (span g) s (s + length (entries g)))
 unfolding family tile
 family-tile w j nx s bare h = subst (λ i. T (eqb s i)) (sym (add-zero s)) (eqb-refl s)
 family-tile w j nx s (leaf R es g) h =
     let q : s + length es + length (entries g) ≡ s + length (es ++ entries g) = omega (arith, length-append es (entries g)) in
-    step w j s (length es) (span g) (s + length (es ++ entries g)) (h .0) (h .1)
+    tile-cons w j s (length es) (span g) (s + length (es ++ entries g)) (h .0) (h .1)
     (subst (λ e. T (tile w (suc j) (span g) (s + length es) e)) q (family-tile w (suc j) nx (s + length es) g (h .4)))
-  where
-    step : (w : List ℕ) (j s c k e : ℕ) → start# w j ≡ s → count# w j ≡ c → T (tile w (suc j) k (s + c) e) → T (eqb (start# w j) s && tile w (suc j) k (s + count# w j) e)
-    step w j s c k e p q t = rw (eq-eqb (start# w j) s p, q) t
 family-tile w j nx s (fork R ks g) h =
-    let q : s + length (entries ks) + length (entries g) ≡ s + length (entries ks ++ entries g) = omega (arith, length-append (entries ks) (entries g)) in
-    step w j s (length (entries ks)) (span g) (s + length (entries ks ++ entries g)) (h .0) (h .1)
-    (subst (λ e. T (tile w (suc j) (span g) (s + length (entries ks)) e)) q (family-tile w (suc j) (nx + span ks) (s + length (entries ks)) g (h .4)))
-  where
-    step : (w : List ℕ) (j s c k e : ℕ) → start# w j ≡ s → count# w j ≡ c → T (tile w (suc j) k (s + c) e) → T (eqb (start# w j) s && tile w (suc j) k (s + count# w j) e)
-    step w j s c k e p q t = rw (eq-eqb (start# w j) s p, q) t
+    let n : ℕ = length (entries ks) in
+    let q : s + n + length (entries g) ≡ s + length (entries ks ++ entries g) = omega (arith, length-append (entries ks) (entries g)) in
+    tile-cons w j s n (span g) (s + length (entries ks ++ entries g)) (h .0) (h .1)
+    (subst (λ e. T (tile w (suc j) (span g) (s + n) e)) q (family-tile w (suc j) (nx + span ks) (s + n) g (h .4)))
 
 -- ---- the numbers that children get
-born-leaf : (w : List ℕ) (j : ℕ) → child# w j ≡ 0 → born w (suc j) ≡ born w j
-unfolding born
-born-leaf w j e = let q : inner w j ≡ false = ap (λ k. not (eqb k 0)) e in rw q (omega arith)
-
 pub fork-inner : (w : List ℕ) (j nx : ℕ) → child# w j ≡ nx → 1 ≤ nx → inner w j ≡ true
-fork-inner w j nx e h = ap not (ne-eqb (child# w j) 0 (λ q. omega arith))
+fork-inner w j nx e h = inner-is w j (λ q. omega arith)
 
 pub family-born : (w : List ℕ) (j nx s : ℕ) (g : Grove) → Holds w j (family nx s g) → Even (m# w) g → 1 ≤ nx → born w j ≡ nx
     → born w (j + span g) ≡ nx + members (broods s g)

@@ -1,5 +1,6 @@
 -- The words and the shape, read: what the two tests say, as the records that the layers above need. Assumes nothing.
 use Prim.Native.Nat.{_*_, _+_, _-_, _<_, _≤_, suc, zero, ℕ}
+use Rattle.laws.proofs.Shares.{share}
 use Rattle.laws.proofs.Tests.{and-l, and-r, holds}
 use Rattle.laws.specs.Lists.{all, range, same}
 use Rattle.limits.specs.Limits.{columnsOk, maxColumns, maxDepth, maxRows, shareOk, within}

@@ -3,6 +3,7 @@ use Prim.Native.Nat.{_+_, _-_, _≤_, suc, zero, ℕ}
 use Rattle.words.specs.Shape.{born, brood, inner, level}
 use Rattle.words.specs.Words.{child#, m#}
 use borrow.Author.Tests.{ne-eqb}
+use lib.Dec.{eqb}
 use mathlib.Core.Bool.{Bool, cond, false, not, true}
 use mathlib.Core.List.{List}
 use mathlib.Core.Path.{_≡_, ap, subst}
@@ -29,11 +30,11 @@ module _ (w : List ℕ) where
   unfolding born
   born-inner k e = ap (λ b. born w k + cond b (m# w) 0) e
 
-  pub born-leaf : (k : ℕ) → inner w k ≡ false → born w (suc k) ≡ born w k
+  pub born-leaf : (k : ℕ) → child# w k ≡ 0 → born w (suc k) ≡ born w k
   unfolding born
   born-leaf k e =
-      let q : brood w k ≡ 0 = ap (λ b. cond b (m# w) 0) e in
-      omega arith
+      let q : inner w k ≡ false = ap (λ j. not (eqb j 0)) e in
+      rw q (omega arith)
 
   born-more : (k j : ℕ) → born w k ≤ born w (k + j)
   born-more k zero = rw add-zero (omega arith)
@@ -41,10 +42,6 @@ module _ (w : List ℕ) where
 
   pub born-le : (k j : ℕ) → k ≤ j → born w k ≤ born w j
   born-le k j h = subst (λ i. born w k ≤ born w i) (omega arith) (born-more k (j - k))
-
-  pub born-some : (k : ℕ) → 1 ≤ born w k
-  unfolding born
-  born-some k = born-le 0 k (omega arith)
 
   -- ---- levels follow each other
   level-step : (d : ℕ) → level w d ≤ level w (suc d)
