@@ -7,3 +7,6 @@ pub mod Times
 pub mod Shares
 pub mod Pigeon
 pub mod Upto
+pub mod Sums
+pub mod Bags
+pub mod Outside

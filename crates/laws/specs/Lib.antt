@@ -1,2 +1,4 @@
 pub mod Lists
 pub mod Upto
+pub mod Bags
+pub mod Outside

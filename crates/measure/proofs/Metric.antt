@@ -1,16 +1,16 @@
 -- The distance of two rows is a metric, and no two rows are farther apart than the index kind allows. Assumes nothing.
-use Prim.Native.Nat.{ℕ, zero, suc, _+_, _*_, _≤_, _<_}
-use native.Mathlib.Nat.{mul-le-mul-left}
-use native.Mathlib.Omega.{arith}
-use mathlib.Core.List.{List, [], _∷_}
-use mathlib.Core.Path.{_≡_, refl}
-use lib.ListN.{drop, getD}
+use Prim.Native.Nat.{_*_, _+_, _≤_, suc, zero, ℕ}
 use Rattle.laws.proofs.Every.{Every, every-drop, every-take}
-use Rattle.laws.proofs.Upto.{sum-most, sum-same, sum-triangle, sum-zero}
+use Rattle.laws.proofs.Sums.{sum-below-same, sum-below-zero, sum-most, sum-triangle}
 use Rattle.limits.specs.Limits.{maxColumns, maxDistance}
 use Rattle.measure.specs.Distance.{apart, l1}
 use Rattle.measure.specs.Space.{Point, Space}
 use Rattle.measure.specs.Table.{between, from, row}
+use lib.ListN.{drop, getD}
+use mathlib.Core.List.{List, [], _∷_}
+use mathlib.Core.Path.{_≡_}
+use native.Mathlib.Nat.{mul-le-mul-left}
+use native.Mathlib.Omega.{arith}
 
 -- ---- one column
 apart-triangle : (x y z : ℕ) → apart x z ≤ apart x y + apart y z
@@ -20,11 +20,11 @@ apart-triangle x y z = omega arith
 module _ (c : ℕ) where
   l1-self : (a : List ℕ) → l1 c a a ≡ 0
   unfolding l1
-  l1-self a = sum-zero (λ j. apart (getD a j 0) (getD a j 0)) (λ j. omega arith) c
+  l1-self a = sum-below-zero (λ j. apart (getD a j 0) (getD a j 0)) c (λ j h. omega arith)
 
   l1-swap : (a b : List ℕ) → l1 c a b ≡ l1 c b a
   unfolding l1
-  l1-swap a b = sum-same (λ j. apart (getD a j 0) (getD b j 0)) (λ j. apart (getD b j 0) (getD a j 0)) (λ j. omega arith) c
+  l1-swap a b = sum-below-same (λ j. apart (getD a j 0) (getD b j 0)) (λ j. apart (getD b j 0) (getD a j 0)) c (λ j h. omega arith)
 
   l1-triangle : (a b e : List ℕ) → l1 c a e ≤ l1 c a b + l1 c b e
   unfolding l1

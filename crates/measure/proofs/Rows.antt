@@ -1,13 +1,13 @@
 -- A row as a part of its table, and a distance column by column. Assumes nothing.
-use Prim.Native.Nat.{ℕ, suc, _+_, _-_, _*_, _≤_, _<_}
-use native.Mathlib.Nat.{add-sub-cancel-left, mul-le-mul-left, mul-suc}
-use native.Mathlib.Omega.{arith}
-use mathlib.Core.List.{List}
-use mathlib.Core.Path.{_≡_, refl, subst}
-use lib.ListN.{drop, getD, length, length-drop, length-take, take}
-use Rattle.laws.proofs.Upto.{sum-next, sum-none}
+use Prim.Native.Nat.{_*_, _+_, _-_, _<_, _≤_, ℕ}
+use Rattle.laws.proofs.Sums.{sum-next, sum-none}
 use Rattle.measure.specs.Distance.{apart, l1}
 use Rattle.measure.specs.Table.{row}
+use lib.ListN.{drop, getD, length, length-drop, length-take, take}
+use mathlib.Core.List.{List}
+use mathlib.Core.Path.{_≡_, subst}
+use native.Mathlib.Nat.{add-sub-cancel-left, mul-le-mul-left, mul-suc}
+use native.Mathlib.Omega.{arith}
 
 -- the part from c * i to c * i + c
 pub row-part : (T : List ℕ) (c i : ℕ) → take (c * i + c - c * i) (drop (c * i) T) ≡ row T c i

@@ -1,9 +1,9 @@
 -- The distance of two rows: 01, What the library holds. Assumes nothing.
 use Prim.Native.Nat.{ℕ}
-use mathlib.Core.List.{List}
-use lib.ListN.{getD}
 use Rattle.laws.specs.Lists.{gap}
 use Rattle.laws.specs.Upto.{sumTo}
+use lib.ListN.{getD}
+use mathlib.Core.List.{List}
 
 -- the distance of two numbers of one column: how much they differ
 abbrev pub apart : ℕ → ℕ → ℕ

@@ -1,5 +1,5 @@
 -- What the theorems on an index ask of the distance, and nothing else: another distance is another instance. Assumes nothing.
-use Prim.Native.Nat.{ℕ, _+_, _≤_}
+use Prim.Native.Nat.{_+_, _≤_, ℕ}
 use mathlib.Core.Path.{_≡_}
 
 -- d is a distance between rows

@@ -1,8 +1,8 @@
 -- A lent table of c columns: its rows, and how far they are apart. Assumes nothing.
-use Prim.Native.Nat.{ℕ, _*_, _/_}
-use mathlib.Core.List.{List}
-use lib.ListN.{drop, length, take}
+use Prim.Native.Nat.{_*_, _/_, ℕ}
 use Rattle.measure.specs.Distance.{l1}
+use lib.ListN.{drop, length, take}
+use mathlib.Core.List.{List}
 
 -- 01, What the library holds: row i is the part of the table that starts at c times i
 abbrev pub row : List ℕ → ℕ → ℕ → List ℕ

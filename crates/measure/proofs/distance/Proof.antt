@@ -1,14 +1,14 @@
 -- `measure::distance` meets its contract: the sum so far is the distance over the columns passed. The measure is what is left of them.
 -- Assumes nothing.
-use Prim.Native.Nat.{_*_, _+_, _-_, _≤_}
-use borrow.Author.Needs.{needs}
-use lib.ListN.{length}
-use mathlib.Core.Path.{_∙_, _≡_, ap, sym}
-use native.Mathlib.Omega.{arith}
+use Prim.Native.Nat.{_*_, _-_, _≤_}
 use Rattle.measure.proofs.Rows.{l1-next, l1-none}
 use Rattle.measure.proofs.distance.Statement.{statement}
 use Rattle.measure.proofs.distance.Tie as tie
 use Rattle.measure.specs.Distance.{l1}
+use borrow.Author.Needs.{needs}
+use lib.ListN.{length}
+use mathlib.Core.Path.{_∙_, _≡_, ap, sym}
+use native.Mathlib.Omega.{arith}
 
 abbrev Inv-loop : tie.InvT-loop
 Inv-loop a b sum₀ i₀ sum i = (i ≤ length a) × (sum ≤ 65535 * i) × (sum ≡ l1 i a b)

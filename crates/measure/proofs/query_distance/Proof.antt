@@ -1,9 +1,9 @@
 -- `measure::query_distance` meets its contract: the row is a part of the table, of as many columns as the query.
 -- Assumes nothing.
-use borrow.Author.Needs.{needs}
 use Rattle.measure.proofs.query_distance.Statement.{statement}
 use Rattle.measure.proofs.query_distance.Tie as tie
 use Rattle.measure.specs.Table.{from}
+use borrow.Author.Needs.{needs}
 
 row-of-requires : tie.Need-row-of-requires
 row-of-requires c κs = search needs

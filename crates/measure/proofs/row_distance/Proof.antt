@@ -1,9 +1,9 @@
 -- `measure::row_distance` meets its contract: both rows are parts of the table, of c columns each.
 -- Assumes nothing.
-use borrow.Author.Needs.{needs}
 use Rattle.measure.proofs.row_distance.Statement.{statement}
 use Rattle.measure.proofs.row_distance.Tie as tie
 use Rattle.measure.specs.Table.{between}
+use borrow.Author.Needs.{needs}
 
 row-of-requires : tie.Need-row-of-requires
 row-of-requires c κs = search needs

@@ -1,11 +1,11 @@
 -- `measure::row_of` meets its contract: the part starts at c times i, and c numbers are there.
 -- Assumes nothing.
-use borrow.Author.Needs.{needs}
-use mathlib.Core.Path.{_∙_, ap}
-use lib.ListN.{length}
 use Rattle.measure.proofs.Rows.{row-length, row-part}
 use Rattle.measure.proofs.row_of.Statement.{statement}
 use Rattle.measure.proofs.row_of.Tie as tie
+use borrow.Author.Needs.{needs}
+use lib.ListN.{length}
+use mathlib.Core.Path.{_∙_, ap}
 
 mul-start : tie.Need-mul-start
 mul-start c = search needs

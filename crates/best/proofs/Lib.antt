@@ -1,0 +1,4 @@
+pub mod Keeps
+pub mod Measured
+pub mod Local
+pub mod Low
