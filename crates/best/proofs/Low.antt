@@ -3,7 +3,6 @@ use Prim.Native.Nat.{_+_, _-_, _<_, _≤_, suc, zero, ℕ}
 use Rattle.best.specs.Search.{Homes, Space}
 use Rattle.laws.proofs.Bags.{total-neither, total-none}
 use Rattle.laws.specs.Bags.{total}
-use borrow.Fn.PlainCycle.{falls}
 use mathlib.Core.Path.{_≡_}
 use native.Mathlib.Decide.{decLt}
 use native.Mathlib.Omega.{arith}

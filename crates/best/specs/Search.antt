@@ -4,7 +4,6 @@
 use Prim.Native.Nat.{_+_, _-_, _<_, _≤_, min, ℕ}
 use Rattle.laws.specs.Bags.{SameBag, total}
 use Rattle.laws.specs.Upto.{sumTo}
-use lib.ListN.{set}
 use mathlib.Core.List.{List, _++_, _∷_}
 use mathlib.Core.Path.{_≡_}
 

@@ -10,3 +10,5 @@ pub mod Upto
 pub mod Sums
 pub mod Bags
 pub mod Outside
+pub mod Parts
+pub mod First

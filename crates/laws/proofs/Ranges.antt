@@ -3,7 +3,7 @@ use Prim.Native.Nat.{_+_, _-_, _<_, _≤_, suc, zero, ℕ}
 use Rattle.laws.proofs.Every.{Every, every-append}
 use Rattle.laws.specs.Lists.{all, range}
 use lib.ListN.{getD, length}
-use mathlib.Core.Bool.{Bool, true}
+use mathlib.Core.Bool.{Bool, false, true}
 use mathlib.Core.List.{_++_, _∷_, map}
 use mathlib.Core.Path.{_∙_, _≡_, ap, refl, subst, sym}
 use native.Mathlib.Nat.{add-suc, add-zero, not-suc-le-zero, suc-add, zero-add}
@@ -51,6 +51,11 @@ module _ (f : ℕ → Bool) where
   all-start n =
       let q : n - 0 ≡ n = omega arith in
       rw q
+
+  pub all-stop : (i n : ℕ) → i < n → f i ≡ false → false ≡ all f (range i (n - i))
+  all-stop i n h e =
+      let q : n - i ≡ suc (n - suc i) = omega arith in
+      rw (q, e)
 
   pub all-step : (i n : ℕ) → i < n → f i ≡ true → all f (range i (n - i)) ≡ all f (range (i + 1) (n - (i + 1)))
   all-step i n h e =

@@ -2,3 +2,4 @@ pub mod Lists
 pub mod Upto
 pub mod Bags
 pub mod Outside
+pub mod First

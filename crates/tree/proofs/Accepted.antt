@@ -5,12 +5,10 @@ use Rattle.laws.proofs.Pigeon.{pigeon}
 use Rattle.laws.proofs.Ranges.{at-every, every-at, range-length}
 use Rattle.laws.specs.Lists.{range, times}
 use Rattle.limits.specs.Limits.{maxDepth}
-use Rattle.measure.specs.Table.{row}
 use Rattle.tree.proofs.Fitting.{sound-at}
 use Rattle.tree.proofs.NoFaults.{fits, no-faults}
 use Rattle.tree.proofs.Rows.{by-root, once-to, rows-tree}
 use Rattle.tree.proofs.Sound.{Sound}
-use Rattle.tree.specs.Cases.{words}
 use Rattle.tree.specs.Check.{Accepted, again}
 use Rattle.tree.specs.Grove.{bare, rowsIn, treeOf}
 use Rattle.words.proofs.InShape.{in-shape, left-root}

@@ -5,7 +5,7 @@ use Rattle.laws.proofs.Lists.{tally-length}
 use Rattle.laws.proofs.Ranges.{range-every, range-length}
 use Rattle.laws.proofs.Tests.{and-r, holds}
 use Rattle.laws.proofs.Times.{every-same, range-times}
-use Rattle.laws.specs.Lists.{head, range, same, tally}
+use Rattle.laws.specs.Lists.{head, range, tally}
 use Rattle.limits.proofs.Numbers.{one}
 use Rattle.limits.specs.Limits.{columnsOk, maxColumns, maxDepth, maxDistance, maxRows, shareOk}
 use Rattle.measure.proofs.Metric.{between-most, metric}

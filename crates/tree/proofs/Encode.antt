@@ -17,7 +17,6 @@ use mathlib.Core.List.{List, [], _++_, _∷_}
 use mathlib.Core.Path.{_∙_, _≡_, ap, ap₂, refl, subst, sym}
 use native.Mathlib.Nat.{add-assoc, add-suc, add-zero, suc-add}
 use native.Mathlib.Omega.{arith}
-use types.Kit.{done}
 
 -- the node words from number j on are these
 abbrev pub Holds : List ℕ → ℕ → List Node → Type 0

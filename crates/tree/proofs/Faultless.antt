@@ -7,11 +7,8 @@ use Rattle.laws.proofs.Ranges.{every-at, every-range, range-append, range-every
 use Rattle.laws.proofs.Tests.{and-none}
 use Rattle.laws.proofs.Times.{zero-any}
 use Rattle.laws.specs.Lists.{any, each, greatest, keep, range, times}
-use Rattle.limits.proofs.Numbers.{one}
 use Rattle.limits.specs.Said.{Said}
 use Rattle.tree.proofs.Right.{Right}
-use Rattle.tree.specs.Build.{radius}
-use Rattle.tree.specs.Cases.{near}
 use Rattle.tree.specs.Check.{again, faults, inRun, strays, wrongDist, wrongRadius}
 use Rattle.words.specs.Shape.{inner}
 use Rattle.words.specs.Words.{N#, child#, count#, dist#, first#, m#, n#, radius#, row#, run#, start#}

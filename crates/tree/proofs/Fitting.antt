@@ -4,12 +4,9 @@ use Rattle.laws.proofs.Every.{Every, every-map}
 use Rattle.laws.proofs.Ranges.{range-every}
 use Rattle.laws.proofs.Times.{lefts}
 use Rattle.laws.specs.Lists.{head, range}
-use Rattle.limits.proofs.Numbers.{one}
 use Rattle.tree.proofs.Members.{entries-at, firsts-at, held, kids-entries, kids-firsts, run-first}
 use Rattle.tree.proofs.Sound.{Close, Sound}
-use Rattle.tree.specs.Check.{kids}
 use Rattle.tree.specs.Grove.{Grove, bare, first, firsts, fork, leaf, members#, rowsIn, treeAt}
-use Rattle.tree.specs.Radius.{inside}
 use Rattle.words.specs.InShape.{InShape, Left}
 use Rattle.words.specs.Shape.{inner}
 use Rattle.words.specs.Words.{N#, child#, count#, dist#, first#, m#, n#, radius#, row#, start#}
@@ -18,7 +15,6 @@ use mathlib.Core.List.{List, foldr, map}
 use mathlib.Core.Path.{_∙_, _≡_, ap, refl, subst, sym}
 use native.Mathlib.Nat.{add-suc, add-zero, suc-add}
 use native.Mathlib.Omega.{arith}
-use types.Kit.{some}
 
 -- what the full check says, node by node and position by position
 pub record Fits (d : ℕ → ℕ → ℕ) (w : List ℕ) : Type 0 where

@@ -8,7 +8,6 @@ use Rattle.tree.proofs.Encode.{Even, Fine, below-fine, below-none, leve
 use Rattle.tree.proofs.Faultless.{no-fault}
 use Rattle.tree.proofs.Full.{Full}
 use Rattle.tree.proofs.Grown.{Tight}
-use Rattle.tree.proofs.Members.{held}
 use Rattle.tree.proofs.Right.{At, Made, at-rows, nodes-right}
 use Rattle.tree.proofs.Sound.{Sound}
 use Rattle.tree.proofs.Written.{at-behind, each-words, encode-shape, read-nodes}

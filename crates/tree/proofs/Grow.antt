@@ -5,7 +5,6 @@ use Rattle.laws.proofs.Lists.{map-id, paired, tally-append, tally-length}
 use Rattle.laws.proofs.Shares.{every-∀, heads-tally, joined, part-times, share, tally-split, without-tally}
 use Rattle.laws.proofs.Times.{tally-lefts}
 use Rattle.laws.specs.Lists.{greatest, head, keep, rest, tally, times, without}
-use Rattle.limits.proofs.Numbers.{one}
 use Rattle.limits.specs.Limits.{maxDistance}
 use Rattle.tree.proofs.Encode.{Even, Fine}
 use Rattle.tree.specs.Build.{choose, closest, farthest, grow, leafOf, nearness, radius, split}

@@ -3,7 +3,7 @@ use Prim.Native.Nat.{_-_, _≤_, suc, zero, ℕ}
 use Rattle.laws.proofs.Every.{Every, every-all, every-map, every-unmap, greatest-le}
 use Rattle.laws.proofs.Lists.{map-id, paired}
 use Rattle.laws.proofs.Times.{every-same, lefts}
-use Rattle.laws.specs.Lists.{greatest, head, keep, rest, same, times, without}
+use Rattle.laws.specs.Lists.{greatest, head, keep, rest, times, without}
 use Rattle.tree.proofs.Grow.{Run, chosen, closest-least, forest-tally, greatest-under, left, split-runs, split-tally}
 use Rattle.tree.proofs.Sound.{Close, Sound}
 use Rattle.tree.specs.Build.{choose, closest, farthest, grow, leafOf, radius, split}

@@ -5,7 +5,6 @@ use Rattle.laws.proofs.Ranges.{getD-range}
 use Rattle.laws.proofs.Times.{lefts, tally-lefts, times-split}
 use Rattle.laws.specs.Lists.{look, rest, times}
 use Rattle.tree.proofs.Full.{Full, first-row}
-use Rattle.tree.specs.Encode.{below}
 use Rattle.tree.specs.Grove.{Grove, bare, entries, first, firsts, fork, leaf, rowsIn}
 use Rattle.tree.specs.Homes.{childBound, nearestOf}
 use Rattle.tree.specs.Radius.{byDistance, inLeaf, marks, marksIn, radiusHow, visit}

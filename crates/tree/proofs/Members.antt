@@ -5,8 +5,6 @@ use Rattle.laws.proofs.Ranges.{range-append, range-length}
 use Rattle.laws.specs.Lists.{head, range}
 use Rattle.tree.proofs.Full.{Full}
 use Rattle.tree.specs.Grove.{Grove, bare, entries, firsts, fork, leaf, members#, treeAt}
-use Rattle.tree.specs.Radius.{inside}
-use Rattle.words.proofs.InShape.{whole}
 use Rattle.words.proofs.Tiles.{tile-first, tile-head, tile-le, tile-none, tile-tail}
 use Rattle.words.specs.InShape.{InShape}
 use Rattle.words.specs.Shape.{inner, tile}
@@ -18,7 +16,6 @@ use mathlib.Core.List.{List, _++_, _∷_, foldr, map}
 use mathlib.Core.Path.{_∙_, _≡_, ap, ap₂, refl, subst, sym}
 use native.Mathlib.Nat.{not-suc-le-zero}
 use native.Mathlib.Omega.{arith}
-use types.Kit.{some}
 
 -- the held at n positions from s on
 abbrev pub held : List ℕ → ℕ → ℕ → List (ℕ × ℕ)

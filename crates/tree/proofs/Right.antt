@@ -20,7 +20,6 @@ use mathlib.Core.List.{List, [], _++_, _∷_, map}
 use mathlib.Core.Path.{_∙_, _≡_, ap, ap₂, refl, subst, sym}
 use native.Mathlib.Nat.{add-assoc, add-suc, add-zero, not-suc-le-zero, suc-add}
 use native.Mathlib.Omega.{arith}
-use types.Kit.{some}
 
 -- the positions from s on hold these pairs
 abbrev pub At : List ℕ → ℕ → List (ℕ × ℕ) → Type 0

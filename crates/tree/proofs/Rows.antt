@@ -6,13 +6,10 @@ use Rattle.laws.proofs.Ranges.{at-every, range-append}
 use Rattle.laws.proofs.Times.{lefts, not-any}
 use Rattle.laws.specs.Lists.{any, range, times}
 use Rattle.limits.specs.Limits.{maxDepth}
-use Rattle.measure.specs.Table.{row}
 use Rattle.tree.proofs.Full.{Full}
 use Rattle.tree.proofs.Members.{entries-at, full-at, held}
 use Rattle.tree.specs.Check.{again}
-use Rattle.tree.specs.Encode.{nodes}
 use Rattle.tree.specs.Grove.{Grove, bare, members#, rowsIn, treeAt, treeOf}
-use Rattle.words.proofs.InShape.{whole}
 use Rattle.words.specs.InShape.{InShape}
 use Rattle.words.specs.Words.{N#, n#, row#}
 use borrow.Author.Tests.{eqb-true}

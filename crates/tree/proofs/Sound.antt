@@ -5,7 +5,6 @@ use Rattle.laws.proofs.Times.{lefts}
 use Rattle.laws.specs.Lists.{head, least, rest}
 use Rattle.measure.specs.Space.{Point}
 use Rattle.tree.proofs.Full.{Full, firsts-rows, rows-left, rows-right}
-use Rattle.tree.specs.Cases.{near}
 use Rattle.tree.specs.Grove.{Grove, bare, entries, first, firsts, fork, leaf, rowsIn}
 use Rattle.tree.specs.Homes.{childBound, homes, homesIn, nearestOf, rowBound}
 use mathlib.Core.List.{List, [], _++_, _∷_, map}

@@ -3,7 +3,7 @@ use Prim.Native.Nat.{_<_, _≤_, min, ℕ}
 use Rattle.laws.proofs.Every.{Every, every-map}
 use Rattle.laws.proofs.Ranges.{at-every}
 use Rattle.laws.proofs.Times.{lefts, look-every, look-fact, times-every}
-use Rattle.laws.specs.Lists.{has, keep, look, range, same, times}
+use Rattle.laws.specs.Lists.{has, keep, look, range, times}
 use Rattle.measure.specs.Distance.{l1}
 use Rattle.measure.specs.Space.{Point}
 use Rattle.measure.specs.Table.{from, row}

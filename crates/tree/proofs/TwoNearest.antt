@@ -3,7 +3,6 @@
 use Prim.Native.Nat.{_+_, _<_, _≤_, max, ℕ}
 use Rattle.laws.proofs.Every.{Every, every-all, every-append, every-left, every-map, every-of, every-right}
 use Rattle.laws.specs.Lists.{gap, has, head, keep, least, look, range, rest, times}
-use Rattle.measure.specs.Table.{row}
 use Rattle.tree.proofs.TwoRadius.{all-firsts, same-map}
 use Rattle.tree.specs.Grove.{Grove, bare, first, firsts, fork, leaf}
 use Rattle.tree.specs.Homes.{childBound, homes, homesIn, nearestOf, rowBound}

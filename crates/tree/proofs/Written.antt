@@ -3,7 +3,6 @@ use Prim.Native.Nat.{_*_, _+_, _<_, _≤_, suc, zero, ℕ}
 use Rattle.laws.proofs.Every.{Every, all-of, every-of}
 use Rattle.laws.proofs.Tests.{and-l, and-of, and-r, eq-test}
 use Rattle.laws.specs.Lists.{all, each, range}
-use Rattle.limits.proofs.Numbers.{one}
 use Rattle.limits.specs.Limits.{maxDepth, maxDistance}
 use Rattle.tree.proofs.Encode.{Even, Fine, Holds, Ok, family-tile, holds-left, nodes-head, nodes-ok}
 use Rattle.tree.specs.Encode.{Node, encode, family, levelNodes, nodeWords, nodes, numbered, pairWords, span}

@@ -10,7 +10,6 @@ use lib.Dec.{eqb, leb}
 use mathlib.Core.Bool.{and-false, false, true}
 use mathlib.Core.List.{List}
 use mathlib.Core.Path.{_∙_, _≡_}
-use types.Kit.{some}
 
 module _ (w : List ℕ) where
   pub brood-leaf : (k : ℕ) → child# w k ≡ 0 → 0 ≡ brood w k

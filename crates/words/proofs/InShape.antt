@@ -1,6 +1,5 @@
 -- The words and the shape, read: what the two tests say, as the records that the layers above need. Assumes nothing.
 use Prim.Native.Nat.{_*_, _+_, _-_, _<_, _≤_, suc, zero, ℕ}
-use Rattle.laws.proofs.Shares.{share}
 use Rattle.laws.proofs.Tests.{and-l, and-r, holds}
 use Rattle.laws.specs.Lists.{all, range, same}
 use Rattle.limits.specs.Limits.{columnsOk, maxColumns, maxDepth, maxRows, shareOk, within}
@@ -11,7 +10,6 @@ use Rattle.words.proofs.Tiles.{tile-first, tile-part}
 use Rattle.words.specs.InShape.{InShape, Kids, Left, Node, Place, Whole}
 use Rattle.words.specs.Shape.{born, inner, level, positionOk, rootFits, shapeOk, treeFits}
 use Rattle.words.specs.Words.{N#, c#, child#, count#, edition#, headerOk, kind#, l#, last#, m#, n#, nodesOk, start#, wordsOf, wordsOk}
-use denote.Index.{row}
 use lib.Dec.{T, eqb, eqb→eq, leb, leb→le}
 use lib.ListN.{length}
 use mathlib.Core.Bool.{Bool, _&&_, cond, false, true}

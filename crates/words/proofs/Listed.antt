@@ -1,6 +1,6 @@
 -- Listing a node: the part is there, and it is empty exactly where document 01 says so. Assumes nothing.
 use Prim.Native.Nat.{_*_, _+_, _-_, _<_, _≤_, ℕ}
-use Rattle.words.proofs.InShape.{in-shape, whole}
+use Rattle.words.proofs.InShape.{in-shape}
 use Rattle.words.specs.Calls.{Unlisted, beyond, impossible, listed, missing, pairs, wrong}
 use Rattle.words.specs.InShape.{InShape}
 use Rattle.words.specs.Shape.{shapeOk}
@@ -14,7 +14,6 @@ use mathlib.Core.Logic.{_↔_}
 use mathlib.Core.Path.{_∙_, _≡_, ap, refl, subst, sym}
 use native.Mathlib.Nat.{add-sub-cancel-left}
 use native.Mathlib.Omega.{arith}
-use types.Kit.{some}
 
 module _ (w : List ℕ) (k : ℕ) where
   pub listed-no-words : wordsOk w ≡ false → [] ≡ listed w k

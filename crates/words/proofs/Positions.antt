@@ -10,7 +10,6 @@ use Rattle.limits.specs.Limits.{maxDistance}
 use Rattle.words.specs.Shape.{positionOk}
 use Rattle.words.specs.Words.{at, dist#, n#, pairAt, row#}
 use borrow.Author.Tests.{leb-false, leb-true}
-use denote.Index.{row}
 use lib.Dec.{T, leb, leb→le, le→leb, ltb, ltb→lt, lt→ltb}
 use mathlib.Core.Bool.{Bool, _&&_, false, true}
 use mathlib.Core.List.{List}

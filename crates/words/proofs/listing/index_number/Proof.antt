@@ -6,7 +6,6 @@ use Rattle.words.proofs.Index.{eight-columns, eight-rows, eight-words, 
 use Rattle.words.proofs.listing.index_number.Statement.{statement}
 use Rattle.words.proofs.listing.index_number.Tie as tie
 use borrow.Author.Needs.{needs}
-use denote.Ref.{now}
 use mathlib.Core.Path.{_∙_, sym}
 
 words-ok-requires : tie.Need-words-ok-requires

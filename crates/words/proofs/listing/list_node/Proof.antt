@@ -8,7 +8,6 @@ use Rattle.words.proofs.listing.list_node.Statement.{statement}
 use Rattle.words.proofs.listing.list_node.Tie as tie
 use Rattle.words.specs.Words.{N#}
 use borrow.Author.Needs.{needs}
-use denote.Ref.{now}
 use mathlib.Core.Path.{_∙_}
 use native.Mathlib.Omega.{arith}
 

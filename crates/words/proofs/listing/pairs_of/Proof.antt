@@ -5,7 +5,6 @@ use Rattle.words.proofs.listing.pairs_of.Statement.{statement}
 use Rattle.words.proofs.listing.pairs_of.Tie as tie
 use Rattle.words.specs.Words.{pairAt}
 use borrow.Author.Needs.{needs}
-use denote.Ref.{now}
 use mathlib.Core.Path.{_∙_, ap}
 use native.Mathlib.Omega.{arith}
 

@@ -4,11 +4,8 @@ use Rattle.words.proofs.places.node_first.Statement.{statement}
 use Rattle.words.proofs.places.node_first.Tie as tie
 use Rattle.words.specs.Words.{row#}
 use borrow.Author.Needs.{needs}
-use denote.Index.{row}
-use denote.Ref.{now}
 use mathlib.Core.Path.{_∙_, ap}
 use native.Mathlib.Omega.{arith}
-use types.Kit.{some}
 
 node-start-requires : tie.Need-node-start-requires
 node-start-requires c κs = search needs

@@ -4,7 +4,6 @@ use Rattle.words.proofs.places.row_at.Statement.{statement}
 use Rattle.words.proofs.places.row_at.Tie as tie
 use Rattle.words.specs.Words.{at}
 use borrow.Author.Needs.{needs}
-use denote.Ref.{now}
 use mathlib.Core.Path.{_∙_, ap}
 
 pair-at-requires : tie.Need-pair-at-requires

@@ -4,7 +4,6 @@ use Rattle.words.proofs.Fits.{room-inner, room-leaf}
 use Rattle.words.proofs.shape.has_room.Statement.{statement}
 use Rattle.words.proofs.shape.has_room.Tie as tie
 use borrow.Author.Needs.{needs}
-use denote.Ref.{now}
 use mathlib.Core.Path.{_∙_, sym}
 
 node-child-requires : tie.Need-node-child-requires

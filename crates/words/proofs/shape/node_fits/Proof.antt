@@ -5,7 +5,6 @@ use Rattle.words.proofs.Fits.{fit-crowd, fit-deep, fit-empty, fit-far, 
 use Rattle.words.proofs.shape.node_fits.Statement.{statement}
 use Rattle.words.proofs.shape.node_fits.Tie as tie
 use borrow.Author.Needs.{needs}
-use denote.Ref.{now}
 use mathlib.Core.Path.{_∙_, sym}
 use native.Mathlib.Omega.{arith}
 

@@ -8,10 +8,7 @@ use Rattle.words.proofs.shape.positions_fit.Statement.{statement}
 use Rattle.words.proofs.shape.positions_fit.Tie as tie
 use Rattle.words.specs.Words.{dist#, n#, row#}
 use borrow.Author.Needs.{needs}
-use denote.Index.{row}
-use denote.Ref.{now}
 use mathlib.Core.Path.{_∙_, _≡_, ap, ap₂, sym}
-use mir.Syntax.{loop}
 use native.Mathlib.Omega.{arith}
 
 abbrev Inv-loop : tie.InvT-loop

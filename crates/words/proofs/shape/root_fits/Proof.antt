@@ -4,7 +4,6 @@ use Rattle.words.proofs.Fits.{root-off, root-on}
 use Rattle.words.proofs.shape.root_fits.Statement.{statement}
 use Rattle.words.proofs.shape.root_fits.Tie as tie
 use borrow.Author.Needs.{needs}
-use denote.Ref.{now}
 use mathlib.Core.Path.{_∙_, sym}
 
 node-start-requires : tie.Need-node-start-requires

@@ -5,7 +5,6 @@ use Rattle.words.proofs.InShape.{whole}
 use Rattle.words.proofs.Pass.{shape-go-on, shape-stop}
 use Rattle.words.proofs.shape.shape_ok.Statement.{statement}
 use Rattle.words.proofs.shape.shape_ok.Tie as tie
-use denote.Ref.{now}
 use mathlib.Core.Path.{_∙_}
 
 tree-fits-requires : tie.Need-tree-fits-requires

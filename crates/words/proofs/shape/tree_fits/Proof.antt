@@ -7,9 +7,7 @@ use Rattle.words.proofs.Pass.{Going, ends-empty, ends-rootless, going-d
 use Rattle.words.proofs.shape.tree_fits.Statement.{statement}
 use Rattle.words.proofs.shape.tree_fits.Tie as tie
 use borrow.Author.Needs.{needs}
-use denote.Ref.{now}
 use mathlib.Core.Path.{_∙_, sym}
-use mir.Syntax.{loop}
 use native.Mathlib.Omega.{arith}
 
 abbrev Inv-loop : tie.InvT-loop

@@ -1,0 +1,10 @@
+pub mod Pairing
+pub mod Wiping
+pub mod Marks
+pub mod Distances
+pub mod Farthest
+pub mod Strays
+pub mod Faults
+pub mod Refused
+pub mod Contract
+pub mod Theorems

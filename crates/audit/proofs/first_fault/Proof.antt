@@ -1,0 +1,88 @@
+-- `audit::first_fault` meets its contract: the workspace is wiped before the marks and after them.
+-- Assumes nothing.
+use Prim.Native.Nat.{_*_, ℕ}
+use Rattle.audit.proofs.Faults.{again-found, again-none}
+use Rattle.audit.proofs.Wiping.{wiped-again, wiped-clear}
+use Rattle.audit.proofs.first_fault.Statement.{statement}
+use Rattle.audit.proofs.first_fault.Tie as tie
+use Rattle.audit.specs.Workspace.{Clear, wiped}
+use Rattle.measure.specs.Table.{between}
+use Rattle.words.specs.Words.{n#}
+use borrow.Author.Needs.{needs}
+use mathlib.Core.Path.{_∙_, _≡_, ap, subst, sym}
+use native.Mathlib.Omega.{arith}
+
+-- the start, seen from the first wiping, and that, seen from the second
+abbrev start : tie.After-clear → tie.Start
+start c = c .before .before .before .before .before .before
+
+abbrev first : tie.After-clear2 → tie.After-clear
+first c = c .before .before .before .before .before .before .before .before
+
+-- the workspace before the marks, and at the end
+before-marks : (c : tie.After-clear) → c .clear .last .0 ≡ wiped (n# (start c .args .index .now)) (start c .args .work .now)
+before-marks c = c .clear .ensures ∙ ap (λ (i : ℕ). wiped i (start c .args .work .now)) (c .before .before .rows .ensures .0)
+
+at-end : (c : tie.After-clear2) → c .clear2 .last .0 ≡ wiped (6 * n# (start (first c) .args .index .now)) (start (first c) .args .work .now)
+at-end c =
+    let marks = c .before .before .before .before .first-again in
+    wiped-again _ (start (first c) .args .work .now) (marks .last .1 .0) (first c .before .before .rows .ensures .0) (before-marks (first c))
+    (marks .ensures .1) (c .clear2 .ensures)
+
+rows-requires : tie.Need-rows-requires
+rows-requires c κs = search needs
+
+clear-requires : tie.Need-clear-requires
+clear-requires c κs = search needs
+
+first-again-requires : tie.Need-first-again-requires
+first-again-requires c κs =
+    let f = c .before .before .before in
+    (start f .pre .0 .shape, subst (Clear (n# (start f .args .index .now))) (sym (before-marks f)) (wiped-clear _ _ (omega arith)))
+
+mul-clear : tie.Need-mul-clear
+mul-clear c = search needs
+
+clear-requires-2 : tie.Need-clear-requires-2
+clear-requires-2 c κs = search needs
+
+same-length : tie.Need-same-length
+same-length c = search needs
+
+returns : tie.Need-returns
+returns c =
+    let l = c .before .before .before in
+    let a = start (first l) .args in
+    let p = l .before .before .before .before .first-again in
+    let n = first l .before .before .rows .ensures .0 in
+    (again-found (between (a .table .now) (a .c)) (a .index .now) (p .result) (p .ensures .0) (omega (arith, n)), at-end l)
+
+measured-fault-requires : tie.Need-measured-fault-requires
+measured-fault-requires c κs = search needs
+
+same-length-2 : tie.Need-same-length-2
+same-length-2 c = search needs
+
+returns-2 : tie.Need-returns-2
+returns-2 c =
+    let l = c .before .before .before .before in
+    let a = start (first l) .args in
+    let p = l .before .before .before .before .first-again in
+    let n = first l .before .before .rows .ensures .0 in
+    let none = again-none (between (a .table .now) (a .c)) (a .index .now) (p .result) (p .ensures .0) (omega (arith, n)) in
+    (c .measured-fault .ensures ∙ none, at-end l)
+
+pub first-fault-spec : {M : Type 1} → statement M
+first-fault-spec =
+    tie.close
+    (tie.spec
+    rows-requires
+    clear-requires
+    first-again-requires
+    mul-clear
+    clear-requires-2
+    same-length
+    returns
+    measured-fault-requires
+    same-length-2
+    returns-2)

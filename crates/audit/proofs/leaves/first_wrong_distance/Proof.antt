@@ -1,0 +1,72 @@
+-- `audit::leaves::first_wrong_distance` meets its contract: `low` is the lowest wrong position of the leaves passed. The measure is what is
+-- left of the nodes.
+-- Assumes nothing.
+use Prim.Native.Nat.{_-_, _≤_}
+use Rattle.audit.proofs.Distances.{distances-done, distances-more, distances-start, wrongTo}
+use Rattle.audit.proofs.leaves.first_wrong_distance.Statement.{statement}
+use Rattle.audit.proofs.leaves.first_wrong_distance.Tie as tie
+use Rattle.laws.specs.First.{First}
+use Rattle.measure.specs.Table.{between}
+use Rattle.words.specs.Words.{N#, n#}
+use borrow.Author.Needs.{needs}
+use mathlib.Core.Path.{_≡_}
+use native.Mathlib.Omega.{arith}
+
+abbrev Inv-loop : tie.InvT-loop
+Inv-loop table c index total n low₀ k₀ low k = (total ≡ N# index) × (k ≤ total) × First (wrongTo (between table c) index k) 0 (n# index) low
+
+abbrev μ-loop : tie.MeasureT-loop
+μ-loop table c index total n low₀ k₀ low k = total - k
+
+nodes-requires : tie.Need-nodes-requires Inv-loop μ-loop
+nodes-requires c κs = search needs
+
+rows-requires : tie.Need-rows-requires Inv-loop μ-loop
+rows-requires c κs = search needs
+
+loop-holds : tie.Need-loop-holds Inv-loop μ-loop
+loop-holds c =
+    let a = c .before .before .before .before .args in
+    (c .before .nodes .ensures .0, omega arith, rw (c .rows .ensures .0) (distances-start (between (a .table .now) (a .c)) (a .index .now)))
+
+leaf-wrong-requires : tie.Need-leaf-wrong-requires Inv-loop μ-loop
+leaf-wrong-requires c κs = (c .before .before .before .before .before .before .pre, omega arith)
+
+lesser-requires : tie.Need-lesser-requires Inv-loop μ-loop
+lesser-requires c κs = search needs
+
+add-k : tie.Need-add-k Inv-loop μ-loop
+add-k c = search needs
+
+loop-less : tie.Need-loop-less Inv-loop μ-loop
+loop-less c = search needs
+
+loop-again : tie.Need-loop-again Inv-loop μ-loop
+loop-again c =
+    let l = c .before .before .before .loop in
+    let a = c .before .before .before .before .before .before .before .before .args in
+    let leaf = c .before .leaf-wrong in
+    let more = distances-more (between (a .table .now) (a .c)) (a .index .now) (l .k) (l .low) (leaf .result) (l .inv .2) (leaf .ensures) in
+    (l .inv .0, omega arith, rw (c .lesser .ensures) more)
+
+returns : tie.Need-returns Inv-loop μ-loop
+returns c =
+    let l = c .before .loop in
+    let a = c .before .before .before .before .before .before .args in
+    distances-done (between (a .table .now) (a .c)) (a .index .now) (l .k) (l .low) (omega arith) (l .inv .2)
+
+pub first-wrong-distance-spec : {M : Type 1} → statement M
+first-wrong-distance-spec =
+    tie.close
+    (tie.spec
+    Inv-loop
+    μ-loop
+    nodes-requires
+    rows-requires
+    loop-holds
+    leaf-wrong-requires
+    lesser-requires
+    add-k
+    loop-less
+    loop-again
+    returns)

@@ -1,0 +1,109 @@
+-- `audit::leaves::leaf_wrong` meets its contract: no position of the leaf that was passed is wrong. The measure is what is left of the run.
+-- Assumes nothing.
+use Prim.Native.Nat.{_-_, _≤_}
+use Rattle.audit.proofs.Distances.{leaf-end, leaf-on, leaf-stop, none-inner}
+use Rattle.audit.proofs.Pairing.{inner-no, inner-yes}
+use Rattle.audit.proofs.leaves.leaf_wrong.Statement.{statement}
+use Rattle.audit.proofs.leaves.leaf_wrong.Tie as tie
+use Rattle.audit.specs.Passes.{leafWrong}
+use Rattle.laws.proofs.First.{first-none, search-start}
+use Rattle.laws.specs.First.{First}
+use Rattle.measure.specs.Table.{between}
+use Rattle.words.specs.Words.{start#}
+use borrow.Author.Needs.{needs}
+use native.Mathlib.Omega.{arith}
+
+abbrev Inv-loop : tie.InvT-loop
+Inv-loop table c index k n f end p₀ p = (p ≤ end) × First (leafWrong (between table c) index k) (start# index k) p p
+
+abbrev μ-loop : tie.MeasureT-loop
+μ-loop table c index k n f end p₀ p = end - p
+
+rows-requires : tie.Need-rows-requires Inv-loop μ-loop
+rows-requires c κs = search needs
+
+node-child-requires : tie.Need-node-child-requires Inv-loop μ-loop
+node-child-requires c κs = search needs
+
+returns : tie.Need-returns Inv-loop μ-loop
+returns c =
+    let a = c .before .before .before .before .before .args in
+    rw (c .before .before .rows .ensures .0)
+    (first-none _ 0 _ (omega arith)
+    (none-inner (between (a .table .now) (a .c)) (a .index .now) (a .k) (inner-yes (a .index .now) (a .k) (c .before .node-child .ensures .0) (c .if1 .taken))))
+
+node-first-requires : tie.Need-node-first-requires Inv-loop μ-loop
+node-first-requires c κs = search needs
+
+node-end-requires : tie.Need-node-end-requires Inv-loop μ-loop
+node-end-requires c κs = search needs
+
+node-start-requires : tie.Need-node-start-requires Inv-loop μ-loop
+node-start-requires c κs = search needs
+
+loop-holds : tie.Need-loop-holds Inv-loop μ-loop
+loop-holds c = (omega arith, rw (c .node-start .ensures .0) (search-start _ _))
+
+stored-at-requires : tie.Need-stored-at-requires Inv-loop μ-loop
+stored-at-requires c κs =
+    let s = c .before .before .before .before .before .before .before .before .before .before in
+    omega (arith, s .pre .0 .shape .whole .words, s .pre .0 .shape .node (s .args .k) (s .pre .1) .run)
+
+apart-requires : tie.Need-apart-requires Inv-loop μ-loop
+apart-requires c κs =
+    let s = c .before .before .before .before .before .before .before .before .before .before .before in
+    (s .pre .0, (c .before .before .before .before .before .node-first .ensures .1, omega (arith, s .pre .0 .shape .node (s .args .k) (s .pre .1) .run)))
+
+returns-2 : tie.Need-returns-2 Inv-loop μ-loop
+returns-2 c =
+    let l = c .before .before .before .before in
+    let e = l .before .before .before .before in
+    let s = e .before .before .before .before .before in
+    let a = s .args in
+    leaf-stop (between (a .table .now) (a .c)) (a .index .now) (a .k) (l .loop .p) (l .loop .inv .1)
+    (inner-no (a .index .now) (a .k) (e .before .node-child .ensures .0) (e .if1 .left)) (omega arith) (l .before .before .before .node-first .ensures .0)
+    (c .before .before .stored-at .ensures) (c .before .apart .ensures) (s .pre .0 .shape .node (a .k) (s .pre .1) .run) (c .if2 .taken)
+
+add-p : tie.Need-add-p Inv-loop μ-loop
+add-p c = search needs
+
+loop-less : tie.Need-loop-less Inv-loop μ-loop
+loop-less c = search needs
+
+loop-again : tie.Need-loop-again Inv-loop μ-loop
+loop-again c =
+    let l = c .before .before .before .before in
+    let e = l .before .before .before .before in
+    let a = e .before .before .before .before .before .args in (
+      omega arith,
+      leaf-on (between (a .table .now) (a .c)) (a .index .now) (a .k) (l .loop .p) (l .loop .inv .1)
+          (inner-no (a .index .now) (a .k) (e .before .node-child .ensures .0) (e .if1 .left)) (omega arith)
+          (l .before .before .before .node-first .ensures .0) (c .before .before .stored-at .ensures) (c .before .apart .ensures) (c .if2 .left),
+    )
+
+returns-3 : tie.Need-returns-3 Inv-loop μ-loop
+returns-3 c =
+    let a = c .before .before .before .before .before .before .before .before .before .before .args in
+    rw (c .before .before .before .before .before .before .before .rows .ensures .0)
+    (leaf-end (between (a .table .now) (a .c)) (a .index .now) (a .k) (c .before .loop .p) (c .before .loop .inv .1) (omega arith))
+
+pub leaf-wrong-spec : {M : Type 1} → statement M
+leaf-wrong-spec =
+    tie.close
+    (tie.spec
+    Inv-loop
+    μ-loop
+    rows-requires
+    node-child-requires
+    returns
+    node-first-requires
+    node-end-requires
+    node-start-requires
+    loop-holds
+    stored-at-requires
+    apart-requires
+    returns-2
+    add-p
+    loop-less
+    loop-again
+    returns-3)

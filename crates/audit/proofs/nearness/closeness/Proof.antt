@@ -1,0 +1,77 @@
+-- `audit::nearness::closeness` meets its contract: the first fault of the nodes left is the first of all. The measure is what is left of
+-- the nodes.
+-- Assumes nothing.
+use Prim.Native.Nat.{_-_, _≤_}
+use Rattle.audit.proofs.Strays.{nodes-on, nodes-over, nodes-start, nodes-stop, saidFrom}
+use Rattle.audit.proofs.nearness.closeness.Statement.{statement}
+use Rattle.audit.proofs.nearness.closeness.Tie as tie
+use Rattle.audit.specs.Passes.{allStrays}
+use Rattle.limits.specs.Said.{said}
+use Rattle.measure.specs.Table.{between}
+use Rattle.words.specs.Words.{N#}
+use borrow.Author.Needs.{needs}
+use mathlib.Core.Path.{_∙_, _≡_, sym}
+use native.Mathlib.Omega.{arith}
+
+abbrev Inv-loop : tie.InvT-loop
+Inv-loop table c index total k₀ k = (total ≡ N# index) × (k ≤ total) × (said (allStrays (between table c) index) ≡ saidFrom (between table c) index k)
+
+abbrev μ-loop : tie.MeasureT-loop
+μ-loop table c index total k₀ k = total - k
+
+nodes-requires : tie.Need-nodes-requires Inv-loop μ-loop
+nodes-requires c κs = search needs
+
+loop-holds : tie.Need-loop-holds Inv-loop μ-loop
+loop-holds c =
+    let a = c .before .before .before .args in
+    (c .nodes .ensures .0, omega arith, nodes-start (between (a .table .now) (a .c)) (a .index .now))
+
+first-stray-requires : tie.Need-first-stray-requires Inv-loop μ-loop
+first-stray-requires c κs = search needs
+
+node-end-requires : tie.Need-node-end-requires Inv-loop μ-loop
+node-end-requires c κs = search needs
+
+returns : tie.Need-returns Inv-loop μ-loop
+returns c =
+    let l = c .before .before .before .before .loop in
+    let a = c .before .before .before .before .before .before .before .before .args in
+    let f = c .before .before .first-stray in
+    sym (l .inv .2 ∙ nodes-stop (between (a .table .now) (a .c)) (a .index .now) (l .k) (omega arith) (f .result) (omega arith) (f .ensures))
+
+add-k : tie.Need-add-k Inv-loop μ-loop
+add-k c = search needs
+
+loop-less : tie.Need-loop-less Inv-loop μ-loop
+loop-less c = search needs
+
+loop-again : tie.Need-loop-again Inv-loop μ-loop
+loop-again c =
+    let l = c .before .before .before .before .loop in
+    let a = c .before .before .before .before .before .before .before .before .args in
+    let f = c .before .before .first-stray in
+    let on = nodes-on (between (a .table .now) (a .c)) (a .index .now) (l .k) (omega arith) (f .result) (omega arith) (f .ensures) in
+    (l .inv .0, omega arith, l .inv .2 ∙ on)
+
+returns-2 : tie.Need-returns-2 Inv-loop μ-loop
+returns-2 c =
+    let l = c .before .loop in
+    let a = c .before .before .before .before .before .args in
+    sym (l .inv .2 ∙ nodes-over (between (a .table .now) (a .c)) (a .index .now) (l .k) (omega arith))
+
+pub closeness-spec : {M : Type 1} → statement M
+closeness-spec =
+    tie.close
+    (tie.spec
+    Inv-loop
+    μ-loop
+    nodes-requires
+    loop-holds
+    first-stray-requires
+    node-end-requires
+    returns
+    add-k
+    loop-less
+    loop-again
+    returns-2)

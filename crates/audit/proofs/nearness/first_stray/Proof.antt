@@ -1,0 +1,93 @@
+-- `audit::nearness::first_stray` meets its contract: `low` is the lowest position in the children passed that is closer to another centre.
+-- The measure is what is left of the children.
+-- Assumes nothing.
+use Prim.Native.Nat.{_-_, _≤_}
+use Rattle.audit.proofs.Pairing.{inner-no, inner-yes}
+use Rattle.audit.proofs.Strays.{near-done, near-leaf, near-more, near-start, straysTo}
+use Rattle.audit.proofs.nearness.first_stray.Statement.{statement}
+use Rattle.audit.proofs.nearness.first_stray.Tie as tie
+use Rattle.audit.specs.Passes.{FirstIn}
+use Rattle.measure.specs.Table.{between}
+use Rattle.words.specs.Words.{m#}
+use borrow.Author.Needs.{needs}
+use mathlib.Core.Path.{_≡_}
+use native.Mathlib.Omega.{arith}
+
+abbrev Inv-loop : tie.InvT-loop
+Inv-loop table c index k low₀ m a₀ low a = (m ≡ m# index) × (a ≤ m) × FirstIn index k (straysTo (between table c) index k a) low
+
+abbrev μ-loop : tie.MeasureT-loop
+μ-loop table c index k low₀ m a₀ low a = m - a
+
+node-end-requires : tie.Need-node-end-requires Inv-loop μ-loop
+node-end-requires c κs = search needs
+
+node-child-requires : tie.Need-node-child-requires Inv-loop μ-loop
+node-child-requires c κs = search needs
+
+returns : tie.Need-returns Inv-loop μ-loop
+returns c =
+    let a = c .before .before .before .before .before .args in
+    let w = a .index .now in
+    rw (c .before .before .node-end .ensures)
+    (near-leaf (between (a .table .now) (a .c)) w (a .k) (inner-no w (a .k) (c .before .node-child .ensures .0) (c .if1 .taken)))
+
+centres-requires : tie.Need-centres-requires Inv-loop μ-loop
+centres-requires c κs = search needs
+
+loop-holds : tie.Need-loop-holds Inv-loop μ-loop
+loop-holds c =
+    let a = c .before .before .before .before .before .before .args in
+    let start = near-start (between (a .table .now) (a .c)) (a .index .now) (a .k) in
+    (c .centres .ensures .0, omega arith, rw (c .before .before .before .node-end .ensures) start)
+
+child-stray-requires : tie.Need-child-stray-requires Inv-loop μ-loop
+child-stray-requires c κs =
+    let e = c .before .before .before in
+    let s = e .before .before .before .before .before in
+    let i = inner-yes (s .args .index .now) (s .args .k) (e .before .node-child .ensures .0) (e .if1 .left) in
+    (s .pre .0, (s .pre .1, i, omega arith))
+
+lesser-requires : tie.Need-lesser-requires Inv-loop μ-loop
+lesser-requires c κs = search needs
+
+add-a : tie.Need-add-a Inv-loop μ-loop
+add-a c = search needs
+
+loop-less : tie.Need-loop-less Inv-loop μ-loop
+loop-less c = search needs
+
+loop-again : tie.Need-loop-again Inv-loop μ-loop
+loop-again c =
+    let l = c .before .before .before .loop in
+    let a = c .before .before .before .before .before .before .before .before .before .before .args in
+    let child = c .before .child-stray in
+    let more = near-more (between (a .table .now) (a .c)) (a .index .now) (a .k) (l .a) (l .low) (child .result) (l .inv .2) (child .ensures) in
+    (l .inv .0, omega arith, rw (c .lesser .ensures) more)
+
+returns-2 : tie.Need-returns-2 Inv-loop μ-loop
+returns-2 c =
+    let l = c .before .loop in
+    let e = c .before .before .before in
+    let a = e .before .before .before .before .before .args in
+    let w = a .index .now in
+    let i = inner-yes w (a .k) (e .before .node-child .ensures .0) (e .if1 .left) in
+    near-done (between (a .table .now) (a .c)) w (a .k) (l .a) (l .low) i (omega arith) (l .inv .2)
+
+pub first-stray-spec : {M : Type 1} → statement M
+first-stray-spec =
+    tie.close
+    (tie.spec
+    Inv-loop
+    μ-loop
+    node-end-requires
+    node-child-requires
+    returns
+    centres-requires
+    loop-holds
+    child-stray-requires
+    lesser-requires
+    add-a
+    loop-less
+    loop-again
+    returns-2)

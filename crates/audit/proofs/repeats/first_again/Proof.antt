@@ -1,0 +1,96 @@
+-- `audit::repeats::first_again` meets its contract: marked are just the rows of the positions passed, none of them again. The measure is
+-- what is left of the positions.
+-- Assumes nothing.
+use Prim.Native.Nat.{_-_, _<_}
+use Rattle.audit.proofs.Marks.{Marks, marks-found, marks-more, marks-start, row-marked}
+use Rattle.audit.proofs.repeats.first_again.Statement.{statement}
+use Rattle.audit.proofs.repeats.first_again.Tie as tie
+use Rattle.laws.proofs.First.{search-end}
+use Rattle.words.specs.Words.{n#}
+use borrow.Author.Needs.{needs}
+use lib.ListN.{length}
+use mathlib.Core.Path.{_≡_}
+use native.Mathlib.Omega.{arith}
+
+abbrev Inv-loop : tie.InvT-loop
+Inv-loop index work₀ n p₀ work p = (n ≡ n# index) × Marks index work₀ work p
+
+abbrev μ-loop : tie.MeasureT-loop
+μ-loop index work₀ n p₀ work p = n - p
+
+-- the row at p has a mark's place
+fits : (c : tie.After-row-at Inv-loop μ-loop) → c .row-at .result < length (c .before .before .loop .work)
+fits c =
+    let s = c .before .before .before .before .before .before in
+    row-marked (s .pre .0) (c .before .before .loop .inv .1) (omega arith) (c .row-at .ensures .0)
+
+rows-requires : tie.Need-rows-requires Inv-loop μ-loop
+rows-requires c κs = search needs
+
+loop-holds : tie.Need-loop-holds Inv-loop μ-loop
+loop-holds c = (c .rows .ensures .0, marks-start _ _ (c .before .before .before .pre .1))
+
+row-at-requires : tie.Need-row-at-requires Inv-loop μ-loop
+row-at-requires c κs = omega (arith, c .before .before .before .before .before .pre .0 .whole .words)
+
+mul-if1 : tie.Need-mul-if1 Inv-loop μ-loop
+mul-if1 c = omega (arith, fits c)
+
+slice-read-if1 : tie.Need-slice-read-if1 Inv-loop μ-loop
+slice-read-if1 c = fits (c .before)
+
+same-length : tie.Need-same-length Inv-loop μ-loop
+same-length c = search needs
+
+returns : tie.Need-returns Inv-loop μ-loop
+returns c =
+    let l = c .before .before .before .before .loop in
+    let s = c .before .before .before .before .before .before .before .before in
+    (marks-found (s .pre .0) (l .inv .1) (omega arith) (c .before .before .row-at .ensures .0) (c .if1 .taken), l .inv .1 .rest)
+
+mul-work : tie.Need-mul-work Inv-loop μ-loop
+mul-work c = omega (arith, fits (c .before .before))
+
+slice-write-work : tie.Need-slice-write-work Inv-loop μ-loop
+slice-write-work c = fits (c .before .before)
+
+add-p : tie.Need-add-p Inv-loop μ-loop
+add-p c = search needs
+
+loop-less : tie.Need-loop-less Inv-loop μ-loop
+loop-less c = search needs
+
+loop-again : tie.Need-loop-again Inv-loop μ-loop
+loop-again c =
+    let l = c .before .before .before .before .loop in
+    let s = c .before .before .before .before .before .before .before .before in
+    (l .inv .0, marks-more (s .pre .0) (l .inv .1) (omega arith) (c .before .before .row-at .ensures .0) (c .if1 .left))
+
+same-length-2 : tie.Need-same-length-2 Inv-loop μ-loop
+same-length-2 c = search needs
+
+returns-2 : tie.Need-returns-2 Inv-loop μ-loop
+returns-2 c =
+    let l = c .before .loop in
+    (search-end _ 0 _ (l .p) (omega (arith, l .inv .1 .to)) (l .inv .1 .once), l .inv .1 .rest)
+
+pub first-again-spec : {M : Type 1} → statement M
+first-again-spec =
+    tie.close
+    (tie.spec
+    Inv-loop
+    μ-loop
+    rows-requires
+    loop-holds
+    row-at-requires
+    mul-if1
+    slice-read-if1
+    same-length
+    returns
+    mul-work
+    slice-write-work
+    add-p
+    loop-less
+    loop-again
+    same-length-2
+    returns-2)

@@ -1,0 +1,32 @@
+-- `audit::runs::apart` meets its contract: both rows lie in the table.
+-- Assumes nothing.
+use Rattle.audit.proofs.Pairing.{columns-low, in-table}
+use Rattle.audit.proofs.runs.apart.Statement.{statement}
+use Rattle.audit.proofs.runs.apart.Tie as tie
+use Rattle.measure.specs.Table.{between}
+use borrow.Author.Needs.{needs}
+use mathlib.Core.Path.{_∙_, ap}
+use native.Mathlib.Omega.{arith}
+
+row-at-requires : tie.Need-row-at-requires
+row-at-requires c κs = search needs
+
+row-distance-requires : tie.Need-row-distance-requires
+row-distance-requires c κs =
+    let s = c .before .before .before in
+    let a = s .args in
+    let P = s .pre .0 in
+    let fits = in-table (a .table .now) (a .c) (a .index .now) P in
+    let low = P .shape .place (a .p) (s .pre .1 .1) .row in (
+      columns-low (a .table .now) (a .c) (a .index .now) P,
+      fits (a .f) (s .pre .1 .0),
+      fits (c .row-at .result) (omega (arith, low, c .row-at .ensures .0)),
+    )
+
+returns : tie.Need-returns
+returns c =
+    let a = c .before .before .before .before .args in
+    c .row-distance .ensures .0 ∙ ap (between (a .table .now) (a .c) (a .f)) (c .before .row-at .ensures .0)
+
+pub apart-spec : {M : Type 1} → statement M
+apart-spec = tie.close (tie.spec row-at-requires row-distance-requires returns)

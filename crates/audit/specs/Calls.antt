@@ -1,0 +1,37 @@
+-- THE FULL CHECK'S CONTRACT, and what its 0 stands for: 01, The tree, full check, and Numbers given back. Assumes nothing.
+use Prim.Native.Nat.{_%_, _*_, _≤_, ℕ}
+use Rattle.audit.specs.Workspace.{clears, wiped}
+use Rattle.limits.specs.Limits.{maxColumns, maxRows}
+use Rattle.measure.specs.Table.{between, rowsOf}
+use Rattle.tree.specs.Calls.{saidCheck}
+use Rattle.tree.specs.Check.{Accepted}
+use Rattle.words.specs.Words.{c#, n#}
+use lib.ListN.{length}
+use mathlib.Core.Bool.{cond}
+use mathlib.Core.List.{List}
+use mathlib.Core.Path.{_≡_}
+
+-- a check of index w for table T of c columns gives a number and two places, and leaves the workspace as work′
+pub record Checks (T : List ℕ) (c : ℕ) (w work work′ : List ℕ) (number place second : ℕ) : Type 0 where
+  -- 0, or the first refusal or fault by number, then by place
+  pub said : number ≡ saidCheck T c w (length work) .0
+  -- where it is
+  pub placed : (place ≡ saidCheck T c w (length work) .1) × (second ≡ saidCheck T c w (length work) .2)
+  -- on 0 and on 10 to 13 the first 6n words are zero and the rest is as it was; on 1 to 9 all is
+  pub cleared : work′ ≡ cond (clears number) (wiped (6 * rowsOf T c) work) work
+
+-- no refusal meets the call, the index is the table's, and the full check accepts it
+pub record Passed (T : List ℕ) (c : ℕ) (w work : List ℕ) : Type 0 where
+  -- not 1
+  pub columns : (1 ≤ c) × (c ≤ maxColumns)
+  -- not 3
+  pub multiple : length T % c ≡ 0
+  -- not 4
+  pub few : rowsOf T c ≤ maxRows
+  -- not 5
+  pub room : 6 * rowsOf T c ≤ length work
+  -- the header is the table's
+  pub same-rows : n# w ≡ rowsOf T c
+  pub same-columns : c# w ≡ c
+  -- words, shape and no fault
+  pub accepted : Accepted (between T c) w

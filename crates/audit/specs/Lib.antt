@@ -1,0 +1,4 @@
+pub mod Workspace
+pub mod Refusals
+pub mod Passes
+pub mod Calls

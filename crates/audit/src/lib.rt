@@ -1,0 +1,110 @@
+// The full check: it takes an index from anyone, and names its first fault.
+mod leaves;
+mod nearness;
+mod radii;
+mod repeats;
+mod runs;
+
+ghost use Prim.Native.Nat.{_*_, _≤_};
+ghost use Rattle.audit.specs.Calls.{Checks};
+ghost use Rattle.audit.specs.Passes.{measuredFaults, told};
+ghost use Rattle.audit.specs.Refusals.{Paired, refusals};
+ghost use Rattle.audit.specs.Workspace.{wiped};
+ghost use Rattle.limits.specs.Said.{said};
+ghost use Rattle.measure.specs.Table.{between};
+ghost use Rattle.tree.specs.Check.{faults};
+ghost use Rattle.words.specs.Words.{n#};
+ghost use lib.ListN.{length};
+ghost use mathlib.Core.Path.{_≡_};
+use leaves::first_wrong_distance;
+use limits::table_number;
+use nearness::closeness;
+use radii::first_wrong_radius;
+use repeats::clear;
+use repeats::first_again;
+use words::listing::index_number;
+use words::places::nodes;
+use words::places::rows;
+
+// A number of the document's table and its two places, else zero.
+pub struct Checked {
+    pub number: u32,
+    pub place: usize,
+    pub second: usize,
+}
+
+// 1 to 9: what refuses the call before the passes, else 0. `room` is the workspace's length.
+fn refusal_of(table: &[u16], c: usize, index: &[u32], room: usize) -> u32
+    ensures { λ r. ⌜ r ≡ said (refusals (now (table .entry)) c (now (index .entry)) room) .0 ⌝ }
+{
+    let by_table = table_number(table.len(), c);
+    if by_table != 0 {
+        return by_table;
+    }
+    let n = table.len() / c;
+    if room < 6 * n {
+        return 5;
+    }
+    index_number(index, n, c)
+}
+
+// 11 to 13: the first fault that distances show.
+fn measured_fault(table: &[u16], c: usize, index: &[u32]) -> Checked
+    requires { ⌜ Paired (now table) c (now index) ⌝ }
+    ensures { λ r. ⌜ told r ≡ said (measuredFaults (between (now (table .entry)) c) (now (index .entry))) ⌝ }
+{
+    let p = first_wrong_distance(table, c, index);
+    if p < rows(index) {
+        return Checked {
+            number: 11,
+            place: p,
+            second: 0,
+        };
+    }
+    let k = first_wrong_radius(table, c, index);
+    if k < nodes(index) {
+        return Checked {
+            number: 12,
+            place: k,
+            second: 0,
+        };
+    }
+    closeness(table, c, index)
+}
+
+// 10 to 13: the first fault of an index in shape. The first 6n words of the workspace end as zero.
+fn first_fault(table: &[u16], c: usize, index: &[u32], work: &mut [u32]) -> Checked
+    requires { ⌜ Paired (now table) c (now index) ⌝ }
+    requires { ⌜ 6 * n# (now index) ≤ length (now work) ⌝ }
+    ensures says { λ r. ⌜ told r ≡ said (faults (between (now (table .entry)) c) (now (index .entry))) ⌝ }
+    ensures leaves { λ _. ⌜ now (work .exit) ≡ wiped (6 * n# (now (index .entry))) (now (work .entry)) ⌝ }
+{
+    let n = rows(index);
+    clear(work, n);
+    let p = first_again(index, work);
+    clear(work, 6 * n);
+    if p < n {
+        return Checked {
+            number: 10,
+            place: p,
+            second: 0,
+        };
+    }
+    measured_fault(table, c, index)
+}
+
+// The full check of an index for a table of c columns: 0 where it is accepted, else the number and the places of the first refusal or fault.
+// Each row is measured once for its stored distance, and at each level of the tree once for the radius and at most m times for the centres.
+pub fn check(table: &[u16], c: usize, index: &[u32], work: &mut [u32]) -> Checked
+    ensures { λ r. ⌜ Checks (now (table .entry)) c (now (index .entry)) (now (work .entry)) (now (work .exit)) (r .number) (r .place) (r .second) ⌝ }
+{
+    let number = refusal_of(table, c, index, work.len());
+    if number != 0 {
+        return Checked {
+            number,
+            place: 0,
+            second: 0,
+        };
+    }
+    first_fault(table, c, index, work)
+}

@@ -1,0 +1,124 @@
+// 13: a row is closer to the centre of another child.
+ghost use Prim.Native.Nat.{_+_, _<_, _≤_};
+ghost use Rattle.audit.specs.Passes.{FirstIn, allStrays, closer, kidStrays, told};
+ghost use Rattle.audit.specs.Refusals.{Paired};
+ghost use Rattle.laws.specs.Lists.{any, range};
+ghost use Rattle.limits.specs.Said.{said};
+ghost use Rattle.measure.specs.Table.{between};
+ghost use Rattle.tree.specs.Check.{strays};
+ghost use Rattle.words.specs.Shape.{inner};
+ghost use Rattle.words.specs.Words.{N#, child#, first#, m#, n#, row#};
+ghost use mathlib.Core.Bool.{true};
+ghost use mathlib.Core.Path.{_≡_};
+use crate::Checked;
+use crate::runs::apart;
+use crate::runs::lesser;
+use crate::runs::node_end;
+use words::places::centres;
+use words::places::node_child;
+use words::places::node_first;
+use words::places::node_start;
+use words::places::nodes;
+
+// The row at p is closer to node i's first than to node j's, from which it is x away. So j's own is not measured again.
+fn is_closer(table: &[u16], c: usize, index: &[u32], i: usize, j: usize, x: u32, p: usize) -> bool
+    requires { ⌜ Paired (now table) c (now index) ⌝ }
+    requires { ⌜ (i < N# (now index)) × (p < n# (now index)) × (x ≡ between (now table) c (first# (now index) j) (row# (now index) p)) ⌝ }
+    ensures { λ r. ⌜ r ≡ closer (between (now (table .entry)) c) (now (index .entry)) p x i ⌝ }
+{
+    if i == j {
+        return false;
+    }
+    let f = node_first(index, i);
+    apart(table, c, index, f, p) < x
+}
+
+// The row at p, which is x away from the first of node j, is closer to that of one of the m nodes from number `child` on.
+fn closer_to_other(
+    table: &[u16],
+    c: usize,
+    index: &[u32],
+    child: usize,
+    j: usize,
+    x: u32,
+    p: usize,
+) -> bool
+    requires { ⌜ Paired (now table) c (now index) ⌝ }
+    requires { ⌜ (child + m# (now index) ≤ N# (now index)) × (p < n# (now index)) × (x ≡ between (now table) c (first# (now index) j) (row# (now index) p)) ⌝ }
+    ensures { λ r. ⌜ r ≡ any (closer (between (now (table .entry)) c) (now (index .entry)) p x) (range child (m# (now (index .entry)))) ⌝ }
+{
+    let end = child + centres(index);
+    let mut i = child;
+    while i < end {
+        if is_closer(table, c, index, i, j, x, p) {
+            return true;
+        }
+        i += 1;
+    }
+    false
+}
+
+// In child a of inner node k: the lowest position whose row is closer to another child's centre, or the end of k's run.
+fn child_stray(table: &[u16], c: usize, index: &[u32], k: usize, a: usize) -> usize
+    requires { ⌜ Paired (now table) c (now index) ⌝ }
+    requires { ⌜ (k < N# (now index)) × (inner (now index) k ≡ true) × (a < m# (now index)) ⌝ }
+    ensures { λ r. ⌜ FirstIn (now (index .entry)) k (kidStrays (between (now (table .entry)) c) (now (index .entry)) k (child# (now (index .entry)) k + a)) r ⌝ }
+{
+    let child = node_child(index, k);
+    let j = child + a;
+    let f = node_first(index, j);
+    let end = node_end(index, j);
+    let mut p = node_start(index, j);
+    while p < end {
+        let x = apart(table, c, index, f, p);
+        if closer_to_other(table, c, index, child, j, x, p) {
+            return p;
+        }
+        p += 1;
+    }
+    node_end(index, k)
+}
+
+// In node k: the lowest position whose row is closer to another child's centre, or the end of its run.
+fn first_stray(table: &[u16], c: usize, index: &[u32], k: usize) -> usize
+    requires { ⌜ Paired (now table) c (now index) ⌝ }
+    requires { ⌜ k < N# (now index) ⌝ }
+    ensures { λ r. ⌜ FirstIn (now (index .entry)) k (strays (between (now (table .entry)) c) (now (index .entry)) k) r ⌝ }
+{
+    let mut low = node_end(index, k);
+    if node_child(index, k) == 0 {
+        return low;
+    }
+    let m = centres(index);
+    let mut a = 0;
+    while a < m {
+        low = lesser(low, child_stray(table, c, index, k, a));
+        a += 1;
+    }
+    low
+}
+
+// The lowest node with such a row, and the lowest position there; else 0.
+pub fn closeness(table: &[u16], c: usize, index: &[u32]) -> Checked
+    requires { ⌜ Paired (now table) c (now index) ⌝ }
+    ensures { λ r. ⌜ told r ≡ said (allStrays (between (now (table .entry)) c) (now (index .entry))) ⌝ }
+{
+    let total = nodes(index);
+    let mut k = 0;
+    while k < total {
+        let p = first_stray(table, c, index, k);
+        if p < node_end(index, k) {
+            return Checked {
+                number: 13,
+                place: k,
+                second: p,
+            };
+        }
+        k += 1;
+    }
+    Checked {
+        number: 0,
+        place: 0,
+        second: 0,
+    }
+}

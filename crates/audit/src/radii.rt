@@ -1,0 +1,55 @@
+// 12: a radius is wrong.
+ghost use Prim.Native.Nat.{_<_, max};
+ghost use Rattle.audit.specs.Passes.{reachOf};
+ghost use Rattle.audit.specs.Refusals.{Paired};
+ghost use Rattle.laws.specs.First.{First};
+ghost use Rattle.measure.specs.Table.{between};
+ghost use Rattle.tree.specs.Check.{wrongRadius};
+ghost use Rattle.words.specs.Words.{N#};
+ghost use mathlib.Core.Path.{_≡_};
+use crate::runs::apart;
+use crate::runs::node_end;
+use words::places::node_first;
+use words::places::node_radius;
+use words::places::node_start;
+use words::places::nodes;
+
+// The greater of two.
+fn greater(a: u32, b: u32) -> u32
+    ensures { λ r. ⌜ r ≡ max a b ⌝ }
+{
+    if a < b { b } else { a }
+}
+
+// The greatest distance of a member of node k from its first.
+fn reach(table: &[u16], c: usize, index: &[u32], k: usize) -> u32
+    requires { ⌜ Paired (now table) c (now index) ⌝ }
+    requires { ⌜ k < N# (now index) ⌝ }
+    ensures { λ r. ⌜ r ≡ reachOf (between (now (table .entry)) c) (now (index .entry)) k ⌝ }
+{
+    let f = node_first(index, k);
+    let end = node_end(index, k);
+    let mut far: u32 = 0;
+    let mut p = node_start(index, k);
+    while p < end {
+        far = greater(far, apart(table, c, index, f, p));
+        p += 1;
+    }
+    far
+}
+
+// The lowest node with a wrong radius, or the number of nodes.
+pub fn first_wrong_radius(table: &[u16], c: usize, index: &[u32]) -> usize
+    requires { ⌜ Paired (now table) c (now index) ⌝ }
+    ensures { λ r. ⌜ First (wrongRadius (between (now (table .entry)) c) (now (index .entry))) 0 (N# (now (index .entry))) r ⌝ }
+{
+    let total = nodes(index);
+    let mut k = 0;
+    while k < total {
+        if node_radius(index, k) != reach(table, c, index, k) {
+            return k;
+        }
+        k += 1;
+    }
+    k
+}

@@ -1,0 +1,207 @@
+// The full check on the five-row index, on spoilt copies and on a few more, a line each: the number, its two places, and what the
+// workspace's words sum to after the call. Each word was 7; for the five rows one more is lent than is asked for, so that 7 is left.
+const ROWS: [u16; 5] = [0, 1, 10, 11, 20];
+
+const FIVE: [u32; 38] = [
+    1,
+    5,
+    1,
+    2,
+    2,
+    5,
+    1,
+    0,
+    0,
+    5,
+    1,
+    20,
+    0,
+    3,
+    3,
+    10,
+    3,
+    2,
+    0,
+    9,
+    0,
+    2,
+    0,
+    1,
+    2,
+    1,
+    0,
+    0,
+    0,
+    0,
+    1,
+    1,
+    2,
+    0,
+    4,
+    0,
+    3,
+    9,
+];
+
+fn wide(x: u32) -> u64 {
+    x as u64
+}
+
+fn number(x: u64) {
+    io::print_decimal(1, x);
+    io::write_all(1, b" ");
+}
+
+// The words' sum.
+fn sum(work: &[u32]) -> u64 {
+    let mut all = 0;
+    let mut i = 0;
+    while i < work.len() {
+        all = std::num::wrapping_add_u64(all, wide(work[i]));
+        i += 1;
+    }
+    all
+}
+
+fn show(table: &[u16], c: usize, index: &[u32], work: &mut [u32]) {
+    let r = audit::check(table, c, index, work);
+    number(wide(r.number));
+    number(r.place as u64);
+    number(r.second as u64);
+    io::print_decimal(1, sum(work));
+    io::write_all(1, b"\n");
+}
+
+// An index over the five rows.
+fn five(index: [u32; 38]) {
+    let mut work = [7u32; 31];
+    show(&ROWS, 1, &index, &mut work);
+}
+
+// The five-row index with one word changed.
+fn spoilt(at: usize, word: u32) {
+    let mut index = FIVE;
+    if at < 38 {
+        index[at] = word;
+    }
+    five(index);
+}
+
+// Each number from 8 on.
+fn one_fault() {
+    // edition
+    spoilt(0, 2);
+    // n
+    spoilt(1, 4);
+    // the root's start, a leaf's count, a row number that is none
+    spoilt(8, 1);
+    spoilt(21, 1);
+    spoilt(28, 5);
+    // row 0 at position 1 again
+    spoilt(30, 0);
+    // row 0 at position 4 again, two leaves on
+    spoilt(36, 0);
+    // the distance of position 1, and the root's radius
+    spoilt(31, 2);
+    spoilt(11, 19);
+    // row 3, at 11, stands with the centre 0 and is closer to 20
+    let mut stray = FIVE;
+    stray[15] = 11;
+    stray[19] = 10;
+    stray[32] = 3;
+    stray[36] = 2;
+    stray[37] = 10;
+    five(stray);
+}
+
+// Of several the lowest number is named, then the lowest place.
+fn more_faults() {
+    // positions 1 and 4; position 4's leaf has the lower number
+    let mut index = FIVE;
+    index[31] = 2;
+    index[37] = 8;
+    five(index);
+    // nodes 0 and 1
+    index = FIVE;
+    index[11] = 19;
+    index[15] = 11;
+    five(index);
+    // a row again at position 4, and the distance of position 1
+    index = FIVE;
+    index[31] = 2;
+    index[36] = 0;
+    five(index);
+    // a stray, and a radius
+    index = FIVE;
+    index[15] = 11;
+    index[19] = 10;
+    index[23] = 2;
+    index[32] = 3;
+    index[36] = 2;
+    index[37] = 10;
+    five(index);
+}
+
+// What is refused before the passes.
+fn refused() {
+    let mut work = [7u32; 31];
+    show(&ROWS, 0, &FIVE, &mut work);
+    show(&ROWS, 17, &FIVE, &mut work);
+    show(&ROWS, 2, &FIVE, &mut work);
+    // one workspace word short, for a good index and for a spoilt one
+    let mut short = [7u32; 29];
+    show(&ROWS, 1, &FIVE, &mut short);
+    show(&ROWS, 1, &FIVE[..8], &mut short);
+    // a row more
+    let rows: [u16; 6] = [0, 1, 10, 11, 20, 30];
+    let mut long = [7u32; 36];
+    show(&rows, 1, &FIVE, &mut long);
+    // a word missing
+    show(&ROWS, 1, &FIVE[..37], &mut work);
+}
+
+// A row as far from two centres may stand with either; and there may be no row.
+fn free() {
+    let rows: [u16; 3] = [0, 10, 5];
+    let later: [u32; 26] = [
+        1,
+        3,
+        1,
+        2,
+        2,
+        3,
+        1,
+        0,
+        0,
+        3,
+        1,
+        10,
+        0,
+        1,
+        0,
+        0,
+        1,
+        2,
+        0,
+        5,
+        0,
+        0,
+        1,
+        0,
+        2,
+        5,
+    ];
+    let mut work = [7u32; 19];
+    show(&rows, 1, &later, &mut work);
+    let none: [u32; 8] = [1, 0, 1, 2, 2, 0, 1, 0];
+    let mut kept = [7u32; 2];
+    show(&rows[..0], 1, &none, &mut kept);
+}
+
+fn main() {
+    five(FIVE);
+    one_fault();
+    more_faults();
+    refused();
+    free();
+}

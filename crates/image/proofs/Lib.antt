@@ -1,0 +1,11 @@
+pub mod Checks
+pub mod Blocks
+pub mod Places
+pub mod Wrong
+pub mod Numbers
+pub mod Calls
+pub mod Found
+pub mod OneByte
+pub mod Standing
+pub mod RoundTrip
+pub mod Only

@@ -1,0 +1,49 @@
+-- Reading: the words of a block and of an image, one word more at a time, and where they stand. Assumes nothing.
+use Prim.Native.Nat.{_*_, _+_, _/_, _<_, _≤_, suc, zero, ℕ}
+use Rattle.image.proofs.Checks.{check-append}
+use Rattle.words.specs.Image.{blocksFor, checkFrom, imageWord, imageWords, step, wordAt, wordsAt}
+use Rattle.words.specs.Words.{at}
+use lib.ListN.{length, length-append, take}
+use lib.Seq.{take-suc}
+use mathlib.Core.List.{List, [], _++_, _∷_}
+use mathlib.Core.Path.{_≡_, ap, refl}
+use native.Mathlib.Nat.{add-zero}
+use native.Mathlib.Numerals.{add-one}
+use native.Mathlib.Omega.{arith}
+
+-- a word is its four bytes
+pub word-cong : (i i′ : List ℕ) (q q′ : ℕ) → ((d : ℕ) → d < 4 → at i (q + d) ≡ at i′ (q′ + d)) → wordAt i q ≡ wordAt i′ q′
+unfolding wordAt
+word-cong i i′ q q′ f =
+    let a : at i q ≡ at i′ q′ = rw (add-zero q, add-zero q′) at (f 0 (omega arith)) in
+    omega (arith, f 1 (omega arith), f 2 (omega arith), f 3 (omega arith))
+
+-- ---- the words of a block
+pub words-more : (i : List ℕ) (p k : ℕ) → wordsAt i p (k + 1) ≡ wordsAt i p k ++ (wordAt i (p + 4 * k) ∷ [])
+unfolding wordsAt
+words-more i p k = ap (wordsAt i p) (add-one k)
+
+-- the check of the first words of a list, one word further
+pub take-check : (ws : List ℕ) (s₀ s k r : ℕ) → k < length ws → s ≡ checkFrom s₀ (take k ws) → r ≡ step s (at ws k)
+    → r ≡ checkFrom s₀ (take (k + 1) ws)
+unfolding checkFrom
+take-check ws s₀ s k r h e g = rw (add-one k, take-suc ws k 0 h, check-append, ← e) g
+
+-- ---- the words of an image
+pub image-more : (i : List ℕ) (k : ℕ) → imageWords i (k + 1) ≡ imageWords i k ++ (imageWord i k ∷ [])
+unfolding imageWords
+image-more i k = ap (imageWords i) (add-one k)
+
+pub image-length : (i : List ℕ) (k : ℕ) → length (imageWords i k) ≡ k
+unfolding imageWords
+image-length i zero = refl
+image-length i (suc k) = simp (length-append, image-length i k) (add-one k)
+
+-- an index word lies within the blocks
+pub inside : (j n : ℕ) → j < 127 * (n / 512) → 4 * j + 4 * (j / 127) + 4 ≤ n
+inside j n h = omega arith
+
+-- the words that k blocks are for lie within them
+pub blocks-hold : (t k : ℕ) → blocksFor t ≡ k → t ≤ 127 * k
+unfolding blocksFor
+blocks-hold t k e = omega arith

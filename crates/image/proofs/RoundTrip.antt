@@ -1,0 +1,140 @@
+-- What is written is read back, word for word. Assumes nothing.
+use Prim.Native.Nat.{_*_, _-_, _/_, _<_, _^_, _≤_, ℕ}
+use Rattle.image.proofs.Blocks.{blocks-length}
+use Rattle.image.proofs.Calls.{by-room, reads-all}
+use Rattle.image.proofs.Numbers.{by-held, none-held}
+use Rattle.image.proofs.Places.{blocks-hold}
+use Rattle.image.proofs.Standing.{none-wrong, words-back, zero-back}
+use Rattle.image.specs.Below.{Below}
+use Rattle.image.specs.Calls.{Reads, Writes}
+use Rattle.image.specs.Lowest.{wrongBlocks}
+use Rattle.image.specs.Sound.{restZero}
+use Rattle.laws.proofs.Every.{all-of}
+use Rattle.laws.proofs.Ranges.{range-every}
+use Rattle.laws.proofs.Tests.{and-l, and-r, holds, is-true}
+use Rattle.laws.specs.Lists.{all, range}
+use Rattle.limits.specs.Said.{Said, fault, said}
+use Rattle.words.proofs.InShape.{whole}
+use Rattle.words.specs.Image.{blocks, blocksFor, image, imageFaults, imageTotal, imageWord, imageWords, saidWrite}
+use Rattle.words.specs.Words.{at, headerOk, wordsOf, wordsOk}
+use borrow.Author.Tests.{le-ltb, leb-false, leb-true}
+use lib.Dec.{T, eqb, leb, lit<, ltb}
+use lib.ListN.{List·getD-eq-default, drop, length, length-take, take}
+use lib.Seq.{getD-take, length-take-le, take-all, take-at, take-take}
+use mathlib.Core.Bool.{Bool, _&&_, false, not, true}
+use mathlib.Core.List.{List, [], _++_}
+use mathlib.Core.Path.{_∙_, _≡_, ap, ap₂, refl, subst, sym}
+use native.Mathlib.Omega.{arith}
+
+-- ---- the header
+header-take : (w : List ℕ) → headerOk (take 8 w) ≡ headerOk w
+unfolding headerOk
+header-take w =
+    let f : (j : ℕ) → j < 8 → at (take 8 w) j ≡ at w j = λ j h. getD-take 8 w j 0 h in
+    rw (f 0 (lit< tt), f 1 (lit< tt), f 2 (lit< tt), f 3 (lit< tt), f 4 (lit< tt), f 5 (lit< tt), f 6 (lit< tt), f 7 (lit< tt))
+
+total-take : (w : List ℕ) → wordsOf (take 8 w) ≡ wordsOf w
+total-take w = rw (getD-take 8 w 1 0 (lit< tt), getD-take 8 w 5 0 (lit< tt))
+
+header-is : (w : List ℕ) → wordsOk w ≡ true → headerOk w ≡ true
+unfolding wordsOk
+header-is w e =
+    let a = leb 8 (length w) in
+    let b = leb (wordsOf w) (length w) in
+    is-true (headerOk w) (and-r a (headerOk w) (and-l (a && headerOk w) b (holds (a && headerOk w && b) e)))
+
+below-take : (n k : ℕ) (l : List ℕ) → 1 ≤ k → Below k l → Below k (take n l)
+below-take n k l one h p = go (leb n p) refl
+  where
+    go : (b : Bool) → leb n p ≡ b → at (take n l) p < k
+    go true q = rw (List·getD-eq-default (take n l) 0 {n = p} (omega (arith, length-take n l, leb-true n p q))) one
+    go false q = rw (getD-take n l p 0 (leb-false n p q)) (h p)
+
+-- ---- the whole way
+module _ (w : List ℕ) (ok : wordsOk w ≡ true) (small : Below (2 ^ 32) w) where
+  abbrev t : ℕ
+  t = wordsOf w
+
+  abbrev ws : List ℕ
+  ws = take (wordsOf w) w
+
+  abbrev k : ℕ
+  k = blocksFor (wordsOf w)
+
+  long : length ws ≡ t
+  long = length-take-le t w (whole w ok .words)
+
+  low : Below (2 ^ 32) ws
+  low = below-take t (2 ^ 32) w (omega arith) small
+
+  fits : t ≤ 127 * k
+  fits = blocks-hold t k refl
+
+  some : 1 ≤ k
+  unfolding blocksFor
+  some = omega arith
+
+  image-is : image w ≡ blocks ws k
+  unfolding image
+  image-is = refl
+
+  image-size : length (image w) ≡ 512 * k
+  image-size = ap length image-is ∙ blocks-length ws k
+
+  size-blocks : length (image w) / 512 ≡ k
+  size-blocks = omega (arith, image-size)
+
+  heads : imageWords (image w) 8 ≡ take 8 w
+  heads =
+      ap (λ i. imageWords i 8) image-is ∙ words-back ws k low 8 (omega (arith, long)) (omega (arith, fits)) ∙ take-take 8 t w (omega arith)
+
+  total-is : imageTotal (image w) ≡ t
+  unfolding imageTotal
+  total-is = ap wordsOf heads ∙ total-take w
+
+  rest-is : restZero (image w) (imageTotal (image w)) ≡ true
+  rest-is =
+      let n : ℕ = 127 * k - length ws in
+      ap₂ (λ a b. all (λ j. eqb (imageWord (image w) j) 0) (range a (127 * b - a))) (total-is ∙ sym long) size-blocks
+      ∙ ap (λ i. all (λ j. eqb (imageWord i j) 0) (range (length ws) n)) image-is
+      ∙ is-true (all (λ j. eqb (imageWord (blocks ws k) j) 0) (range (length ws) n))
+      (all-of (λ j. eqb (imageWord (blocks ws k) j) 0) (range (length ws) n)
+      (range-every (λ j. T (eqb (imageWord (blocks ws k) j) 0)) (length ws) n (zero-back ws k low n refl)))
+
+  -- THE IMAGE OF AN INDEX HAS NO FAULT
+  pub image-sound : imageFaults (image w) ≡ []
+  image-sound =
+      let l = image-size in
+      by-held (image w) (λ e. omega (arith, some)) (omega arith) (ap₂ (λ i n. wrongBlocks i 0 n) image-is size-blocks ∙ none-wrong ws k low)
+      ∙ none-held (image w) (ap headerOk heads ∙ header-take w ∙ header-is w ok) (size-blocks ∙ ap blocksFor (sym total-is)) rest-is
+
+  -- AND ITS WORDS ARE THE INDEX'S
+  pub image-words : imageWords (image w) (imageTotal (image w)) ≡ take (wordsOf w) w
+  image-words =
+      ap₂ imageWords image-is total-is ∙ words-back ws k low t (omega (arith, long)) fits ∙ take-all t ws (omega (arith, long))
+
+-- ---- as calls
+-- a write that gives 0 had an index
+wrote : (a s : Bool) → said (fault 16 (not a) ++ fault 5 s) .0 ≡ 0 → a ≡ true
+wrote true s e = refl
+wrote false s e = absurd (omega arith)
+
+written-ok : (w : List ℕ) (room : ℕ) → saidWrite w room .0 ≡ 0 → wordsOk w ≡ true
+unfolding saidWrite
+written-ok w room e = wrote (wordsOk w) (ltb room (512 * blocksFor (wordsOf w))) e
+
+-- THE ROUND TRIP: WHAT WRITING WROTE, READING READS BACK AS THE SAME WORDS, WHERE THE ROOM IS LONG ENOUGH
+pub round-trip : (w before after room room′ : List ℕ) (blocks number place words : ℕ) → Below (2 ^ 32) w → Writes w before after 0 blocks
+    → wordsOf w ≤ length room → Reads (take (512 * blocks) after) room room′ number place words
+    → (number ≡ 0) × (words ≡ wordsOf w) × (room′ ≡ take (wordsOf w) w ++ drop (wordsOf w) room)
+round-trip w before after room room′ blocks number place words small x enough y =
+    let ok = written-ok w (length before) (sym (x .said)) in
+    let i : take (512 * blocks) after ≡ image w =
+    ap₂ (λ (n : ℕ) (l : List ℕ). take (512 * n) l) (x .counted) (x .lent)
+    ∙ take-at (image w) (drop (512 * blocksFor (wordsOf w)) before) (512 * blocksFor (wordsOf w)) (image-size w ok small) in
+    let r : Reads (image w) room room′ number place words = subst (λ (l : List ℕ). Reads l room room′ number place words) i y in
+    let total = total-is w ok small in
+    let fits = le-ltb (length room) (imageTotal (image w)) (rw total enough) in
+    let e : number ≡ 0 = r .said ∙ ap (λ (t : Said). t .0) (by-room (image w) (length room) (image-sound w ok small) false fits) in
+    let d = reads-all (image w) room room′ number place words r e in
+    (e, d .0 ∙ total, d .1 ∙ ap₂ (λ (l : List ℕ) (n : ℕ). l ++ drop n room) (image-words w ok small) total)

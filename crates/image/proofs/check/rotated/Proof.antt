@@ -1,0 +1,19 @@
+-- `image::check::rotated` meets its contract: the low 31 bits twice over, and the top bit below them, stay within 32 bits.
+-- Assumes nothing.
+use Rattle.image.proofs.check.rotated.Statement.{statement}
+use Rattle.image.proofs.check.rotated.Tie as tie
+use Rattle.words.specs.Image.{rotate}
+use borrow.Author.Needs.{needs}
+
+mul-result : tie.Need-mul-result
+mul-result c = search needs
+
+add-result : tie.Need-add-result
+add-result c = search needs
+
+returns : tie.Need-returns
+unfolding rotate
+returns c = search needs
+
+pub rotated-spec : {M : Type 1} → statement M
+rotated-spec = tie.close (tie.spec mul-result add-result returns)

@@ -1,0 +1,19 @@
+-- `image::check::stepped` meets its contract: the rotated check and the word, added as the wrapping sum says.
+-- Assumes nothing.
+use Rattle.image.proofs.check.stepped.Statement.{statement}
+use Rattle.image.proofs.check.stepped.Tie as tie
+use Rattle.words.specs.Image.{step}
+use borrow.Author.Needs.{needs}
+
+rotated-requires : tie.Need-rotated-requires
+rotated-requires c κs = search needs
+
+wrapping-add-u32-requires : tie.Need-wrapping-add-u32-requires
+wrapping-add-u32-requires c κs = search needs
+
+returns : tie.Need-returns
+unfolding step
+returns c = search needs
+
+pub stepped-spec : {M : Type 1} → statement M
+stepped-spec = tie.close (tie.spec rotated-requires wrapping-add-u32-requires returns)

@@ -1,0 +1,75 @@
+-- `image::reading::rest_zero` meets its contract: from t up to j every word is zero, so all are if those from j on are.
+-- Assumes nothing.
+use Prim.Native.Nat.{_*_, _-_, _/_, ℕ}
+use Rattle.image.proofs.Places.{inside}
+use Rattle.image.proofs.reading.rest_zero.Statement.{statement}
+use Rattle.image.proofs.reading.rest_zero.Tie as tie
+use Rattle.image.specs.Sound.{restZero}
+use Rattle.laws.proofs.Ranges.{all-end, all-step, all-stop}
+use Rattle.words.specs.Image.{imageWord}
+use borrow.Author.Needs.{needs}
+use borrow.Author.Tests.{eq-eqb, ne-eqb}
+use lib.Dec.{eqb}
+use lib.ListN.{length}
+use mathlib.Core.Bool.{Bool}
+use mathlib.Core.List.{List}
+use mathlib.Core.Path.{_∙_, _≡_, refl, sym}
+
+-- index word j is zero
+abbrev zeroAt : List ℕ → ℕ → Bool
+zeroAt image j = eqb (imageWord image j) 0
+
+abbrev Inv-loop : tie.InvT-loop
+Inv-loop image t end j₀ j = restZero image t ≡ restZero image j
+
+abbrev μ-loop : tie.MeasureT-loop
+μ-loop image t end j₀ j = 127 * (length image / 512) - j
+
+mul-end : tie.Need-mul-end Inv-loop μ-loop
+mul-end c = search needs
+
+loop-holds : tie.Need-loop-holds Inv-loop μ-loop
+loop-holds c = refl
+
+image-word-requires : tie.Need-image-word-requires Inv-loop μ-loop
+image-word-requires c κs = inside _ _ (c .loop-test .taken)
+
+returns : tie.Need-returns Inv-loop μ-loop
+returns c =
+    let at-loop = c .before .before .before in
+    let image = at-loop .before .before .args .image .now in
+    all-stop (zeroAt image) _ _ (c .before .before .loop-test .taken) (ne-eqb _ 0 (λ e. c .if1 .taken (c .before .image-word .ensures ∙ e)))
+    ∙ sym (at-loop .loop .inv)
+
+add-j : tie.Need-add-j Inv-loop μ-loop
+add-j c = search needs
+
+loop-less : tie.Need-loop-less Inv-loop μ-loop
+loop-less c = search needs
+
+loop-again : tie.Need-loop-again Inv-loop μ-loop
+loop-again c =
+    let at-loop = c .before .before .before in
+    let image = at-loop .before .before .args .image .now in
+    at-loop .loop .inv
+    ∙ all-step (zeroAt image) _ _ (c .before .before .loop-test .taken) (eq-eqb _ 0 (sym (c .before .image-word .ensures) ∙ c .if1 .left))
+
+returns-2 : tie.Need-returns-2 Inv-loop μ-loop
+returns-2 c =
+    let at-loop = c .before in
+    all-end (zeroAt (at-loop .before .before .args .image .now)) _ _ (c .loop-test .left) ∙ sym (at-loop .loop .inv)
+
+pub rest-zero-spec : {M : Type 1} → statement M
+rest-zero-spec =
+    tie.close
+    (tie.spec
+    Inv-loop
+    μ-loop
+    mul-end
+    loop-holds
+    image-word-requires
+    returns
+    add-j
+    loop-less
+    loop-again
+    returns-2)

@@ -1,0 +1,158 @@
+-- `image::writing::put_block` meets its contract: after i turns the bytes of i words stand at the part's front, and the check has gone over them.
+-- Assumes nothing.
+use Prim.Native.Nat.{_%_, _*_, _+_, _-_, _^_, _≤_, ℕ}
+use Rattle.image.proofs.Blocks.{window-bytes, window-bytes-length, window-check}
+use Rattle.image.proofs.writing.put_block.Statement.{statement}
+use Rattle.image.proofs.writing.put_block.Tie as tie
+use Rattle.laws.proofs.Parts.{put-more}
+use Rattle.laws.specs.Lists.{each}
+use Rattle.words.specs.Image.{block, bytes, checkFrom, checkWord, window}
+use Rattle.words.specs.Words.{at}
+use borrow.Author.Needs.{needs}
+use borrow.Rule.Slice.PartMut.{midOf, putMid}
+use lib.ListN.{drop, drop-of-length-le, length}
+use mathlib.Core.List.{List, _++_, append-nil}
+use mathlib.Core.Path.{_∙_, _≡_, ap, ap₂}
+use native.Mathlib.Omega.{arith}
+
+-- i words are written from word `first` on, and the check has gone over them
+record Filled (index : List ℕ) (first s₀ : ℕ) (part₀ part : List ℕ) (s i : ℕ) : Type 0 where
+  bound : i ≤ 127
+  long : length part ≡ length part₀
+  sum : s ≡ checkFrom s₀ (window index first i)
+  wrote : part ≡ each bytes (window index first i) ++ drop (4 * i) part₀
+
+-- the check word behind 127 words makes the block
+block-done : (index part₀ part last : List ℕ) (b s₀ s i : ℕ) → Filled index (127 * b) s₀ part₀ part s i → 127 ≤ i
+    → s₀ ≡ (b + 1) % 2 ^ 32 → length part₀ ≡ 512 → last ≡ bytes s ++ drop 4 (midOf 508 (length part - 508) part)
+    → putMid 508 (length part - 508) part last ≡ block index b
+unfolding block checkWord
+block-done index part₀ part last b s₀ s i inv done start long e =
+    let k : i ≡ 127 = omega (arith, inv .bound) in
+    let ws : List ℕ = window index (127 * b) 127 in
+    let sum : s ≡ checkWord b ws = inv .sum ∙ ap₂ (λ (x j : ℕ). checkFrom x (window index (127 * b) j)) start k in
+    let wrote : part ≡ each bytes ws ++ drop 508 part₀ =
+    inv .wrote ∙ ap (λ (j : ℕ). each bytes (window index (127 * b) j) ++ drop (4 * j) part₀) k in
+    put-more (each bytes ws) (bytes s) part₀ part last 508 4 (window-bytes-length index (127 * b) 127) (omega (arith, inv .long)) wrote e
+    ∙ ap₂ (λ (x : ℕ) (t : List ℕ). (each bytes ws ++ bytes x) ++ t) sum (drop-of-length-le part₀ {i = 512} (omega arith))
+    ∙ append-nil (each bytes ws ++ bytes (checkWord b ws))
+
+four-more : (i : ℕ) → 4 * (i + 1) ≡ 4 * i + 4
+four-more i = omega arith
+
+abbrev Inv-loop : tie.InvT-loop
+Inv-loop index b part₀ first check₀ i₀ part check i = Filled index first check₀ part₀ part check i
+
+abbrev μ-loop : tie.MeasureT-loop
+μ-loop index b part₀ first check₀ i₀ part check i = 127 - i
+
+mul-first : tie.Need-mul-first Inv-loop μ-loop
+mul-first c = search needs
+
+check-start-requires : tie.Need-check-start-requires Inv-loop μ-loop
+check-start-requires c κs = search needs
+
+loop-holds : tie.Need-loop-holds Inv-loop μ-loop
+unfolding checkFrom window
+loop-holds c = search needs
+
+add-word-or-zero : tie.Need-add-word-or-zero Inv-loop μ-loop
+add-word-or-zero c = search needs
+
+word-or-zero-requires : tie.Need-word-or-zero-requires Inv-loop μ-loop
+word-or-zero-requires c κs = search needs
+
+stepped-requires : tie.Need-stepped-requires Inv-loop μ-loop
+stepped-requires c κs = search needs
+
+mul-from : tie.Need-mul-from Inv-loop μ-loop
+mul-from c = search needs
+
+sub-put-word : tie.Need-sub-put-word Inv-loop μ-loop
+sub-put-word c = search needs
+
+part-put-word-start : tie.Need-part-put-word-start Inv-loop μ-loop
+part-put-word-start c = search needs
+
+part-put-word-end : tie.Need-part-put-word-end Inv-loop μ-loop
+part-put-word-end c = search needs
+
+put-word-requires : tie.Need-put-word-requires Inv-loop μ-loop
+put-word-requires c κs = search needs
+
+add-i : tie.Need-add-i Inv-loop μ-loop
+add-i c = search needs
+
+loop-less : tie.Need-loop-less Inv-loop μ-loop
+loop-less c = search needs
+
+loop-again : tie.Need-loop-again Inv-loop μ-loop
+loop-again c =
+    let pw = c .before .before in
+    let st = pw .before .before in
+    let wo = st .before in
+    let at-loop = wo .before .before in
+    let inv = at-loop .loop .inv in
+    let start = at-loop .before .before .before .before in
+    let index = start .args .index .now in
+    let first = 127 * start .args .b in
+    let i = at-loop .loop .i in
+    record {
+      bound = search needs;
+      long = search needs;
+      sum = window-check index _ _ _ _ _ _ (inv .sum) (wo .word-or-zero .ensures) (st .stepped .ensures);
+      wrote =
+          put-more (each bytes (window index first i)) (bytes (at index (first + i))) (start .args .part .now) (at-loop .loop .part)
+          (pw .put-word .last .0) (4 * i) 4 (window-bytes-length index first i) (search needs) (inv .wrote)
+          (rw (← wo .word-or-zero .ensures) (pw .put-word .ensures))
+          ∙ rw (window-bytes index first i, four-more i);
+    }
+
+sub-put-word-2 : tie.Need-sub-put-word-2 Inv-loop μ-loop
+sub-put-word-2 c = search needs
+
+part-put-word-start-2 : tie.Need-part-put-word-start-2 Inv-loop μ-loop
+part-put-word-start-2 c = search needs
+
+part-put-word-end-2 : tie.Need-part-put-word-end-2 Inv-loop μ-loop
+part-put-word-end-2 c = search needs
+
+put-word-requires-2 : tie.Need-put-word-requires-2 Inv-loop μ-loop
+put-word-requires-2 c κs = search needs
+
+same-length : tie.Need-same-length Inv-loop μ-loop
+same-length c = search needs
+
+returns : tie.Need-returns Inv-loop μ-loop
+returns c =
+    let at-loop = c .before .before .before .before .before in
+    let start = at-loop .before .before .before .before in
+    block-done (start .args .index .now) (start .args .part .now) (at-loop .loop .part) _ (start .args .b) _ _ _ (at-loop .loop .inv)
+    (c .before .before .before .before .loop-test .left) (at-loop .before .check-start .ensures) (start .pre .1) (c .before .before .put-word2 .ensures)
+
+pub put-block-spec : {M : Type 1} → statement M
+put-block-spec =
+    tie.close
+    (tie.spec
+    Inv-loop
+    μ-loop
+    mul-first
+    check-start-requires
+    loop-holds
+    add-word-or-zero
+    word-or-zero-requires
+    stepped-requires
+    mul-from
+    sub-put-word
+    part-put-word-start
+    part-put-word-end
+    put-word-requires
+    add-i
+    loop-less
+    loop-again
+    sub-put-word-2
+    part-put-word-start-2
+    part-put-word-end-2
+    put-word-requires-2
+    same-length
+    returns)

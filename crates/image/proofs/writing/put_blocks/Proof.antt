@@ -1,0 +1,111 @@
+-- `image::writing::put_blocks` meets its contract: after b turns the first b blocks stand at the image's front.
+-- Assumes nothing.
+use Prim.Native.Nat.{_*_, _+_, _-_, _≤_, ℕ}
+use Rattle.image.proofs.Blocks.{blocks-length, blocks-more}
+use Rattle.image.proofs.writing.put_blocks.Statement.{statement}
+use Rattle.image.proofs.writing.put_blocks.Tie as tie
+use Rattle.laws.proofs.Parts.{put-part}
+use Rattle.words.specs.Image.{block, blocks}
+use borrow.Author.Needs.{needs}
+use borrow.Rule.Slice.PartMut.{mid-len, putMid}
+use lib.ListN.{drop, length}
+use mathlib.Core.List.{List, _++_}
+use mathlib.Core.Path.{_∙_, _≡_, ap}
+use native.Mathlib.Omega.{arith}
+
+-- b blocks are written
+record Filled (index : List ℕ) (count : ℕ) (image₀ image : List ℕ) (b : ℕ) : Type 0 where
+  bound : b ≤ count
+  long : length image ≡ length image₀
+  wrote : image ≡ blocks index b ++ drop (512 * b) image₀
+
+block-long : (b : ℕ) → 512 * b + 512 - 512 * b ≡ 512
+block-long b = omega arith
+
+block-more : (b : ℕ) → 512 * (b + 1) ≡ 512 * b + 512
+block-more b = omega arith
+
+abbrev Inv-loop : tie.InvT-loop
+Inv-loop index count image₀ b₀ image b = Filled index count image₀ image b
+
+abbrev μ-loop : tie.MeasureT-loop
+μ-loop index count image₀ b₀ image b = count - b
+
+loop-holds : tie.Need-loop-holds Inv-loop μ-loop
+unfolding blocks
+loop-holds c = search needs
+
+mul-from : tie.Need-mul-from Inv-loop μ-loop
+mul-from c = search needs
+
+add-to : tie.Need-add-to Inv-loop μ-loop
+add-to c = search needs
+
+sub-put-block : tie.Need-sub-put-block Inv-loop μ-loop
+sub-put-block c = search needs
+
+part-put-block-start : tie.Need-part-put-block-start Inv-loop μ-loop
+part-put-block-start c = search needs
+
+part-put-block-end : tie.Need-part-put-block-end Inv-loop μ-loop
+part-put-block-end c = search needs
+
+put-block-requires : tie.Need-put-block-requires Inv-loop μ-loop
+put-block-requires c κs =
+    let at-loop = c .before .before in
+    let b = at-loop .loop .b in
+    (omega arith, mid-len (512 * b) (512 * b + 512) (at-loop .loop .image) (omega arith) ∙ block-long b)
+
+add-b : tie.Need-add-b Inv-loop μ-loop
+add-b c = search needs
+
+loop-less : tie.Need-loop-less Inv-loop μ-loop
+loop-less c = search needs
+
+loop-again : tie.Need-loop-again Inv-loop μ-loop
+loop-again c =
+    let pb = c .before .before in
+    let at-loop = pb .before .before .before in
+    let start = at-loop .before .before .before in
+    let index = start .args .index .now in
+    let image = at-loop .loop .image in
+    let b = at-loop .loop .b in
+    let inv = at-loop .loop .inv in
+    record {
+      bound = search needs;
+      long = search needs;
+      wrote =
+          ap (λ (l : List ℕ). putMid (512 * b) (512 * b + 512 - 512 * b) image l) (pb .put-block .ensures)
+          ∙ put-part (blocks index b) (block index b) (start .args .image .now) image (512 * b) (512 * b + 512) (blocks-length index b)
+          (omega arith) (inv .wrote)
+          ∙ rw (blocks-more index b, block-more b);
+    }
+
+same-length : tie.Need-same-length Inv-loop μ-loop
+same-length c = search needs
+
+returns : tie.Need-returns Inv-loop μ-loop
+returns c =
+    let at-loop = c .before in
+    let start = at-loop .before .before .before in
+    let k : at-loop .loop .b ≡ start .args .count = omega arith in
+    at-loop .loop .inv .wrote ∙ ap (λ (j : ℕ). blocks (start .args .index .now) j ++ drop (512 * j) (start .args .image .now)) k
+
+pub put-blocks-spec : {M : Type 1} → statement M
+put-blocks-spec =
+    tie.close
+    (tie.spec
+    Inv-loop
+    μ-loop
+    loop-holds
+    mul-from
+    add-to
+    sub-put-block
+    part-put-block-start
+    part-put-block-end
+    put-block-requires
+    add-b
+    loop-less
+    loop-again
+    same-length
+    returns)

@@ -1,0 +1,29 @@
+-- What the two image calls promise: 01, The image and Numbers given back. Assumes nothing.
+use Prim.Native.Nat.{_*_, ℕ}
+use Rattle.words.specs.Image.{blocksFor, image, imageTotal, imageWords, saidRead, saidWrite}
+use Rattle.words.specs.Words.{wordsOf}
+use lib.Dec.{eqb}
+use lib.ListN.{drop, length}
+use mathlib.Core.Bool.{cond}
+use mathlib.Core.List.{List, _++_}
+use mathlib.Core.Path.{_≡_}
+
+-- writing the index at the front of w: the lent bytes before and after, the number, how many blocks
+pub record Writes (w before after : List ℕ) (number blocks : ℕ) : Type 0 where
+  -- 16 before 5, else 0
+  pub said : number ≡ saidWrite w (length before) .0
+  -- the blocks that hold its words; none on a refusal
+  pub counted : blocks ≡ cond (eqb number 0) (blocksFor (wordsOf w)) 0
+  -- the image, and what stood after it; on a refusal all as it was
+  pub lent : after ≡ cond (eqb number 0) (image w ++ drop (512 * blocksFor (wordsOf w)) before) before
+
+-- reading the image i: the lent words before and after, the number, the block that 15 names, how many words
+pub record Reads (i before after : List ℕ) (number place words : ℕ) : Type 0 where
+  -- the lowest of 14 to 17, then 5, else 0
+  pub said : number ≡ saidRead i (length before) .0
+  -- for 15 the lowest wrong block, else zero
+  pub placed : place ≡ saidRead i (length before) .1
+  -- the words its header asks for; none on a refusal
+  pub counted : words ≡ cond (eqb number 0) (imageTotal i) 0
+  -- the index words, and what stood after them; on a refusal all as it was
+  pub lent : after ≡ cond (eqb number 0) (imageWords i (imageTotal i) ++ drop (imageTotal i) before) before

@@ -1,0 +1,5 @@
+pub mod Calls
+pub mod Sound
+pub mod Lowest
+pub mod Below
+pub mod Changed

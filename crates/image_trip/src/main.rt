@@ -1,0 +1,173 @@
+// The image of the five-row index, written to a file and read back, and what reading says of images that are wrong.
+ghost use Prim.Native.Nat.{_<_, _≤_};
+ghost use Rattle.io.specs.Counts.{Counts};
+ghost use lib.ListN.{length};
+use libc::STDOUT_FILENO;
+
+// The index of the rows 0, 1, 10, 11, 20: header, nodes, positions.
+const INDEX: [u32; 38] = [
+    1,
+    5,
+    1,
+    2,
+    2,
+    5,
+    1,
+    0,
+    0,
+    5,
+    1,
+    20,
+    0,
+    3,
+    3,
+    10,
+    3,
+    2,
+    0,
+    9,
+    0,
+    2,
+    0,
+    1,
+    2,
+    1,
+    0,
+    0,
+    0,
+    0,
+    1,
+    1,
+    2,
+    0,
+    4,
+    0,
+    3,
+    9,
+];
+
+// A word, as decimal digits.
+fn print_word(x: u32) {
+    io::print_decimal(STDOUT_FILENO, x as u64);
+}
+
+// What stands after a word.
+fn print_after(last: bool) {
+    if last {
+        io::write_all(STDOUT_FILENO, b"\n");
+    } else {
+        io::write_all(STDOUT_FILENO, b" ");
+    }
+}
+
+// The words, so many to a line.
+fn print_lines(words: &[u32], width: usize)
+    requires { ⌜ 1 ≤ width ⌝ }
+{
+    let mut i = 0;
+    while i < words.len() {
+        print_word(words[i]);
+        i += 1;
+        print_after(i % width == 0);
+    }
+}
+
+// Two numbers on a line.
+fn print_pair(a: u32, b: usize) {
+    print_word(a);
+    print_after(false);
+    io::print_decimal(STDOUT_FILENO, b as u64);
+    print_after(true);
+}
+
+// What reading says of the image, into a room that the five-row index fits: the number and its place.
+fn print_said(image: &[u8]) {
+    let mut room = [0u32; 38];
+    let read = image::read_image(image, &mut room);
+    print_pair(read.number, read.place);
+}
+
+// The same with byte p turned, and turned back.
+fn print_turned(image: &mut [u8], p: usize)
+    requires { ⌜ p < length (now image) ⌝ }
+{
+    image[p] = std::num::wrapping_add_u8(image[p], 1);
+    print_said(image);
+    image[p] = std::num::wrapping_sub_u8(image[p], 1);
+}
+
+// The same with a word after the last. It is the block's last, so that its check word differs by the same number.
+fn print_late(image: &mut [u8])
+    requires { ⌜ 512 ≤ length (now image) ⌝ }
+{
+    image[504] = 1;
+    image[508] = std::num::wrapping_add_u8(image[508], 1);
+    print_said(image);
+}
+
+// The bytes to a file.
+fn save(path: &[u8], bytes: &[u8]) {
+    let made = os::open_overwrite(path);
+    if made < 0 {
+        os::fail(path);
+        return;
+    }
+    io::write_all(made, bytes);
+    libc::close(made);
+}
+
+// A file's bytes, and how many there were.
+fn load(path: &[u8], bytes: &mut [u8]) -> usize
+    ensures { λ n. ⌜ Counts n (now (bytes .exit)) ⌝ }
+{
+    let back = os::open_read(path);
+    if back < 0 {
+        os::fail(path);
+        return 0;
+    }
+    let got = io::read_full(back, bytes);
+    libc::close(back);
+    got
+}
+
+// The five-row index through a file: what writing and reading say, then its nodes and positions.
+fn trip(image: &mut [u8]) {
+    let written = image::write_image(&INDEX, image);
+    print_pair(written.number, written.blocks);
+    save(b"five", image);
+    let mut back = [0u8; 512];
+    let n = load(b"five", &mut back);
+    let mut room = [0u32; 38];
+    let read = image::read_image(&back[..n], &mut room);
+    print_pair(read.number, read.words);
+    print_lines(&room[8..28], 4);
+    print_lines(&room[28..], 2);
+}
+
+// The image of 150 rows in one leaf, in three blocks.
+fn write_three(image: &mut [u8]) {
+    let mut index = [0u32; 312];
+    index[0] = 1;
+    index[1] = 150;
+    index[2] = 1;
+    index[3] = 2;
+    index[4] = 1024;
+    index[5] = 1;
+    index[6] = 1;
+    let written = image::write_image(&index, image);
+    print_pair(written.number, written.blocks);
+}
+
+fn main() {
+    let mut image = [0u8; 512];
+    trip(&mut image);
+    print_turned(&mut image, 33);
+    print_turned(&mut image, 511);
+    print_late(&mut image);
+    let mut three = [0u8; 1536];
+    write_three(&mut three);
+    print_said(&three);
+    print_turned(&mut three, 1025);
+    print_turned(&mut three, 513);
+    print_turned(&mut three, 1);
+}
