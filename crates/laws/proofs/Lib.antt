@@ -12,3 +12,4 @@ pub mod Bags
 pub mod Outside
 pub mod Parts
 pub mod First
+pub mod Joins

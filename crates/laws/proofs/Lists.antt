@@ -1,6 +1,6 @@
 -- Laws of the shared functions on lists. Assumes nothing.
 use Prim.Native.Nat.{_+_, ℕ}
-use Rattle.laws.specs.Lists.{tally}
+use Rattle.laws.specs.Lists.{rest, tally}
 use lib.ListN.{length}
 use mathlib.Core.Bool.{Bool, true}
 use mathlib.Core.List.{List, [], _++_, _∷_, map}
@@ -12,6 +12,10 @@ module _ {A B : Type 0} (f : A → B) where
   pub map-append : (xs ys : List A) → map f (xs ++ ys) ≡ map f xs ++ map f ys
   map-append [] ys = refl
   map-append (x ∷ xs) ys = ap (λ zs. f x ∷ zs) (map-append xs ys)
+
+pub rest-map : {A B : Type 0} (f : A → B) (xs : List A) → rest (map f xs) ≡ map f (rest xs)
+rest-map f [] = refl
+rest-map f (x ∷ xs) = refl
 
 pub map-map : {A B C : Type 0} (f : B → C) (g : A → B) (xs : List A) → map (λ a. f (g a)) xs ≡ map f (map g xs)
 map-map f g [] = refl

@@ -2,7 +2,7 @@
 use Prim.Native.Nat.{_+_, _≤_, ℕ}
 use Rattle.laws.proofs.Every.{Every, every-of}
 use Rattle.laws.proofs.Lists.{tally-append}
-use Rattle.laws.specs.Lists.{each, head, keep, rest, tally, times, without}
+use Rattle.laws.specs.Lists.{each, head, joined, keep, rest, tally, times, without}
 use borrow.Author.Tests.{eqb-true}
 use lib.Dec.{eqb}
 use lib.ListN.{length}
@@ -59,10 +59,6 @@ share f κ (i ∷ is) cs h = share-cons f κ i is cs ∙ ap₂ (λ a b. cond (f 
 pub tally-split : (f : ℕ → Bool) (xs : List ℕ) → 1 ≤ length xs → tally f (head xs ∷ []) + tally f (rest xs) ≡ tally f xs
 tally-split f [] h = absurd (not-suc-le-zero h)
 tally-split f (x ∷ xs) h = omega arith
-
--- the rows of all the runs
-abbrev pub joined : List (List ℕ) → List ℕ
-joined gs = each (λ r. r) gs
 
 pub heads-tally : (f : ℕ → Bool) (K : ℕ → List ℕ) (cs : List ℕ) → tally f (joined (map (λ a. a ∷ K a) cs)) ≡ tally f cs + tally f (each K cs)
 heads-tally f K [] = refl

@@ -45,6 +45,10 @@ module _ {A B : Type 0} where
   each f [] = []
   each f (x ∷ xs) = f x ++ each f xs
 
+-- the lists, one after the other
+abbrev pub joined : List (List ℕ) → List ℕ
+joined xss = each (λ xs. xs) xss
+
 -- i stands in the list
 abbrev pub has : ℕ → List ℕ → Bool
 has i xs = any (eqb i) xs

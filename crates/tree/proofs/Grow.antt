@@ -2,9 +2,9 @@
 use Prim.Native.Nat.{_+_, _-_, _≤_, suc, zero, ℕ}
 use Rattle.laws.proofs.Every.{Every, every-all, every-both, every-map, every-of}
 use Rattle.laws.proofs.Lists.{map-id, paired, tally-append, tally-length}
-use Rattle.laws.proofs.Shares.{every-∀, heads-tally, joined, part-times, share, tally-split, without-tally}
+use Rattle.laws.proofs.Shares.{every-∀, heads-tally, part-times, share, tally-split, without-tally}
 use Rattle.laws.proofs.Times.{tally-lefts}
-use Rattle.laws.specs.Lists.{greatest, head, keep, rest, tally, times, without}
+use Rattle.laws.specs.Lists.{greatest, head, joined, keep, rest, tally, times, without}
 use Rattle.limits.specs.Limits.{maxDistance}
 use Rattle.tree.proofs.Encode.{Even, Fine}
 use Rattle.tree.specs.Build.{choose, closest, farthest, grow, leafOf, nearness, radius, split}

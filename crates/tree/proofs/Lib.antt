@@ -22,3 +22,4 @@ pub mod Grown
 pub mod Good
 pub mod Built
 pub mod Theorems
+pub mod Refusals

@@ -1,0 +1,111 @@
+-- Level after level: the nodes and leaves that are still to come make up the whole with those that are there. Assumes nothing.
+use Prim.Native.Nat.{_+_, _-_, _<_, _≤_, suc, zero, ℕ}
+use Rattle.build.proofs.Tiles.{runs-few}
+use Rattle.build.specs.Filled.{Layered, Planted, Rooted, rootItem}
+use Rattle.build.specs.Levels.{Item, allNodes, leafNode, leaves, levelOut, nextLevel, opened}
+use Rattle.build.specs.Stages.{Fit, Level, Stage, Staged, withNodes}
+use Rattle.laws.proofs.Joins.{each-append}
+use Rattle.laws.specs.Lists.{each, range}
+use Rattle.limits.specs.Limits.{maxDepth}
+use Rattle.measure.specs.Table.{between}
+use Rattle.split.proofs.Held.{laid}
+use Rattle.tree.specs.Build.{split}
+use Rattle.tree.specs.Encode.{Node}
+use lib.Dec.{leb}
+use lib.ListN.{length, length-append, length-map}
+use mathlib.Core.Bool.{Bool, cond, false, true}
+use mathlib.Core.List.{List, [], _++_, _∷_, append-assoc, append-nil, map}
+use mathlib.Core.Path.{_∙_, _≡_, ap, ap₂, refl, sym}
+use native.Mathlib.Omega.{arith}
+
+-- ---- the leaves of runs, one level down
+module _ (d : ℕ → ℕ → ℕ) (m l : ℕ) where
+  small-leaf : (deep : ℕ) (r : List ℕ) → leb (length r) l ≡ true → leaves d m l deep r ≡ r ∷ []
+  unfolding leaves
+  small-leaf zero r e = refl
+  small-leaf (suc deep) r e = ap (λ (b : Bool). cond b (r ∷ []) (each (leaves d m l deep) (split d m r))) e
+
+  leaves-opened : (deep : ℕ) (r : List ℕ) → leaves d m l (suc deep) r ≡ each (leaves d m l deep) (opened d m l r)
+  unfolding leaves
+  leaves-opened deep r = go (leb (length r) l) refl
+    where
+      go : (b : Bool) → leb (length r) l ≡ b
+          → cond b (r ∷ []) (each (leaves d m l deep) (split d m r)) ≡ each (leaves d m l deep) (cond b (r ∷ []) (split d m r))
+      go true e = sym (append-nil (leaves d m l deep r) ∙ small-leaf deep r e)
+      go false e = refl
+
+  pub leaves-down : (deep : ℕ) (ts : List (List ℕ)) → each (leaves d m l (suc deep)) ts ≡ each (leaves d m l deep) (each (opened d m l) ts)
+  leaves-down deep [] = refl
+  leaves-down deep (r ∷ ts) =
+      ap₂ (λ (x y : List (List ℕ)). x ++ y) (leaves-opened deep r) (leaves-down deep ts) ∙ sym (each-append (leaves d m l deep) (opened d m l r) (each (opened d m l) ts))
+
+  pub leaves-none : (ts : List (List ℕ)) → each (leaves d m l 0) ts ≡ ts
+  unfolding leaves
+  leaves-none [] = refl
+  leaves-none (r ∷ ts) = ap (λ (x : List (List ℕ)). r ∷ x) (leaves-none ts)
+
+  pub nodes-down : (deep hi made : ℕ) (before : List Node) (items : List Item) → made ≡ hi + length (nextLevel d m l items)
+      → before ++ allNodes d m l (suc deep) hi items ≡ (before ++ levelOut d m l hi items) ++ allNodes d m l deep made (nextLevel d m l items)
+  unfolding allNodes
+  nodes-down deep hi made before items e =
+      ap (λ (k : ℕ). before ++ (levelOut d m l hi items ++ allNodes d m l deep k (nextLevel d m l items))) (sym e)
+      ∙ sym (append-assoc before (levelOut d m l hi items) (allNodes d m l deep made (nextLevel d m l items)))
+
+  pub nodes-none : (hi : ℕ) (items : List Item) → allNodes d m l 0 hi items ≡ map (leafNode d m l) items
+  unfolding allNodes
+  nodes-none hi items = refl
+
+-- `depth` levels are opened
+module _ (t : List ℕ) (c m l n : ℕ) (origin : List ℕ) where
+  pub record Growing (room work : List ℕ) (lo hi depth : ℕ) : Type 0 where
+    pub before : List Node
+    pub items : List Item
+    pub tiles : List (List ℕ)
+    pub stage : Stage (between t c) m l n origin before items tiles room work lo hi
+    pub nodes : before ++ allNodes (between t c) m l (maxDepth - depth) hi items ≡ allNodes (between t c) m l maxDepth 1 (rootItem n ∷ [])
+    pub below : each (leaves (between t c) m l (maxDepth - depth)) tiles ≡ leaves (between t c) m l maxDepth (range 0 n)
+
+  pub growing-start : (room work : List ℕ) → Rooted (between t c) m l n origin room work → Growing room work 0 1 0
+  growing-start room work s =
+      record { before = []; items = rootItem n ∷ []; tiles = range 0 n ∷ []; stage = s; nodes = refl; below = append-nil (leaves (between t c) m l maxDepth (range 0 n)) }
+
+  module _ (room work : List ℕ) (lo hi depth : ℕ) (inv : Growing room work lo hi depth) where
+    abbrev pub growing-level : Fit t c m l n → Level t c m l n room work lo hi
+    growing-level fit = record { fit = fit; origin = origin; before = inv .before; items = inv .items; tiles = inv .tiles; stage = inv .stage }
+
+    pub growing-step : (room′ work′ : List ℕ) (made : ℕ) → Fit t c m l n → depth < maxDepth → Staged t c m l n room work lo hi room′ work′ made → Growing room′ work′ hi made (depth + 1)
+    growing-step room′ work′ made fit h staged =
+        let s = staged (growing-level fit) in
+        let less : maxDepth - depth ≡ suc (maxDepth - (depth + 1)) = omega arith in
+        record {
+          before = inv .before ++ levelOut (between t c) m l hi (inv .items);
+          items = nextLevel (between t c) m l (inv .items);
+          tiles = each (opened (between t c) m l) (inv .tiles);
+          stage = s;
+          nodes =
+              sym (nodes-down (between t c) m l (maxDepth - (depth + 1)) hi made (inv .before) (inv .items) (omega (arith, s .first, s .last)))
+              ∙ ap (λ (k : ℕ). inv .before ++ allNodes (between t c) m l k hi (inv .items)) (sym less) ∙ inv .nodes;
+          below =
+              sym (leaves-down (between t c) m l (maxDepth - (depth + 1)) (inv .tiles)) ∙ ap (λ (k : ℕ). each (leaves (between t c) m l k) (inv .tiles)) (sym less) ∙ inv .below;
+        }
+
+    pub growing-done : maxDepth ≤ depth → Layered (between t c) m l n origin room work hi
+    growing-done h =
+        let z : maxDepth - depth ≡ 0 = omega arith in
+        let s = inv .stage in
+        let ns : inv .before ++ map (leafNode (between t c) m l) (inv .items) ≡ allNodes (between t c) m l maxDepth 1 (rootItem n ∷ []) =
+        ap (λ (x : List Node). inv .before ++ x) (sym (nodes-none (between t c) m l hi (inv .items)))
+        ∙ ap (λ (k : ℕ). inv .before ++ allNodes (between t c) m l k hi (inv .items)) (sym z) ∙ inv .nodes in
+        let ts : inv .tiles ≡ leaves (between t c) m l maxDepth (range 0 n) =
+        sym (leaves-none (between t c) m l (inv .tiles)) ∙ ap (λ (k : ℕ). each (leaves (between t c) m l k) (inv .tiles)) (sym z) ∙ inv .below in
+        record {
+          nodes = s .nodes ∙ ap (withNodes origin) ns;
+          count = s .last ∙ sym (ap length (sym ns) ∙ length-append (inv .before) (map (leafNode (between t c) m l) (inv .items))
+              ∙ ap (λ (k : ℕ). length (inv .before) + k) (length-map (inv .items) (leafNode (between t c) m l)));
+          few = omega (arith, s .few, runs-few (inv .tiles) (s .tiled .runs), s .tiled .full);
+          tiles = s .tiled .words ∙ ap (each (laid (between t c))) ts;
+        }
+
+-- ---- whatever the room was before the root
+abbrev pub Grows : List ℕ → ℕ → ℕ → ℕ → ℕ → List ℕ → List ℕ → List ℕ → List ℕ → ℕ → ℕ → ℕ → Type 0
+Grows t c m l n room₀ work₀ room work lo hi depth = (g : Planted (between t c) m l n room₀ work₀) → Growing t c m l n (g .origin) room work lo hi depth

@@ -1,0 +1,77 @@
+-- The nodes' words in the room: reading one, giving it its first child, and adding its children. Assumes nothing.
+use Prim.Native.Nat.{_*_, _+_, _≤_, ℕ}
+use Rattle.build.specs.Levels.{leafNode, placed}
+use Rattle.build.specs.Stages.{withNodes}
+use Rattle.laws.proofs.Joins.{each-append}
+use Rattle.laws.specs.Lists.{each}
+use Rattle.split.specs.Runs.{runNodes}
+use Rattle.tree.proofs.Written.{each-words}
+use Rattle.tree.specs.Build.{radius}
+use Rattle.tree.specs.Encode.{Node, nodeWords}
+use Rattle.words.specs.Words.{count#, nodeAt, start#}
+use lib.ListN.{drop, getD, length, length-append, length-drop, set, take}
+use lib.Seq.{drop-append-add, drop-drop, getD-at, length-take-le, set-at, take-at}
+use mathlib.Core.List.{List, [], _++_, _∷_, append-assoc, map}
+use mathlib.Core.Path.{_∙_, _≡_, ap, ap₂, refl, sym}
+use native.Mathlib.Omega.{arith}
+
+-- the nodes of runs that follow each other are the leaf nodes of their items
+pub run-nodes : (d : ℕ → ℕ → ℕ) (m l at : ℕ) (rs : List (List ℕ)) → runNodes d at rs ≡ each nodeWords (map (leafNode d m l) (placed at rs))
+unfolding runNodes
+run-nodes d m l at [] = refl
+run-nodes d m l at (r ∷ rs) = ap (λ (x : List ℕ). at ∷ length r ∷ 0 ∷ radius d r ∷ x) (run-nodes d m l (at + length r) rs)
+
+module _ (o : List ℕ) (eight : 8 ≤ length o) where
+  front-long : (ns : List Node) → length (take 8 o ++ each nodeWords ns) ≡ nodeAt (length ns)
+  front-long ns = length-append (take 8 o) (each nodeWords ns) ∙ omega (arith, each-words ns, length-take-le 8 o eight)
+
+  pub room-long : (ns : List Node) → nodeAt (length ns) ≤ length o → length (withNodes o ns) ≡ length o
+  room-long ns h =
+      ap length (sym (append-assoc (take 8 o) (each nodeWords ns) (drop (nodeAt (length ns)) o)))
+      ∙ omega (arith, length-append (take 8 o ++ each nodeWords ns) (drop (nodeAt (length ns)) o), front-long ns, length-drop (nodeAt (length ns)) o)
+
+  module _ (ns : List Node) (s n x r : ℕ) (os : List Node) where
+    abbrev front : List ℕ
+    front = take 8 o ++ each nodeWords ns
+
+    abbrev rear : List ℕ
+    rear = each nodeWords os ++ drop (nodeAt (length (ns ++ (s, n, x, r) ∷ os))) o
+
+    -- the room, cut at one node, whatever its first child is
+    cut : (y : ℕ) → withNodes o (ns ++ (s, n, y, r) ∷ os) ≡ front ++ s ∷ n ∷ y ∷ r ∷ rear
+    cut y =
+        let k : length (ns ++ (s, n, y, r) ∷ os) ≡ length (ns ++ (s, n, x, r) ∷ os) = length-append ns ((s, n, y, r) ∷ os) ∙ sym (length-append ns ((s, n, x, r) ∷ os)) in
+        ap₂ (λ (z : List ℕ) (j : ℕ). take 8 o ++ (z ++ drop (nodeAt j) o)) (each-append nodeWords ns ((s, n, y, r) ∷ os)) k
+        ∙ ap (λ (z : List ℕ). take 8 o ++ z) (append-assoc (each nodeWords ns) (s ∷ n ∷ y ∷ r ∷ each nodeWords os) (drop (nodeAt (length (ns ++ (s, n, x, r) ∷ os))) o))
+        ∙ sym (append-assoc (take 8 o) (each nodeWords ns) (s ∷ n ∷ y ∷ r ∷ rear))
+
+    pub read-start : start# (withNodes o (ns ++ (s, n, x, r) ∷ os)) (length ns) ≡ s
+    read-start = ap (λ (z : List ℕ). getD z (nodeAt (length ns)) 0) (cut x) ∙ getD-at front s (n ∷ x ∷ r ∷ rear) 0 (nodeAt (length ns)) (front-long ns)
+
+    pub read-count : count# (withNodes o (ns ++ (s, n, x, r) ∷ os)) (length ns) ≡ n
+    read-count =
+        ap (λ (z : List ℕ). getD z (nodeAt (length ns) + 1) 0) (cut x ∙ sym (append-assoc front (s ∷ []) (n ∷ x ∷ r ∷ rear)))
+        ∙ getD-at (front ++ s ∷ []) n (x ∷ r ∷ rear) 0 (nodeAt (length ns) + 1) (length-append front (s ∷ []) ∙ ap (λ (k : ℕ). k + 1) (front-long ns))
+
+    -- the node gets its first child
+    pub child-set : (y : ℕ) → set (withNodes o (ns ++ (s, n, x, r) ∷ os)) (nodeAt (length ns) + 2) y ≡ withNodes o (ns ++ (s, n, y, r) ∷ os)
+    child-set y =
+        ap (λ (z : List ℕ). set z (nodeAt (length ns) + 2) y) (cut x ∙ sym (append-assoc front (s ∷ n ∷ []) (x ∷ r ∷ rear)))
+        ∙ set-at (front ++ s ∷ n ∷ []) x (r ∷ rear) y (nodeAt (length ns) + 2) (length-append front (s ∷ n ∷ []) ∙ ap (λ (k : ℕ). k + 2) (front-long ns))
+        ∙ append-assoc front (s ∷ n ∷ []) (y ∷ r ∷ rear) ∙ sym (cut y)
+
+  -- nodes are added behind those that are there
+  pub nodes-added : (ns new : List Node) (room′ : List ℕ) (k : ℕ) → length new ≡ k
+      → room′ ≡ take (nodeAt (length ns)) (withNodes o ns) ++ (each nodeWords new ++ drop (nodeAt (length ns + k)) (withNodes o ns))
+      → room′ ≡ withNodes o (ns ++ new)
+  nodes-added ns new room′ k lk e =
+      let F : List ℕ = take 8 o ++ each nodeWords ns in
+      let R : List ℕ = drop (nodeAt (length ns)) o in
+      let whole : withNodes o ns ≡ F ++ R = sym (append-assoc (take 8 o) (each nodeWords ns) R) in
+      let end : nodeAt (length ns + k) ≡ length F + 4 * k = omega (arith, front-long ns) in
+      let last : nodeAt (length ns) + 4 * k ≡ nodeAt (length (ns ++ new)) = omega (arith, length-append ns new) in
+      e ∙ ap₂ (λ (a b : List ℕ). a ++ (each nodeWords new ++ b)) (ap (take (nodeAt (length ns))) whole ∙ take-at F R (nodeAt (length ns)) (front-long ns))
+      (ap₂ drop end whole ∙ drop-append-add F R (4 * k) ∙ drop-drop (4 * k) (nodeAt (length ns)) o ∙ ap (λ (j : ℕ). drop j o) last)
+      ∙ append-assoc (take 8 o) (each nodeWords ns) (each nodeWords new ++ drop (nodeAt (length (ns ++ new))) o)
+      ∙ ap (λ (x : List ℕ). take 8 o ++ x) (sym (append-assoc (each nodeWords ns) (each nodeWords new) (drop (nodeAt (length (ns ++ new))) o))
+      ∙ ap (λ (x : List ℕ). x ++ drop (nodeAt (length (ns ++ new))) o) (sym (each-append nodeWords ns new)))

@@ -1,0 +1,81 @@
+-- What the split of one tile's run asks, and what it leaves in room and workspace. Assumes nothing.
+use Prim.Native.Nat.{_*_, _+_, _<_, _≤_, ℕ}
+use Rattle.build.proofs.Rooms.{run-nodes}
+use Rattle.build.proofs.Tiles.{kids-few, kids-tiled, tile-inside, tile-read, tile-rows, tile-run, tile-words}
+use Rattle.build.specs.Levels.{leafNode, placed}
+use Rattle.build.specs.Stages.{Fit, Openable, Opened, Tiled}
+use Rattle.laws.specs.Lists.{each, joined}
+use Rattle.measure.proofs.Metric.{metric}
+use Rattle.measure.specs.Table.{between}
+use Rattle.split.proofs.Held.{laid}
+use Rattle.split.specs.Runs.{Splittable, Splitted, runAt, runNodes}
+use Rattle.tree.specs.Build.{split}
+use Rattle.tree.specs.Encode.{nodeWords}
+use Rattle.words.specs.Words.{count#, nodeAt, start#}
+use lib.ListN.{drop, length, length-append, length-set, set, take}
+use mathlib.Core.List.{List, _++_, _∷_, map}
+use mathlib.Core.Path.{_∙_, _≡_, ap, refl, sym}
+use native.Mathlib.Omega.{arith}
+
+module _ (t : List ℕ) (c m l n : ℕ) (fit : Fit t c m l n) (room work : List ℕ) (made : ℕ) (front : List (List ℕ)) (run : List ℕ) (back : List (List ℕ))
+    (tiled : Tiled (between t c) n work (front ++ run ∷ back)) (large : l < length run) where
+  one : 1 ≤ m
+  one = omega (arith, fit .two)
+
+  pub tile-ready : 10 * n + 8 ≤ length room → made + 1 ≤ 2 * length (front ++ run ∷ back) → Splittable t c m n room work (length (joined front)) (length run) made
+  tile-ready space few =
+      let z = metric t c .self in
+      let read : runAt work (length (joined front)) (length run) ≡ run = tile-read (between t c) z n work front run back tiled in
+      let r = tile-run (between t c) z n work front run back tiled in
+      record {
+        columns = fit .columns;
+        few = fit .rows;
+        table = fit .table;
+        share = one;
+        centred = omega (arith, fit .leafy);
+        inside = tile-inside (between t c) z n work front run back tiled;
+        halves = tiled .halves;
+        nodes = omega (arith, kids-few (between t c) z n work front run back tiled m l one (fit .leafy) large, length-append front (run ∷ back), fit .two);
+        known = tile-words (between t c) z n work front run back tiled ∙ ap (laid (between t c)) (sym read);
+        rows = rw read (tile-rows (between t c) z n work front run back tiled);
+        once = rw read (r .1);
+      }
+
+  module _ (room₁ room′ work′ : List ℕ) (s count : ℕ) (start : s ≡ length (joined front)) (size : count ≡ length run)
+      (same : length work′ ≡ length work) (got : Splitted t c m n room₁ work s count made room′ work′) where
+    read : runAt work s count ≡ run
+    read = rw (start, size) (tile-read (between t c) (metric t c .self) n work front run back tiled)
+
+    pub tiles-after : Tiled (between t c) n work′ (front ++ (split (between t c) m run ++ back))
+    tiles-after =
+        kids-tiled (between t c) (metric t c .self) n work front run back tiled m l one (fit .leafy) large work′ same
+        (got .words ∙ rw (read, start, size))
+
+    pub nodes-after : room′ ≡ take (nodeAt made) room₁ ++ (each nodeWords (map (leafNode (between t c) m l) (placed s (split (between t c) m run))) ++ drop (nodeAt (made + m)) room₁)
+    nodes-after =
+        got .nodes ∙ ap (λ (r : List ℕ). take (nodeAt made) room₁ ++ (runNodes (between t c) s (split (between t c) m r) ++ drop (nodeAt (made + m)) room₁)) read
+        ∙ ap (λ (x : List ℕ). take (nodeAt made) room₁ ++ (x ++ drop (nodeAt (made + m)) room₁)) (run-nodes (between t c) m l s (split (between t c) m run))
+
+-- ---- one node is opened
+module _ (t : List ℕ) (c m l n : ℕ) (room work : List ℕ) (k made : ℕ) (asked : Openable t c m l n room work k made)
+    (s count : ℕ) (start : s ≡ start# room k) (size : count ≡ count# room k) (large : l < count) where
+  pub open-ready : Splittable t c m n (set room (nodeAt k + 2) made) work s count made
+  open-ready =
+      let h = asked .ready (omega arith) in
+      rw (start, size)
+      record {
+        columns = h .columns;
+        few = h .few;
+        table = h .table;
+        share = h .share;
+        centred = h .centred;
+        inside = h .inside;
+        halves = h .halves;
+        nodes = rw length-set (h .nodes);
+        known = h .known;
+        rows = h .rows;
+        once = h .once;
+      }
+
+  pub open-done : (room′ work′ : List ℕ) → Splitted t c m n (set room (nodeAt k + 2) made) work s count made room′ work′ → Opened t c m l n room work k made room′ work′ (made + m)
+  open-done room′ work′ got = record { stays = λ h. absurd (omega arith); splits = λ h. (refl, rw (start, size) at got) }

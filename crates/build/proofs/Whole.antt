@@ -1,0 +1,138 @@
+-- The tree that the levels make, and the words of the whole index. Assumes nothing.
+use Prim.Native.Nat.{_*_, _+_, _-_, _≤_, suc, zero, ℕ}
+use Rattle.build.proofs.Numbering.{entries-leaves, numbered-levels, pairsOf}
+use Rattle.build.proofs.Rooting.{root-run}
+use Rattle.build.specs.Filled.{Filled, Grown, Layered, headerOf, pairsIn, rootItem}
+use Rattle.build.specs.Levels.{allNodes, leaves}
+use Rattle.build.specs.Stages.{Fit, withNodes}
+use Rattle.laws.proofs.Joins.{each-append}
+use Rattle.laws.proofs.Lists.{tally-length}
+use Rattle.laws.proofs.Ranges.{range-length}
+use Rattle.laws.specs.Lists.{each, head, range}
+use Rattle.limits.specs.Limits.{maxDepth}
+use Rattle.measure.specs.Table.{between}
+use Rattle.split.proofs.Held.{laid}
+use Rattle.split.proofs.Parts.{put-more}
+use Rattle.split.specs.Groups.{stretch}
+use Rattle.tree.proofs.Grow.{grown-tally}
+use Rattle.tree.proofs.Written.{each-words}
+use Rattle.tree.specs.Build.{plant}
+use Rattle.tree.specs.Encode.{Node, broods, encode, family, levelNodes, nodeWords, nodes, numbered, pairWords}
+use Rattle.tree.specs.Grove.{Grove, bare, entries, rowsIn}
+use Rattle.words.specs.Words.{nodeAt}
+use borrow.Rule.Slice.PartMut.{midOf, putMid}
+use lib.ListN.{drop, length, length-append, length-map, replicate, take, take-append-drop}
+use lib.Seq.{drop-at, length-take-le}
+use mathlib.Core.Bool.{true}
+use mathlib.Core.List.{List, [], _++_, _∷_, append-assoc, append-nil, map}
+use mathlib.Core.Path.{_∙_, _≡_, ap, ap₂, refl, sym}
+use native.Mathlib.Nat.{add-zero}
+use native.Mathlib.Omega.{arith}
+
+-- ---- the pairs of runs that stand one after the other
+pairs-under : (f : ℕ → ℕ) (a : ℕ) (xs ys : List ℕ)
+    → pairsIn (each (λ i. i ∷ f i ∷ a ∷ []) xs ++ ys) ≡ each pairWords (map (λ i. (i, f i)) xs) ++ pairsIn ys
+unfolding pairsIn
+pairs-under f a [] ys = refl
+pairs-under f a (x ∷ xs) ys = ap (λ (l : List ℕ). x ∷ f x ∷ l) (pairs-under f a xs ys)
+
+pub pairs-long : (es : List (ℕ × ℕ)) → length (each pairWords es) ≡ 2 * length es
+pairs-long [] = refl
+pairs-long (e ∷ es) = omega (arith, pairs-long es)
+
+module _ (d : ℕ → ℕ → ℕ) (m l : ℕ) (m1 : 1 ≤ m) (ml : m ≤ l) where
+  pairs-laid : (rs : List (List ℕ)) → pairsIn (each (laid d) rs) ≡ each pairWords (each (pairsOf d m l m1 ml) rs)
+  unfolding pairsIn
+  pairs-laid [] = refl
+  pairs-laid (r ∷ rs) =
+      pairs-under (d (head r)) (head r) r (each (laid d) rs) ∙ ap (λ (x : List ℕ). each pairWords (pairsOf d m l m1 ml r) ++ x) (pairs-laid rs)
+      ∙ sym (each-append pairWords (pairsOf d m l m1 ml r) (each (pairsOf d m l m1 ml) rs))
+
+  -- as many positions as rows
+  pub positions : (n : ℕ) → length (entries (plant d m l n)) ≡ n
+  positions zero = refl
+  positions (suc n) =
+      let t : Grove = plant d m l (suc n) in
+      sym (length-map (entries t) (λ e. e .0)) ∙ sym (tally-length (rowsIn t))
+      ∙ grown-tally d m l m1 ml maxDepth (λ i. true) (range 0 (suc n)) bare (root-run (suc n) (omega arith)) ∙ add-zero _ ∙ tally-length (range 0 (suc n)) ∙ range-length 0 (suc n)
+
+  plant-nodes : (n : ℕ) → 1 ≤ n → allNodes d m l maxDepth 1 (rootItem n ∷ []) ≡ numbered (plant d m l n)
+  plant-nodes zero h = absurd (omega arith)
+  plant-nodes (suc n) h = sym (numbered-levels d m l m1 ml (range 0 (suc n)) (root-run (suc n) h))
+
+  plant-pairs : (n : ℕ) → 1 ≤ n → pairsIn (each (laid d) (leaves d m l maxDepth (range 0 n))) ≡ each pairWords (entries (plant d m l n))
+  plant-pairs zero h = absurd (omega arith)
+  plant-pairs (suc n) h =
+      pairs-laid (leaves d m l maxDepth (range 0 (suc n)))
+      ∙ ap (each pairWords) (sym (entries-leaves d m l m1 ml maxDepth (range 0 (suc n)) bare ∙ append-nil (each (pairsOf d m l m1 ml) (leaves d m l maxDepth (range 0 (suc n))))))
+
+module _ (t : List ℕ) (c m l n : ℕ) (fit : Fit t c m l n) (origin : List ℕ) where
+  one : 1 ≤ m
+  one = omega (arith, fit .two)
+
+  -- THE LEVELS ARE THE TREE OF 01
+  pub grown-levels : 1 ≤ n → (room work : List ℕ) (made : ℕ) → Layered (between t c) m l n origin room work made → Grown t c m l n origin room work made
+  grown-levels some room work made s =
+      let e = plant-nodes (between t c) m l one (fit .leafy) n some in
+      record {
+        nodes = s .nodes ∙ ap (withNodes origin) e;
+        count = s .count ∙ ap length e;
+        few = s .few;
+        pairs = ap pairsIn (s .tiles) ∙ plant-pairs (between t c) m l one (fit .leafy) n some;
+      }
+
+  -- a table of no rows has no nodes
+  pub grown-none : (work : List ℕ) → n ≡ 0 → Grown t c m l n origin origin work 0
+  unfolding numbered nodes levelNodes family broods pairsIn
+  grown-none work e = rw e record { nodes = sym (take-append-drop 8 origin); count = refl; few = omega arith; pairs = refl }
+
+  -- 8 + 4N + 2n words
+  pub encode-long : (made : ℕ) → made ≡ length (numbered (plant (between t c) m l n)) → length (encode c m l (plant (between t c) m l n)) ≡ nodeAt made + 2 * n
+  unfolding encode
+  encode-long made e =
+      let tree : Grove = plant (between t c) m l n in
+      omega (arith, length-append (each nodeWords (numbered tree)) (each pairWords (entries tree)), each-words (numbered tree), pairs-long (entries tree), positions (between t c) m l one (fit .leafy) n, e)
+
+  module _ (room work room₂ ys : List ℕ) (made : ℕ) (grown : Grown t c m l n origin room work made) (space : 10 * n + 8 ≤ length origin) where
+    abbrev tree : Grove
+    tree = plant (between t c) m l n
+
+    abbrev ns : List Node
+    ns = numbered tree
+
+    abbrev front : List ℕ
+    front = headerOf n c m l made ++ each nodeWords ns
+
+    front-long : length front ≡ nodeAt made
+    front-long = length-append (headerOf n c m l made) (each nodeWords ns) ∙ omega (arith, each-words ns, grown .count)
+
+    headed : room₂ ≡ headerOf n c m l made ++ drop 8 room → room₂ ≡ front ++ drop (nodeAt made) origin
+    headed e =
+        let d8 : drop 8 room ≡ each nodeWords ns ++ drop (nodeAt (length ns)) origin =
+        ap (drop 8) (grown .nodes) ∙ drop-at (take 8 origin) (each nodeWords ns ++ drop (nodeAt (length ns)) origin) 8 (length-take-le 8 origin (omega arith)) in
+        e ∙ ap (λ (x : List ℕ). headerOf n c m l made ++ x) (d8 ∙ ap (λ (k : ℕ). each nodeWords ns ++ drop (nodeAt k) origin) (sym (grown .count)))
+        ∙ sym (append-assoc (headerOf n c m l made) (each nodeWords ns) (drop (nodeAt made) origin))
+
+    words-are : front ++ each pairWords (entries tree) ≡ encode c m l tree
+    unfolding encode
+    words-are =
+        append-assoc (headerOf n c m l made) (each nodeWords ns) (each pairWords (entries tree))
+        ∙ ap₂ (λ (i j : ℕ). headerOf i c m l j ++ (each nodeWords ns ++ each pairWords (entries tree))) (sym (positions (between t c) m l one (fit .leafy) n)) (grown .count)
+
+    -- THE WHOLE INDEX STANDS IN THE ROOM
+    pub filled : (work′ : List ℕ) → length room₂ ≡ length origin → room₂ ≡ headerOf n c m l made ++ drop 8 room
+        → ys ≡ pairsIn (stretch work 0 (3 * n)) ++ drop (2 * n) (midOf (nodeAt made) (length room₂ - nodeAt made) room₂)
+        → length work ≡ 6 * n → work′ ≡ replicate (length work) 0
+        → Filled t c m l n origin (putMid (nodeAt made) (length room₂ - nodeAt made) room₂ ys) work′ made
+    filled work′ same e f half cl =
+        let z : 3 * n - 0 ≡ 3 * n = omega arith in
+        let pairs : pairsIn (stretch work 0 (3 * n)) ≡ each pairWords (entries tree) = ap (λ (k : ℕ). pairsIn (take k work)) z ∙ grown .pairs in
+        record {
+          index =
+              put-more front (each pairWords (entries tree)) origin room₂ ys (nodeAt made) (2 * n) front-long (omega (arith, grown .few)) (headed e)
+              (f ∙ ap (λ (x : List ℕ). x ++ drop (2 * n) (midOf (nodeAt made) (length room₂ - nodeAt made) room₂)) pairs)
+              ∙ ap₂ (λ (x : List ℕ) (k : ℕ). x ++ drop k origin) words-are (sym (encode-long made (grown .count)));
+          count = grown .count;
+          few = grown .few;
+          cleared = cl ∙ ap (λ (k : ℕ). replicate k 0) half;
+        }

@@ -1,0 +1,65 @@
+-- `build::fill` meets its contract: the nodes, the header before them and the positions behind them are the words of 01.
+-- Assumes nothing.
+use Rattle.build.proofs.Whole.{filled}
+use Rattle.build.proofs.fill.Statement.{statement}
+use Rattle.build.proofs.fill.Tie as tie
+use borrow.Author.Needs.{needs}
+
+grow-requires : tie.Need-grow-requires
+grow-requires c κs = search needs
+
+put-header-requires : tie.Need-put-header-requires
+put-header-requires c κs = search needs
+
+mul-at : tie.Need-mul-at
+mul-at c = search needs
+
+add-at : tie.Need-add-at
+add-at c = search needs
+
+mul-put-positions : tie.Need-mul-put-positions
+mul-put-positions c = search needs
+
+sub-put-positions : tie.Need-sub-put-positions
+sub-put-positions c = search needs
+
+part-put-positions-start : tie.Need-part-put-positions-start
+part-put-positions-start c = search needs
+
+part-put-positions-end : tie.Need-part-put-positions-end
+part-put-positions-end c = search needs
+
+put-positions-requires : tie.Need-put-positions-requires
+put-positions-requires c κs = search needs
+
+clear-requires : tie.Need-clear-requires
+clear-requires c κs = search needs
+
+same-length : tie.Need-same-length
+same-length c = search needs
+
+same-length-2 : tie.Need-same-length-2
+same-length-2 c = search needs
+
+returns : tie.Need-returns
+returns c =
+    let s = c .before .before .before .before .before .before .before .before .before .before .before .before .before .before .before .before .before .before .before .before .before .before .before in
+    filled _ _ _ _ _ (s .pre .fit) _ _ _ _ _ _ (c .before .before .before .before .before .before .before .before .before .before .before .before .before .before .before .before .before .grow .ensures) (s .pre .space) _ (search needs) (c .before .before .before .before .before .before .before .before .before .before .before .put-header .ensures) (c .before .before .before .before .before .before .put-positions .ensures) (search needs) (c .before .before .clear .ensures)
+
+pub fill-spec : {M : Type 1} → statement M
+fill-spec =
+    tie.close
+    (tie.spec
+    grow-requires
+    put-header-requires
+    mul-at
+    add-at
+    mul-put-positions
+    sub-put-positions
+    part-put-positions-start
+    part-put-positions-end
+    put-positions-requires
+    clear-requires
+    same-length
+    same-length-2
+    returns)

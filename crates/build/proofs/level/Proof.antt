@@ -1,0 +1,64 @@
+-- `build::level` meets its contract: the nodes before k are opened (`Turn`), and behind the last the stage is one level down.
+-- Assumes nothing.
+use Prim.Native.Nat.{_-_}
+use Rattle.build.proofs.Turns.{Turn, turn-done, turn-open, turn-start, turn-step}
+use Rattle.build.proofs.level.Statement.{statement}
+use Rattle.build.proofs.level.Tie as tie
+use borrow.Author.Needs.{needs}
+use lib.ListN.{length}
+use mathlib.Core.Path.{_≡_}
+
+abbrev Inv-loop : tie.InvT-loop
+Inv-loop table c m l n room₀ work₀ lo hi made₀ k₀ room work made k =
+    (length room ≡ length room₀) × (length work ≡ length work₀) × Turn table c m l n room₀ work₀ lo hi room work made k
+
+abbrev μ-loop : tie.MeasureT-loop
+μ-loop table c m l n room₀ work₀ lo hi made₀ k₀ room work made k = hi - k
+
+loop-holds : tie.Need-loop-holds Inv-loop μ-loop
+loop-holds c = (search needs, search needs, turn-start _ _ _ _ _ _ _ _ _)
+
+open-node-requires : tie.Need-open-node-requires Inv-loop μ-loop
+open-node-requires c κs =
+    let s = c .before .before .before in
+    turn-open _ _ _ _ _ _ _ _ _ (s .loop .room) (s .loop .work) (s .loop .made) (s .loop .k) (s .loop .inv .2) (c .before .before .before .before .before .before .before .pre) (search needs)
+
+add-k : tie.Need-add-k Inv-loop μ-loop
+add-k c = search needs
+
+loop-less : tie.Need-loop-less Inv-loop μ-loop
+loop-less c = search needs
+
+loop-again : tie.Need-loop-again Inv-loop μ-loop
+loop-again c =
+    let s = c .before .before .before .before .before .before .before .before in (
+      search needs,
+      search needs,
+      turn-step _ _ _ _ _ _ _ _ _ (s .loop .room) (s .loop .work) (s .loop .made) (s .loop .k) (s .loop .inv .2) _ _ _ (search needs) (search needs) (c .before .before .before .before .open-node .ensures),
+    )
+
+same-length : tie.Need-same-length Inv-loop μ-loop
+same-length c = search needs
+
+same-length-2 : tie.Need-same-length-2 Inv-loop μ-loop
+same-length-2 c = search needs
+
+returns : tie.Need-returns Inv-loop μ-loop
+returns c =
+    let s = c .before in
+    turn-done _ _ _ _ _ _ _ _ _ (s .loop .room) (s .loop .work) (s .loop .made) (s .loop .k) (s .loop .inv .2) (search needs)
+
+pub level-spec : {M : Type 1} → statement M
+level-spec =
+    tie.close
+    (tie.spec
+    Inv-loop
+    μ-loop
+    loop-holds
+    open-node-requires
+    add-k
+    loop-less
+    loop-again
+    same-length
+    same-length-2
+    returns)

@@ -1,0 +1,66 @@
+-- `build::levels` meets its contract: the levels above `depth` are opened (`Grows`), and behind the last the whole tree stands.
+-- Assumes nothing.
+use Prim.Native.Nat.{_-_}
+use Rattle.build.proofs.Growing.{Grows, growing-done, growing-level, growing-start, growing-step}
+use Rattle.build.proofs.levels.Statement.{statement}
+use Rattle.build.proofs.levels.Tie as tie
+use Rattle.limits.specs.Limits.{maxDepth}
+use borrow.Author.Needs.{needs}
+use lib.ListN.{length}
+use mathlib.Core.Path.{_≡_}
+
+abbrev Inv-loop : tie.InvT-loop
+Inv-loop table c m l n room₀ work₀ lo₀ hi₀ depth₀ room work lo hi depth =
+    (length room ≡ length room₀) × (length work ≡ length work₀) × Grows table c m l n room₀ work₀ room work lo hi depth
+
+abbrev μ-loop : tie.MeasureT-loop
+μ-loop table c m l n room₀ work₀ lo₀ hi₀ depth₀ room work lo hi depth = maxDepth - depth
+
+loop-holds : tie.Need-loop-holds Inv-loop μ-loop
+loop-holds c = (search needs, search needs, λ g. growing-start _ _ _ _ _ (g .origin) _ _ (g .rooted))
+
+level-requires : tie.Need-level-requires Inv-loop μ-loop
+level-requires c κs =
+    let s = c .before .before .before in
+    let p = c .before .before .before .before .before .before .before .pre in
+    growing-level _ _ _ _ _ (p .1 .origin) (s .loop .room) (s .loop .work) (s .loop .lo) (s .loop .hi) (s .loop .depth) (s .loop .inv .2 (p .1)) (p .0)
+
+add-depth : tie.Need-add-depth Inv-loop μ-loop
+add-depth c = search needs
+
+loop-less : tie.Need-loop-less Inv-loop μ-loop
+loop-less c = search needs
+
+loop-again : tie.Need-loop-again Inv-loop μ-loop
+loop-again c =
+    let s = c .before .before .before .before .before .before .before .before in (
+      search needs,
+      search needs,
+      λ g. growing-step _ _ _ _ _ (g .origin) (s .loop .room) (s .loop .work) (s .loop .lo) (s .loop .hi) (s .loop .depth) (s .loop .inv .2 g) _ _ _ (c .before .before .before .before .before .before .before .before .before .before .before .before .pre .0) (search needs) (c .before .before .before .before .level .ensures),
+    )
+
+same-length : tie.Need-same-length Inv-loop μ-loop
+same-length c = search needs
+
+same-length-2 : tie.Need-same-length-2 Inv-loop μ-loop
+same-length-2 c = search needs
+
+returns : tie.Need-returns Inv-loop μ-loop
+returns c =
+    let s = c .before in
+    λ g. growing-done _ _ _ _ _ (g .origin) (s .loop .room) (s .loop .work) (s .loop .lo) (s .loop .hi) (s .loop .depth) (s .loop .inv .2 g) (search needs)
+
+pub levels-spec : {M : Type 1} → statement M
+levels-spec =
+    tie.close
+    (tie.spec
+    Inv-loop
+    μ-loop
+    loop-holds
+    level-requires
+    add-depth
+    loop-less
+    loop-again
+    same-length
+    same-length-2
+    returns)

@@ -1,0 +1,83 @@
+-- `build::open_node` meets its contract: a node of at most l rows is left; any other is split where it stands.
+-- Assumes nothing.
+use Prim.Native.Nat.{_+_}
+use Rattle.build.proofs.Splits.{open-done, open-ready}
+use Rattle.build.proofs.open_node.Statement.{statement}
+use Rattle.build.proofs.open_node.Tie as tie
+use Rattle.words.specs.Words.{nodeAt}
+use borrow.Author.Needs.{needs}
+use lib.ListN.{length, length-set, set}
+use mathlib.Core.Path.{_∙_, _≡_, refl}
+use native.Mathlib.Omega.{arith}
+
+node-start-requires : tie.Need-node-start-requires
+node-start-requires c κs = search needs
+
+node-count-requires : tie.Need-node-count-requires
+node-count-requires c κs = search needs
+
+same-length : tie.Need-same-length
+same-length c = search needs
+
+returns : tie.Need-returns
+returns c =
+    let size = c .before .node-count .ensures .0 in
+    record { stays = λ h. (refl, refl, refl); splits = λ h. absurd (omega arith) }
+
+cast-room : tie.Need-cast-room
+cast-room c = search needs
+
+mul-room : tie.Need-mul-room
+mul-room c = search needs
+
+add-room : tie.Need-add-room
+add-room c = search needs
+
+add-room-2 : tie.Need-add-room-2
+add-room-2 c = search needs
+
+mul-room-2 : tie.Need-mul-room-2
+mul-room-2 c = search needs
+
+slice-write-room : tie.Need-slice-write-room
+slice-write-room c = search needs
+
+split-run-requires : tie.Need-split-run-requires
+split-run-requires c κs =
+    open-ready _ _ _ _ _ _ _ _ _ (c .before .before .before .before .before .before .before .before .before .before .pre) _ _ (c .before .before .before .before .before .node-start .ensures .0) (c .before .before .before .node-count .ensures .0) (search needs)
+
+add-result : tie.Need-add-result
+add-result c = search needs
+
+same-length-2 : tie.Need-same-length-2
+same-length-2 c =
+    let a = c .before .before .before .before .before .before .before .before .before .before .before .before .before .before .before .args in
+    let l : length (c .before .before .before .before .split-run .last .1 .1 .1 .1 .0) ≡ length (set (a .room .now) (nodeAt (a .k) + 2) (a .made)) = search needs in
+    l ∙ length-set (a .room .now) (nodeAt (a .k) + 2) (a .made)
+
+same-length-3 : tie.Need-same-length-3
+same-length-3 c = search needs
+
+returns-2 : tie.Need-returns-2
+returns-2 c =
+    open-done _ _ _ _ _ _ _ _ _ (c .before .before .before .before .before .before .before .before .before .before .before .before .before .before .before .pre) _ _ (c .before .before .before .before .before .before .before .before .before .before .node-start .ensures .0) (c .before .before .before .before .before .before .before .before .node-count .ensures .0) (search needs) _ _ (c .before .before .before .before .split-run .ensures)
+
+pub open-node-spec : {M : Type 1} → statement M
+open-node-spec =
+    tie.close
+    (tie.spec
+    node-start-requires
+    node-count-requires
+    same-length
+    returns
+    cast-room
+    mul-room
+    add-room
+    add-room-2
+    mul-room-2
+    slice-write-room
+    split-run-requires
+    add-result
+    same-length-2
+    same-length-3
+    returns-2)

@@ -1,0 +1,81 @@
+-- The pieces that a build writes, and the whole of them: 01, The tree, Index words. Assumes nothing.
+use Prim.Native.Nat.{_*_, _+_, _≤_, ℕ}
+use Rattle.build.specs.Levels.{Item, allNodes, leaves}
+use Rattle.build.specs.Stages.{Fit, Stage, withNodes}
+use Rattle.laws.specs.Lists.{each, range}
+use Rattle.limits.specs.Limits.{maxDepth}
+use Rattle.measure.specs.Table.{between}
+use Rattle.split.proofs.Held.{laid}
+use Rattle.tree.specs.Build.{plant}
+use Rattle.tree.specs.Encode.{encode, numbered, pairWords}
+use Rattle.tree.specs.Grove.{entries}
+use lib.Dec.{ltb}
+use lib.ListN.{drop, length, replicate, take}
+use mathlib.Core.Bool.{Bool, _||_}
+use mathlib.Core.List.{List, [], _++_, _∷_}
+use mathlib.Core.Path.{_≡_}
+
+-- the header's words: edition 1, n, c, m, l, the node count, distance kind 1, zero
+abbrev pub headerOf : ℕ → ℕ → ℕ → ℕ → ℕ → List ℕ
+headerOf n c m l nodes = 1 ∷ n ∷ c ∷ m ∷ l ∷ nodes ∷ 1 ∷ 0 ∷ []
+
+-- of each entry the row and the distance
+unfoldable pub pairsIn : List ℕ → List ℕ
+pairsIn [] = []
+pairsIn (i ∷ []) = []
+pairsIn (i ∷ x ∷ []) = []
+pairsIn (i ∷ x ∷ a ∷ es) = i ∷ x ∷ pairsIn es
+
+-- row i's entry in the root's run, whose first is row 0
+abbrev pub entryOf0 : (ℕ → ℕ → ℕ) → ℕ → List ℕ
+entryOf0 d i = i ∷ d 0 i ∷ 0 ∷ []
+
+-- 5: the room or the workspace is too short for n rows
+abbrev pub shortOf : ℕ → ℕ → ℕ → Bool
+shortOf n room work = ltb room (10 * n + 8) || ltb work (6 * n)
+
+-- ---- the root and the levels below it
+-- the root's item
+abbrev pub rootItem : ℕ → Item
+rootItem n = (0, range 0 n)
+
+-- the root stands alone
+abbrev pub Rooted : (ℕ → ℕ → ℕ) → ℕ → ℕ → ℕ → List ℕ → List ℕ → List ℕ → Type 0
+Rooted d m l n origin room work = Stage d m l n origin [] (rootItem n ∷ []) (range 0 n ∷ []) room work 0 1
+
+-- it does so in a room that was some other before
+pub record Planted (d : ℕ → ℕ → ℕ) (m l n : ℕ) (room work : List ℕ) : Type 0 where
+  pub origin : List ℕ
+  pub rooted : Rooted d m l n origin room work
+
+-- every level stands
+pub record Layered (d : ℕ → ℕ → ℕ) (m l n : ℕ) (origin room work : List ℕ) (made : ℕ) : Type 0 where
+  pub nodes : room ≡ withNodes origin (allNodes d m l maxDepth 1 (rootItem n ∷ []))
+  pub count : made ≡ length (allNodes d m l maxDepth 1 (rootItem n ∷ []))
+  pub few : made ≤ 2 * n
+  pub tiles : take (3 * n) work ≡ each (laid d) (leaves d m l maxDepth (range 0 n))
+
+-- it does so, whatever the room was before the root
+abbrev pub Leveled : (ℕ → ℕ → ℕ) → ℕ → ℕ → ℕ → List ℕ → List ℕ → List ℕ → List ℕ → ℕ → Type 0
+Leveled d m l n room work room′ work′ made = (g : Planted d m l n room work) → Layered d m l n (g .origin) room′ work′ made
+
+-- ---- the whole
+-- the numbers fit, and room and workspace are long enough
+pub record Room (t : List ℕ) (c m l n : ℕ) (room work : List ℕ) : Type 0 where
+  pub fit : Fit t c m l n
+  pub space : 10 * n + 8 ≤ length room
+  pub halves : length work ≡ 6 * n
+
+-- the tree's nodes stand in the room, and its positions in the workspace
+pub record Grown (t : List ℕ) (c m l n : ℕ) (origin room work : List ℕ) (made : ℕ) : Type 0 where
+  pub nodes : room ≡ withNodes origin (numbered (plant (between t c) m l n))
+  pub count : made ≡ length (numbered (plant (between t c) m l n))
+  pub few : made ≤ 2 * n
+  pub pairs : pairsIn (take (3 * n) work) ≡ each pairWords (entries (plant (between t c) m l n))
+
+-- the index stands in the room, and the workspace is cleared
+pub record Filled (t : List ℕ) (c m l n : ℕ) (room room′ work′ : List ℕ) (nodes : ℕ) : Type 0 where
+  pub index : room′ ≡ encode c m l (plant (between t c) m l n) ++ drop (length (encode c m l (plant (between t c) m l n))) room
+  pub count : nodes ≡ length (numbered (plant (between t c) m l n))
+  pub few : nodes ≤ 2 * n
+  pub cleared : work′ ≡ replicate (6 * n) 0

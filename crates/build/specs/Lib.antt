@@ -1,0 +1,5 @@
+pub mod Levels
+pub mod Stages
+pub mod Filled
+pub mod Calls
+pub mod Cases

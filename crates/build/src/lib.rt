@@ -1,0 +1,292 @@
+// The build of an index over a lent table. While it grows, the first half of the workspace holds an entry of three words for each position: the row, its
+// distance from the first of its run, and that first. The second half takes a run's entries as they are shared out.
+ghost use Prim.Native.Nat.{_*_, _+_, _/_, _≤_};
+ghost use Rattle.build.specs.Calls.{Builds};
+ghost use Rattle.build.specs.Filled.{Filled, Grown, Leveled, Planted, Room, Rooted, entryOf0, headerOf, pairsIn, shortOf};
+ghost use Rattle.build.specs.Stages.{Fit, Level, Openable, Opened, Staged};
+ghost use Rattle.laws.specs.Lists.{each, range};
+ghost use Rattle.laws.specs.Upto.{mostTo};
+ghost use Rattle.limits.specs.Limits.{maxColumns, maxRows};
+ghost use Rattle.limits.specs.Said.{fault, lengthFaults, said};
+ghost use Rattle.measure.specs.Table.{between};
+ghost use Rattle.split.specs.Groups.{stretch};
+ghost use lib.ListN.{drop, length, replicate};
+ghost use mathlib.Core.List.{_++_};
+ghost use mathlib.Core.Path.{_≡_};
+use limits::Chosen;
+use limits::Params;
+use limits::columns_ok;
+use limits::length_number;
+use measure::row_distance;
+use split::groups::greater;
+use split::groups::put_node;
+use split::groups::split_run;
+use split::rounds::put_entry;
+use words::places::HEADER;
+use words::places::WIDTH;
+use words::places::node_count;
+use words::places::node_start;
+
+// What the build says: the number, how many words were written, and how many nodes they hold.
+pub struct Built {
+    pub number: u32,
+    pub words: usize,
+    pub nodes: usize,
+}
+
+// ---- the nodes, level by level, into the room
+
+// The root's entries: each row with its distance from row 0. Gives the radius.
+fn lay(table: &[u16], c: usize, n: usize, work: &mut [u32]) -> u32
+    requires { ⌜ (c ≤ maxColumns) × (n ≤ maxRows) × (c * n ≤ length (now table)) × (3 * n ≤ length (now work)) ⌝ }
+    ensures { λ r. ⌜ (r ≡ mostTo (between (now (table .entry)) c 0) n) × (now (work .exit) ≡ each (entryOf0 (between (now (table .entry)) c)) (range 0 n) ++ drop (3 * n) (now (work .entry))) ⌝ }
+{
+    let mut radius: u32 = 0;
+    let mut i = 0;
+    while i < n {
+        let d = row_distance(table, c, 0, i);
+        radius = greater(radius, d);
+        let at = 3 * i;
+        put_entry(&mut work[at..], i as u32, d, 0);
+        i += 1;
+    }
+    radius
+}
+
+// The root's entries and its node.
+fn root(table: &[u16], c: usize, m: usize, l: usize, n: usize, room: &mut [u32], work: &mut [u32])
+    requires { ⌜ Room (now table) c m l n (now room) (now work) ⌝ }
+    requires { ⌜ 1 ≤ n ⌝ }
+    ensures { λ _. ⌜ Rooted (between (now (table .entry)) c) m l n (now (room .entry)) (now (room .exit)) (now (work .exit)) ⌝ }
+{
+    let radius = lay(table, c, n, work);
+    put_node(&mut room[HEADER..], 0, n as u32, 0, radius);
+}
+
+// Opens node k, where it has more than l rows. Gives the number of nodes there are then.
+fn open_node(
+    table: &[u16],
+    c: usize,
+    m: usize,
+    l: usize,
+    n: usize,
+    room: &mut [u32],
+    work: &mut [u32],
+    k: usize,
+    made: usize,
+) -> usize
+    requires { ⌜ Openable (now table) c m l n (now room) (now work) k made ⌝ }
+    ensures { λ r. ⌜ Opened (now (table .entry)) c m l n (now (room .entry)) (now (work .entry)) k made (now (room .exit)) (now (work .exit)) r ⌝ }
+{
+    let s = node_start(room, k);
+    let count = node_count(room, k);
+    if count <= l {
+        return made;
+    }
+    room[HEADER + WIDTH * k + 2] = made as u32;
+    split_run(table, c, m, n, room, work, s, count, made);
+    made + m
+}
+
+// Opens the nodes of one level, from lo to hi. Gives the number of nodes there are then.
+fn level(
+    table: &[u16],
+    c: usize,
+    m: usize,
+    l: usize,
+    n: usize,
+    room: &mut [u32],
+    work: &mut [u32],
+    lo: usize,
+    hi: usize,
+) -> usize
+    requires { ⌜ Level (now table) c m l n (now room) (now work) lo hi ⌝ }
+    ensures { λ r. ⌜ Staged (now (table .entry)) c m l n (now (room .entry)) (now (work .entry)) lo hi (now (room .exit)) (now (work .exit)) r ⌝ }
+{
+    let mut made = hi;
+    let mut k = lo;
+    while k < hi {
+        made = open_node(table, c, m, l, n, room, work, k, made);
+        k += 1;
+    }
+    made
+}
+
+// Opens the nodes of all levels below the root. Gives the number of nodes.
+fn levels(
+    table: &[u16],
+    c: usize,
+    m: usize,
+    l: usize,
+    n: usize,
+    room: &mut [u32],
+    work: &mut [u32],
+) -> usize
+    requires { ⌜ Fit (now table) c m l n ⌝ }
+    requires { ⌜ Planted (between (now table) c) m l n (now room) (now work) ⌝ }
+    ensures { λ r. ⌜ Leveled (between (now (table .entry)) c) m l n (now (room .entry)) (now (work .entry)) (now (room .exit)) (now (work .exit)) r ⌝ }
+{
+    let mut lo: usize = 0;
+    let mut hi: usize = 1;
+    let mut depth = 0;
+    while depth < Params::MOST_DEPTH {
+        let made = level(table, c, m, l, n, room, work, lo, hi);
+        lo = hi;
+        hi = made;
+        depth += 1;
+    }
+    hi
+}
+
+// All nodes. Gives how many.
+fn grow(
+    table: &[u16],
+    c: usize,
+    m: usize,
+    l: usize,
+    n: usize,
+    room: &mut [u32],
+    work: &mut [u32],
+) -> usize
+    requires { ⌜ Room (now table) c m l n (now room) (now work) ⌝ }
+    ensures { λ r. ⌜ Grown (now (table .entry)) c m l n (now (room .entry)) (now (room .exit)) (now (work .exit)) r ⌝ }
+{
+    if n == 0 {
+        return 0;
+    }
+    root(table, c, m, l, n, room, work);
+    levels(table, c, m, l, n, room, work)
+}
+
+// ---- the header, the positions, and the cleared workspace
+
+// The header's eight words.
+fn put_header(room: &mut [u32], n: usize, c: usize, m: usize, l: usize, nodes: usize)
+    requires { ⌜ (8 ≤ length (now room)) × (n ≤ maxRows) × (c ≤ maxColumns) × (m ≤ 64) × (l ≤ 1024) × (nodes ≤ 2097152) ⌝ }
+    ensures { λ _. ⌜ now (room .exit) ≡ headerOf n c m l nodes ++ drop 8 (now (room .entry)) ⌝ }
+{
+    room[0] = 1;
+    room[1] = n as u32;
+    room[2] = c as u32;
+    room[3] = m as u32;
+    room[4] = l as u32;
+    room[5] = nodes as u32;
+    room[6] = 1;
+    room[7] = 0;
+}
+
+// Each position's row and its distance from its leaf's first.
+fn put_positions(part: &mut [u32], n: usize, work: &[u32])
+    requires { ⌜ (2 * n ≤ length (now part)) × (3 * n ≤ length (now work)) ⌝ }
+    ensures { λ _. ⌜ now (part .exit) ≡ pairsIn (stretch (now (work .entry)) 0 (3 * n)) ++ drop (2 * n) (now (part .entry)) ⌝ }
+{
+    let mut p = 0;
+    while p < n {
+        let at = 2 * p;
+        part[at] = work[3 * p];
+        part[at + 1] = work[3 * p + 1];
+        p += 1;
+    }
+}
+
+// Sets every word to zero.
+fn clear(part: &mut [u32])
+    ensures { λ _. ⌜ now (part .exit) ≡ replicate (length (now (part .entry))) 0 ⌝ }
+{
+    let mut i = 0;
+    while i < part.len() {
+        part[i] = 0;
+        i += 1;
+    }
+}
+
+// The index over n rows, in a room that is long enough and with a workspace of 6n words. Gives the number of nodes.
+pub fn fill(
+    table: &[u16],
+    c: usize,
+    m: usize,
+    l: usize,
+    n: usize,
+    room: &mut [u32],
+    work: &mut [u32],
+) -> usize
+    requires { ⌜ Room (now table) c m l n (now room) (now work) ⌝ }
+    ensures { λ r. ⌜ Filled (now (table .entry)) c m l n (now (room .entry)) (now (room .exit)) (now (work .exit)) r ⌝ }
+{
+    let nodes = grow(table, c, m, l, n, room, work);
+    put_header(room, n, c, m, l, nodes);
+    let at = HEADER + WIDTH * nodes;
+    put_positions(&mut room[at..], n, work);
+    clear(work);
+    nodes
+}
+
+// ---- the public call
+
+// The room or the workspace is too short for n rows.
+fn too_short(n: usize, room: usize, work: usize) -> bool
+    requires { ⌜ n ≤ maxRows ⌝ }
+    ensures { λ r. ⌜ r ≡ shortOf n room work ⌝ }
+{
+    if room < 10 * n + 8 {
+        return true;
+    }
+    work < 6 * n
+}
+
+// What is wrong with the lengths of a table of c columns, of the room and of the workspace: 3, 4, 5, or 0 for nothing.
+fn lengths_number(length: usize, c: usize, room: usize, work: usize) -> u32
+    requires { ⌜ 1 ≤ c ⌝ }
+    ensures { λ r. ⌜ r ≡ said (lengthFaults length c ++ fault 5 (shortOf (length / c) room work)) .0 ⌝ }
+{
+    let number = length_number(length, c);
+    if number != 0 {
+        return number;
+    }
+    if too_short(length / c, room, work) {
+        return 5;
+    }
+    0
+}
+
+// A refusal: its number, and zero counts.
+fn refused(number: u32) -> Built
+    ensures { λ r. ⌜ (r .number ≡ number) × (r .words ≡ 0) × (r .nodes ≡ 0) ⌝ }
+{
+    Built {
+        number,
+        words: 0,
+        nodes: 0,
+    }
+}
+
+// Builds the index into the room.
+pub fn build(
+    table: &[u16],
+    c: usize,
+    m: usize,
+    l: usize,
+    room: &mut [u32],
+    work: &mut [u32],
+) -> Built
+    ensures { λ r. ⌜ Builds (now (table .entry)) c m l (now (room .entry)) (now (work .entry)) (now (room .exit)) (now (work .exit)) (r .number) (r .words) (r .nodes) ⌝ }
+{
+    if !columns_ok(c) {
+        return refused(1);
+    }
+    let Chosen::Taken(p) = Params::new(m, l) else {
+        return refused(2);
+    };
+    let number = lengths_number(table.len(), c, room.len(), work.len());
+    if number != 0 {
+        return refused(number);
+    }
+    let n = table.len() / c;
+    let used = 6 * n;
+    let nodes = fill(table, c, p.centres, p.leaf, n, room, &mut work[..used]);
+    Built {
+        number: 0,
+        words: HEADER + WIDTH * nodes + 2 * n,
+        nodes,
+    }
+}

@@ -1,0 +1,112 @@
+-- The radius cases of 01, The five-row table, proved of the call's contract. Assumes nothing.
+use Prim.Native.Nat.{_≤_, ℕ}
+use Rattle.laws.proofs.Every.{all-every, every-of}
+use Rattle.laws.proofs.Ranges.{every-at}
+use Rattle.laws.proofs.Tests.{and-l, and-r, is-true}
+use Rattle.laws.specs.Lists.{all, range, same}
+use Rattle.laws.specs.Upto.{sumTo}
+use Rattle.limits.specs.Said.{said, tableFaults}
+use Rattle.measure.specs.Distance.{l1}
+use Rattle.measure.specs.Table.{between, from, rowsOf}
+use Rattle.radius.proofs.Promises.{first-bytes}
+use Rattle.radius.proofs.Refused.{by-index}
+use Rattle.radius.specs.Calls.{Once}
+use Rattle.radius.specs.Cases.{Gives}
+use Rattle.tree.specs.Build.{build, choose, grow, split}
+use Rattle.tree.specs.Cases.{five, radius, right}
+use Rattle.tree.specs.Check.{again}
+use Rattle.tree.specs.Encode.{broods, encode, family, levelNodes, nodes, numbered}
+use Rattle.tree.specs.Grove.{treeOf}
+use Rattle.tree.specs.Nearest.{measured}
+use Rattle.tree.specs.Radius.{inside, radiusHow}
+use Rattle.words.specs.Calls.{indexFaults}
+use Rattle.words.specs.Shape.{born, level, nodeOk, shapeOk, tile}
+use Rattle.words.specs.Words.{headerOk, n#, wordsOk}
+use borrow.Author.Tests.{not-true}
+use lib.Dec.{T, eqb, eqb→eq}
+use lib.ListN.{drop, length}
+use mathlib.Core.Bool.{Bool, _&&_, false, not, true}
+use mathlib.Core.List.{List, [], _++_, _∷_}
+use mathlib.Core.Path.{_∙_, _≡_, ap, ap₂, refl, sym}
+use native.Mathlib.Omega.{arith}
+
+same-is : (a b : List ℕ) → T (same a b) → a ≡ b
+same-is [] [] h = refl
+same-is [] (y ∷ b) h = absurd h
+same-is (x ∷ a) [] h = absurd h
+same-is (x ∷ a) (y ∷ b) h = ap₂ (λ z l. z ∷ l) (eqb→eq x y (and-l (eqb x y) (same a b) h)) (same-is a b (and-r (eqb x y) (same a b) h))
+
+-- the table of a case and the index built over it are not refused, and each row stands once
+unfoldable fit : List ℕ → Bool
+unfolding sumTo tableFaults l1 between headerOk wordsOk born level tile nodeOk shapeOk indexFaults again family broods levelNodes nodes numbered encode choose split grow build
+fit t =
+    let w = build t 1 2 2 in
+    eqb (rowsOf t 1) (length t) && eqb (n# w) (length t) && eqb (said (tableFaults (length t) 1) .0) 0 && eqb (said (indexFaults w (rowsOf t 1) 1) .0) 0
+    && all (λ p. not (again w p)) (range 0 (n# w))
+
+module _ (t : List ℕ) (f : T (fit t)) where
+  abbrev w : List ℕ
+  w = build t 1 2 2
+
+  -- the five tests, each true
+  tests : (rowsOf t 1 ≡ length t) × (n# w ≡ length t) × (said (tableFaults (length t) 1) .0 ≡ 0) × (said (indexFaults w (rowsOf t 1) 1) .0 ≡ 0) × Once w
+  unfolding fit
+  tests =
+      let a = eqb (rowsOf t 1) (length t) in
+      let b = eqb (n# w) (length t) in
+      let d = eqb (said (tableFaults (length t) 1) .0) 0 in
+      let e = eqb (said (indexFaults w (rowsOf t 1) 1) .0) 0 in
+      let g = all (λ p. not (again w p)) (range 0 (n# w)) in
+      let f4 = and-l (a && b && d && e) g f in
+      let f3 = and-l (a && b && d) e f4 in
+      let f2 = and-l (a && b) d f3 in (
+        eqb→eq (rowsOf t 1) (length t) (and-l a b f2),
+        eqb→eq (n# w) (length t) (and-r a b f2),
+        eqb→eq (said (tableFaults (length t) 1) .0) 0 (and-r (a && b) d f3),
+        eqb→eq (said (indexFaults w (rowsOf t 1) 1) .0) 0 (and-r (a && b && d) e f4),
+        λ p h. every-at (λ p. again w p ≡ false) (n# w) p
+            (every-of (λ p. T (not (again w p))) (λ p. again w p ≡ false) (λ p k. not-true (again w p) (is-true (not (again w p)) k)) (range 0 (n# w)) (all-every (λ p. not (again w p)) (range 0 (n# w)) (and-r (a && b && d && e) g f))) h,
+      )
+
+  module _ (q r : ℕ) (how : List ℕ) (i k : ℕ) where
+    abbrev x : ℕ → ℕ
+    x = from t 1 (q ∷ [])
+
+    -- the how-bytes of the definition
+    abbrev bytes : List ℕ
+    bytes = radiusHow x r (length t) (treeOf w)
+
+    right-is : T (right (radius t q r how i k)) → T (same bytes how && eqb (inside bytes) i && eqb (measured bytes) k)
+    unfolding right
+    right-is ok = ok
+
+    gives : T (right (radius t q r how i k)) → Gives t q r how i k
+    gives ok before after number in# met room s =
+        let ts = tests in
+        let once = ts .4 in
+        let a = same bytes how in
+        let b = eqb (inside bytes) i in
+        let d = eqb (measured bytes) k in
+        let f = right-is ok in
+        let ab = and-l (a && b) d f in
+        let z : number ≡ 0 = s .said ∙ sym (by-index t 1 w (q ∷ []) (length before) refl (ts .2) (omega arith) refl (sym (ts .3))) in
+        let same-bytes : radiusHow x r (n# w) (treeOf w) ≡ bytes = ap (λ (n : ℕ). radiusHow x r n (treeOf w)) (ts .1) in
+        let first = first-bytes s z once ∙ same-bytes in (
+          z,
+          s .marks z once ∙ ap₂ (λ l n. l ++ drop n before) (same-bytes ∙ same-is bytes how (and-l a b ab)) (ts .1),
+          (s .counts z) .0 ∙ ap inside first ∙ eqb→eq (inside bytes) i (and-r a b ab),
+          (s .counts z) .1 ∙ ap measured first ∙ eqb→eq (measured bytes) k (and-r (a && b) d f),
+        )
+
+-- THE CALL GIVES WHAT 01 SAYS: its three radius cases, and one that (x - y)/2 rounded down would fail
+pub radius-call-cases : Gives five 9 1 (1 ∷ 0 ∷ 3 ∷ 0 ∷ 1 ∷ []) 1 3
+    × Gives five 0 20 (3 ∷ 2 ∷ 2 ∷ 2 ∷ 2 ∷ []) 5 1
+    × Gives five 10 5 (1 ∷ 0 ∷ 3 ∷ 3 ∷ 1 ∷ []) 2 4
+    × Gives (4 ∷ 2 ∷ 2 ∷ 6 ∷ 7 ∷ []) 6 0 (1 ∷ 0 ∷ 0 ∷ 3 ∷ 1 ∷ []) 1 3
+unfolding fit right
+radius-call-cases = (
+  gives five tt 9 1 (1 ∷ 0 ∷ 3 ∷ 0 ∷ 1 ∷ []) 1 3 tt,
+  gives five tt 0 20 (3 ∷ 2 ∷ 2 ∷ 2 ∷ 2 ∷ []) 5 1 tt,
+  gives five tt 10 5 (1 ∷ 0 ∷ 3 ∷ 3 ∷ 1 ∷ []) 2 4 tt,
+  gives (4 ∷ 2 ∷ 2 ∷ 6 ∷ 7 ∷ []) tt 6 0 (1 ∷ 0 ∷ 0 ∷ 3 ∷ 1 ∷ []) 1 3 tt,
+)

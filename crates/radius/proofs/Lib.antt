@@ -1,0 +1,12 @@
+pub mod Written
+pub mod Fitted
+pub mod Distances
+pub mod Below
+pub mod Nodes
+pub mod Ways
+pub mod Tallies
+pub mod Refused
+pub mod How
+pub mod Answered
+pub mod Promises
+pub mod Cases

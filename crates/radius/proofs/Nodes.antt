@@ -1,0 +1,204 @@
+-- The marks at a node of an index in shape, by its words: swept, closed, an opened leaf's or an opened inner node's. Assumes nothing.
+use Prim.Native.Nat.{_+_, _-_, _<_, _≤_, suc, zero, ℕ}
+use Rattle.laws.proofs.Lists.{map-map, paired, rest-map}
+use Rattle.laws.proofs.Times.{lefts}
+use Rattle.laws.specs.Lists.{each, gap, head, least, range, rest}
+use Rattle.radius.specs.Descent.{centreAt, decision, firstAt, kidMarks, leafAt, leafMark, leastFrom, nodeMarks, verdictByte}
+use Rattle.radius.specs.declared.leaf.Verdict.the-variants.{In, Measure, Out}
+use Rattle.tree.proofs.Members.{entries-at, kids-entries, kids-firsts, run-first}
+use Rattle.tree.specs.Grove.{Grove, bare, first, firsts, fork, leaf, members#, rowsIn, treeAt}
+use Rattle.tree.specs.Homes.{childBound, nearestOf}
+use Rattle.tree.specs.Radius.{byDistance, inLeaf, marksIn, visit}
+use Rattle.words.specs.InShape.{InShape}
+use Rattle.words.specs.Shape.{inner}
+use Rattle.words.specs.Words.{N#, child#, count#, dist#, first#, m#, radius#, row#, start#}
+use lib.Dec.{leb, ltb}
+use mathlib.Core.Bool.{Bool, cond, false, true}
+use mathlib.Core.List.{List, [], _++_, _∷_, append-nil, foldr, map}
+use mathlib.Core.Path.{_∙_, _≡_, ap, ap₂, refl, subst, sym}
+use native.Mathlib.Nat.{not-suc-le-zero}
+use native.Mathlib.Omega.{arith}
+
+-- ---- lists
+rest-range : (s n : ℕ) → rest (range s n) ≡ range (suc s) (n - 1)
+rest-range s zero = refl
+rest-range s (suc n) =
+    let e : n ≡ suc n - 1 = omega arith in
+    ap (range (suc s)) e
+
+pub map-each : {A B : Type 0} (f : A → B) (xs : List A) → map f xs ≡ each (λ a. f a ∷ []) xs
+map-each f [] = refl
+map-each f (x ∷ xs) = ap (λ l. f x ∷ l) (map-each f xs)
+
+map-same : {A B : Type 0} (f g : A → B) → ((a : A) → f a ≡ g a) → (xs : List A) → map f xs ≡ map g xs
+map-same f g h [] = refl
+map-same f g h (x ∷ xs) = ap₂ (λ y ys. y ∷ ys) (h x) (map-same f g h xs)
+
+-- all but the first of what stands at k numbers from s on
+rest-at : {A : Type 0} (f : ℕ → A) (s n : ℕ) → rest (map f (range s n)) ≡ map f (range (suc s) (n - 1))
+rest-at f s n = rest-map f (range s n) ∙ ap (map f) (rest-range s n)
+
+-- ---- the leaf decision
+-- the decision's byte is the mark of the definition
+decision-mark : (x : ℕ → ℕ) (r f : ℕ) (e : ℕ × ℕ) → verdictByte (byDistance x r (e .0)) (decision (x f) (e .1) r) ≡ inLeaf x r f e
+unfolding decision
+decision-mark x r f e = go (ltb r (gap (x f) (e .1))) (leb (x f + e .1) r)
+  where
+    go : (a b : Bool) → verdictByte (byDistance x r (e .0)) (cond a Out (cond b In Measure)) ≡ cond a 0 (cond b 2 (byDistance x r (e .0)))
+    go true b = refl
+    go false true = refl
+    go false false = refl
+
+module _ (w : List ℕ) where
+  -- node k's children, with `deep` levels left below them
+  abbrev kidsAt : ℕ → ℕ → Grove
+  kidsAt deep k = foldr (treeAt w deep) bare (range (child# w k) (m# w))
+
+  -- the positions of node k's run but the first
+  abbrev pub rest# : ℕ → List ℕ
+  rest# k = range (suc (start# w k)) (count# w k - 1)
+
+  -- the tree at a leaf, and at an inner node with a level left
+  tree-leaf : (deep k : ℕ) (g : Grove) → inner w k ≡ false → treeAt w deep k g ≡ leaf (radius# w k) (members# w k) g
+  unfolding treeAt
+  tree-leaf zero k g e = refl
+  tree-leaf (suc deep) k g e = ap (λ b. cond b (fork (radius# w k) (kidsAt deep k) g) (leaf (radius# w k) (members# w k) g)) e
+
+  tree-fork : (deep k : ℕ) (g : Grove) → 1 ≤ deep → inner w k ≡ true → treeAt w deep k g ≡ fork (radius# w k) (kidsAt (deep - 1) k) g
+  unfolding treeAt
+  tree-fork zero k g h e = absurd (not-suc-le-zero h)
+  tree-fork (suc deep) k g h e =
+      let p : deep ≡ suc deep - 1 = omega arith in
+      ap (λ b. cond b (fork (radius# w k) (kidsAt deep k) g) (leaf (radius# w k) (members# w k) g)) e
+      ∙ ap (λ d. fork (radius# w k) (kidsAt d k) g) p
+
+  -- one of the two is the case
+  by-node : {P : Type 0} (deep k : ℕ) → (((g : Grove) → treeAt w deep k g ≡ leaf (radius# w k) (members# w k) g) → P)
+      → (inner w k ≡ true → ((g : Grove) → treeAt w deep k g ≡ fork (radius# w k) (kidsAt (deep - 1) k) g) → P) → P
+  unfolding treeAt
+  by-node zero k a b = a (λ g. refl)
+  by-node {P} (suc deep) k a b = go (inner w k) refl
+    where
+      go : (i : Bool) → inner w k ≡ i → P
+      go false e = a (λ g. tree-leaf (suc deep) k g e)
+      go true e = b e (λ g. tree-fork (suc deep) k g (omega arith) e)
+
+module _ (x : ℕ → ℕ) (r : ℕ) (w : List ℕ) where
+  -- swept, closed, or `opened`
+  abbrev pub visitAt : ℕ → ℕ → List (ℕ × ℕ) → List (ℕ × ℕ)
+  visitAt k b opened = visit x r (firstAt x w k) (radius# w k) b (map (row# w) (rest# w k)) opened
+
+  abbrev pub leafOpened : ℕ → List (ℕ × ℕ)
+  leafOpened k = each (leafAt x r w (firstAt x w k)) (rest# w k)
+
+  abbrev pub innerOpened : ℕ → ℕ → ℕ → List (ℕ × ℕ)
+  innerOpened deep b ch = each (centreAt x r w) (range (suc ch) (m# w - 1)) ++ each (kidMarks x r w deep b ch) (range ch (m# w))
+
+module _ (x : ℕ → ℕ) (r : ℕ) (w : List ℕ) (S : InShape w) where
+  -- the rows of node k but the first
+  rows-rest : (k : ℕ) → rest (lefts (members# w k)) ≡ map (row# w) (rest# w k)
+  rows-rest k = ap rest (paired (row# w) (dist# w) (range (start# w k) (count# w k))) ∙ rest-at (row# w) (start# w k) (count# w k)
+
+  -- an inner node's children have its first and its rows
+  kids-first : (deep k : ℕ) → k < N# w → inner w k ≡ true → first (kidsAt w deep k) ≡ first# w k
+  kids-first deep k h e =
+      let K = S .node k h .kids e in
+      ap head (kids-firsts w S deep (child# w k) (m# w) (K .inside)) ∙ head-range (m# w) (omega (arith, S .whole .fan .0)) ∙ ap (row# w) (K .same)
+    where
+      head-range : (m : ℕ) → 1 ≤ m → head (map (first# w) (range (child# w k) m)) ≡ first# w (child# w k)
+      head-range zero l = absurd (not-suc-le-zero l)
+      head-range (suc m) l = refl
+
+  kids-rows : (deep k : ℕ) → k < N# w → inner w k ≡ true → rest (rowsIn (kidsAt w deep k)) ≡ map (row# w) (rest# w k)
+  kids-rows deep k h e =
+      let K = S .node k h .kids e in
+      ap (λ es. rest (lefts es)) (kids-entries w S (treeAt w deep) (entries-at w S deep) (child# w k) (m# w) (start# w k) (count# w k) (K .inside) (K .tiled))
+      ∙ rows-rest k
+
+  -- ---- the marks at a node, and those of the nodes after it
+  -- one node with the first f and the marks `here` by its bound: f is the row at the start of its run
+  one-node : (β : ℕ → ℕ → ℕ) (k f : ℕ) (here : ℕ → List (ℕ × ℕ)) (after node : List (ℕ × ℕ)) → f ≡ first# w k
+      → node ≡ here (β (firstAt x w k) (radius# w k)) ++ []
+      → here (β (x f) (radius# w k)) ++ after ≡ node ++ after
+  one-node β k f here after node e p =
+      ap (λ (i : ℕ). here (β (x i) (radius# w k)) ++ after) e
+      ∙ ap (λ l. l ++ after) (sym (p ∙ append-nil (here (β (firstAt x w k) (radius# w k)))))
+
+  marks-at : (β : ℕ → ℕ → ℕ) (deep k : ℕ) (g : Grove) → k < N# w
+      → marksIn x r β (treeAt w deep k g) ≡ nodeMarks x r w deep k (β (firstAt x w k) (radius# w k)) ++ marksIn x r β g
+  unfolding marksIn nodeMarks
+  marks-at β deep k g h =
+      let b : ℕ = β (firstAt x w k) (radius# w k) in
+      by-node w deep k
+      (λ t.
+      let es : List (ℕ × ℕ) = members# w k in
+      let f : ℕ = head (lefts es) in
+      ap (marksIn x r β) (t g)
+      ∙ one-node β k f (λ b. visit x r (x f) (radius# w k) b (rest (lefts es)) (map (λ e. (e .0, inLeaf x r f e)) (rest es)))
+      (marksIn x r β g) (marksIn x r (λ x R. b) (treeAt w deep k bare)) (run-first w S (start# w k) (count# w k) (S .node k h .some)) (ap (marksIn x r (λ x R. b)) (t bare)))
+      (λ e t.
+      let ks : Grove = kidsAt w (deep - 1) k in
+      ap (marksIn x r β) (t g)
+      ∙ one-node β k (first ks)
+      (λ b. visit x r (x (first ks)) (radius# w k) b (rest (rowsIn ks)) (map (λ i. (i, byDistance x r i)) (rest (firsts ks)) ++ marksIn x r (childBound b (nearestOf x ks)) ks))
+      (marksIn x r β g) (marksIn x r (λ x R. b) (treeAt w deep k bare)) (kids-first (deep - 1) k h e) (ap (marksIn x r (λ x R. b)) (t bare)))
+
+  kids-marks : (β : ℕ → ℕ → ℕ) (deep j m : ℕ) → j + m ≤ N# w
+      → marksIn x r β (foldr (treeAt w deep) bare (range j m)) ≡ each (λ i. nodeMarks x r w deep i (β (firstAt x w i) (radius# w i))) (range j m)
+  unfolding marksIn
+  kids-marks β deep j zero h = refl
+  kids-marks β deep j (suc m) h =
+      marks-at β deep j (foldr (treeAt w deep) bare (range (suc j) m)) (omega arith)
+      ∙ ap (λ l. nodeMarks x r w deep j (β (firstAt x w j) (radius# w j)) ++ l) (kids-marks β deep (suc j) m (omega arith))
+
+  -- ---- the marks at a node, by its words
+  leaf-by : (deep k b : ℕ) → k < N# w → ((g : Grove) → treeAt w deep k g ≡ leaf (radius# w k) (members# w k) g)
+      → nodeMarks x r w deep k b ≡ visitAt x r w k b (leafOpened x r w k)
+  unfolding marksIn nodeMarks leafMark
+  leaf-by deep k b h t =
+      let es : List (ℕ × ℕ) = members# w k in
+      let vis : ℕ → List ℕ → List (ℕ × ℕ) → List (ℕ × ℕ) = λ f o q. visit x r (x f) (radius# w k) b o q in
+      let q : ℕ → List (ℕ × ℕ) = λ f. map (λ e. (e .0, inLeaf x r f e)) (rest es) in
+      ap (marksIn x r (λ x R. b)) (t bare) ∙ append-nil (vis (head (lefts es)) (rest (lefts es)) (q (head (lefts es))))
+      ∙ ap (λ (f : ℕ). vis f (rest (lefts es)) (q f)) (run-first w S (start# w k) (count# w k) (S .node k h .some))
+      ∙ ap₂ (vis (first# w k)) (rows-rest k)
+      (ap (map (λ e. (e .0, inLeaf x r (first# w k) e))) (rest-at (λ p. (row# w p, dist# w p)) (start# w k) (count# w k))
+      ∙ sym (map-map (λ e. (e .0, inLeaf x r (first# w k) e)) (λ p. (row# w p, dist# w p)) (rest# w k))
+      ∙ map-same (λ p. (row# w p, inLeaf x r (first# w k) (row# w p, dist# w p))) (λ p. (row# w p, leafMark x r w (firstAt x w k) p))
+      (λ p. ap (λ v. (row# w p, v)) (sym (decision-mark x r (first# w k) (row# w p, dist# w p)))) (rest# w k)
+      ∙ map-each (λ p. (row# w p, leafMark x r w (firstAt x w k) p)) (rest# w k))
+
+  inner-by : (deep k b : ℕ) → k < N# w → inner w k ≡ true → ((g : Grove) → treeAt w deep k g ≡ fork (radius# w k) (kidsAt w (deep - 1) k) g)
+      → nodeMarks x r w deep k b ≡ visitAt x r w k b (innerOpened x r w (deep - 1) b (child# w k))
+  unfolding marksIn nodeMarks
+  inner-by deep k b h i t =
+      let ks : Grove = kidsAt w (deep - 1) k in
+      let ch : ℕ = child# w k in
+      let K = S .node k h .kids i in
+      let f : first ks ≡ first# w k = kids-first (deep - 1) k h i in
+      let fs : firsts ks ≡ map (first# w) (range ch (m# w)) = kids-firsts w S (deep - 1) ch (m# w) (K .inside) in
+      let vis : ℕ → List ℕ → List (ℕ × ℕ) → List (ℕ × ℕ) = λ f o q. visit x r (x f) (radius# w k) b o q in
+      let cs : List ℕ → List (ℕ × ℕ) = λ l. map (λ i. (i, byDistance x r i)) (rest l) in
+      let us : ℕ → List (ℕ × ℕ) = λ y. marksIn x r (childBound b y) ks in
+      let near : nearestOf x ks ≡ leastFrom x w ch =
+      ap₂ (λ f l. least (x f) (map x l)) (f ∙ sym (ap (row# w) (K .same))) fs ∙ ap (least (firstAt x w ch)) (sym (map-map x (first# w) (range ch (m# w)))) in
+      ap (marksIn x r (λ x R. b)) (t bare) ∙ append-nil (vis (first ks) (rest (rowsIn ks)) (cs (firsts ks) ++ us (nearestOf x ks)))
+      ∙ ap (λ (f : ℕ). vis f (rest (rowsIn ks)) (cs (firsts ks) ++ us (nearestOf x ks))) f
+      ∙ ap₂ (vis (first# w k)) (kids-rows (deep - 1) k h i)
+      (ap₂ (λ a c. a ++ c)
+      (ap cs fs ∙ ap (map (λ i. (i, byDistance x r i))) (rest-at (first# w) ch (m# w))
+      ∙ sym (map-map (λ i. (i, byDistance x r i)) (first# w) (range (suc ch) (m# w - 1)))
+      ∙ map-each (λ j. (first# w j, byDistance x r (first# w j))) (range (suc ch) (m# w - 1)))
+      (ap us near ∙ kids-marks (childBound b (leastFrom x w ch)) (deep - 1) ch (m# w) (K .inside)))
+
+  -- AN OPENED LEAF AND AN OPENED INNER NODE, and any node
+  pub node-leaf : (deep k b : ℕ) → k < N# w → inner w k ≡ false → nodeMarks x r w deep k b ≡ visitAt x r w k b (leafOpened x r w k)
+  node-leaf deep k b h e = leaf-by deep k b h (λ g. tree-leaf w deep k g e)
+
+  pub node-inner : (deep k b : ℕ) → k < N# w → 1 ≤ deep → inner w k ≡ true → nodeMarks x r w deep k b ≡ visitAt x r w k b (innerOpened x r w (deep - 1) b (child# w k))
+  node-inner deep k b h l e = inner-by deep k b h e (λ g. tree-fork w deep k g l e)
+
+  pub node-any : (P : List (ℕ × ℕ) → Type 0) (deep k b : ℕ) → k < N# w → ((o : List (ℕ × ℕ)) → P (visitAt x r w k b o)) → P (nodeMarks x r w deep k b)
+  node-any P deep k b h f =
+      by-node w deep k (λ t. subst P (sym (leaf-by deep k b h t)) (f (leafOpened x r w k)))
+      (λ e t. subst P (sym (inner-by deep k b h e t)) (f (innerOpened x r w (deep - 1) b (child# w k))))

@@ -1,0 +1,99 @@
+-- What the contract of the radius call says, in 01's words: it is exact on an accepted index, it rests on the rows that it measures,
+-- and no second outcome fits. Assumes nothing.
+use Prim.Native.Nat.{_<_, _≤_, ℕ}
+use Rattle.measure.proofs.Metric.{query-point}
+use Rattle.measure.specs.Table.{between, from, row}
+use Rattle.radius.proofs.How.{how-length}
+use Rattle.radius.specs.Calls.{Once, Searched}
+use Rattle.tree.proofs.Accepted.{once-of}
+use Rattle.tree.proofs.Theorems.{radius-exact, radius-two-tables, same-row}
+use Rattle.tree.specs.Check.{Accepted}
+use Rattle.tree.specs.Grove.{treeOf}
+use Rattle.tree.specs.Nearest.{isMeasured, measured}
+use Rattle.tree.specs.Radius.{inside, radiusHow}
+use Rattle.words.specs.Words.{n#}
+use lib.Dec.{T}
+use lib.ListN.{List·getD-append, drop, getD, take, take-append-drop}
+use lib.Seq.{take-at}
+use mathlib.Core.List.{List, _++_}
+use mathlib.Core.Logic.{_↔_, by-cases}
+use mathlib.Core.Path.{_∙_, _≡_, ap, ap₂, subst, sym}
+use native.Mathlib.Decide.{decLt}
+use native.Mathlib.Omega.{arith}
+
+-- ---- a call that is not refused, on an index in which each row stands once
+module _ {t : List ℕ} {c : ℕ} {w q : List ℕ} {r : ℕ} {before after : List ℕ} {number in# met : ℕ}
+    (s : Searched t c w q r before after number in# met) (done : number ≡ 0) (once : Once w) where
+  -- the how-bytes that are the rows'
+  pub first-bytes : take (n# w) after ≡ radiusHow (from t c q) r (n# w) (treeOf w)
+  first-bytes =
+      ap (take (n# w)) (s .marks done once) ∙ take-at (radiusHow (from t c q) r (n# w) (treeOf w)) (drop (n# w) before) (n# w) (how-length (from t c q) r w)
+
+  byte-at : (i : ℕ) → i < n# w → getD after i 0 ≡ getD (radiusHow (from t c q) r (n# w) (treeOf w)) i 0
+  byte-at i h =
+      ap (λ l. getD l i 0) (s .marks done once)
+      ∙ List·getD-append (radiusHow (from t c q) r (n# w) (treeOf w)) (drop (n# w) before) 0 i (subst (λ n. i < n) (sym (how-length (from t c q) r w)) h)
+
+-- ---- a call that is not refused, on an accepted index
+module _ {t : List ℕ} {c : ℕ} {w q : List ℕ} {r : ℕ} {before after : List ℕ} {number in# met : ℕ}
+    (s : Searched t c w q r before after number in# met) (done : number ≡ 0) (A : Accepted (between t c) w) where
+  -- EXACT: A ROW IS MARKED IN EXACTLY IF ITS DISTANCE FROM THE QUERY IS AT MOST r
+  pub radius-call-exact : (i : ℕ) → i < n# w → (2 ≤ getD after i 0) ↔ (from t c q i ≤ r)
+  radius-call-exact i h =
+      subst (λ v. (2 ≤ v) ↔ (from t c q i ≤ r)) (sym (byte-at s done (once-of (between t c) w A) i h))
+      (radius-exact (between t c) w A (from t c q) (query-point t c q) r i h)
+
+  -- TWO TABLES: WHERE THE SECOND AGREES WITH THIS ONE IN EVERY ROW THAT WAS MEASURED, A SEARCH ON IT THAT IS NOT REFUSED GIVES THE SAME
+  -- HOW-BYTES AND COUNTS. Nothing is asked of the second table but that, and its call may be lent other bytes
+  pub radius-call-two-tables : {t′ before′ after′ : List ℕ} {number′ in′ met′ : ℕ} → Searched t′ c w q r before′ after′ number′ in′ met′ → number′ ≡ 0
+      → ((i : ℕ) → i < n# w → T (isMeasured (getD after i 0)) → row t c i ≡ row t′ c i)
+      → (take (n# w) after ≡ take (n# w) after′) × (in# ≡ in′) × (met ≡ met′)
+  radius-call-two-tables {t′} s′ done′ agree =
+      let once : Once w = once-of (between t c) w A in
+      let e = first-bytes s done once
+      ∙ radius-two-tables (between t c) w A (from t c q) (from t′ c q) r
+      (λ i h m. same-row t t′ c q i (agree i h (subst (λ v. T (isMeasured v)) (sym (byte-at s done once i h)) m)))
+      ∙ sym (first-bytes s′ done′ once) in (
+        e,
+        (s .counts done) .0 ∙ ap inside e ∙ sym ((s′ .counts done′) .0),
+        (s .counts done) .1 ∙ ap measured e ∙ sym ((s′ .counts done′) .1),
+      )
+
+-- ---- two outcomes of one call
+-- they have the same counts and how-bytes
+abbrev pub Same : ℕ → ℕ → List ℕ → ℕ → ℕ → List ℕ → Type 0
+Same i m a i′ m′ a′ = (i ≡ i′) × (m ≡ m′) × (a ≡ a′)
+
+module _ {t : List ℕ} {c : ℕ} {w q : List ℕ} {r : ℕ} {before a a′ : List ℕ} {n i m n′ i′ m′ : ℕ}
+    (s : Searched t c w q r before a n i m) (s′ : Searched t c w q r before a′ n′ i′ m′) where
+  one-number : n ≡ n′
+  one-number = s .said ∙ sym (s′ .said)
+
+  -- WHAT IS OPEN, ON ANY INDEX: NOTHING OF A REFUSAL; ELSE THE FIRST n HOW-BYTES, AND NOTHING WHERE THESE ARE THE SAME
+  pub radius-open : (n ≡ n′) × ((n ≡ 0 → ⊥) → Same i m a i′ m′ a′)
+      × (n ≡ 0 → (drop (n# w) a ≡ drop (n# w) a′) × (take (n# w) a ≡ take (n# w) a′ → Same i m a i′ m′ a′))
+  radius-open = (
+    one-number,
+    λ k.
+        let f = s .refused k in
+        let f′ = s′ .refused (λ z. k (one-number ∙ z)) in
+        (f .0 ∙ sym (f′ .0), f .1 ∙ sym (f′ .1), f .2 ∙ sym (f′ .2)),
+    λ z.
+        let z′ : n′ ≡ 0 = sym one-number ∙ z in
+        let d = s .beyond z ∙ sym (s′ .beyond z′) in (
+          d,
+          λ e. (
+            (s .counts z) .0 ∙ ap inside e ∙ sym ((s′ .counts z′) .0),
+            (s .counts z) .1 ∙ ap measured e ∙ sym ((s′ .counts z′) .1),
+            sym (take-append-drop (n# w) a) ∙ ap₂ (λ x y. x ++ y) e d ∙ take-append-drop (n# w) a′,
+          ),
+        ),
+  )
+
+  -- NO SECOND OUTCOME FITS, where the call is refused or each row stands once
+  pub radius-only : (n ≡ 0 → Once w) → (n ≡ n′) × Same i m a i′ m′ a′
+  radius-only once =
+      by-cases (decLt 0 n) (λ h. (one-number, radius-open .1 (λ z. omega arith)))
+      (λ h.
+      let z : n ≡ 0 = omega arith in
+      (one-number, (radius-open .2 z) .1 (first-bytes s z (once z) ∙ sym (first-bytes s′ (sym one-number ∙ z) (once z)))))

@@ -1,0 +1,116 @@
+-- `radius::descent::open_inner` meets its contract: after j turns the centres 1 .. j - 1 are marked and their distances stand in the array.
+-- Assumes nothing.
+use Prim.Native.Nat.{_+_, _-_, _≤_, ℕ}
+use Rattle.limits.specs.Limits.{maxDistance}
+use Rattle.measure.specs.Table.{from}
+use Rattle.radius.proofs.Distances.{Holds, holds-more, holds-one}
+use Rattle.radius.proofs.Fitted.{lent-same, measurable}
+use Rattle.radius.proofs.Ways.{centre-did}
+use Rattle.radius.proofs.Written.{marked-end, marked-next, marked-none}
+use Rattle.radius.proofs.descent.open_inner.Statement.{statement}
+use Rattle.radius.proofs.descent.open_inner.Tie as tie
+use Rattle.radius.specs.Descent.{centreAt, firstAt}
+use Rattle.radius.specs.Lent.{Lent}
+use Rattle.radius.specs.Written.{marked}
+use Rattle.words.specs.Words.{N#, m#}
+use borrow.Author.Needs.{needs}
+use lib.ListN.{length, length-set, replicate}
+use mathlib.Core.Path.{_∙_, _≡_, ap, refl, sym}
+use native.Mathlib.Nat.{add-zero}
+use native.Mathlib.Omega.{arith}
+
+abbrev Inv-loop : tie.InvT-loop
+Inv-loop table c index query ch x r how₀ m ds₀ j₀ how ds j =
+    Lent index table c query how × (length how ≡ length how₀)
+    × (1 ≤ j) × (j ≤ m) × (m ≡ m# index) × (ch + m# index ≤ N# index) × (length ds ≡ 64)
+    × Holds (λ (i : ℕ). firstAt (from table c query) index (ch + i)) maxDistance ds j
+    × (how ≡ marked (λ (i : ℕ). centreAt (from table c query) r index (ch + i)) 1 j how₀)
+
+abbrev μ-loop : tie.MeasureT-loop
+μ-loop table c index query ch x r how₀ m ds₀ j₀ how ds j = m - j
+
+centres-requires : tie.Need-centres-requires Inv-loop μ-loop
+centres-requires c κs = search needs
+
+loop-holds : tie.Need-loop-holds Inv-loop μ-loop
+loop-holds c =
+    let s = c .before .before .before .before .before in
+    let at : firstAt (from (s .args .table .now) (s .args .c) (s .args .query .now)) (s .args .index .now) (s .args .ch)
+    ≡ firstAt (from (s .args .table .now) (s .args .c) (s .args .query .now)) (s .args .index .now) (s .args .ch + 0) =
+    ap (firstAt (from (s .args .table .now) (s .args .c) (s .args .query .now)) (s .args .index .now)) (sym (add-zero (s .args .ch))) in (
+      s .pre .0,
+      refl,
+      omega arith,
+      omega (arith, s .pre .0 .shape .whole .fan),
+      c .centres .ensures .0,
+      s .pre .1 .0,
+      refl,
+      holds-one _ _ (replicate 64 (s .args .x)) (s .pre .1 .2 ∙ at) (s .pre .1 .1),
+      marked-none _ _ _ _ refl,
+    )
+
+add-node-first : tie.Need-add-node-first Inv-loop μ-loop
+add-node-first c = search needs
+
+node-first-requires : tie.Need-node-first-requires Inv-loop μ-loop
+node-first-requires c κs = (c .before .loop .inv .0 .shape, omega arith)
+
+measure-row-requires : tie.Need-measure-row-requires Inv-loop μ-loop
+measure-row-requires c κs = measurable (c .before .before .before .loop .inv .0) _ (c .before .node-first .ensures .1)
+
+mul-ds : tie.Need-mul-ds Inv-loop μ-loop
+mul-ds c = search needs
+
+array-write-ds : tie.Need-array-write-ds Inv-loop μ-loop
+array-write-ds c = search needs
+
+add-j : tie.Need-add-j Inv-loop μ-loop
+add-j c = search needs
+
+loop-less : tie.Need-loop-less Inv-loop μ-loop
+loop-less c = search needs
+
+loop-again : tie.Need-loop-again Inv-loop μ-loop
+loop-again c =
+    let s = c .before .before .before .before .before .before .before .before .before .before .before .before in
+    let l = c .before .before .before .before .before .before .loop in
+    let first = c .before .before .before .before .node-first .ensures .0 in
+    let row = c .before .before .measure-row in
+    let k = row .kept .1 .1 .1 .1 .1 .0 in (
+      lent-same (l .inv .0) _ k,
+      k ∙ l .inv .1,
+      omega arith,
+      omega arith,
+      l .inv .4,
+      l .inv .5,
+      simp length-set (l .inv .6),
+      holds-more _ maxDistance (l .ds) (l .j) (omega arith) (row .ensures .0 .0 ∙ ap (from (s .args .table .now) (s .args .c) (s .args .query .now)) first) (row .ensures .0 .1) (l .inv .7),
+      marked-next _ 1 (l .j) _ (l .inv .2) (l .inv .8) (centre-did (from (s .args .table .now) (s .args .c) (s .args .query .now)) _ (s .args .index .now) _ _ first (row .ensures .1)),
+    )
+
+same-length : tie.Need-same-length Inv-loop μ-loop
+same-length c = search needs
+
+returns : tie.Need-returns Inv-loop μ-loop
+returns c =
+    let l = c .before .loop in
+    (marked-end _ 1 (l .j) _ (omega arith) (l .inv .8), record { at = λ i h. l .inv .7 i (omega arith) .0; near = λ i h. l .inv .7 i (omega arith) .1 })
+
+pub open-inner-spec : {M : Type 1} → statement M
+open-inner-spec =
+    tie.close
+    (tie.spec
+    Inv-loop
+    μ-loop
+    centres-requires
+    loop-holds
+    add-node-first
+    node-first-requires
+    measure-row-requires
+    mul-ds
+    array-write-ds
+    add-j
+    loop-less
+    loop-again
+    same-length
+    returns)

@@ -1,0 +1,96 @@
+-- `radius::descent::sweep` meets its contract: after the turn for position p the rows of the run up to p are marked 2.
+-- Assumes nothing.
+use Prim.Native.Nat.{_+_, _-_, _≤_, ℕ}
+use Rattle.radius.proofs.Written.{byte-in, marked-end, marked-next, marked-none, write-one}
+use Rattle.radius.proofs.descent.sweep.Statement.{statement}
+use Rattle.radius.proofs.descent.sweep.Tie as tie
+use Rattle.radius.specs.Descent.{sweptAt}
+use Rattle.radius.specs.Written.{marked, write}
+use Rattle.words.specs.InShape.{InShape, Node}
+use Rattle.words.specs.Words.{count#, n#, start#}
+use borrow.Author.Needs.{needs}
+use lib.ListN.{length, length-set}
+use mathlib.Core.List.{[], _∷_}
+use mathlib.Core.Path.{_∙_, _≡_, ap, refl}
+use native.Mathlib.Omega.{arith}
+
+abbrev Inv-loop : tie.InvT-loop
+Inv-loop index k how₀ start end p₀ how p =
+    InShape index × Node index k × (n# index ≤ length how₀) × (length how ≡ length how₀)
+    × (start# index k + 1 ≤ p) × (p ≤ end) × (end ≡ start# index k + count# index k)
+    × (how ≡ marked (sweptAt index) (start# index k + 1) p how₀)
+
+abbrev μ-loop : tie.MeasureT-loop
+μ-loop index k how₀ start end p₀ how p = end - p
+
+node-start-requires : tie.Need-node-start-requires Inv-loop μ-loop
+node-start-requires c κs = search needs
+
+node-count-requires : tie.Need-node-count-requires Inv-loop μ-loop
+node-count-requires c κs = search needs
+
+add-end : tie.Need-add-end Inv-loop μ-loop
+add-end c = search needs
+
+add-p : tie.Need-add-p Inv-loop μ-loop
+add-p c = search needs
+
+loop-holds : tie.Need-loop-holds Inv-loop μ-loop
+loop-holds c =
+    let s = c .before .before .before .before in
+    let nd = s .pre .0 .node (s .args .k) (s .pre .1 .0) in
+    (s .pre .0, nd, s .pre .1 .1, refl, omega arith, omega (arith, nd .some), omega arith, marked-none _ _ _ _ (omega arith))
+
+row-at-requires : tie.Need-row-at-requires Inv-loop μ-loop
+row-at-requires c κs = search needs
+
+slice-write-how : tie.Need-slice-write-how Inv-loop μ-loop
+slice-write-how c =
+    let l = c .before .before .loop in
+    omega (arith, l .inv .0 .place (l .p) (omega (arith, l .inv .1 .run)), c .row-at .ensures .0)
+
+add-p-2 : tie.Need-add-p-2 Inv-loop μ-loop
+add-p-2 c = search needs
+
+loop-less : tie.Need-loop-less Inv-loop μ-loop
+loop-less c = search needs
+
+loop-again : tie.Need-loop-again Inv-loop μ-loop
+loop-again c =
+    let l = c .before .before .loop in (
+      l .inv .0,
+      l .inv .1,
+      l .inv .2,
+      simp length-set (l .inv .3),
+      omega arith,
+      omega arith,
+      l .inv .6,
+      marked-next _ _ (l .p) _ (l .inv .4) (l .inv .7) (byte-in _ _ ∙ write-one _ 2 _ ∙ ap (λ (i : ℕ). write ((i, 2) ∷ []) (l .how)) (c .row-at .ensures .0)),
+    )
+
+same-length : tie.Need-same-length Inv-loop μ-loop
+same-length c = search needs
+
+returns : tie.Need-returns Inv-loop μ-loop
+returns c =
+    let l = c .before .loop in
+    marked-end _ _ (l .p) _ (omega arith) (l .inv .7)
+
+pub sweep-spec : {M : Type 1} → statement M
+sweep-spec =
+    tie.close
+    (tie.spec
+    Inv-loop
+    μ-loop
+    node-start-requires
+    node-count-requires
+    add-end
+    add-p
+    loop-holds
+    row-at-requires
+    slice-write-how
+    add-p-2
+    loop-less
+    loop-again
+    same-length
+    returns)

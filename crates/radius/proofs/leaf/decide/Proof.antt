@@ -1,0 +1,40 @@
+-- `radius::leaf::decide` meets its contract: its two tests are those of the decision, in its order.
+-- Assumes nothing.
+use Prim.Native.Nat.{_<_, _≤_}
+use Rattle.laws.specs.Lists.{gap}
+use Rattle.radius.proofs.leaf.decide.Statement.{statement}
+use Rattle.radius.proofs.leaf.decide.Tie as tie
+use Rattle.radius.specs.Descent.{decision}
+use borrow.Author.Needs.{needs}
+use borrow.Author.Tests.{le-leb, le-ltb, lt-leb, lt-ltb}
+use native.Mathlib.Omega.{arith}
+
+difference-requires : tie.Need-difference-requires
+difference-requires c κs = search needs
+
+returns : tie.Need-returns
+unfolding decision
+returns c =
+    let a = c .before .before .args in
+    let h : a .r < gap (a .x) (a .s) = omega arith in
+    simp (lt-ltb _ _ h)
+
+add-if2 : tie.Need-add-if2
+add-if2 c = search needs
+
+returns-2 : tie.Need-returns-2
+unfolding decision
+returns-2 c =
+    let a = c .before .before .before .args in
+    let h : gap (a .x) (a .s) ≤ a .r = omega arith in
+    simp (le-ltb _ _ h, le-leb _ _ (c .if2 .taken))
+
+returns-3 : tie.Need-returns-3
+unfolding decision
+returns-3 c =
+    let a = c .before .before .before .args in
+    let h : gap (a .x) (a .s) ≤ a .r = omega arith in
+    simp (le-ltb _ _ h, lt-leb _ _ (c .if2 .left))
+
+pub decide-spec : {M : Type 1} → statement M
+decide-spec = tie.close (tie.spec difference-requires returns add-if2 returns-2 returns-3)

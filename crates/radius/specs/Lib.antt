@@ -1,0 +1,5 @@
+pub mod Written
+pub mod Lent
+pub mod Descent
+pub mod Calls
+pub mod Cases

@@ -1,0 +1,23 @@
+-- How-bytes as marks that are written one after the other. Assumes nothing.
+use Prim.Native.Nat.{_-_, suc, zero, ℕ}
+use Rattle.laws.specs.Lists.{each, range}
+use lib.ListN.{drop, replicate, set}
+use mathlib.Core.List.{List, [], _++_, _∷_}
+
+-- the how-byte v for row i. 0 is not written: it stands there from the start
+unfoldable pub byte : ℕ → ℕ → List ℕ → List ℕ
+byte i zero h = h
+byte i (suc v) h = set h i (suc v)
+
+-- each mark, a row with its how-byte, in order
+unfoldable pub write : List (ℕ × ℕ) → List ℕ → List ℕ
+write [] h = h
+write (m ∷ ms) h = write ms (byte (m .0) (m .1) h)
+
+-- the marks f lo, f (lo + 1), .. up to, not with, f hi
+unfoldable pub marked : (ℕ → List (ℕ × ℕ)) → ℕ → ℕ → List ℕ → List ℕ
+marked f lo hi h = write (each f (range lo (hi - lo))) h
+
+-- the first n bytes cleared
+abbrev pub cleared : ℕ → List ℕ → List ℕ
+cleared n h = replicate n 0 ++ drop n h

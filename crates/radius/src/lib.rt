@@ -1,0 +1,91 @@
+// The radius search: a descent that calls itself, over the index words and the lent table.
+ghost use Rattle.measure.specs.Table.{from};
+ghost use Rattle.radius.specs.Calls.{Searched};
+ghost use Rattle.radius.specs.Lent.{Lent};
+ghost use Rattle.radius.specs.Written.{cleared, write};
+ghost use Rattle.tree.specs.Calls.{saidRadius};
+ghost use Rattle.tree.specs.Grove.{treeOf};
+ghost use Rattle.tree.specs.Radius.{marks};
+ghost use Rattle.words.specs.Words.{n#};
+ghost use mathlib.Core.Path.{_≡_};
+use crate::descent::descend;
+use crate::marking::Counts;
+use crate::marking::clear;
+use crate::marking::measure_row;
+use crate::marking::tally;
+use limits::Params;
+use words::places::node_first;
+use words::places::nodes;
+use words::places::rows;
+
+pub mod bounds;
+mod descent;
+mod leaf;
+mod marking;
+
+// What a call gives: 0 or why it was refused; on success how many rows are in, and how many were measured.
+pub struct Found {
+    pub number: u32,
+    pub inside: usize,
+    pub measured: usize,
+}
+
+// The search on an index that is known to be in shape, with what is lent known to fit it: so that many searches take one test.
+pub fn search(table: &[u16], c: usize, index: &[u32], query: &[u16], r: u32, how: &mut [u8])
+    requires { ⌜ Lent (now index) (now table) c (now query) (now how) ⌝ }
+    ensures { λ _. ⌜ now (how .exit) ≡ write (marks (from (now (table .entry)) c (now (query .entry))) r (treeOf (now (index .entry)))) (cleared (n# (now (index .entry))) (now (how .entry))) ⌝ }
+{
+    clear(how, rows(index));
+    if nodes(index) == 0 {
+        return;
+    }
+    let x = measure_row(table, c, query, node_first(index, 0), r, how);
+    descend(table, c, index, query, 0, x, 0, r, Params::MOST_DEPTH, how);
+}
+
+// Why a call is refused, or 0: of several, the lowest number. `room` is how many how-bytes are lent.
+fn refusal(table: &[u16], c: usize, index: &[u32], query: &[u16], room: usize) -> u32
+    ensures { λ r. ⌜ r ≡ saidRadius (now (table .entry)) c (now (index .entry)) (now (query .entry)) room .0 ⌝ }
+{
+    let number = limits::table_number(table.len(), c);
+    if number != 0 {
+        return number;
+    }
+    let n = table.len() / c;
+    if room < n {
+        return 5;
+    }
+    if query.len() != c {
+        return 6;
+    }
+    words::listing::index_number(index, n, c)
+}
+
+// Which rows of the table are within r of the query, by the index. Of the first n how-bytes each says whether its row is in (2, 3),
+// and whether it was measured (1, 3).
+pub fn radius(
+    table: &[u16],
+    c: usize,
+    index: &[u32],
+    query: &[u16],
+    r: u32,
+    how: &mut [u8],
+) -> Found
+    ensures { λ f. ⌜ Searched (now (table .entry)) c (now (index .entry)) (now (query .entry)) r (now (how .entry)) (now (how .exit)) (f .number) (f .inside) (f .measured) ⌝ }
+{
+    let number = refusal(table, c, index, query, how.len());
+    if number != 0 {
+        return Found {
+            number: number,
+            inside: 0,
+            measured: 0,
+        };
+    }
+    search(table, c, index, query, r, how);
+    let counts = tally(how, rows(index));
+    Found {
+        number: 0,
+        inside: counts.inside,
+        measured: counts.measured,
+    }
+}

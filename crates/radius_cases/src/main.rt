@@ -1,0 +1,250 @@
+// The radius call, run. A line for each case: its number, how many rows are in, how many were measured, and eight how-bytes, which are 9
+// before.
+ghost use lib.ListN.{length};
+ghost use mathlib.Core.Path.{_≡_};
+use radius::Found;
+
+const FIVE_ROWS: [u16; 5] = [0, 1, 10, 11, 20];
+
+const FIVE: [u32; 38] = [
+    1,
+    5,
+    1,
+    2,
+    2,
+    5,
+    1,
+    0,
+    0,
+    5,
+    1,
+    20,
+    0,
+    3,
+    3,
+    10,
+    3,
+    2,
+    0,
+    9,
+    0,
+    2,
+    0,
+    1,
+    2,
+    1,
+    0,
+    0,
+    0,
+    0,
+    1,
+    1,
+    2,
+    0,
+    4,
+    0,
+    3,
+    9,
+];
+
+// rows 4 2 2 6 7
+const ODD: [u32; 38] = [
+    1,
+    5,
+    1,
+    2,
+    2,
+    5,
+    1,
+    0,
+    0,
+    5,
+    1,
+    3,
+    0,
+    3,
+    3,
+    2,
+    3,
+    2,
+    0,
+    1,
+    0,
+    1,
+    0,
+    0,
+    1,
+    2,
+    0,
+    0,
+    0,
+    0,
+    1,
+    0,
+    2,
+    0,
+    4,
+    0,
+    3,
+    1,
+];
+
+// rows (1, 2), (3, 4), (10, 10), all in one leaf
+const PAIRS: [u32; 18] = [1, 3, 2, 2, 4, 1, 1, 0, 0, 3, 0, 17, 0, 0, 1, 4, 2, 17];
+
+fn digit(x: usize) -> u8 {
+    if x < 10 { (x as u8) + 48 } else { b'?' }
+}
+
+fn byte(h: u8) -> u8 {
+    digit(h as usize)
+}
+
+fn line(found: Found, how: [u8; 8]) {
+    let text = [
+        digit(found.number as usize),
+        b' ',
+        digit(found.inside),
+        b' ',
+        digit(found.measured),
+        b' ',
+        byte(how[0]),
+        byte(how[1]),
+        byte(how[2]),
+        byte(how[3]),
+        byte(how[4]),
+        byte(how[5]),
+        byte(how[6]),
+        byte(how[7]),
+        b'\n',
+    ];
+    io::write_all(1, &text);
+}
+
+fn show(table: &[u16], c: usize, index: &[u32], query: &[u16], r: u32) {
+    let mut how = [9u8; 8];
+    let found = radius::radius(table, c, index, query, r, &mut how);
+    line(found, how);
+}
+
+fn five(query: u16, r: u32) {
+    let index = FIVE;
+    let table = FIVE_ROWS;
+    show(&table, 1, &index, &[query], r);
+}
+
+// The three cases of 01 that are proved; a row at exactly r, and one just beyond; a far query; r as large as it can be.
+fn five_rows() {
+    five(9, 1);
+    five(0, 20);
+    five(10, 5);
+    five(9, 2);
+    five(30, 10);
+    five(30, 9);
+    five(65535, 0);
+    five(9, 4294967295);
+}
+
+// Rows on which (x - y)/2 rounded down would open one more leaf.
+fn odd_rows() {
+    let index = ODD;
+    show(&[4, 2, 2, 6, 7], 1, &index, &[6], 0);
+}
+
+fn two_columns() {
+    let index = PAIRS;
+    show(&[1, 2, 3, 4, 10, 10], 2, &index, &[3, 3], 2);
+}
+
+fn no_row() {
+    show(&[], 1, &[1, 0, 1, 2, 2, 0, 1, 0], &[3], 7);
+}
+
+// 1: no column, and too many. 3: the length is odd. Each with later ones wrong too.
+fn wrong_columns(c: usize) {
+    let table = FIVE_ROWS;
+    show(&table, c, &[], &[9], 1);
+}
+
+// 6: a query of two columns, and no index.
+fn wrong_query() {
+    let table = FIVE_ROWS;
+    show(&table, 1, &[], &[9, 9], 1);
+}
+
+// 5: four how-bytes for five rows, and a query of two columns.
+fn short_room() {
+    let index = FIVE;
+    let table = FIVE_ROWS;
+    let mut how = [9u8; 4];
+    let found = radius::radius(&table, 1, &index, &[9, 9], 1, &mut how);
+    line(found, [how[0], how[1], how[2], how[3], 9, 9, 9, 9]);
+}
+
+// 8: another n, and another c.
+fn other_table() {
+    let index = FIVE;
+    show(&[0, 1, 10, 11], 1, &index, &[9], 1);
+    show(
+        &[0, 1, 10, 11, 20, 21, 22, 23, 24, 25],
+        2,
+        &index,
+        &[9, 9],
+        1,
+    );
+}
+
+// 8: a word missing at the end, and no word at all.
+fn missing_words() {
+    let index = FIVE;
+    let table = FIVE_ROWS;
+    show(&table, 1, &index[..37], &[9], 1);
+    show(&table, 1, &[], &[9], 1);
+}
+
+// The five-row table with one word of its index changed.
+fn changed(at: usize, word: u32) {
+    let mut index = FIVE;
+    let table = FIVE_ROWS;
+    if at < 38 {
+        index[at] = word;
+        show(&table, 1, &index, &[9], 1);
+    }
+}
+
+// 8: the edition. 9: the root's start, its radius, and a row number.
+fn wrong_index() {
+    changed(0, 2);
+    changed(8, 1);
+    changed(11, 1048561);
+    changed(28, 5);
+}
+
+// A table with a row too many: of it only the length is known, which is what lending it as a slice needs.
+fn many() -> [u16; 1048577]
+    ensures { λ r. ⌜ 1048577 ≡ length r ⌝ }
+{
+    [0; 1048577]
+}
+
+// 4: a row too many.
+fn too_many() {
+    let table = many();
+    show(&table, 1, &[], &[], 0);
+}
+
+fn main() {
+    five_rows();
+    odd_rows();
+    two_columns();
+    no_row();
+    wrong_columns(0);
+    wrong_columns(17);
+    wrong_columns(2);
+    too_many();
+    short_room();
+    wrong_query();
+    other_table();
+    missing_words();
+    wrong_index();
+}

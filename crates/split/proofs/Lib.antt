@@ -1,0 +1,10 @@
+pub mod Held
+pub mod Nearing
+pub mod Seeking
+pub mod Shifted
+pub mod Choosing
+pub mod Parts
+pub mod Gathered
+pub mod Sharing
+pub mod SplitWords
+pub mod SplitRun

@@ -1,0 +1,72 @@
+-- `split::groups::copy_back` meets its contract: the words from lo to p are copied (`copied`).
+-- Assumes nothing.
+use Prim.Native.Nat.{_-_, _≤_}
+use Rattle.split.proofs.Parts.{copied, copy-done, copy-start, copy-step}
+use Rattle.split.proofs.groups.copy_back.Statement.{statement}
+use Rattle.split.proofs.groups.copy_back.Tie as tie
+use borrow.Author.Needs.{needs}
+use lib.ListN.{length, length-set}
+use mathlib.Core.Path.{_≡_}
+use native.Mathlib.Omega.{arith}
+
+abbrev Inv-loop : tie.InvT-loop
+Inv-loop work₀ lo hi over p₀ work p = (lo ≤ p) × (p ≤ hi) × (length work ≡ length work₀) × (work ≡ copied work₀ lo over p)
+
+abbrev μ-loop : tie.MeasureT-loop
+μ-loop work₀ lo hi over p₀ work p = hi - p
+
+loop-holds : tie.Need-loop-holds Inv-loop μ-loop
+loop-holds c = (search needs, search needs, search needs, copy-start (c .args .work .now) (c .args .lo) (c .args .over))
+
+add-work : tie.Need-add-work Inv-loop μ-loop
+add-work c = search needs
+
+mul-work : tie.Need-mul-work Inv-loop μ-loop
+mul-work c = search needs
+
+slice-read-work : tie.Need-slice-read-work Inv-loop μ-loop
+slice-read-work c = search needs
+
+mul-work-2 : tie.Need-mul-work-2 Inv-loop μ-loop
+mul-work-2 c = search needs
+
+slice-write-work : tie.Need-slice-write-work Inv-loop μ-loop
+slice-write-work c = search needs
+
+add-p : tie.Need-add-p Inv-loop μ-loop
+add-p c = search needs
+
+loop-less : tie.Need-loop-less Inv-loop μ-loop
+loop-less c = search needs
+
+loop-again : tie.Need-loop-again Inv-loop μ-loop
+loop-again c =
+    let s = c .before .before in
+    let a = s .before .args in
+    (omega arith, omega arith, simp length-set (omega arith), copy-step (a .work .now) (s .loop .work) (a .lo) (a .over) (s .loop .p) (omega arith) (omega arith) (s .loop .inv .3))
+
+same-length : tie.Need-same-length Inv-loop μ-loop
+same-length c = search needs
+
+returns : tie.Need-returns Inv-loop μ-loop
+returns c =
+    let a = c .before .before .args in
+    copy-done (a .work .now) (c .before .loop .work) (a .lo) (a .hi) (a .over) (c .before .loop .p) (omega arith) (omega arith) (c .before .loop .inv .3)
+
+pub copy-back-spec : {M : Type 1} → statement M
+copy-back-spec =
+    tie.close
+    (tie.spec
+    Inv-loop
+    μ-loop
+    loop-holds
+    add-work
+    mul-work
+    slice-read-work
+    mul-work-2
+    slice-write-work
+    add-p
+    loop-less
+    loop-again
+    same-length
+    returns)

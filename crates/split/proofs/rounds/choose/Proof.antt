@@ -1,0 +1,79 @@
+-- `split::rounds::choose` meets its contract: after r rounds, the rounds that are left on what is left give the whole (`Choosing`).
+-- Assumes nothing.
+use Prim.Native.Nat.{_-_}
+use Rattle.measure.specs.Table.{between}
+use Rattle.split.proofs.Choosing.{Choosing, choosing-done, choosing-requires, choosing-start, choosing-step}
+use Rattle.split.proofs.rounds.choose.Statement.{statement}
+use Rattle.split.proofs.rounds.choose.Tie as tie
+use Rattle.split.specs.Entries.{InTable}
+use borrow.Author.Needs.{needs}
+
+abbrev Inv-loop : tie.InvT-loop
+Inv-loop table c m run₀ r₀ run r = Choosing (InTable table c) (between table c) m run₀ run r
+
+abbrev μ-loop : tie.MeasureT-loop
+μ-loop table c m run₀ r₀ run r = m - r
+
+loop-holds : tie.Need-loop-holds Inv-loop μ-loop
+loop-holds c =
+    let s = c .before .before in
+    choosing-start _ _ _ (s .args .run .now) (s .pre .1) (s .pre .2) (s .pre .3)
+
+mul-at : tie.Need-mul-at Inv-loop μ-loop
+mul-at c = search needs
+
+mul-round : tie.Need-mul-round Inv-loop μ-loop
+mul-round c = search needs
+
+sub-round : tie.Need-sub-round Inv-loop μ-loop
+sub-round c = search needs
+
+part-round-start : tie.Need-part-round-start Inv-loop μ-loop
+part-round-start c = search needs
+
+part-round-end : tie.Need-part-round-end Inv-loop μ-loop
+part-round-end c = search needs
+
+round-requires : tie.Need-round-requires Inv-loop μ-loop
+round-requires c κs =
+    let s = c .before .before in
+    let r = choosing-requires _ _ _ _ (s .loop .run) (s .loop .r) (s .loop .inv) (search needs) in
+    (c .before .before .before .before .before .pre .0, r .0, r .1)
+
+add-r : tie.Need-add-r Inv-loop μ-loop
+add-r c = search needs
+
+loop-less : tie.Need-loop-less Inv-loop μ-loop
+loop-less c = search needs
+
+loop-again : tie.Need-loop-again Inv-loop μ-loop
+loop-again c =
+    let s = c .before .before .before .before .before in
+    choosing-step _ _ _ _ (s .loop .run) (s .loop .r) (s .loop .inv) _ (search needs) (c .before .before .round .ensures)
+
+same-length : tie.Need-same-length Inv-loop μ-loop
+same-length c = search needs
+
+returns : tie.Need-returns Inv-loop μ-loop
+returns c =
+    let s = c .before in
+    choosing-done _ _ _ _ (s .loop .run) (s .loop .r) (s .loop .inv) (search needs)
+
+pub choose-spec : {M : Type 1} → statement M
+choose-spec =
+    tie.close
+    (tie.spec
+    Inv-loop
+    μ-loop
+    loop-holds
+    mul-at
+    mul-round
+    sub-round
+    part-round-start
+    part-round-end
+    round-requires
+    add-r
+    loop-less
+    loop-again
+    same-length
+    returns)

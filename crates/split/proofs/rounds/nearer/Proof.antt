@@ -1,0 +1,85 @@
+-- `split::rounds::nearer` meets its contract: the entries before p have learnt of the new centre, and the rest are as they were (`Nearing`).
+-- Assumes nothing.
+use Prim.Native.Nat.{_+_, _-_}
+use Rattle.measure.specs.Table.{between}
+use Rattle.split.proofs.Nearing.{Nearing, nearing-done, nearing-fits, nearing-row, nearing-start, nearing-step}
+use Rattle.split.proofs.rounds.nearer.Statement.{statement}
+use Rattle.split.proofs.rounds.nearer.Tie as tie
+use Rattle.split.specs.Entries.{InTable}
+use borrow.Author.Needs.{needs}
+use borrow.Rule.Slice.PartMut.{mid-len}
+use lib.ListN.{length}
+use mathlib.Core.Path.{_∙_}
+use native.Mathlib.Omega.{arith}
+
+abbrev Inv-loop : tie.InvT-loop
+Inv-loop table c centre part₀ p₀ part p = Nearing (InTable table c) (between table c) centre part₀ part p
+
+abbrev μ-loop : tie.MeasureT-loop
+μ-loop table c centre part₀ p₀ part p = length part - p
+
+loop-holds : tie.Need-loop-holds Inv-loop μ-loop
+loop-holds c = nearing-start _ _ _ _ (c .before .before .pre .2)
+
+add-e : tie.Need-add-e Inv-loop μ-loop
+add-e c = search needs
+
+mul-nearer-one : tie.Need-mul-nearer-one Inv-loop μ-loop
+mul-nearer-one c = search needs
+
+sub-nearer-one : tie.Need-sub-nearer-one Inv-loop μ-loop
+sub-nearer-one c = search needs
+
+part-nearer-one-start : tie.Need-part-nearer-one-start Inv-loop μ-loop
+part-nearer-one-start c = search needs
+
+part-nearer-one-end : tie.Need-part-nearer-one-end Inv-loop μ-loop
+part-nearer-one-end c =
+    let s = c .before in
+    let fits = nearing-fits _ _ _ _ (s .loop .part) (s .loop .p) (s .loop .inv) (search needs) in
+    search needs
+
+nearer-one-requires : tie.Need-nearer-one-requires Inv-loop μ-loop
+nearer-one-requires c κs =
+    let s = c .before .before in
+    let a = c .before .before .before .before .before in
+    let fits = nearing-fits _ _ _ _ (s .loop .part) (s .loop .p) (s .loop .inv) (search needs) in (
+      a .pre .0,
+      a .pre .1,
+      mid-len (s .loop .p) (s .loop .p + 3) (s .loop .part) fits ∙ omega arith,
+      nearing-row _ _ _ _ (s .loop .part) (s .loop .p) (s .loop .inv) (search needs),
+    )
+
+loop-less : tie.Need-loop-less Inv-loop μ-loop
+loop-less c = search needs
+
+loop-again : tie.Need-loop-again Inv-loop μ-loop
+loop-again c =
+    let s = c .before .before .before .before .before in
+    nearing-step _ _ _ _ (s .loop .part) (s .loop .p) (s .loop .inv) _ (search needs) (c .before .before .nearer-one .ensures)
+
+same-length : tie.Need-same-length Inv-loop μ-loop
+same-length c = search needs
+
+returns : tie.Need-returns Inv-loop μ-loop
+returns c =
+    let s = c .before in
+    nearing-done _ _ _ _ (s .loop .part) (s .loop .p) (s .loop .inv) (search needs)
+
+pub nearer-spec : {M : Type 1} → statement M
+nearer-spec =
+    tie.close
+    (tie.spec
+    Inv-loop
+    μ-loop
+    loop-holds
+    add-e
+    mul-nearer-one
+    sub-nearer-one
+    part-nearer-one-start
+    part-nearer-one-end
+    nearer-one-requires
+    loop-less
+    loop-again
+    same-length
+    returns)

@@ -1,0 +1,69 @@
+-- `split::rounds::nearer_one` meets its contract: the branch that writes is the one where the new centre is strictly closer.
+-- Assumes nothing.
+
+use Rattle.measure.specs.Table.{between}
+use Rattle.split.proofs.Nearing.{near-less, near-same}
+use Rattle.split.proofs.rounds.nearer_one.Statement.{statement}
+use Rattle.split.proofs.rounds.nearer_one.Tie as tie
+use borrow.Author.Needs.{needs}
+use lib.ListN.{getD}
+use mathlib.Core.Path.{_∙_, _≡_, ap₂}
+
+wide-requires : tie.Need-wide-requires
+wide-requires c κs = search needs
+
+slice-read-wide : tie.Need-slice-read-wide
+slice-read-wide c = search needs
+
+wide-requires-2 : tie.Need-wide-requires-2
+wide-requires-2 c κs = search needs
+
+row-distance-requires : tie.Need-row-distance-requires
+row-distance-requires c κs =
+    let s = c .before .before .before .before .before in
+    let i : c .before .before .wide .result ≡ s .args .centre = c .before .before .wide .ensures in
+    let j : c .wide2 .result ≡ getD (s .args .entry .now) 0 0 = c .wide2 .ensures in
+    (s .pre .0, rw i (s .pre .1), rw j (s .pre .3))
+
+slice-read-if1 : tie.Need-slice-read-if1
+slice-read-if1 c = search needs
+
+slice-write-entry : tie.Need-slice-write-entry
+slice-write-entry c = search needs
+
+slice-write-entry-2 : tie.Need-slice-write-entry-2
+slice-write-entry-2 c = search needs
+
+same-length : tie.Need-same-length
+same-length c = search needs
+
+returns : tie.Need-returns
+returns c =
+    let s = c .before .before .before .before .before .before .before .before in
+    let i : c .before .before .before .before .before .wide .result ≡ s .args .centre = c .before .before .before .before .before .wide .ensures in
+    let j : c .before .before .before .wide2 .result ≡ getD (s .args .entry .now) 0 0 = c .before .before .before .wide2 .ensures in
+    let gives = c .before .before .row-distance .ensures .0 ∙ ap₂ (between (s .args .table .now) (s .args .c)) i j in
+    near-less (between (s .args .table .now) (s .args .c)) (s .args .centre) (c .before .before .row-distance .result) (s .args .entry .now) (s .pre .2) gives (c .if1 .taken)
+
+returns-2 : tie.Need-returns-2
+returns-2 c =
+    let s = c .before .before .before .before .before .before .before .before in
+    let i : c .before .before .before .before .before .wide .result ≡ s .args .centre = c .before .before .before .before .before .wide .ensures in
+    let j : c .before .before .before .wide2 .result ≡ getD (s .args .entry .now) 0 0 = c .before .before .before .wide2 .ensures in
+    let gives = c .before .before .row-distance .ensures .0 ∙ ap₂ (between (s .args .table .now) (s .args .c)) i j in
+    near-same (between (s .args .table .now) (s .args .c)) (s .args .centre) (c .before .before .row-distance .result) (s .args .entry .now) (s .pre .2) gives (c .if1 .left)
+
+pub nearer-one-spec : {M : Type 1} → statement M
+nearer-one-spec =
+    tie.close
+    (tie.spec
+    wide-requires
+    slice-read-wide
+    wide-requires-2
+    row-distance-requires
+    slice-read-if1
+    slice-write-entry
+    slice-write-entry-2
+    same-length
+    returns
+    returns-2)

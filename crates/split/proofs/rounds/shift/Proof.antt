@@ -1,0 +1,76 @@
+-- `split::rounds::shift` meets its contract: the words from k on have moved three up (`shifted`).
+-- Assumes nothing.
+use Prim.Native.Nat.{_+_, _-_, _≤_}
+use Rattle.split.proofs.Shifted.{shift-done, shift-start, shift-step, shifted}
+use Rattle.split.proofs.rounds.shift.Statement.{statement}
+use Rattle.split.proofs.rounds.shift.Tie as tie
+use borrow.Author.Needs.{needs}
+use lib.ListN.{length, length-set}
+use mathlib.Core.Path.{_≡_}
+use native.Mathlib.Omega.{arith}
+
+abbrev Inv-loop : tie.InvT-loop
+Inv-loop part₀ b k₀ part k = (k ≤ b) × (length part ≡ length part₀) × (part ≡ shifted part₀ b k)
+
+abbrev μ-loop : tie.MeasureT-loop
+μ-loop part₀ b k₀ part k = k
+
+loop-holds : tie.Need-loop-holds Inv-loop μ-loop
+loop-holds c = (search needs, search needs, shift-start (c .args .part .now) (c .args .b))
+
+sub-k : tie.Need-sub-k Inv-loop μ-loop
+sub-k c = search needs
+
+mul-part : tie.Need-mul-part Inv-loop μ-loop
+mul-part c = search needs
+
+slice-read-part : tie.Need-slice-read-part Inv-loop μ-loop
+slice-read-part c = search needs
+
+add-part : tie.Need-add-part Inv-loop μ-loop
+add-part c = search needs
+
+mul-part-2 : tie.Need-mul-part-2 Inv-loop μ-loop
+mul-part-2 c = search needs
+
+slice-write-part : tie.Need-slice-write-part Inv-loop μ-loop
+slice-write-part c = search needs
+
+loop-less : tie.Need-loop-less Inv-loop μ-loop
+loop-less c = search needs
+
+loop-again : tie.Need-loop-again Inv-loop μ-loop
+loop-again c =
+    let s = c .before .before in
+    let a = s .before .args in
+    let up : s .loop .k - 1 + 1 ≡ s .loop .k = omega arith in (
+      omega arith,
+      simp length-set (omega arith),
+      shift-step (a .part .now) (s .loop .part) (a .b) (s .loop .k - 1) (omega arith) (omega arith) (rw up (s .loop .inv .2)),
+    )
+
+same-length : tie.Need-same-length Inv-loop μ-loop
+same-length c = search needs
+
+returns : tie.Need-returns Inv-loop μ-loop
+returns c =
+    let a = c .before .before .args in
+    shift-done (a .part .now) (c .before .loop .part) (a .b) (c .before .loop .k) (c .loop-test .left) (c .before .loop .inv .2)
+
+pub shift-spec : {M : Type 1} → statement M
+shift-spec =
+    tie.close
+    (tie.spec
+    Inv-loop
+    μ-loop
+    loop-holds
+    sub-k
+    mul-part
+    slice-read-part
+    add-part
+    mul-part-2
+    slice-write-part
+    loop-less
+    loop-again
+    same-length
+    returns)
