@@ -1,0 +1,4 @@
+// The listing program.
+fn main() {
+    lister::run();
+}

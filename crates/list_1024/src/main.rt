@@ -1,0 +1,4 @@
+// As many rows as a text can have.
+fn main() {
+    lister::run();
+}

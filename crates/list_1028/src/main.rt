@@ -1,0 +1,4 @@
+// One number too many.
+fn main() {
+    lister::run();
+}

@@ -1,0 +1,4 @@
+// Sixteen columns, a number to a line.
+fn main() {
+    lister::run();
+}

@@ -1,0 +1,4 @@
+// Seventeen columns, and a length that is no multiple of them.
+fn main() {
+    lister::run();
+}

@@ -1,0 +1,4 @@
+// Twenty-six equal rows.
+fn main() {
+    lister::run();
+}

@@ -1,0 +1,4 @@
+// Twenty-seven equal rows.
+fn main() {
+    lister::run();
+}

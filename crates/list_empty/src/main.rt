@@ -1,0 +1,4 @@
+// The empty table.
+fn main() {
+    lister::run();
+}

@@ -1,0 +1,4 @@
+// A leaf size equal to the centres.
+fn main() {
+    lister::run();
+}

@@ -1,0 +1,4 @@
+// The longest readable text.
+fn main() {
+    lister::run();
+}

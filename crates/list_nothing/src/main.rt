@@ -1,0 +1,4 @@
+// An empty text.
+fn main() {
+    lister::run();
+}

@@ -1,0 +1,4 @@
+// A length that is no multiple of the columns.
+fn main() {
+    lister::run();
+}

@@ -1,0 +1,4 @@
+// A leading zero.
+fn main() {
+    lister::run();
+}

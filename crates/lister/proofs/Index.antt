@@ -1,0 +1,36 @@
+-- The index that the build leaves in the room: its nodes and positions are there to be printed. Assumes nothing.
+use Prim.Native.Nat.{_≤_, ℕ}
+use Rattle.build.specs.Calls.{Builds}
+use Rattle.laws.specs.Lists.{each}
+use Rattle.measure.specs.Table.{between, rowsOf}
+use Rattle.tree.proofs.Written.{each-words}
+use Rattle.tree.specs.Build.{build, plant}
+use Rattle.tree.specs.Encode.{encode, nodeWords, numbered, pairWords}
+use Rattle.tree.specs.Grove.{Grove, entries}
+use Rattle.words.specs.Words.{N#, nodeAt}
+use lib.Dec.{eqb}
+use lib.ListN.{drop, length, length-append}
+use mathlib.Core.Bool.{cond}
+use mathlib.Core.List.{List, _++_}
+use mathlib.Core.Path.{_∙_, _≡_, ap}
+use native.Mathlib.Omega.{arith}
+
+-- an index has the words of all its nodes
+encode-nodes : (c m l : ℕ) (t : Grove) → nodeAt (N# (encode c m l t)) ≤ length (encode c m l t)
+unfolding encode
+encode-nodes c m l t =
+    omega (arith, length-append (each nodeWords (numbered t)) (each pairWords (entries t)), each-words (numbered t))
+
+build-nodes : (T : List ℕ) (c m l : ℕ) → nodeAt (N# (build T c m l)) ≤ length (build T c m l)
+unfolding build
+build-nodes T c m l = encode-nodes c m l (plant (between T c) m l (rowsOf T c))
+
+-- on 0 the nodes' words end where the positions' words begin, and these end in the room
+pub built-there : (T : List ℕ) (c m l : ℕ) (room work room′ work′ : List ℕ) (number words nodes : ℕ) → Builds T c m l room work room′ work′ number words nodes
+    → number ≡ 0 → (nodeAt nodes ≤ words) × (words ≤ length room′)
+built-there T c m l room work room′ work′ number words nodes b z =
+    let w : List ℕ = build T c m l in
+    let long : words ≡ length w = b .counted .0 ∙ ap (λ (x : ℕ). cond (eqb x 0) (length w) 0) z in
+    let made : nodes ≡ N# w = b .counted .1 ∙ ap (λ (x : ℕ). cond (eqb x 0) (N# w) 0) z in
+    let there : room′ ≡ w ++ drop (length w) room = b .index ∙ ap (λ (x : ℕ). cond (eqb x 0) (w ++ drop (length w) room) room) z in
+    (omega (arith, build-nodes T c m l), omega (arith, simp length-append at (ap length there)))

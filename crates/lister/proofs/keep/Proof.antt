@@ -1,0 +1,69 @@
+-- `lister::keep` meets its contract: a turn copies one byte, and n of them fit.
+-- Assumes nothing.
+use Prim.Native.Nat.{_-_}
+use Rattle.lister.proofs.Copying.{Copied, copied-all, copied-long, copied-next, copied-start}
+use Rattle.lister.proofs.keep.Statement.{statement}
+use Rattle.lister.proofs.keep.Tie as tie
+use borrow.Author.Needs.{needs}
+use native.Mathlib.Omega.{arith}
+
+abbrev Inv-loop : tie.InvT-loop
+Inv-loop came text₀ kept n i₀ text i = Copied came text₀ kept n text i
+
+abbrev μ-loop : tie.MeasureT-loop
+μ-loop came text₀ kept n i₀ text i = n - i
+
+sub-least : tie.Need-sub-least Inv-loop μ-loop
+sub-least c = search needs
+
+least-requires : tie.Need-least-requires Inv-loop μ-loop
+least-requires c κs = search needs
+
+loop-holds : tie.Need-loop-holds Inv-loop μ-loop
+loop-holds c = copied-start _ _ _ _ (c .before .before .before .pre) (c .least .ensures)
+
+shared-slice-read-text : tie.Need-shared-slice-read-text Inv-loop μ-loop
+shared-slice-read-text c = search needs
+
+add-text : tie.Need-add-text Inv-loop μ-loop
+add-text c = search needs
+
+slice-write-text : tie.Need-slice-write-text Inv-loop μ-loop
+slice-write-text c = omega (arith, copied-long _ _ _ _ _ _ (c .before .before .loop .inv))
+
+add-i : tie.Need-add-i Inv-loop μ-loop
+add-i c = search needs
+
+loop-less : tie.Need-loop-less Inv-loop μ-loop
+loop-less c = search needs
+
+loop-again : tie.Need-loop-again Inv-loop μ-loop
+loop-again c = copied-next _ _ _ _ _ _ (c .before .before .loop .inv) (c .before .loop-test .taken)
+
+add-result : tie.Need-add-result Inv-loop μ-loop
+add-result c = search needs
+
+same-length : tie.Need-same-length Inv-loop μ-loop
+same-length c = copied-long _ _ _ _ _ _ (c .before .loop .inv)
+
+returns : tie.Need-returns Inv-loop μ-loop
+returns c = copied-all _ _ _ _ _ _ (c .before .loop .inv) (c .before .before .least .ensures) (c .loop-test .left)
+
+pub keep-spec : {M : Type 1} → statement M
+keep-spec =
+    tie.close
+    (tie.spec
+    Inv-loop
+    μ-loop
+    sub-least
+    least-requires
+    loop-holds
+    shared-slice-read-text
+    add-text
+    slice-write-text
+    add-i
+    loop-less
+    loop-again
+    add-result
+    same-length
+    returns)

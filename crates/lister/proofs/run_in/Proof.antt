@@ -1,0 +1,77 @@
+-- `lister::run_in` meets its contract: a text that is read says three numbers or more.
+-- Assumes nothing.
+use Rattle.lister.proofs.run_in.Statement.{statement}
+use Rattle.lister.proofs.run_in.Tie as tie
+use Rattle.text.proofs.Outcome.{zero-reads}
+use borrow.Author.Needs.{needs}
+use lib.Seq.{length-take-le}
+use mathlib.Core.Path.{sym}
+
+read-text-requires : tie.Need-read-text-requires
+read-text-requires c κs = search needs
+
+slice-reshare-prefix-read-numbers : tie.Need-slice-reshare-prefix-read-numbers
+slice-reshare-prefix-read-numbers c = search needs
+
+slice-aggregate-read-numbers : tie.Need-slice-aggregate-read-numbers
+slice-aggregate-read-numbers c = sym (length-take-le _ _ (c .before .before .before .read-text .ensures))
+
+read-numbers-requires : tie.Need-read-numbers-requires
+read-numbers-requires c κs = search needs
+
+print-refused-requires : tie.Need-print-refused-requires
+print-refused-requires c κs = search needs
+
+same-length : tie.Need-same-length
+same-length c = search needs
+
+same-length-2 : tie.Need-same-length-2
+same-length-2 c = search needs
+
+returns : tie.Need-returns
+returns c = search needs
+
+slice-reshare-prefix-list : tie.Need-slice-reshare-prefix-list
+slice-reshare-prefix-list c = zero-reads _ _ _ _ _ (c .before .before .before .before .read-numbers .ensures) (c .if1 .left) .1
+
+slice-aggregate-list : tie.Need-slice-aggregate-list
+slice-aggregate-list c = sym (length-take-le _ _ (zero-reads _ _ _ _ _ (c .before .before .before .before .before .read-numbers .ensures) (c .before .if1 .left) .1))
+
+list-requires : tie.Need-list-requires
+list-requires c κs = zero-reads _ _ _ _ _ (c .before .before .before .before .before .before .before .read-numbers .ensures) (c .before .before .before .if1 .left) .0 .enough
+
+same-length-3 : tie.Need-same-length-3
+same-length-3 c = search needs
+
+same-length-4 : tie.Need-same-length-4
+same-length-4 c = search needs
+
+same-length-5 : tie.Need-same-length-5
+same-length-5 c = search needs
+
+same-length-6 : tie.Need-same-length-6
+same-length-6 c = search needs
+
+returns-2 : tie.Need-returns-2
+returns-2 c = search needs
+
+pub run-in-spec : {M : Type 1} → statement M
+run-in-spec =
+    tie.close
+    (tie.spec
+    read-text-requires
+    slice-reshare-prefix-read-numbers
+    slice-aggregate-read-numbers
+    read-numbers-requires
+    print-refused-requires
+    same-length
+    same-length-2
+    returns
+    slice-reshare-prefix-list
+    slice-aggregate-list
+    list-requires
+    same-length-3
+    same-length-4
+    same-length-5
+    same-length-6
+    returns-2)

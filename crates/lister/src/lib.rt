@@ -1,0 +1,164 @@
+// The listing program: the text of standard input, read as c, m, l and a table; the table's index; its nodes and positions as lines of numbers.
+ghost use Prim.Native.Nat.{_≤_, min};
+ghost use Rattle.lister.specs.Keeps.{Keeps};
+ghost use Rattle.words.specs.Words.{nodeAt};
+ghost use lib.ListN.{length};
+ghost use mathlib.Core.Path.{_≡_};
+use libc::STDIN_FILENO;
+use libc::STDOUT_FILENO;
+use words::places::HEADER;
+use words::places::WIDTH;
+
+// One byte more than the longest readable text has, so that a text which fills it is unreadable whatever comes after.
+const TEXT: usize = 6_163;
+
+const NUMBERS: usize = 1_027;
+
+// Room and workspace for 1,024 rows.
+const ROOM: usize = 10_248;
+
+const WORK: usize = 6_144;
+
+fn least(a: usize, b: usize) -> usize
+    ensures { λ r. ⌜ r ≡ min a b ⌝ }
+{
+    if a < b { a } else { b }
+}
+
+// Keeps what fits of the bytes that came, behind what is kept already. Gives how many bytes are kept then.
+fn keep(came: &[u8], text: &mut [u8], kept: usize) -> usize
+    requires { ⌜ kept ≤ length (now text) ⌝ }
+    ensures { λ r. ⌜ Keeps (now (came .entry)) (now (text .entry)) kept (now (text .exit)) r ⌝ }
+{
+    let n = least(came.len(), text.len() - kept);
+    let mut i = 0;
+    while i < n {
+        text[kept + i] = came[i];
+        i += 1;
+    }
+    kept + n
+}
+
+// Reads standard input to its end, and keeps the front of it. Gives how many bytes are kept; a text that can't be read to its end counts as too long.
+fn read_text(text: &mut [u8]) -> usize
+    ensures { λ r. ⌜ r ≤ length (now (text .exit)) ⌝ }
+{
+    let mut kept = 0;
+    let mut left: u64 = 0xffff_ffff_ffff_ffff;
+    while 0 < left {
+        let mut chunk = io::buffer();
+        let got = libc::read(STDIN_FILENO, &mut chunk);
+        if got < 0 {
+            return text.len();
+        }
+        let n = io::count(got, &chunk);
+        if n == 0 {
+            return kept;
+        }
+        kept = keep(&chunk[..n], text, kept);
+        left -= 1;
+    }
+    text.len()
+}
+
+// Prints a number, and behind it a newline or a space.
+fn print_word(word: u32, last: bool) {
+    io::print_decimal(STDOUT_FILENO, word as u64);
+    if last {
+        io::write_all(STDOUT_FILENO, b"\n");
+    } else {
+        io::write_all(STDOUT_FILENO, b" ");
+    }
+}
+
+// Prints the words, `width` to a line.
+fn print_lines(words: &[u32], width: usize)
+    requires { ⌜ 1 ≤ width ⌝ }
+{
+    let mut i = 0;
+    while i < words.len() {
+        let next = i + 1;
+        print_word(words[i], next % width == 0);
+        i = next;
+    }
+}
+
+// Prints an index: a line for each node, and then one for each position.
+fn print_index(index: &[u32], nodes: usize, words: usize)
+    requires { ⌜ (nodeAt nodes ≤ words) × (words ≤ length (now index)) ⌝ }
+{
+    let at = HEADER + WIDTH * nodes;
+    print_lines(&index[HEADER..at], WIDTH);
+    print_lines(&index[at..words], 2);
+}
+
+fn print_refused(number: u32) {
+    io::write_all(STDOUT_FILENO, b"refused ");
+    io::print_decimal(STDOUT_FILENO, number as u64);
+    io::write_all(STDOUT_FILENO, b"\n");
+}
+
+fn wide(x: u16) -> usize {
+    x as usize
+}
+
+// Builds the index of the numbers behind the first three, and prints it.
+fn list(numbers: &[u16], room: &mut [u32], work: &mut [u32])
+    requires { ⌜ 3 ≤ length (now numbers) ⌝ }
+{
+    let c = wide(numbers[0]);
+    let m = wide(numbers[1]);
+    let l = wide(numbers[2]);
+    let built = build::build(&numbers[3..], c, m, l, room, work);
+    if built.number != 0 {
+        print_refused(built.number);
+        return;
+    }
+    print_index(room, built.nodes, built.words);
+}
+
+// Reads the text as numbers, and lists them.
+fn run_in(text: &mut [u8], numbers: &mut [u16], room: &mut [u32], work: &mut [u32]) {
+    let n = read_text(text);
+    let read = text::read_numbers(&text[..n], numbers);
+    if read.number != 0 {
+        print_refused(read.number);
+        return;
+    }
+    let count = read.count;
+    list(&numbers[..count], room, work);
+}
+
+// The buffers, with their lengths alone, which lending them as slices needs.
+fn text_buffer() -> [u8; TEXT]
+    ensures { λ r. ⌜ 6163 ≡ length r ⌝ }
+{
+    [0; TEXT]
+}
+
+fn number_buffer() -> [u16; NUMBERS]
+    ensures { λ r. ⌜ 1027 ≡ length r ⌝ }
+{
+    [0; NUMBERS]
+}
+
+fn index_room() -> [u32; ROOM]
+    ensures { λ r. ⌜ 10248 ≡ length r ⌝ }
+{
+    [0; ROOM]
+}
+
+fn workspace() -> [u32; WORK]
+    ensures { λ r. ⌜ 6144 ≡ length r ⌝ }
+{
+    [0; WORK]
+}
+
+// The whole program.
+pub fn run() {
+    let mut text = text_buffer();
+    let mut numbers = number_buffer();
+    let mut room = index_room();
+    let mut work = workspace();
+    run_in(&mut text, &mut numbers, &mut room, &mut work);
+}

@@ -1,0 +1,28 @@
+-- `text::begin` meets its contract: one return for a digit, one for any other byte.
+-- Assumes nothing.
+use Rattle.text.proofs.Within.{within-both}
+use Rattle.text.proofs.begin.Statement.{statement}
+use Rattle.text.proofs.begin.Tie as tie
+use Rattle.text.specs.Reading.{begun}
+use borrow.Author.Needs.{needs}
+use mathlib.Core.Path.{_∙_, sym}
+
+is-within-requires : tie.Need-is-within-requires
+is-within-requires c κs = search needs
+
+sub-t4 : tie.Need-sub-t4
+sub-t4 c = within-both _ _ _ (sym (c .before .is-within .ensures) ∙ c .if1 .taken) .0
+
+cast-t5 : tie.Need-cast-t5
+cast-t5 c = search needs
+
+returns : tie.Need-returns
+unfolding begun
+returns c = rw (sym (c .before .is-within .ensures) ∙ c .if1 .taken)
+
+returns-2 : tie.Need-returns-2
+unfolding begun
+returns-2 c = rw (sym (c .before .is-within .ensures) ∙ c .if1 .left)
+
+pub begin-spec : {M : Type 1} → statement M
+begin-spec = tie.close (tie.spec is-within-requires sub-t4 cast-t5 returns returns-2)

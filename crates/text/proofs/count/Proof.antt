@@ -1,0 +1,97 @@
+-- `text::count` meets its contract: a turn passes one byte, and what ends there is counted.
+-- Assumes nothing.
+use Prim.Native.Nat.{_+_, _-_}
+use Rattle.laws.proofs.Tests.{no, yes}
+use Rattle.limits.specs.Limits.{within}
+use Rattle.text.proofs.Answers.{all-counted, none-counted, not-counted}
+use Rattle.text.proofs.Passes.{Counted, counted-done, counted-start, counted-step, ended-few}
+use Rattle.text.proofs.count.Statement.{statement}
+use Rattle.text.proofs.count.Tie as tie
+use Rattle.text.specs.Reading.{behind, ends, numbers}
+use Rattle.text.specs.declared.Place.the-variants.{Start}
+use borrow.Author.Needs.{needs}
+use denote.Ref.{now}
+use lib.ListN.{length}
+use mathlib.Core.Path.{_∙_, _≡_, ap, sym}
+use native.Mathlib.Omega.{arith}
+
+abbrev Inv-loop : tie.InvT-loop
+Inv-loop text place₀ count₀ i₀ place count i = Counted text place count i
+
+abbrev μ-loop : tie.MeasureT-loop
+μ-loop text place₀ count₀ i₀ place count i = length text - i
+
+loop-holds : tie.Need-loop-holds Inv-loop μ-loop
+loop-holds c = counted-start _
+
+shared-slice-read-b : tie.Need-shared-slice-read-b Inv-loop μ-loop
+shared-slice-read-b c = search needs
+
+ended-requires : tie.Need-ended-requires Inv-loop μ-loop
+ended-requires c κs = search needs
+
+add-count : tie.Need-add-count Inv-loop μ-loop
+add-count c = omega (arith, ended-few _ _ (c .ended .ensures))
+
+step-requires : tie.Need-step-requires Inv-loop μ-loop
+step-requires c κs = search needs
+
+add-i : tie.Need-add-i Inv-loop μ-loop
+add-i c = search needs
+
+loop-less : tie.Need-loop-less Inv-loop μ-loop
+loop-less c = omega arith
+
+loop-again : tie.Need-loop-again Inv-loop μ-loop
+loop-again c = counted-step _ _ _ _ (c .before .before .before .before .loop .inv) _ _ (c .before .before .before .loop-test .taken) (c .step .ensures) (c .before .ended .ensures)
+
+ended-requires-2 : tie.Need-ended-requires-2 Inv-loop μ-loop
+ended-requires-2 c κs = search needs
+
+add-count-2 : tie.Need-add-count-2 Inv-loop μ-loop
+add-count-2 c = omega (arith, ended-few _ _ (c .ended2 .ensures))
+
+may-end-requires : tie.Need-may-end-requires Inv-loop μ-loop
+may-end-requires c κs = search needs
+
+-- behind the loop all is counted, and the place is the one behind the text
+whole : (c : tie.After-ended2 Inv-loop μ-loop)
+    → (c .before .before .loop .count + c .ended2 .result ≡ length (numbers (now (c .before .before .before .before .args .text))))
+    × (c .before .before .loop .place ≡ behind Start (now (c .before .before .before .before .args .text)))
+whole c = counted-done _ _ _ _ (c .before .before .loop .inv) _ (c .before .loop-test .left) (c .ended2 .ensures)
+
+returns : tie.Need-returns Inv-loop μ-loop
+returns c = none-counted _ (ap ends (sym (whole (c .before .before) .1)) ∙ no (c .before .may-end .ensures) (c .if1 .taken))
+
+is-within-requires : tie.Need-is-within-requires Inv-loop μ-loop
+is-within-requires c κs = search needs
+
+returns-2 : tie.Need-returns-2 Inv-loop μ-loop
+returns-2 c = not-counted _ (ap (within 3 1_027) (sym (whole (c .before .before .before .before) .0)) ∙ no (c .before .is-within .ensures) (c .if2 .taken))
+
+returns-3 : tie.Need-returns-3 Inv-loop μ-loop
+returns-3 c =
+    let w = whole (c .before .before .before .before) in
+    w .0 ∙ all-counted _ (ap ends (sym (w .1)) ∙ yes (c .before .before .before .may-end .ensures) (c .before .before .if1 .left)) (ap (within 3 1_027) (sym (w .0)) ∙ yes (c .before .is-within .ensures) (c .if2 .left))
+
+pub count-spec : {M : Type 1} → statement M
+count-spec =
+    tie.close
+    (tie.spec
+    Inv-loop
+    μ-loop
+    loop-holds
+    shared-slice-read-b
+    ended-requires
+    add-count
+    step-requires
+    add-i
+    loop-less
+    loop-again
+    ended-requires-2
+    add-count-2
+    may-end-requires
+    returns
+    is-within-requires
+    returns-2
+    returns-3)

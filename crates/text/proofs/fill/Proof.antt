@@ -1,0 +1,69 @@
+-- `text::fill` meets its contract: a turn passes one byte, and what ends there is put.
+-- Assumes nothing.
+use Prim.Native.Nat.{_-_}
+use Rattle.text.proofs.Passes.{Filled, filled-done, filled-start, filled-step, room-end, room-next}
+use Rattle.text.proofs.fill.Statement.{statement}
+use Rattle.text.proofs.fill.Tie as tie
+use borrow.Author.Needs.{needs}
+use lib.ListN.{length}
+use native.Mathlib.Omega.{arith}
+
+abbrev Inv-loop : tie.InvT-loop
+Inv-loop text room₀ place₀ at₀ i₀ room place at i = Filled text room₀ room place at i
+
+abbrev μ-loop : tie.MeasureT-loop
+μ-loop text room₀ place₀ at₀ i₀ room place at i = length text - i
+
+loop-holds : tie.Need-loop-holds Inv-loop μ-loop
+loop-holds c = filled-start _ _
+
+shared-slice-read-b : tie.Need-shared-slice-read-b Inv-loop μ-loop
+shared-slice-read-b c = search needs
+
+put-ended-requires : tie.Need-put-ended-requires Inv-loop μ-loop
+put-ended-requires c κs = room-next _ _ _ _ _ _ (c .before .before .before .loop .inv) (c .before .before .before .before .before .before .pre) (c .before .before .loop-test .taken)
+
+step-requires : tie.Need-step-requires Inv-loop μ-loop
+step-requires c κs = search needs
+
+add-i : tie.Need-add-i Inv-loop μ-loop
+add-i c = search needs
+
+loop-less : tie.Need-loop-less Inv-loop μ-loop
+loop-less c = omega arith
+
+loop-again : tie.Need-loop-again Inv-loop μ-loop
+loop-again c =
+    filled-step _ _ _ _ _ _ (c .before .before .before .before .before .before .before .loop .inv) (c .before .before .before .before .before .before .before .before .before .before .pre) _ _ _ (c .before .before .before .before .before .before .loop-test .taken) (c .step .ensures)
+    (c .before .before .before .put-ended .ensures .0)
+    (c .before .before .before .put-ended .ensures .1)
+
+put-ended-requires-2 : tie.Need-put-ended-requires-2 Inv-loop μ-loop
+put-ended-requires-2 c κs = room-end _ _ _ _ _ _ (c .before .before .loop .inv) (c .before .before .before .before .before .pre) (c .before .loop-test .left)
+
+same-length : tie.Need-same-length Inv-loop μ-loop
+same-length c =
+    filled-done _ _ _ _ _ _ (c .before .before .before .before .before .loop .inv) (c .before .before .before .before .before .before .before .before .pre) _ _ (c .before .before .before .before .loop-test .left) (c .before .before .put-ended2 .ensures .0)
+    (c .before .before .put-ended2 .ensures .1) .1
+
+returns : tie.Need-returns Inv-loop μ-loop
+returns c =
+    filled-done _ _ _ _ _ _ (c .before .before .before .before .before .loop .inv) (c .before .before .before .before .before .before .before .before .pre) _ _ (c .before .before .before .before .loop-test .left) (c .before .before .put-ended2 .ensures .0)
+    (c .before .before .put-ended2 .ensures .1) .0
+
+pub fill-spec : {M : Type 1} → statement M
+fill-spec =
+    tie.close
+    (tie.spec
+    Inv-loop
+    μ-loop
+    loop-holds
+    shared-slice-read-b
+    put-ended-requires
+    step-requires
+    add-i
+    loop-less
+    loop-again
+    put-ended-requires-2
+    same-length
+    returns)

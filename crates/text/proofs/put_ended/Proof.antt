@@ -1,0 +1,46 @@
+-- `text::put_ended` meets its contract: as `ended`, with the number stored where one ends.
+-- Assumes nothing.
+use Rattle.laws.proofs.Tests.{no, yes}
+use Rattle.text.proofs.Putting.{fits-one, none-inside, not-parted, parted, put-none, put-one}
+use Rattle.text.proofs.put_ended.Statement.{statement}
+use Rattle.text.proofs.put_ended.Tie as tie
+use Rattle.text.specs.Reading.{endedBy}
+use borrow.Author.Needs.{needs}
+use mathlib.Core.List.{[], _∷_}
+use mathlib.Core.Path.{_∙_, _≡_}
+
+parts-requires : tie.Need-parts-requires
+parts-requires c κs = search needs
+
+returns : tie.Need-returns
+returns c = put-none _ _ _ (not-parted _ _ (no (c .before .parts .ensures) (c .if1 .taken)))
+
+enum-known-place : tie.Need-enum-known-place
+enum-known-place c = search needs
+
+returns-2 : tie.Need-returns-2
+returns-2 c = put-none _ _ _ (parted _ _ (yes (c .before .before .parts .ensures) (c .before .if1 .left)) ∙ none-inside (c .before .before .before .before .args .place) (c .match .keys2))
+
+mul-room : tie.Need-mul-room
+mul-room c = search needs
+
+-- a number ends here
+one : (c : tie.After-known-told) → endedBy (c .before .before .before .before .before .before .args .place) (c .before .before .before .before .before .before .args .b) ≡ c .before .place .given .0 .0 ∷ []
+one c = parted _ _ (yes (c .before .before .before .before .parts .ensures) (c .before .before .before .if1 .left)) ∙ cc
+
+slice-write-room : tie.Need-slice-write-room
+slice-write-room c = fits-one _ _ [] (c .before .place .given .0 .0) _ (one c) (c .before .before .before .before .before .before .pre)
+
+add-result : tie.Need-add-result
+add-result c = search needs
+
+same-length : tie.Need-same-length
+same-length c = search needs
+
+returns-3 : tie.Need-returns-3
+returns-3 c = put-one _ _ _ (c .before .place .given .0 .0) (one c) (fits-one _ _ [] (c .before .place .given .0 .0) _ (one c) (c .before .before .before .before .before .before .pre))
+
+pub put-ended-spec : {M : Type 1} → statement M
+put-ended-spec =
+    tie.close
+    (tie.spec parts-requires returns enum-known-place returns-2 mul-room slice-write-room add-result same-length returns-3)
