@@ -102,31 +102,37 @@ fn wide(x: u16) -> usize {
     x as usize
 }
 
-// Builds the index of the numbers behind the first three, and prints it.
-fn list(numbers: &[u16], room: &mut [u32], work: &mut [u32])
+// Builds the index of the numbers behind the first three, and prints it. Gives the number of the build.
+fn list(numbers: &[u16], room: &mut [u32], work: &mut [u32]) -> u32
     requires { ⌜ 3 ≤ length (now numbers) ⌝ }
+    ensures { λ r. ⌜ r ≤ 18 ⌝ }
 {
     let c = wide(numbers[0]);
     let m = wide(numbers[1]);
     let l = wide(numbers[2]);
     let built = build::build(&numbers[3..], c, m, l, room, work);
-    if built.number != 0 {
-        print_refused(built.number);
-        return;
+    let number = built.number;
+    if number != 0 {
+        print_refused(number);
+        return number;
     }
     print_index(room, built.nodes, built.words);
+    0
 }
 
-// Reads the text as numbers, and lists them.
-fn run_in(text: &mut [u8], numbers: &mut [u16], room: &mut [u32], work: &mut [u32]) {
+// Reads the text as numbers, and lists them. Gives the number of what refused, or 0.
+fn run_in(text: &mut [u8], numbers: &mut [u16], room: &mut [u32], work: &mut [u32]) -> u32
+    ensures { λ r. ⌜ r ≤ 18 ⌝ }
+{
     let n = read_text(text);
     let read = text::read_numbers(&text[..n], numbers);
-    if read.number != 0 {
-        print_refused(read.number);
-        return;
+    let number = read.number;
+    if number != 0 {
+        print_refused(number);
+        return number;
     }
     let count = read.count;
-    list(&numbers[..count], room, work);
+    list(&numbers[..count], room, work)
 }
 
 // The buffers, with their lengths alone, which lending them as slices needs.
@@ -154,11 +160,13 @@ fn workspace() -> [u32; WORK]
     [0; WORK]
 }
 
-// The whole program.
-pub fn run() {
+// The whole program. Gives the number that it printed behind `refused`, or 0 where it printed an index.
+pub fn run() -> u32
+    ensures { λ r. ⌜ r ≤ 18 ⌝ }
+{
     let mut text = text_buffer();
     let mut numbers = number_buffer();
     let mut room = index_room();
     let mut work = workspace();
-    run_in(&mut text, &mut numbers, &mut room, &mut work);
+    run_in(&mut text, &mut numbers, &mut room, &mut work)
 }

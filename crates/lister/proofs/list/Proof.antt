@@ -1,6 +1,7 @@
 -- `lister::list` meets its contract: what the build counts stands in the room.
 -- Assumes nothing.
 use Rattle.lister.proofs.Index.{built-there}
+use Rattle.lister.proofs.Low.{build-low}
 use Rattle.lister.proofs.list.Statement.{statement}
 use Rattle.lister.proofs.list.Tie as tie
 use borrow.Author.Needs.{needs}
@@ -45,10 +46,10 @@ same-length-2 : tie.Need-same-length-2
 same-length-2 c = search needs
 
 returns : tie.Need-returns
-returns c = search needs
+returns c = build-low _ _ _ _ _ _ _ (c .before .before .before .before .before .before .build .ensures .said)
 
 print-index-requires : tie.Need-print-index-requires
-print-index-requires c κs = built-there _ _ _ _ _ _ _ _ _ _ _ (c .before .before .before .before .before .before .before .build .ensures) (c .before .if1 .left)
+print-index-requires c κs = built-there _ _ _ _ _ _ _ _ _ _ _ (c .before .before .before .before .before .before .build .ensures) (c .before .if1 .left)
 
 same-length-3 : tie.Need-same-length-3
 same-length-3 c = search needs

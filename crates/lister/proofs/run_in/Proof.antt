@@ -1,5 +1,6 @@
 -- `lister::run_in` meets its contract: a text that is read says three numbers or more.
 -- Assumes nothing.
+use Rattle.lister.proofs.Low.{text-low}
 use Rattle.lister.proofs.run_in.Statement.{statement}
 use Rattle.lister.proofs.run_in.Tie as tie
 use Rattle.text.proofs.Outcome.{zero-reads}
@@ -29,16 +30,16 @@ same-length-2 : tie.Need-same-length-2
 same-length-2 c = search needs
 
 returns : tie.Need-returns
-returns c = search needs
+returns c = text-low _ _ _ (c .before .before .before .before .read-numbers .ensures .said)
 
 slice-reshare-prefix-list : tie.Need-slice-reshare-prefix-list
-slice-reshare-prefix-list c = zero-reads _ _ _ _ _ (c .before .before .before .before .read-numbers .ensures) (c .if1 .left) .1
+slice-reshare-prefix-list c = zero-reads _ _ _ _ _ (c .before .before .before .read-numbers .ensures) (c .if1 .left) .1
 
 slice-aggregate-list : tie.Need-slice-aggregate-list
-slice-aggregate-list c = sym (length-take-le _ _ (zero-reads _ _ _ _ _ (c .before .before .before .before .before .read-numbers .ensures) (c .before .if1 .left) .1))
+slice-aggregate-list c = sym (length-take-le _ _ (zero-reads _ _ _ _ _ (c .before .before .before .before .read-numbers .ensures) (c .before .if1 .left) .1))
 
 list-requires : tie.Need-list-requires
-list-requires c κs = zero-reads _ _ _ _ _ (c .before .before .before .before .before .before .before .read-numbers .ensures) (c .before .before .before .if1 .left) .0 .enough
+list-requires c κs = zero-reads _ _ _ _ _ (c .before .before .before .before .before .before .read-numbers .ensures) (c .before .before .before .if1 .left) .0 .enough
 
 same-length-3 : tie.Need-same-length-3
 same-length-3 c = search needs

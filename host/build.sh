@@ -1,0 +1,78 @@
+#!/bin/sh
+# Builds the library for C hosts (rt staticlib) and the programs beside it, into target/host:
+#   host/build.sh                  exit status 2 where something is missing
+#   host/build.sh --if-possible    says what is missing and exits 0 then
+#   host/build.sh --checked        the C code with gcc's address and undefined-behaviour checks
+# The archive is for x86-64. On another processor the programs are cross-compiled and run under an emulator.
+# CC, EMULATOR: another compiler or emulator. BOURASCUL_ARCHIVE: an archive to link in the place of rt's.
+set -eu
+cd "$(dirname "$0")/.."
+
+if_possible=no
+checks=''
+for word in "$@"; do
+    case $word in
+    --if-possible) if_possible=yes ;;
+    --checked) checks='-g -fsanitize=address,undefined -fno-sanitize-recover=all' ;;
+    *) echo "usage: host/build.sh [--if-possible] [--checked]" >&2; exit 2 ;;
+    esac
+done
+
+missing() {
+    echo "host: not built: $1"
+    [ "$if_possible" = yes ] && exit 0
+    exit 2
+}
+
+has() { command -v "$1" >/dev/null 2>&1; }
+
+# ---- What is at hand ----
+
+emulator=''
+static=''
+case $(uname -m) in
+x86_64 | amd64)
+    cc=${CC:-cc}
+    has "$cc" || missing "no C compiler: install gcc or clang, or name one in CC"
+    ;;
+*)
+    cc=${CC:-x86_64-linux-gnu-gcc}
+    has "$cc" || missing "the library is x86-64 code and this is $(uname -m): install the cross compiler x86_64-linux-gnu-gcc (Debian: gcc-x86-64-linux-gnu), or name one in CC"
+    for name in ${EMULATOR:-qemu-x86_64 qemu-x86_64-static}; do
+        if [ -z "$emulator" ] && has "$name"; then emulator=$name; fi
+    done
+    [ -n "$emulator" ] || missing "the library is x86-64 code and this is $(uname -m): install the emulator qemu-x86_64 (Debian: qemu-user), or name one in EMULATOR"
+    # A static program needs no x86-64 libraries on the machine that emulates it.
+    static=-static
+    echo "host: x86-64 programs run under $emulator here; times measured so say nothing"
+    ;;
+esac
+
+archive=${BOURASCUL_ARCHIVE:-target/staticlib/libbourascul.a}
+if [ -z "${BOURASCUL_ARCHIVE:-}" ]; then
+    has rt || missing "no rt: the Rattle kit proves and compiles the library"
+    [ -f crates/bourascul/src/lib.rt ] || missing "no crate bourascul in this repository"
+    rt staticlib bourascul
+fi
+[ -f "$archive" ] || missing "no archive $archive"
+
+# ---- The programs ----
+
+out=target/host
+mkdir -p "$out"
+printf '%s\n' "$emulator" >"$out/emulator"
+
+compile() {
+    program=$1
+    level=$2
+    shift 2
+    files=''
+    for name in "$@"; do files="$files host/$name.c"; done
+    # shellcheck disable=SC2086
+    "$cc" -std=c99 $level $checks $static -Wall -Wextra -Wpedantic -Iinclude -Ihost -o "$out/$program" $files "$archive" -lm
+    echo "host: $out/$program"
+}
+
+compile trial -O2 trial kinds samples spoil calls lend self naive naive_tree naive_search
+compile bench -O3 bench plot minutes plain plain_search
+compile season -O2 season minutes

@@ -1,0 +1,368 @@
+/* The library and the naive implementation side by side, one function a call. */
+#include "calls.h"
+
+#include <inttypes.h>
+#include <stdio.h>
+#include <stdlib.h>
+#include <string.h>
+
+#include "bourascul.h"
+#include "lend.h"
+#include "naive.h"
+
+enum call {
+    BUILD,
+    CHECK,
+    RADIUS,
+    NEAREST,
+    NEAREST_ANSWERS,
+    LIST,
+    WRITE,
+    READ,
+    CALLS
+};
+
+static const char *const call_names[CALLS] = { "build", "check", "radius", "nearest", "nearest_answers", "list", "write", "read" };
+
+enum {
+    NUMBERS = 19,
+    TOLD_IN_FULL = 3, /* differences of one kind that are printed; the others are counted */
+    SHOWN = 260       /* numbers of a buffer that are printed */
+};
+
+static uint64_t given[CALLS][NUMBERS], open_outcomes[CALLS];
+
+void tell_numbers(void)
+{
+    for (size_t k = 0; k < CALLS; k++) {
+        printf("%s gave", call_names[k]);
+        for (size_t i = 0; i < NUMBERS; i++)
+            if (given[k][i] > 0)
+                printf(" %zu: %" PRIu64 ",", i, given[k][i]);
+        printf(" open: %" PRIu64 "\n", open_outcomes[k]);
+    }
+}
+
+/* ---- Telling a difference ---- */
+
+static void show_columns(const char *name, const uint16_t *at, size_t count)
+{
+    printf("  %s, %zu:", name, count);
+    for (size_t i = 0; at != NULL && i < count && i < SHOWN; i++)
+        printf(" %u", at[i]);
+    printf(count > SHOWN ? " ..\n" : "\n");
+}
+
+static void show_words(const char *name, const uint32_t *at, size_t count)
+{
+    printf("  %s, %zu:", name, count);
+    for (size_t i = 0; at != NULL && i < count && i < SHOWN; i++)
+        printf(" %" PRIu32, at[i]);
+    printf(count > SHOWN ? " ..\n" : "\n");
+}
+
+static void show_lot(const struct lot *lot)
+{
+    printf("  c %" PRIu32 ", m %" PRIu32 ", l %" PRIu32 ", r %" PRIu32 ", w %" PRIu32 ", node %" PRIu32 "\n", lot->c, lot->m, lot->l, lot->r, lot->w,
+           lot->node);
+    printf("  lengths: room %zu, work %zu, how %zu, rows %zu, distances %zu, answers %zu, image %zu\n", lot->room, lot->work, lot->how, lot->rows,
+           lot->distances, lot->answers, lot->image_length);
+    show_columns("table", lot->table, lot->table_length);
+    if (lot->fitting != NULL)
+        show_columns("table that fits", lot->fitting, lot->table_length);
+    show_columns("query", lot->query, lot->query_length);
+    show_words("index", lot->index, lot->index_length);
+}
+
+void tell_difference(struct trial *t, const struct lot *lot, const char *call, const char *what)
+{
+    t->differences++;
+    if (t->differences > TOLD_IN_FULL)
+        return;
+    printf("difference: %s: %s\n  again: %s\n", call, what, t->again);
+    show_lot(lot);
+    fflush(stdout);
+}
+
+/* ---- Comparing ---- */
+
+static bool same_says(struct naive_says a, struct naive_says b)
+{
+    return a.number == b.number && a.one == b.one && a.two == b.two;
+}
+
+/* One call's outcome against what it should be, its numbers first, then every lent buffer with its guards. */
+static void compare(struct trial *t, const struct lot *lot, enum call call, struct naive_says is, struct naive_says should, const enum lent *lents,
+                    size_t count)
+{
+    char what[256];
+    t->calls++;
+    given[call][should.number]++;
+    if (!same_says(is, should)) {
+        snprintf(what, sizeof what, "gives %" PRIu32 " %" PRIu32 " %" PRIu32 ", should be %" PRIu32 " %" PRIu32 " %" PRIu32, is.number, is.one,
+                 is.two, should.number, should.one, should.two);
+        tell_difference(t, lot, call_names[call], what);
+        return;
+    }
+    for (size_t i = 0; i < count; i++) {
+        size_t where;
+        if (lend_kept(lents[i], &where))
+            continue;
+        if (where == SIZE_MAX)
+            snprintf(what, sizeof what, "wrote outside the lent %s", lend_name(lents[i]));
+        else
+            snprintf(what, sizeof what, "number %" PRIu32 ", byte %zu of %zu of the lent %s is %u, should be %u", is.number, where,
+                     lend_bytes(lents[i]), lend_name(lents[i]), ((uint8_t *)lend_given(lents[i]))[where],
+                     ((uint8_t *)lend_expected(lents[i]))[where]);
+        tell_difference(t, lot, call_names[call], what);
+        return;
+    }
+}
+
+/* The first `bytes` bytes may be anything: the scope paper leaves them open here. */
+static void leave_open(enum lent which, size_t bytes)
+{
+    memcpy(lend_expected(which), lend_given(which), bytes);
+}
+
+/* ---- What the naive calls take ---- */
+
+static struct naive_table model_table(const struct lot *lot)
+{
+    struct naive_table t = { lot->fitting != NULL ? lot->fitting : lot->table, lot->table_length, lot->c };
+    return t;
+}
+
+static struct naive_index model_index(const struct lot *lot)
+{
+    struct naive_index x = { lot->index, lot->index_length };
+    return x;
+}
+
+static struct naive_query model_query(const struct lot *lot)
+{
+    struct naive_query q = { lot->query, lot->query_length };
+    return q;
+}
+
+static struct naive_room model_room(enum lent which)
+{
+    struct naive_room r = { lend_expected(which), lend_bytes(which) / sizeof(uint32_t) };
+    return r;
+}
+
+static struct naive_bytes model_bytes(enum lent which)
+{
+    struct naive_bytes b = { lend_expected(which), lend_bytes(which) };
+    return b;
+}
+
+static struct naive_records model_records(enum lent which)
+{
+    struct naive_records r = { lend_expected(which), lend_bytes(which) / sizeof(struct naive_answer) };
+    return r;
+}
+
+uint32_t naive_verdict(const struct lot *lot)
+{
+    static uint32_t *scratch = NULL;
+    static size_t length = 0;
+    size_t need = lot->c == 0 ? 0 : 6 * (lot->table_length / lot->c);
+    if (need > length || scratch == NULL) {
+        free(scratch);
+        length = need + 4096;
+        scratch = malloc(length * sizeof *scratch);
+        if (scratch == NULL)
+            abort();
+    }
+    struct naive_room room = { scratch, length };
+    return naive_check(model_table(lot), model_index(lot), room).number;
+}
+
+/* ---- Lending ---- */
+
+static void lend_table(struct trial *t, const struct lot *lot)
+{
+    lend(&t->draw, LENT_TABLE, lot->table_length * sizeof *lot->table, lot->table);
+}
+
+static void lend_index(struct trial *t, const struct lot *lot)
+{
+    lend(&t->draw, LENT_INDEX, lot->index_length * sizeof *lot->index, lot->index);
+}
+
+static void lend_query(struct trial *t, const struct lot *lot)
+{
+    lend(&t->draw, LENT_QUERY, lot->query_length * sizeof *lot->query, lot->query);
+}
+
+static void lend_words(struct trial *t, enum lent which, size_t length)
+{
+    lend(&t->draw, which, length * sizeof(uint32_t), NULL);
+}
+
+static struct naive_says three(uint32_t number, uint32_t one, uint32_t two)
+{
+    struct naive_says s = { number, one, two };
+    return s;
+}
+
+/* ---- The calls ---- */
+
+void try_build(struct trial *t, const struct lot *lot)
+{
+    static const enum lent lents[] = { LENT_TABLE, LENT_ROOM, LENT_WORK };
+    lend_table(t, lot);
+    lend_words(t, LENT_ROOM, lot->room);
+    lend_words(t, LENT_WORK, lot->work);
+    bourascul_built is = bourascul_build(lend_given(LENT_TABLE), lot->table_length, lot->c, lot->m, lot->l, lend_given(LENT_ROOM), lot->room,
+                                         lend_given(LENT_WORK), lot->work);
+    struct naive_says should = naive_build(model_table(lot), lot->m, lot->l, model_room(LENT_ROOM), model_room(LENT_WORK));
+    compare(t, lot, BUILD, three(is.number, is.words, is.nodes), should, lents, 3);
+}
+
+void try_check(struct trial *t, const struct lot *lot)
+{
+    static const enum lent lents[] = { LENT_TABLE, LENT_INDEX, LENT_WORK };
+    lend_table(t, lot);
+    lend_index(t, lot);
+    lend_words(t, LENT_WORK, lot->work);
+    bourascul_checked is = bourascul_check(lend_given(LENT_TABLE), lot->table_length, lot->c, lend_given(LENT_INDEX), lot->index_length,
+                                           lend_given(LENT_WORK), lot->work);
+    struct naive_says should = naive_check(model_table(lot), model_index(lot), model_room(LENT_WORK));
+    compare(t, lot, CHECK, three(is.number, is.place, is.second), should, lents, 3);
+}
+
+static uint32_t tally(const uint8_t *how, size_t n, uint8_t a, uint8_t b)
+{
+    uint32_t sum = 0;
+    for (size_t i = 0; i < n; i++)
+        sum += how[i] == a || how[i] == b;
+    return sum;
+}
+
+/* Where a row number stands twice the how-bytes are open; the counts are still tallies of them. */
+static struct naive_says open_radius(const struct lot *lot)
+{
+    size_t n = lot->table_length / lot->c;
+    leave_open(LENT_HOW, n);
+    return three(0, tally(lend_given(LENT_HOW), n, 2, 3), tally(lend_given(LENT_HOW), n, 1, 3));
+}
+
+void try_radius(struct trial *t, const struct lot *lot)
+{
+    static const enum lent lents[] = { LENT_TABLE, LENT_INDEX, LENT_QUERY, LENT_HOW };
+    lend_table(t, lot);
+    lend_index(t, lot);
+    lend_query(t, lot);
+    lend(&t->draw, LENT_HOW, lot->how, NULL);
+    bourascul_within is = bourascul_radius(lend_given(LENT_TABLE), lot->table_length, lot->c, lend_given(LENT_INDEX), lot->index_length,
+                                           lend_given(LENT_QUERY), lot->query_length, lot->r, lend_given(LENT_HOW), lot->how);
+    struct naive_says should = naive_radius(model_table(lot), model_index(lot), model_query(lot), lot->r, model_bytes(LENT_HOW));
+    if (should.number == 0 && lot->fitting == NULL && naive_verdict(lot) == 10) {
+        open_outcomes[RADIUS]++;
+        should = open_radius(lot);
+    }
+    compare(t, lot, RADIUS, three(is.number, is.inside, is.measured), should, lents, 4);
+}
+
+static void lend_nearest(struct trial *t, const struct lot *lot)
+{
+    lend_table(t, lot);
+    lend_index(t, lot);
+    lend_query(t, lot);
+    lend_words(t, LENT_ROWS, lot->rows);
+    lend_words(t, LENT_DISTANCES, lot->distances);
+    lend(&t->draw, LENT_HOW, lot->how, NULL);
+    lend_words(t, LENT_WORK, lot->work);
+}
+
+/* On an index that the full check refuses the answers, how-bytes and counts are open; what lies beyond them is not. */
+static struct naive_says open_nearest(const struct lot *lot, struct naive_says is)
+{
+    size_t n = lot->table_length / lot->c, asked = lot->w < n ? lot->w : n;
+    leave_open(LENT_ROWS, asked * sizeof(uint32_t));
+    leave_open(LENT_DISTANCES, asked * sizeof(uint32_t));
+    leave_open(LENT_HOW, n);
+    return three(0, is.one, is.two);
+}
+
+static bool nearest_is_open(const struct lot *lot, struct naive_says should)
+{
+    return should.number == 0 && lot->fitting == NULL && naive_verdict(lot) != 0;
+}
+
+void try_nearest(struct trial *t, const struct lot *lot)
+{
+    static const enum lent lents[] = { LENT_TABLE, LENT_INDEX, LENT_QUERY, LENT_ROWS, LENT_DISTANCES, LENT_HOW, LENT_WORK };
+    lend_nearest(t, lot);
+    bourascul_closest got = bourascul_nearest(lend_given(LENT_TABLE), lot->table_length, lot->c, lend_given(LENT_INDEX), lot->index_length,
+                                              lend_given(LENT_QUERY), lot->query_length, lot->w, lend_given(LENT_ROWS), lot->rows,
+                                              lend_given(LENT_DISTANCES), lot->distances, lend_given(LENT_HOW), lot->how, lend_given(LENT_WORK),
+                                              lot->work);
+    struct naive_says is = three(got.number, got.given, got.measured);
+    struct naive_says should = naive_nearest(model_table(lot), model_index(lot), model_query(lot), lot->w, model_room(LENT_ROWS),
+                                             model_room(LENT_DISTANCES), model_bytes(LENT_HOW), model_room(LENT_WORK));
+    if (nearest_is_open(lot, should)) {
+        open_outcomes[NEAREST]++;
+        should = open_nearest(lot, is);
+    }
+    compare(t, lot, NEAREST, is, should, lents, 7);
+}
+
+void try_nearest_answers(struct trial *t, const struct lot *lot)
+{
+    static const enum lent lents[] = { LENT_TABLE, LENT_INDEX, LENT_QUERY, LENT_ANSWERS, LENT_ROWS, LENT_DISTANCES, LENT_HOW, LENT_WORK };
+    lend_nearest(t, lot);
+    lend(&t->draw, LENT_ANSWERS, lot->answers * sizeof(bourascul_answer), NULL);
+    bourascul_closest got = bourascul_nearest_answers(lend_given(LENT_TABLE), lot->table_length, lot->c, lend_given(LENT_INDEX), lot->index_length,
+                                                      lend_given(LENT_QUERY), lot->query_length, lot->w, lend_given(LENT_ANSWERS), lot->answers,
+                                                      lend_given(LENT_ROWS), lot->rows, lend_given(LENT_DISTANCES), lot->distances,
+                                                      lend_given(LENT_HOW), lot->how, lend_given(LENT_WORK), lot->work);
+    struct naive_says is = three(got.number, got.given, got.measured);
+    struct naive_says should = naive_nearest_answers(model_table(lot), model_index(lot), model_query(lot), lot->w, model_records(LENT_ANSWERS),
+                                                     model_room(LENT_ROWS), model_room(LENT_DISTANCES), model_bytes(LENT_HOW), model_room(LENT_WORK));
+    if (nearest_is_open(lot, should)) {
+        open_outcomes[NEAREST_ANSWERS]++;
+        size_t n = lot->table_length / lot->c;
+        leave_open(LENT_ANSWERS, (lot->w < n ? lot->w : n) * sizeof(bourascul_answer));
+        should = open_nearest(lot, is);
+    }
+    compare(t, lot, NEAREST_ANSWERS, is, should, lents, 8);
+}
+
+void try_searches(struct trial *t, const struct lot *lot)
+{
+    try_radius(t, lot);
+    try_nearest(t, lot);
+    try_nearest_answers(t, lot);
+}
+
+void try_list(struct trial *t, const struct lot *lot)
+{
+    static const enum lent lents[] = { LENT_INDEX };
+    lend_index(t, lot);
+    bourascul_part is = bourascul_list(lend_given(LENT_INDEX), lot->index_length, lot->node);
+    struct naive_part should = naive_list(model_index(lot), lot->node);
+    compare(t, lot, LIST, three(0, is.start, is.length), three(0, should.start, should.length), lents, 1);
+}
+
+void try_write(struct trial *t, const struct lot *lot)
+{
+    static const enum lent lents[] = { LENT_INDEX, LENT_IMAGE };
+    lend_index(t, lot);
+    lend(&t->draw, LENT_IMAGE, lot->image_length, NULL);
+    bourascul_written is = bourascul_write(lend_given(LENT_INDEX), lot->index_length, lend_given(LENT_IMAGE), lot->image_length);
+    struct naive_says should = naive_write(model_index(lot), model_bytes(LENT_IMAGE));
+    compare(t, lot, WRITE, three(is.number, is.blocks, 0), should, lents, 2);
+}
+
+void try_read(struct trial *t, const struct lot *lot)
+{
+    static const enum lent lents[] = { LENT_IMAGE, LENT_ROOM };
+    lend(&t->draw, LENT_IMAGE, lot->image_length, lot->image);
+    lend_words(t, LENT_ROOM, lot->room);
+    bourascul_taken is = bourascul_read(lend_given(LENT_IMAGE), lot->image_length, lend_given(LENT_ROOM), lot->room);
+    struct naive_says should = naive_read(lot->image, lot->image_length, model_room(LENT_ROOM));
+    compare(t, lot, READ, three(is.number, is.place, is.words), should, lents, 2);
+}

@@ -1,0 +1,80 @@
+/* What the naive implementation's own files share; a host programmer needs naive.h alone. */
+#ifndef HOST_NAIVE_INNER_H
+#define HOST_NAIVE_INNER_H
+
+#include "naive.h"
+
+enum {
+    MOST_COLUMNS = 16,
+    MOST_ROWS = 1048576,
+    MOST_DEPTH = 24,
+    MOST_CENTRES = 64,
+    MOST_LEAF = 1024,
+    MOST_DISTANCE = 1048560,
+    HEADER_WORDS = 8,
+    NODE_WORDS = 4,
+    BLOCK_WORDS = 127,
+    BLOCK_BYTES = 512,
+    NUMBERS = 19
+};
+
+/* The faults that meet a call, by number. */
+struct faults {
+    bool met[NUMBERS];
+};
+
+struct node {
+    uint32_t start, count, radius;
+    struct node **child; /* the m children, or NULL for a leaf */
+};
+
+/* `row` and `stored` stand by position. */
+struct tree {
+    struct naive_table table;
+    uint32_t n, m, l;
+    uint32_t *row, *stored;
+    struct node *root; /* NULL where there are no rows */
+};
+
+static inline uint32_t apart(uint32_t a, uint32_t b)
+{
+    return a > b ? a - b : b - a;
+}
+
+static inline uint32_t greater(uint32_t a, uint32_t b)
+{
+    return a > b ? a : b;
+}
+
+static inline struct naive_says says(uint32_t number, uint32_t one, uint32_t two)
+{
+    struct naive_says s = { number, one, two };
+    return s;
+}
+
+/* The row that a node's run starts with. */
+static inline uint32_t first_of(const struct tree *t, const struct node *v)
+{
+    return t->row[v->start];
+}
+
+/* Zeroed memory for `count` things, never NULL. */
+void *naive_fresh(size_t count, size_t size);
+uint32_t naive_between(struct naive_table t, uint32_t i, uint32_t j);
+
+uint32_t naive_lowest(const struct faults *f);
+size_t naive_rows_of(struct naive_table t);
+struct faults naive_table_faults(struct naive_table t);
+/* Adds 8 and 9. */
+void naive_index_faults(struct faults *f, struct naive_index x, struct naive_table t);
+void naive_clear_work(struct naive_room work, size_t n);
+
+/* How many words a possible header asks for, and where position p's pair stands. */
+size_t naive_words_asked(const uint32_t *w);
+size_t naive_pair_place(const uint32_t *w, uint32_t p);
+
+/* The tree that an index in shape describes. */
+struct tree naive_read_tree(struct naive_index x, struct naive_table table);
+void naive_free_tree(struct tree *t);
+
+#endif

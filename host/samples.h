@@ -1,0 +1,51 @@
+/* Drawn tables, indexes, queries and images for the trials, fair and spoilt. */
+#ifndef HOST_SAMPLES_H
+#define HOST_SAMPLES_H
+
+#include "calls.h"
+
+enum {
+    SAMPLE_ROWS = 640,
+    SAMPLE_WORDS = 10 * SAMPLE_ROWS + 8 + 64,
+    SAMPLE_BLOCKS = SAMPLE_WORDS / 127 + 4
+};
+
+struct sample {
+    uint32_t n, c, m, l;
+    uint16_t table[SAMPLE_ROWS * 16];
+    uint32_t index[SAMPLE_WORDS];
+    size_t index_length;
+    uint16_t query[32];
+    uint8_t image[SAMPLE_BLOCKS * 512];
+    size_t image_length;
+};
+
+/* A table of at most `limit` rows, mostly full of ties, with m and l that give a tree, and a query. No index yet. */
+void draw_sample(struct draw *d, struct sample *s, uint32_t limit);
+/* n equal rows, with m and l small. */
+void draw_equal_rows(struct draw *d, struct sample *s, uint32_t n);
+void draw_query(struct draw *d, struct sample *s);
+
+/* The build's index; an accepted one of another hand (other centres, orders and ties); one in shape that fits no table. */
+void index_built(struct sample *s);
+void index_foreign(struct draw *d, struct sample *s);
+void index_wild(struct draw *d, struct sample *s);
+/* One of the three, the last seldom. */
+void index_any(struct draw *d, struct sample *s);
+
+/* Changes the index in one of many ways; most make it one that is refused. */
+void spoil_index(struct draw *d, struct sample *s);
+/* Words that were never an index, with a header that is possible half of the time. */
+void random_words(struct draw *d, struct sample *s);
+
+/* The image of the index, which must have a possible header and all its words. */
+void draw_image(struct sample *s);
+/* The check word of a block set right again. */
+void seal_block(struct sample *s, size_t block);
+/* Changes the image in one of many ways, often with the check words set right again. */
+void spoil_image(struct draw *d, struct sample *s);
+
+/* What all calls on the sample are lent, with r, w and a node drawn; each room is long enough, often longer. */
+struct lot fair_lot(struct draw *d, const struct sample *s);
+
+#endif

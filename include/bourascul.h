@@ -1,0 +1,194 @@
+/* Bourascul: an exact similarity index over rows of 16-bit numbers, for C and C++ hosts on x86-64.
+
+   A table is n rows of c columns, row after row. The distance of two rows is the sum over the columns of the absolute
+   differences. An index over the table answers two questions without a guess: every row within r of a query (radius),
+   and the w rows closest to it (nearest). Both say which rows were measured.
+
+   LENDING. Every buffer is yours: nothing is allocated, nothing is kept, and when a call returns, the library holds no
+   pointer of yours. A buffer is a pointer and its length in ELEMENTS (not bytes). For the time of a call:
+     - the pointer is not null, also where the length is 0, and is aligned for its element;
+     - a buffer that a call may change overlaps no other buffer of that call;
+     - no other thread changes what is lent, nor reads what the call may change.
+   Calls on different buffers may run at the same time; there is no state between calls. Any CONTENT may be lent: words
+   and bytes from a stranger are tested, never trusted. More room than asked for may be lent, and is left as it was.
+
+   NUMBERS. Each call but bourascul_list gives a number first. 0 is done; any other is a refusal, and of several the lowest
+   is given (bourascul_read gives 5 last, bourascul_write 16 before 5):
+      1  columns not 1 to 16
+      2  build: m not 2 to 64, or l not m to 1,024
+      3  the table's length is no multiple of the columns
+      4  more than 1,048,576 rows
+      5  a lent room is too short
+      6  the query's length is not the columns
+      7  nearest: 0 wanted
+      8  the index has fewer than 8 words, or an impossible header, or one of other rows or columns than the table's, or
+         fewer words than its header asks for
+      9  the index's shape is wrong
+     10  check: a row number stands a second time
+     11  check: a stored distance is wrong
+     12  check: a node's radius is wrong
+     13  check: a row is closer to another centre
+     14  the image is empty or no multiple of 512 bytes
+     15  a block's check word is wrong
+     16  the image's or index's header is impossible; reading: the header asks for another number of blocks; writing: words
+         are missing
+     17  reading: a word after the last is not zero
+   On a refusal the other fields of the result are 0 (save the places of 10 to 13 and 15) and every lent buffer is as it
+   was; only 10 to 13 zero the workspace as a success does.
+
+   THE INDEX is 32-bit words: edition 1, n, c, m, l, the number of nodes N, distance kind 1, 0; then for each node its start,
+   count, first child's number (0 for a leaf) and radius; then for each position the row number and its distance from its
+   leaf's first. That is 8 + 4N + 2n words, at most 10n + 8. It belongs to the table it was built over: keep the two
+   together, and check an index that comes from elsewhere.
+
+   A search tests an index's shape, not all of it: on an index that bourascul_check would refuse it stays within what is
+   lent and gives number 0, but what it answers is open. */
+#ifndef BOURASCUL_H
+#define BOURASCUL_H
+
+#include <stddef.h>
+#include <stdint.h>
+
+#ifdef __cplusplus
+extern "C" {
+#endif
+
+/* The fixed limits of the index kind. */
+#define BOURASCUL_MOST_COLUMNS 16u
+#define BOURASCUL_MOST_ROWS 1048576u
+#define BOURASCUL_MOST_DISTANCE 1048560u
+#define BOURASCUL_BLOCK_BYTES 512u
+
+/* Words of room that a build over n rows asks for, and words of workspace for build, check and nearest. */
+#define BOURASCUL_ROOM_WORDS(n) (10u * (size_t)(n) + 8u)
+#define BOURASCUL_WORK_WORDS(n) (6u * (size_t)(n))
+
+/* Blocks that an index of so many words takes in an image. */
+#define BOURASCUL_BLOCKS(words) (((size_t)(words) + 126u) / 127u)
+
+/* What a search knows of a row. After radius: 0 out, 1 out and measured, 2 in, 3 in and measured. After nearest: 0 not
+   measured, 1 measured, 3 an answer. */
+enum {
+    BOURASCUL_OUT = 0,
+    BOURASCUL_OUT_MEASURED = 1,
+    BOURASCUL_IN = 2,
+    BOURASCUL_IN_MEASURED = 3
+};
+
+typedef struct bourascul_built {
+    uint32_t number;
+    uint32_t words; /* the index's words */
+    uint32_t nodes; /* its nodes, N */
+} bourascul_built;
+
+typedef struct bourascul_checked {
+    uint32_t number;
+    uint32_t place;  /* 10, 11: the position; 12, 13: the node; else 0 */
+    uint32_t second; /* 13: the position, counted over the whole index; else 0 */
+} bourascul_checked;
+
+typedef struct bourascul_within {
+    uint32_t number;
+    uint32_t inside;   /* rows in: how-bytes 2 and 3 */
+    uint32_t measured; /* rows measured: how-bytes 1 and 3 */
+} bourascul_within;
+
+typedef struct bourascul_closest {
+    uint32_t number;
+    uint32_t given;    /* answers: the lesser of w and n */
+    uint32_t measured; /* rows measured: how-bytes 1 and 3 */
+} bourascul_closest;
+
+typedef struct bourascul_answer {
+    uint32_t row;
+    uint32_t distance;
+} bourascul_answer;
+
+typedef struct bourascul_written {
+    uint32_t number;
+    uint32_t blocks; /* blocks of 512 bytes written */
+} bourascul_written;
+
+typedef struct bourascul_taken {
+    uint32_t number;
+    uint32_t place; /* 15: the lowest wrong block; else 0 */
+    uint32_t words; /* the index's words */
+} bourascul_taken;
+
+typedef struct bourascul_part {
+    uint32_t start;  /* in words of the index */
+    uint32_t length; /* in words: two for each row */
+} bourascul_part;
+
+/* Builds an index over the table, with m centres in each inner node and leaves of at most l rows.
+   Lent: table of n * c numbers; room of at least 10n + 8 words; work of at least 6n words.
+   Numbers: 0, 1, 2, 3, 4, 5.
+   Done: the first `words` words of room are the index, which bourascul_check accepts, and the rest stays; the first 6n
+   words of work are 0, and the rest stays. The same table, m and l always give the same index. */
+bourascul_built bourascul_build(const uint16_t *table, size_t table_length, uint32_t c, uint32_t m, uint32_t l,
+                                uint32_t *room, size_t room_length, uint32_t *work, size_t work_length);
+
+/* The full check of an index from anyone, against its table.
+   Lent: the table; the index; work of at least 6n words.
+   Numbers: 0, 1, 3, 4, 5, 8, 9, 10, 11, 12, 13.
+   0 exactly when the index is in shape, each row stands once, stored distances and radii are right, and each member is as
+   close to its own centre as to any other centre of the node above. 10 to 13 name the lowest place.
+   Done, or 10 to 13: the first 6n words of work are 0, and the rest stays. */
+bourascul_checked bourascul_check(const uint16_t *table, size_t table_length, uint32_t c,
+                                  const uint32_t *index, size_t index_length, uint32_t *work, size_t work_length);
+
+/* Every row within r of the query, r included.
+   Lent: the table; the index; a query of c numbers; how of at least n bytes.
+   Numbers: 0, 1, 3, 4, 5, 6, 8, 9.
+   Done, on an index that the full check accepts: how-byte i is 2 or 3 exactly when row i is at most r from the query;
+   `inside` and `measured` count how-bytes. Bytes from n on stay. */
+bourascul_within bourascul_radius(const uint16_t *table, size_t table_length, uint32_t c,
+                                  const uint32_t *index, size_t index_length, const uint16_t *query, size_t query_length,
+                                  uint32_t r, uint8_t *how, size_t how_length);
+
+/* The w rows closest to the query, by distance, then row number.
+   Lent: the table; the index; a query of c numbers; rows and distances of at least min(w, n) words each; how of at least n
+   bytes; work of at least 6n words.
+   Numbers: 0, 1, 3, 4, 5, 6, 7, 8, 9.
+   Done, on an index that the full check accepts: rows[i] and distances[i] are answer i, for i below `given` = min(w, n), and
+   later entries stay; how-byte i is 3 for an answer, 1 for another measured row, 0 for a row that was not measured; bytes
+   from n on stay; the first 6n words of work are 0, and the rest stays. */
+bourascul_closest bourascul_nearest(const uint16_t *table, size_t table_length, uint32_t c,
+                                    const uint32_t *index, size_t index_length, const uint16_t *query, size_t query_length,
+                                    uint32_t w, uint32_t *rows, size_t rows_length, uint32_t *distances, size_t distances_length,
+                                    uint8_t *how, size_t how_length, uint32_t *work, size_t work_length);
+
+/* The same, with the answers as records too.
+   Lent: what bourascul_nearest is lent, and answers of at least min(w, n) records.
+   Numbers: as bourascul_nearest.
+   Done: as bourascul_nearest, and answers[i] is { rows[i], distances[i] } for i below `given`; later records stay. */
+bourascul_closest bourascul_nearest_answers(const uint16_t *table, size_t table_length, uint32_t c,
+                                            const uint32_t *index, size_t index_length,
+                                            const uint16_t *query, size_t query_length, uint32_t w,
+                                            bourascul_answer *answers, size_t answers_length,
+                                            uint32_t *rows, size_t rows_length, uint32_t *distances, size_t distances_length,
+                                            uint8_t *how, size_t how_length, uint32_t *work, size_t work_length);
+
+/* Writes an index as an image: blocks of 127 words and a check word, little-endian, zeros after the last word.
+   Lent: the index; image of at least 512 bytes for each block (BOURASCUL_BLOCKS of the index's 8 + 4N + 2n words).
+   Numbers: 0, 16, 5 (16 comes first). The shape is not asked, and words lent after the index's own are not written.
+   Done: the first 512 * blocks bytes are the image, and the rest stays. */
+bourascul_written bourascul_write(const uint32_t *index, size_t index_length, uint8_t *image, size_t image_length);
+
+/* Reads an image back. Any one changed word, and any block in another block's place, is found (15).
+   Lent: the image, whole and nothing else; room for the index's words.
+   Numbers: 0, 14, 15, 16, 17, 5 (5 comes last).
+   Done: the first `words` words of room are the index, and the rest stays. Whether it fits a table, and its shape, is for
+   bourascul_check to say. */
+bourascul_taken bourascul_read(const uint8_t *image, size_t image_length, uint32_t *room, size_t room_length);
+
+/* Where a node's members stand in the index: (row number, distance from its leaf's first) pairs, in run order.
+   Lent: the index.
+   Both fields are 0 exactly when words are missing, the header is impossible, the shape is wrong or there is no such node. */
+bourascul_part bourascul_list(const uint32_t *index, size_t index_length, uint32_t node);
+
+#ifdef __cplusplus
+}
+#endif
+
+#endif
