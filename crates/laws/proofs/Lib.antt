@@ -13,3 +13,4 @@ pub mod Outside
 pub mod Parts
 pub mod First
 pub mod Joins
+pub mod Ones

@@ -191,7 +191,7 @@ module _ (x : ℕ → ℕ) (r : ℕ) (w : List ℕ) (S : InShape w) where
       ∙ map-each (λ j. (first# w j, byDistance x r (first# w j))) (range (suc ch) (m# w - 1)))
       (ap us near ∙ kids-marks (childBound b (leastFrom x w ch)) (deep - 1) ch (m# w) (K .inside)))
 
-  -- AN OPENED LEAF AND AN OPENED INNER NODE, and any node
+  -- THE MARKS OF A LEAF, THOSE OF AN INNER NODE, and what holds of both
   pub node-leaf : (deep k b : ℕ) → k < N# w → inner w k ≡ false → nodeMarks x r w deep k b ≡ visitAt x r w k b (leafOpened x r w k)
   node-leaf deep k b h e = leaf-by deep k b h (λ g. tree-leaf w deep k g e)
 

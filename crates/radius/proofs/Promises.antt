@@ -22,8 +22,8 @@ use native.Mathlib.Decide.{decLt}
 use native.Mathlib.Omega.{arith}
 
 -- ---- a call that is not refused, on an index in which each row stands once
-module _ {t : List ℕ} {c : ℕ} {w q : List ℕ} {r : ℕ} {before after : List ℕ} {number in# met : ℕ}
-    (s : Searched t c w q r before after number in# met) (done : number ≡ 0) (once : Once w) where
+module _ {t : List ℕ} {c : ℕ} {w q : List ℕ} {r : ℕ} {before after : List ℕ} {number in# measured# : ℕ}
+    (s : Searched t c w q r before after number in# measured#) (done : number ≡ 0) (once : Once w) where
   -- the how-bytes that are the rows'
   pub first-bytes : take (n# w) after ≡ radiusHow (from t c q) r (n# w) (treeOf w)
   first-bytes =
@@ -35,8 +35,8 @@ module _ {t : List ℕ} {c : ℕ} {w q : List ℕ} {r : ℕ} {before after : Lis
       ∙ List·getD-append (radiusHow (from t c q) r (n# w) (treeOf w)) (drop (n# w) before) 0 i (subst (λ n. i < n) (sym (how-length (from t c q) r w)) h)
 
 -- ---- a call that is not refused, on an accepted index
-module _ {t : List ℕ} {c : ℕ} {w q : List ℕ} {r : ℕ} {before after : List ℕ} {number in# met : ℕ}
-    (s : Searched t c w q r before after number in# met) (done : number ≡ 0) (A : Accepted (between t c) w) where
+module _ {t : List ℕ} {c : ℕ} {w q : List ℕ} {r : ℕ} {before after : List ℕ} {number in# measured# : ℕ}
+    (s : Searched t c w q r before after number in# measured#) (done : number ≡ 0) (A : Accepted (between t c) w) where
   -- EXACT: A ROW IS MARKED IN EXACTLY IF ITS DISTANCE FROM THE QUERY IS AT MOST r
   pub radius-call-exact : (i : ℕ) → i < n# w → (2 ≤ getD after i 0) ↔ (from t c q i ≤ r)
   radius-call-exact i h =
@@ -45,9 +45,9 @@ module _ {t : List ℕ} {c : ℕ} {w q : List ℕ} {r : ℕ} {before after : Lis
 
   -- TWO TABLES: WHERE THE SECOND AGREES WITH THIS ONE IN EVERY ROW THAT WAS MEASURED, A SEARCH ON IT THAT IS NOT REFUSED GIVES THE SAME
   -- HOW-BYTES AND COUNTS. Nothing is asked of the second table but that, and its call may be lent other bytes
-  pub radius-call-two-tables : {t′ before′ after′ : List ℕ} {number′ in′ met′ : ℕ} → Searched t′ c w q r before′ after′ number′ in′ met′ → number′ ≡ 0
+  pub radius-call-two-tables : {t′ before′ after′ : List ℕ} {number′ in#′ measured#′ : ℕ} → Searched t′ c w q r before′ after′ number′ in#′ measured#′ → number′ ≡ 0
       → ((i : ℕ) → i < n# w → T (isMeasured (getD after i 0)) → row t c i ≡ row t′ c i)
-      → (take (n# w) after ≡ take (n# w) after′) × (in# ≡ in′) × (met ≡ met′)
+      → (take (n# w) after ≡ take (n# w) after′) × (in# ≡ in#′) × (measured# ≡ measured#′)
   radius-call-two-tables {t′} s′ done′ agree =
       let once : Once w = once-of (between t c) w A in
       let e = first-bytes s done once

@@ -59,6 +59,7 @@ module _ (x : ℕ → ℕ) (r : ℕ) (w : List ℕ) (S : InShape w) (deep k b : 
   abbrev by-tests : Bool → Bool → List (ℕ × ℕ) → List (ℕ × ℕ)
   by-tests s t o = cond s (map (λ i. (i, 2)) (map (row# w) (rest# w k))) (cond t (map (λ i. (i, 0)) (map (row# w) (rest# w k))) o)
 
+  -- SWEPT: all rows but the first are in, unmeasured
   pub swept-did : d + R ≤ r → marked (sweptAt w) (start# w k + 1) (start# w k + count# w k) h ≡ write (nodeMarks x r w deep k b) h
   swept-did q =
       marked-run x r w (sweptAt w) k h
@@ -67,15 +68,18 @@ module _ (x : ℕ → ℕ) (r : ℕ) (w : List ℕ) (S : InShape w) (deep k b : 
       (sym (ap (λ t. by-tests t (ltb r b) o) (le-leb (firstAt x w k + radius# w k) r (omega arith))
       ∙ sym (map-map (λ i. (i, 2)) (row# w) (rest# w k)) ∙ map-each (λ p. (row# w p, 2)) (rest# w k))))
 
+  -- CLOSED: nothing is written
   pub closed-did : r < d + R → r < b → h ≡ write (nodeMarks x r w deep k b) h
   closed-did q p =
       node-any x r w S (λ l. h ≡ write l h) deep k b low
       (λ o. write-none (map (row# w) (rest# w k)) h
       ∙ ap (λ l. write l h) (sym (ap₂ (λ s t. by-tests s t o) (lt-leb (firstAt x w k + radius# w k) r (omega arith)) (lt-ltb r b p))))
 
+  -- neither swept nor closed
   opens : (o : List (ℕ × ℕ)) → r < d + R → b ≤ r → visitAt x r w k b o ≡ o
   opens o q p = ap₂ (λ s t. by-tests s t o) (lt-leb (firstAt x w k + radius# w k) r (omega arith)) (le-ltb r b p)
 
+  -- AN OPENED LEAF: each row but the first by its verdict
   pub leaf-opened : r < d + R → b ≤ r → inner w k ≡ false
       → marked (leafAt x r w d) (start# w k + 1) (start# w k + count# w k) h ≡ write (nodeMarks x r w deep k b) h
   leaf-opened q p e =
@@ -83,6 +87,7 @@ module _ (x : ℕ → ℕ) (r : ℕ) (w : List ℕ) (S : InShape w) (deep k b : 
       ∙ marked-run x r w (leafAt x r w (firstAt x w k)) k h
       ∙ ap (λ l. write l h) (sym (node-leaf x r w S deep k b low e ∙ opens (leafOpened x r w k) q p))
 
+  -- AN OPENED INNER NODE: the centres but the first, and then each child
   pub inner-opened : (ch : ℕ) (h₁ h₂ : List ℕ) → r < d + R → b ≤ r → 1 ≤ deep → inner w k ≡ true → ch ≡ child# w k
       → h₁ ≡ marked (λ (j : ℕ). centreAt x r w (ch + j)) 1 (m# w) h
       → h₂ ≡ marked (λ (j : ℕ). kidMarks x r w (deep - 1) b ch (ch + j)) 0 (m# w) h₁
@@ -101,10 +106,12 @@ module _ (x : ℕ → ℕ) (r : ℕ) (w : List ℕ) (S : InShape w) (deep k b : 
 
 -- ---- the whole search
 module _ (x : ℕ → ℕ) (r : ℕ) (w : List ℕ) (S : InShape w) (h : List ℕ) where
+  -- with no root nothing is written
   pub root-none : N# w ≡ 0 → h ≡ write (marks x r (treeOf w)) h
   unfolding marks marksIn write
   root-none e = by-root (λ t. h ≡ write (marks x r t) h) w (λ l. absurd (omega arith)) (λ z. refl)
 
+  -- THE ROOT'S FIRST, AND THEN THE ROOT, IS THE WHOLE SEARCH
   pub root-did : (h₁ h₂ : List ℕ) → 0 < N# w → h₁ ≡ write (centreAt x r w 0) h → h₂ ≡ write (nodeMarks x r w maxDepth 0 0) h₁
       → h₂ ≡ write (marks x r (treeOf w)) h
   unfolding marks nodeMarks

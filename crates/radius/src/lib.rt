@@ -76,7 +76,7 @@ pub fn radius(
     let number = refusal(table, c, index, query, how.len());
     if number != 0 {
         return Found {
-            number: number,
+            number,
             inside: 0,
             measured: 0,
         };

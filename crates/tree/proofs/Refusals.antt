@@ -27,7 +27,7 @@ pub says-next : (fs gs : List Said) → Numbered fs → said fs .0 ≡ 0 → sai
 says-next [] gs k e = refl
 says-next (f ∷ fs) gs k e = absurd (omega (arith, k .0))
 
--- and neither, where both say nothing
+-- where the two together say nothing, neither does
 pub says-none : (fs gs : List Said) → Numbered fs → said (fs ++ gs) .0 ≡ 0 → (said fs .0 ≡ 0) × (said gs .0 ≡ 0)
 says-none [] gs k e = (refl, e)
 says-none (f ∷ fs) gs k e = absurd (omega (arith, k .0))

@@ -1,0 +1,90 @@
+-- The nearest cases of 01, The five-row table, of the call. Assumes nothing.
+use Prim.Native.Nat.{min, ℕ}
+use Rattle.laws.proofs.Every.{Every, every-of}
+use Rattle.laws.specs.Upto.{sumTo}
+use Rattle.limits.specs.Said.{said, tableFaults}
+use Rattle.measure.specs.Distance.{l1}
+use Rattle.measure.specs.Table.{between, from}
+use Rattle.nearest.proofs.Promises.{count-is, nearest-exact}
+use Rattle.nearest.proofs.Refused.{by-index}
+use Rattle.nearest.specs.Cases.{Case, Gets, asked}
+use Rattle.tree.proofs.Built.{build-accepted}
+use Rattle.tree.specs.Build.{build, choose, grow, split}
+use Rattle.tree.specs.Cases.{five, fiveWords}
+use Rattle.tree.specs.Check.{Accepted}
+use Rattle.tree.specs.Encode.{broods, encode, family, levelNodes, nodes, numbered}
+use Rattle.tree.specs.Grove.{treeAt, treeOf}
+use Rattle.tree.specs.Homes.{homes, homesIn}
+use Rattle.tree.specs.Nearest.{answers, measured, nearHow, passes}
+use Rattle.words.specs.Calls.{indexFaults}
+use Rattle.words.specs.Shape.{born, level, nodeOk, shapeOk, tile}
+use Rattle.words.specs.Words.{headerOk, wordsOk}
+use lib.ListN.{drop, length}
+use mathlib.Core.List.{List, [], _++_, _∷_, map}
+use mathlib.Core.Path.{_∙_, _≡_, ap, ap₂, refl, subst, sym}
+use native.Mathlib.Omega.{arith}
+
+-- the build writes the index of the five-row table, and so it is accepted
+built : build five 1 2 2 ≡ fiveWords
+unfolding sumTo l1 between family broods levelNodes nodes numbered encode choose split grow build
+built = refl
+
+accepted : Accepted (between five 1) fiveWords
+accepted =
+    subst (Accepted (between five 1)) built
+    (build-accepted five 1 2 2 refl refl (omega arith) (omega arith, (omega arith, (omega arith, (omega arith, (omega arith, tt))))))
+
+-- the definition, computed
+abbrev x : ℕ → ℕ → ℕ
+x q = from five 1 (q ∷ [])
+
+pub record Right (k : Case) : Type 0 where
+  pub some : k .wanted ≡ 0 → ⊥
+  pub count : min (k .wanted) 5 ≡ length (k .answers)
+  pub first : answers (x (k .query)) 5 (k .wanted) ≡ k .answers
+  pub near : nearHow (x (k .query)) 5 (treeOf fiveWords) (k .wanted) ≡ k .bytes
+  pub met : measured (k .bytes) ≡ k .met
+
+right-all : Every Right asked
+unfolding sumTo l1 from answers treeAt treeOf homesIn homes passes nearHow
+right-all = (
+  record { some = λ e. omega arith; count = refl; first = refl; near = refl; met = refl },
+  (
+    record { some = λ e. omega arith; count = refl; first = refl; near = refl; met = refl },
+    (
+      record { some = λ e. omega arith; count = refl; first = refl; near = refl; met = refl },
+      (
+        record { some = λ e. omega arith; count = refl; first = refl; near = refl; met = refl },
+        (record { some = λ e. omega arith; count = refl; first = refl; near = refl; met = refl }, tt),
+      ),
+    ),
+  ),
+)
+
+-- neither the table nor the index is refused
+no-table-fault : 0 ≡ said (tableFaults 5 1) .0
+unfolding tableFaults
+no-table-fault = refl
+
+no-index-fault : 0 ≡ said (indexFaults fiveWords 5 1) .0
+unfolding headerOk wordsOk born level tile nodeOk shapeOk indexFaults
+no-index-fault = refl
+
+gets : (k : Case) → Right k → Gets k
+gets k R rs rs′ ds ds′ how how′ work work′ number given met a b d e s =
+    let n : number ≡ 0 =
+    s .said
+    ∙ sym (by-index five 1 fiveWords (k .query ∷ []) (k .wanted) (min (length rs) (length ds)) (length how) (length work) no-table-fault refl refl
+    (omega (arith, R .count)) d e refl (R .some) no-index-fault) in
+    let Z = nearest-exact s n accepted in (
+      n,
+      Z .count ∙ R .count,
+      count-is s n (x (k .query)) Z ∙ ap measured (R .near) ∙ R .met,
+      Z .rows ∙ ap₂ (λ (as′ : List (ℕ × ℕ)) (m : ℕ). map (λ a. a .0) as′ ++ drop m rs) (R .first) (R .count),
+      Z .distances ∙ ap₂ (λ (as′ : List (ℕ × ℕ)) (m : ℕ). map (λ a. a .1) as′ ++ drop m ds) (R .first) (R .count),
+      Z .bytes ∙ ap (λ (l : List ℕ). l ++ drop 5 how) (R .near),
+    )
+
+-- EVERY CASE COMES OUT, WHATEVER THE CALL IS LENT
+pub nearest-cases : Every Gets asked
+nearest-cases = every-of Right Gets gets asked right-all

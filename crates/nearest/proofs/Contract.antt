@@ -1,0 +1,142 @@
+-- What the code did is what the contract says: a refusal, and a search. Assumes nothing.
+use Prim.Native.Nat.{_<_, _≤_, min, ℕ}
+use Rattle.laws.proofs.Every.{Every}
+use Rattle.laws.proofs.Ranges.{at-every}
+use Rattle.laws.specs.Bags.{is}
+use Rattle.laws.specs.Lists.{has, look, range, times}
+use Rattle.measure.proofs.Metric.{query-point}
+use Rattle.measure.specs.Table.{between, from}
+use Rattle.nearest.proofs.Ranks.{all-pass}
+use Rattle.nearest.proofs.Refused.{fits}
+use Rattle.nearest.specs.Calls.{Answered, Found, Lent, Serves, Settled}
+use Rattle.nearest.specs.Fits.{Fits, homeBound}
+use Rattle.tree.proofs.Accepted.{each-once, shape-of}
+use Rattle.tree.proofs.Answers.{near-at, passes-all}
+use Rattle.tree.proofs.Rows.{rows-tree}
+use Rattle.tree.proofs.Theorems.{home-below, same-row}
+use Rattle.tree.specs.Calls.{saidNearest}
+use Rattle.tree.specs.Grove.{Grove, treeOf}
+use Rattle.tree.specs.Homes.{homes}
+use Rattle.tree.specs.Nearest.{answers, candidates, isMeasured, measured, nearHow, passes, sort}
+use Rattle.words.specs.Words.{n#}
+use lib.Dec.{T}
+use lib.ListN.{drop, getD, length, take}
+use mathlib.Core.Bool.{Bool, cond, false, true}
+use mathlib.Core.List.{List, [], _++_, _∷_, map}
+use mathlib.Core.Path.{_∙_, _≡_, ap, ap₂, refl, subst, sym}
+use native.Mathlib.Decide.{decLt}
+use native.Mathlib.Omega.{arith}
+
+map-same : (f g : ℕ → ℕ) (is : List ℕ) → Every (λ i. f i ≡ g i) is → map f is ≡ map g is
+map-same f g [] h = refl
+map-same f g (i ∷ is) h = ap₂ {C = List ℕ} (λ a l. a ∷ l) (h .0) (map-same f g is (h .1))
+
+-- ---- more wanted than there are rows is all of them
+module _ (x : ℕ → ℕ) (n wanted k : ℕ) (ek : k ≡ min wanted n) where
+  same-count : min k n ≡ min wanted n
+  same-count = omega arith
+
+  pub same-answers : answers x n k ≡ answers x n wanted
+  unfolding answers
+  same-answers = ap (λ (m : ℕ). take m (sort (candidates x n))) same-count
+
+  -- a bound that passes for k passes
+  pub still-passes : (b : ℕ) → passes x n k b ≡ true → passes x n wanted b ≡ true
+  still-passes b p = go (decLt n wanted)
+    where
+      go : Dec (n < wanted) → passes x n wanted b ≡ true
+      go (yes h) = passes-all x n wanted b h
+      go (no h) =
+          let e : k ≡ wanted = omega arith in
+          subst (λ (k : ℕ). passes x n k b ≡ true) e p
+
+  -- and the how-bytes are the same, where no row is closer than its home bound
+  same-near : (g : Grove) → ((i : ℕ) → i < n → look i (homes x g) ≤ x i) → nearHow x n g k ≡ nearHow x n g wanted
+  unfolding nearHow
+  same-near g under =
+      ap (λ (as′ : List (ℕ × ℕ)). map (λ i. cond (has i (map (λ a. a .0) as′)) 3 (cond (passes x n k (look i (homes x g))) 1 0)) (range 0 n)) same-answers
+      ∙ map-same (λ i. cond (has i (map (λ a. a .0) (answers x n wanted))) 3 (cond (passes x n k (look i (homes x g))) 1 0))
+      (λ i. cond (has i (map (λ a. a .0) (answers x n wanted))) 3 (cond (passes x n wanted (look i (homes x g))) 1 0)) (range 0 n)
+      (at-every (λ i. cond {A = ℕ} (has i (map (λ a. a .0) (answers x n wanted))) 3 (cond (passes x n k (look i (homes x g))) 1 0)
+      ≡ cond (has i (map (λ a. a .0) (answers x n wanted))) 3 (cond (passes x n wanted (look i (homes x g))) 1 0)) n
+      (λ i h. ap (λ (b : Bool). cond {A = ℕ} (has i (map (λ a. a .0) (answers x n wanted))) 3 (cond b 1 0)) (one i h (decLt n wanted))))
+    where
+      one : (i : ℕ) → i < n → Dec (n < wanted) → passes x n k (look i (homes x g)) ≡ passes x n wanted (look i (homes x g))
+      one i h (yes l) =
+          let e : n ≡ k = omega arith in
+          subst (λ (k : ℕ). passes x n k (look i (homes x g)) ≡ true) e (all-pass x n (look i (homes x g)) i h (under i h))
+          ∙ sym (passes-all x n wanted (look i (homes x g)) l)
+      one i h (no l) =
+          let e : k ≡ wanted = omega arith in
+          ap (λ (k : ℕ). passes x n k (look i (homes x g))) e
+
+-- ---- a table that serves is one that fits
+pub byte-measured : (x : ℕ → ℕ) (n : ℕ) (g : Grove) (k i : ℕ) → i < n → passes x n k (look i (homes x g)) ≡ true → T (isMeasured (getD (nearHow x n g k) i 0))
+byte-measured x n g k i h p = subst (λ (v : ℕ). T (isMeasured v)) (sym (near-at x n g k i h)) (go (has i (map (λ a. a .0) (answers x n k))))
+  where
+    go : (a : Bool) → T (isMeasured (cond a 3 (cond (passes x n k (look i (homes x g))) 1 0)))
+    go true = tt
+    go false = rw p tt
+
+module _ (t t′ : List ℕ) (c : ℕ) (w q : List ℕ) (wanted k : ℕ) (ek : k ≡ min wanted (n# w)) (A : Serves t t′ c w q wanted) where
+  abbrev x′ : ℕ → ℕ
+  x′ = from t′ c q
+
+  below : (i : ℕ) → i < n# w → homeBound w x′ i ≤ x′ i
+  below i h = home-below (between t′ c) w (A .accepted) x′ (query-point t′ c q) i h
+
+  pub serves-fits : Fits w k (from t c q) (from t′ c q)
+  serves-fits = record {
+    once = λ i h. ap (times i) (sym (rows-tree w (shape-of (between t′ c) w (A .accepted)))) ∙ each-once (between t′ c) w (A .accepted) i h;
+    under = below;
+    agree = λ r h p.
+        same-row t t′ c q r
+        (A .agree r h (byte-measured x′ (n# w) (treeOf w) wanted r h (still-passes x′ (n# w) wanted k ek (homeBound w x′ r) p)));
+  }
+
+  pub settled-wanted : (rs rs′ ds ds′ how how′ : List ℕ) (given : ℕ) → Settled (from t′ c q) w k rs rs′ ds ds′ how how′ given
+      → Settled (from t′ c q) w wanted rs rs′ ds ds′ how how′ given
+  settled-wanted rs rs′ ds ds′ how how′ given Z =
+      let e = same-count x′ (n# w) wanted k ek in
+      let a = same-answers x′ (n# w) wanted k ek in
+      record {
+        count = Z .count ∙ e;
+        rows = Z .rows ∙ ap₂ (λ (as′ : List (ℕ × ℕ)) (m : ℕ). map (λ a. a .0) as′ ++ drop m rs) a e;
+        distances = Z .distances ∙ ap₂ (λ (as′ : List (ℕ × ℕ)) (m : ℕ). map (λ a. a .1) as′ ++ drop m ds) a e;
+        bytes = Z .bytes ∙ ap (λ (b : List ℕ). b ++ drop (n# w) how) (same-near x′ (n# w) wanted k ek (treeOf w) below);
+      }
+
+-- ---- the call
+module _ (t : List ℕ) (c : ℕ) (w q : List ℕ) (wanted : ℕ) (rs ds how work : List ℕ) {number room : ℕ} (er : room ≡ min (length rs) (length ds))
+    (said-is : number ≡ saidNearest t c w q wanted room (length how) (length work) .0) where
+  said-right : number ≡ saidNearest t c w q wanted (min (length rs) (length ds)) (length how) (length work) .0
+  said-right = said-is ∙ ap (λ (room : ℕ). saidNearest t c w q wanted room (length how) (length work) .0) er
+
+  pub refused-is : (number ≡ 0 → ⊥) → Answered t c w q wanted rs rs ds ds how how work work number 0 0
+  refused-is h = record {
+    said = said-right;
+    refused = λ k. (refl, refl, refl, refl, refl, refl);
+    cleared = λ z. absurd (h z);
+    beyond = λ z. absurd (h z);
+    counted = λ z. absurd (h z);
+    found = λ z. absurd (h z);
+  }
+
+  -- what the core asks
+  pub core-asks : (n k : ℕ) → number ≡ 0 → n ≡ n# w → k ≡ min wanted n → Lent t c w q k rs ds how work
+  core-asks n k z en ek =
+      fits t c w q wanted rs ds how work k (ek ∙ ap (λ (n : ℕ). min wanted n) en) (sym said-right ∙ z)
+
+  pub done-is : (n k given met : ℕ) (rs′ ds′ how′ work′ : List ℕ) → number ≡ 0 → n ≡ n# w → k ≡ min wanted n
+      → Found t c w q k rs rs′ ds ds′ how how′ work work′ given → met ≡ measured (take n how′)
+      → Answered t c w q wanted rs rs′ ds ds′ how how′ work work′ 0 given met
+  done-is n k given met rs′ ds′ how′ work′ z en ek₀ D em =
+      let ek : k ≡ min wanted (n# w) = ek₀ ∙ ap (λ (n : ℕ). min wanted n) en in
+      record {
+        said = sym z ∙ said-right;
+        refused = λ f. absurd (f refl);
+        cleared = λ e. D .cleared;
+        beyond = λ e. subst (λ (k : ℕ). (drop k rs′ ≡ drop k rs) × (drop k ds′ ≡ drop k ds) × (drop (n# w) how′ ≡ drop (n# w) how)) ek (D .beyond);
+        counted = λ e. em ∙ ap (λ (n : ℕ). measured (take n how′)) en;
+        found = λ e t′ A. settled-wanted t t′ c w q wanted k ek A rs rs′ ds ds′ how how′ given (D .found (from t′ c q) (serves-fits t t′ c w q wanted k ek A));
+      }

@@ -1,0 +1,223 @@
+-- What the contract of the nearest call says, in 01's words: it is exact on an accepted index, it measures the rows whose home bound is at most D,
+-- it rests on the rows that it measures, and no second outcome fits. Assumes nothing.
+use Prim.Native.Nat.{_<_, _≤_, min, suc, zero, ℕ}
+use Rattle.laws.proofs.Every.{Every, every-both, every-map, every-take}
+use Rattle.laws.proofs.Ranges.{at-every, range-length}
+use Rattle.laws.specs.Lists.{has, look, range}
+use Rattle.measure.proofs.Metric.{query-point}
+use Rattle.measure.specs.Table.{between, from, row, rowsOf}
+use Rattle.nearest.proofs.Contract.{byte-measured, same-answers}
+use Rattle.nearest.proofs.Finding.{sort-every}
+use Rattle.nearest.proofs.Refused.{same-rows}
+use Rattle.nearest.specs.Calls.{Answered, Serves, Settled}
+use Rattle.nearest.specs.Fits.{homeBound}
+use Rattle.tree.proofs.Answers.{answers-length, near-at, passes-all, passes-near}
+use Rattle.tree.proofs.Sorted.{Le, Sorted, sort-sorted}
+use Rattle.tree.proofs.Theorems.{home-below}
+use Rattle.tree.specs.Check.{Accepted}
+use Rattle.tree.specs.Grove.{treeOf}
+use Rattle.tree.specs.Homes.{homes}
+use Rattle.tree.specs.Nearest.{answers, candidates, isMeasured, lastDistance, measured, nearHow, passes, sort}
+use Rattle.words.specs.Words.{n#}
+use borrow.Author.Tests.{eqb-true, le-ltb, leb-true}
+use lib.Dec.{T, eqb, leb}
+use lib.ListN.{List·getD-append, drop, getD, length, length-map, take}
+use lib.Seq.{take-at}
+use mathlib.Core.Bool.{Bool, _||_, cond, false, true}
+use mathlib.Core.List.{List, [], _∷_, map}
+use mathlib.Core.Logic.{_↔_}
+use mathlib.Core.Path.{_∙_, _≡_, ap, refl, subst, sym}
+use native.Mathlib.Decide.{ℕ-discrete}
+use native.Mathlib.Omega.{arith}
+
+-- ---- answers and D
+sorted-take : (k : ℕ) (s : List (ℕ × ℕ)) → Sorted s → Sorted (take k s)
+sorted-take zero s h = tt
+sorted-take (suc k) [] h = tt
+sorted-take (suc k) (a ∷ s) h = (every-take (Le a) k s (h .0), sorted-take k s (h .1))
+
+under-last : (s : List (ℕ × ℕ)) → Sorted s → Every (λ a. a .1 ≤ lastDistance s) s
+under-last [] h = tt
+under-last (a ∷ []) h = (omega arith, tt)
+under-last (a ∷ b ∷ s) h =
+    let k = under-last (b ∷ s) (h .1) in
+    (omega (arith, h .0 .0 .0, k .0), k)
+
+has-every : (P : ℕ → Type 0) (i : ℕ) (l : List (ℕ × ℕ)) → Every (λ a. P (a .0)) l → has i (map (λ a. a .0) l) ≡ true → P i
+has-every P i [] h e = absurd (subst T (sym e) tt)
+has-every P i (a ∷ l) h e = go (λ q. has-every P i l (h .1) q) (eqb i (a .0)) refl e
+  where
+    go : (has i (map (λ a. a .0) l) ≡ true → P i) → (b : Bool) → eqb i (a .0) ≡ b → (b || has i (map (λ a. a .0) l)) ≡ true → P i
+    go f true q e = subst P (sym (eqb-true i (a .0) q)) (h .0)
+    go f false q e = f e
+
+-- an answer's home bound is at most D
+answer-near : (x hb : ℕ → ℕ) (n wanted i : ℕ) → ((r : ℕ) → r < n → hb r ≤ x r) → has i (map (λ a. a .0) (answers x n wanted)) ≡ true
+    → hb i ≤ lastDistance (answers x n wanted)
+unfolding answers
+answer-near x hb n wanted i under e =
+    let k : ℕ = min wanted n in
+    let s : List (ℕ × ℕ) = sort (candidates x n) in
+    has-every (λ i. hb i ≤ lastDistance (take k s)) i (take k s)
+    (every-both (λ a. a .1 ≤ lastDistance (take k s)) (λ a. hb (a .0) ≤ a .1) (λ a. hb (a .0) ≤ lastDistance (take k s)) (λ a p q. omega arith) (take k s)
+    (under-last (take k s) (sorted-take k s (sort-sorted (candidates x n))))
+    (every-take (λ a. hb (a .0) ≤ a .1) k s
+    (sort-every (λ a. hb (a .0) ≤ a .1) (candidates x n) (every-map (λ a. hb (a .0) ≤ a .1) (λ i. (i, x i)) (range 0 n) (at-every (λ i. hb i ≤ x i) n under)))))
+    e
+
+-- a bound that passes is at most D, where no more are wanted than there are
+passes-only : (x : ℕ → ℕ) (n wanted b : ℕ) → wanted ≤ n → passes x n wanted b ≡ true → b ≤ lastDistance (answers x n wanted)
+unfolding passes
+passes-only x n wanted b h e =
+    leb-true b (lastDistance (answers x n wanted)) (sym (ap (λ (a : Bool). a || leb b (lastDistance (answers x n wanted))) (le-ltb n wanted h)) ∙ e)
+
+-- ---- a call that is not refused, where a table serves
+module _ {t : List ℕ} {c : ℕ} {w q : List ℕ} {wanted : ℕ} {rs rs′ ds ds′ how how′ work work′ : List ℕ} {number given met : ℕ}
+    (s : Answered t c w q wanted rs rs′ ds ds′ how how′ work work′ number given met) (done : number ≡ 0) where
+  -- the table has as many rows as the index
+  rows-are : rowsOf t c ≡ n# w
+  rows-are = sym (same-rows t c w q wanted (min (length rs) (length ds)) (length how) (length work) (sym (s .said) ∙ done))
+
+  module _ (x : ℕ → ℕ) (Z : Settled x w wanted rs rs′ ds ds′ how how′ given) where
+    near-length : length (nearHow x (n# w) (treeOf w) wanted) ≡ n# w
+    unfolding nearHow
+    near-length =
+        length-map (range 0 (n# w)) (λ i. cond (has i (map (λ a. a .0) (answers x (n# w) wanted))) 3 (cond (passes x (n# w) wanted (look i (homes x (treeOf w)))) 1 0))
+        ∙ range-length 0 (n# w)
+
+    part-length : (f : ℕ × ℕ → ℕ) → length (map f (answers x (n# w) wanted)) ≡ min wanted (n# w)
+    part-length f =
+        length-map (answers x (n# w) wanted) f ∙ ap length (sym (same-answers x (n# w) wanted (min wanted (n# w)) refl))
+        ∙ answers-length x (n# w) (min wanted (n# w)) (omega arith)
+
+    -- what is written, and the counts
+    first-rows : take (min wanted (n# w)) rs′ ≡ map (λ a. a .0) (answers x (n# w) wanted)
+    first-rows =
+        ap (take (min wanted (n# w))) (Z .rows) ∙ take-at (map (λ a. a .0) (answers x (n# w) wanted)) (drop (min wanted (n# w)) rs) (min wanted (n# w)) (part-length (λ a. a .0))
+
+    first-distances : take (min wanted (n# w)) ds′ ≡ map (λ a. a .1) (answers x (n# w) wanted)
+    first-distances =
+        ap (take (min wanted (n# w))) (Z .distances) ∙ take-at (map (λ a. a .1) (answers x (n# w) wanted)) (drop (min wanted (n# w)) ds) (min wanted (n# w)) (part-length (λ a. a .1))
+
+    first-bytes : take (n# w) how′ ≡ nearHow x (n# w) (treeOf w) wanted
+    first-bytes = ap (take (n# w)) (Z .bytes) ∙ take-at (nearHow x (n# w) (treeOf w) wanted) (drop (n# w) how) (n# w) near-length
+
+    pub count-is : met ≡ measured (nearHow x (n# w) (treeOf w) wanted)
+    count-is = s .counted done ∙ ap measured first-bytes
+
+    byte-at : (i : ℕ) → i < n# w → getD how′ i 0 ≡ getD (nearHow x (n# w) (treeOf w) wanted) i 0
+    byte-at i h =
+        ap (λ (l : List ℕ). getD l i 0) (Z .bytes)
+        ∙ List·getD-append (nearHow x (n# w) (treeOf w) wanted) (drop (n# w) how) 0 i (subst (λ (n : ℕ). i < n) (sym near-length) h)
+
+-- ---- a call that is not refused, on an index that the full check accepts with its table
+module _ {t : List ℕ} {c : ℕ} {w q : List ℕ} {wanted : ℕ} {rs rs′ ds ds′ how how′ work work′ : List ℕ} {number given met : ℕ}
+    (s : Answered t c w q wanted rs rs′ ds ds′ how how′ work work′ number given met) (done : number ≡ 0) (A : Accepted (between t c) w) where
+  abbrev x : ℕ → ℕ
+  x = from t c q
+
+  abbrev hb : ℕ → ℕ
+  hb = homeBound w (from t c q)
+
+  -- EXACT: THE ANSWERS ARE THE FIRST OF ALL ROWS BY DISTANCE, THEN ROW NUMBER, AS MANY AS ARE WANTED OR THERE ARE, AND THE HOW-BYTES FOLLOW FROM HOME BOUNDS
+  pub nearest-exact : Settled (from t c q) w wanted rs rs′ ds ds′ how how′ given
+  nearest-exact = s .found done t (record { rows = rows-are s done; accepted = A; agree = λ i h m. refl })
+
+  -- MEASURED: A ROW'S HOW-BYTE IS 1 OR 3 EXACTLY IF ITS HOME BOUND IS AT MOST D
+  pub nearest-measured : wanted ≤ n# w → (i : ℕ) → i < n# w
+      → T (isMeasured (getD how′ i 0)) ↔ (homeBound w (from t c q) i ≤ lastDistance (answers (from t c q) (n# w) wanted))
+  nearest-measured few i h =
+      subst (λ (v : ℕ). T (isMeasured v) ↔ (hb i ≤ lastDistance (answers x (n# w) wanted)))
+      (sym (byte-at s done x nearest-exact i h ∙ near-at x (n# w) (treeOf w) wanted i h))
+      (go (has i (map (λ a. a .0) (answers x (n# w) wanted))) (passes x (n# w) wanted (hb i)) refl refl)
+    where
+      go : (a b : Bool) → has i (map (λ a. a .0) (answers (from t c q) (n# w) wanted)) ≡ a → passes (from t c q) (n# w) wanted (homeBound w (from t c q) i) ≡ b
+          → T (isMeasured (cond a 3 (cond b 1 0))) ↔ (homeBound w (from t c q) i ≤ lastDistance (answers (from t c q) (n# w) wanted))
+      go true b ea eb = (λ m. answer-near x hb (n# w) wanted i (λ r l. home-below (between t c) w A x (query-point t c q) r l) ea, λ m. tt)
+      go false true ea eb = (λ m. passes-only x (n# w) wanted (hb i) few eb, λ m. tt)
+      go false false ea eb = (λ m. absurd m, λ m. subst T (sym (passes-near x (n# w) wanted (hb i) m) ∙ eb) tt)
+
+  -- ALL ROWS IF MORE ARE WANTED THAN THERE ARE
+  pub nearest-measured-all : n# w < wanted → (i : ℕ) → i < n# w → T (isMeasured (getD how′ i 0))
+  nearest-measured-all more i h =
+      subst (λ (v : ℕ). T (isMeasured v)) (sym (byte-at s done x nearest-exact i h))
+      (byte-measured x (n# w) (treeOf w) wanted i h (passes-all x (n# w) wanted (hb i) more))
+
+  -- TWO TABLES: WHERE A SECOND TABLE AGREES WITH THIS ONE IN EVERY ROW THAT WAS MEASURED, A SEARCH ON IT THAT IS NOT REFUSED GIVES THE SAME ANSWERS,
+  -- HOW-BYTES AND COUNTS. Nothing else is asked of the second table, and its call may be lent other rooms
+  pub nearest-two-tables : {t₂ rs₂ rs₂′ ds₂ ds₂′ how₂ how₂′ work₂ work₂′ : List ℕ} {number₂ given₂ met₂ : ℕ}
+      → Answered t₂ c w q wanted rs₂ rs₂′ ds₂ ds₂′ how₂ how₂′ work₂ work₂′ number₂ given₂ met₂ → number₂ ≡ 0
+      → ((i : ℕ) → i < n# w → T (isMeasured (getD how′ i 0)) → row t c i ≡ row t₂ c i)
+      → (given ≡ given₂) × (met ≡ met₂) × (take (min wanted (n# w)) rs′ ≡ take (min wanted (n# w)) rs₂′)
+      × (take (min wanted (n# w)) ds′ ≡ take (min wanted (n# w)) ds₂′) × (take (n# w) how′ ≡ take (n# w) how₂′)
+  nearest-two-tables s₂ done₂ agree =
+      let Z = nearest-exact in
+      let Z₂ = s₂ .found done₂ t
+      (record {
+        rows = rows-are s done;
+        accepted = A;
+        agree = λ i h m. sym (agree i h (subst (λ (v : ℕ). T (isMeasured v)) (sym (byte-at s done x Z i h)) m));
+      }) in (
+        Z .count ∙ sym (Z₂ .count),
+        count-is s done x Z ∙ sym (count-is s₂ done₂ x Z₂),
+        first-rows s done x Z ∙ sym (first-rows s₂ done₂ x Z₂),
+        first-distances s done x Z ∙ sym (first-distances s₂ done₂ x Z₂),
+        first-bytes s done x Z ∙ sym (first-bytes s₂ done₂ x Z₂),
+      )
+
+-- ---- two outcomes of one call
+module _ {t : List ℕ} {c : ℕ} {w q : List ℕ} {wanted : ℕ} {rs ds how work : List ℕ} {rs₁ ds₁ how₁ work₁ rs₂ ds₂ how₂ work₂ : List ℕ}
+    {number₁ given₁ met₁ number₂ given₂ met₂ : ℕ}
+    (s₁ : Answered t c w q wanted rs rs₁ ds ds₁ how how₁ work work₁ number₁ given₁ met₁)
+    (s₂ : Answered t c w q wanted rs rs₂ ds ds₂ how how₂ work work₂ number₂ given₂ met₂) where
+  -- they have the same counts and buffers
+  abbrev pub Same : Type 0
+  Same = (given₁ ≡ given₂) × (met₁ ≡ met₂) × (rs₁ ≡ rs₂) × (ds₁ ≡ ds₂) × (how₁ ≡ how₂) × (work₁ ≡ work₂)
+
+  one-number : number₁ ≡ number₂
+  one-number = s₁ .said ∙ sym (s₂ .said)
+
+  -- WHAT IS SETTLED ON ANY INDEX: ALL OF A REFUSAL; ELSE THE NUMBER, THE WORKSPACE, WHAT LIES BEYOND, AND THE COUNT BY THE HOW-BYTES
+  pub nearest-open : (number₁ ≡ number₂) × ((number₁ ≡ 0 → ⊥) → Same)
+      × (number₁ ≡ 0 → (work₁ ≡ work₂) × (drop (min wanted (n# w)) rs₁ ≡ drop (min wanted (n# w)) rs₂)
+      × (drop (min wanted (n# w)) ds₁ ≡ drop (min wanted (n# w)) ds₂) × (drop (n# w) how₁ ≡ drop (n# w) how₂)
+      × (take (n# w) how₁ ≡ take (n# w) how₂ → met₁ ≡ met₂))
+  nearest-open = (
+    one-number,
+    λ k.
+        let f = s₁ .refused k in
+        let g = s₂ .refused (λ z. k (one-number ∙ z)) in
+        (f .0 ∙ sym (g .0), f .1 ∙ sym (g .1), f .2 ∙ sym (g .2), f .3 ∙ sym (g .3), f .4 ∙ sym (g .4), f .5 ∙ sym (g .5)),
+    λ z.
+        let y : number₂ ≡ 0 = sym one-number ∙ z in
+        let b = s₁ .beyond z in
+        let d = s₂ .beyond y in (
+          s₁ .cleared z ∙ sym (s₂ .cleared y),
+          b .0 ∙ sym (d .0),
+          b .1 ∙ sym (d .1),
+          b .2 ∙ sym (d .2),
+          λ e. s₁ .counted z ∙ ap measured e ∙ sym (s₂ .counted y),
+        ),
+  )
+
+  -- NO SECOND OUTCOME FITS, where the call is refused or a table serves
+  pub nearest-only : (t′ : List ℕ) → (number₁ ≡ 0 → Serves t t′ c w q wanted) → (number₁ ≡ number₂) × Same
+  nearest-only t′ serves = go (ℕ-discrete number₁ 0)
+    where
+      go : Dec (number₁ ≡ 0) → (number₁ ≡ number₂) × Same
+      go (no k) = (one-number, nearest-open .1 k)
+      go (yes z) =
+          let y : number₂ ≡ 0 = sym one-number ∙ z in
+          let Z₁ = s₁ .found z t′ (serves z) in
+          let Z₂ = s₂ .found y t′ (serves z) in
+          let e = Z₁ .bytes ∙ sym (Z₂ .bytes) in (
+            one-number,
+            (
+              Z₁ .count ∙ sym (Z₂ .count),
+              nearest-open .2 z .4 (ap (take (n# w)) e),
+              Z₁ .rows ∙ sym (Z₂ .rows),
+              Z₁ .distances ∙ sym (Z₂ .distances),
+              e,
+              nearest-open .2 z .0,
+            ),
+          )

@@ -1,0 +1,228 @@
+-- Queueing the rows of a leaf and the children of an inner node, one by one. Assumes nothing.
+use Prim.Native.Nat.{_*_, _+_, _-_, _<_, _≤_, max, min, suc, ℕ}
+use Rattle.laws.proofs.Outside.{outside-more, outside-same, outside-then}
+use Rattle.laws.specs.Bags.{total, upto}
+use Rattle.laws.specs.Lists.{gap}
+use Rattle.nearest.specs.Answers.{Entered, Full, Still, distanceOf}
+use Rattle.nearest.specs.Frontier.{More, Room, leastKept, noded, placed}
+use Rattle.nearest.specs.Standing.{kept}
+use Rattle.queue.specs.Entry.{entryAt, packed}
+use Rattle.queue.specs.Queue.{Popped, Pushed, Queue, entries}
+use Rattle.tree.specs.Homes.{childBound}
+use Rattle.words.specs.InShape.{InShape}
+use Rattle.words.specs.Words.{N#, count#, dist#, first#, n#, nodeAt, pairAt, radius#, start#}
+use borrow.Author.Tests.{le-leb, leb-true}
+use lib.Dec.{leb}
+use lib.ListN.{getD, length}
+use mathlib.Core.List.{List, _++_}
+use mathlib.Core.Path.{_∙_, _≡_, ap, ap₂, refl, subst, sym}
+use native.Mathlib.Numerals.{add-one}
+use native.Mathlib.Omega.{arith}
+
+-- ---- entries more
+more-none : (work : List ℕ) (n len : ℕ) (g : ℕ → ℕ) → Queue work 0 len → More work work n len 0 g len
+more-none work n len g q = record { queue = q; count = omega arith; bag = λ f. refl; outside = outside-same work 0 (2 * n) }
+
+more-one : (work work₁ work₂ : List ℕ) (n len k : ℕ) (g : ℕ → ℕ) (size e : ℕ) → More work work₁ n len k g size → size < n → e ≡ g k → Pushed work₁ work₂ 0 size e
+    → More work work₂ n len (k + 1) g (size + 1)
+more-one work work₁ work₂ n len k g size e M h q P = record {
+  queue = P .queue;
+  count = omega (arith, M .count);
+  bag = λ f. bag f;
+  outside = outside-then work work₁ work₂ 0 (2 * n) 0 (0 + (size + size) + 2) (omega arith) (omega arith) (M .outside) (P .outside);
+}
+  where
+    bag : (f : ℕ → ℕ) → total f (entries work₂ 0 (size + 1)) ≡ total f (upto g (k + 1) ++ entries work 0 len)
+    bag f =
+        P .bag f
+        ∙ subst (λ (z : ℕ). f e + total f (entries work₁ 0 size) ≡ total f (upto g z ++ entries work 0 len)) (sym (add-one k))
+        (omega (arith, M .bag f, ap f q))
+
+module _ (w work : List ℕ) (n len k : ℕ) (R : Room w work n len k) where
+  -- there is room for one more of k
+  room-one : (work₁ : List ℕ) (g : ℕ → ℕ) (i size : ℕ) → More work work₁ n len i g size → i < k → (size < n) × (0 + (size + size) + 1 < length work₁)
+  room-one work₁ g i size M h = (omega (arith, M .count, R .fits), omega (arith, M .count, R .fits, M .outside .same, R .words))
+
+-- ---- the rows of a leaf: position p is next
+pub record RowsTo (w work work₁ : List ℕ) (n len s e b x p size : ℕ) : Type 0 where
+  pub more : More work work₁ n len (p - (s + 1)) (λ (i : ℕ). placed w b x (s + suc i)) size
+  pub low : s + 1 ≤ p
+  pub high : p ≤ e
+
+module _ (w work : List ℕ) (n len s e b x : ℕ) (R : Room w work n len (e - (s + 1))) where
+  pub rows-start : s < e → RowsTo w work work n len s e b x (s + 1) len
+  rows-start h =
+      let z : 0 ≡ s + 1 - (s + 1) = omega arith in
+      record {
+        more = subst (λ (k : ℕ). More work work n len k (λ (i : ℕ). placed w b x (s + suc i)) len) z
+            (more-none work n len (λ (i : ℕ). placed w b x (s + suc i)) (R .queue));
+        low = omega arith;
+        high = omega arith;
+      }
+
+  module _ (work₁ : List ℕ) (p size : ℕ) (T : RowsTo w work work₁ n len s e b x p size) where
+    pub rows-room : p < e → (size < n) × (0 + (size + size) + 1 < length work₁)
+    rows-room h = room-one w work n len (e - (s + 1)) R work₁ (λ (i : ℕ). placed w b x (s + suc i)) (p - (s + 1)) size (T .more) (omega (arith, T .low))
+
+    pub rows-step : (work₂ : List ℕ) (stored key v : ℕ) → p < e → stored ≡ dist# w p → key ≡ max b (gap x stored) → v ≡ packed key (2 * n + p)
+        → Pushed work₁ work₂ 0 size v → RowsTo w work work₂ n len s e b x (p + 1) (size + 1)
+    rows-step work₂ stored key v h es ek ev P =
+        let next : p - (s + 1) + 1 ≡ p + 1 - (s + 1) = omega (arith, T .low) in
+        let here : p ≡ s + suc (p - (s + 1)) = omega (arith, T .low) in
+        record {
+          more = subst (λ (k : ℕ). More work work₂ n len k (λ (i : ℕ). placed w b x (s + suc i)) (size + 1)) next
+              (more-one work work₁ work₂ n len (p - (s + 1)) (λ (i : ℕ). placed w b x (s + suc i)) size v (T .more) (rows-room h .0)
+              (ev ∙ ap₂ (λ (key n : ℕ). packed key (2 * n + p)) (ek ∙ ap (λ (z : ℕ). max b (gap x z)) es) (R .rows) ∙ ap (placed w b x) here) P);
+          low = omega (arith, T .low);
+          high = omega arith;
+        }
+
+    pub rows-done : e ≤ p → More work work₁ n len (e - (s + 1)) (λ (i : ℕ). placed w b x (s + suc i)) size
+    rows-done h =
+        let z : p ≡ e = omega (arith, T .high) in
+        subst (λ (p : ℕ). More work work₁ n len (p - (s + 1)) (λ (i : ℕ). placed w b x (s + suc i)) size) z (T .more)
+
+-- position p can be read
+pub place-words : (w : List ℕ) (p : ℕ) → InShape w → p < n# w → pairAt w p + 1 < length w
+place-words w p S h = omega (arith, S .whole .words)
+
+-- node k's words can be read
+pub node-words : (w : List ℕ) (k : ℕ) → InShape w → k < N# w → nodeAt k + 3 < length w
+node-words w k S h = omega (arith, S .whole .words)
+
+-- ---- the children of an inner node: node j is next
+pub record NodesTo (w work work₁ : List ℕ) (n len a e b y j size : ℕ) : Type 0 where
+  pub more : More work work₁ n len (j - a) (λ (i : ℕ). noded w work b y (a + i)) size
+  pub low : a ≤ j
+  pub high : j ≤ e
+
+module _ (w work : List ℕ) (n len a e b y : ℕ) (R : Room w work n len (e - a)) where
+  pub nodes-start : a ≤ e → NodesTo w work work n len a e b y a len
+  nodes-start h =
+      let z : 0 ≡ a - a = omega arith in
+      record {
+        more = subst (λ (k : ℕ). More work work n len k (λ (i : ℕ). noded w work b y (a + i)) len) z
+            (more-none work n len (λ (i : ℕ). noded w work b y (a + i)) (R .queue));
+        low = omega arith;
+        high = h;
+      }
+
+  module _ (work₁ : List ℕ) (j size : ℕ) (T : NodesTo w work work₁ n len a e b y j size) where
+    pub nodes-room : j < e → (size < n) × (0 + (size + size) + 1 < length work₁)
+    nodes-room h = room-one w work n len (e - a) R work₁ (λ (i : ℕ). noded w work b y (a + i)) (j - a) size (T .more) (omega (arith, T .low))
+
+    -- x is what is kept for the node's first, r
+    pub nodes-step : (work₂ : List ℕ) (r x R′ key v : ℕ) → j < e → r ≡ first# w j → x ≡ getD work₁ (2 * n + r) 0 → R′ ≡ radius# w j → key ≡ childBound b y x R′
+        → v ≡ packed key j → Pushed work₁ work₂ 0 size v → NodesTo w work work₂ n len a e b y (j + 1) (size + 1)
+    nodes-step work₂ r x R′ key v h er ex eR ek ev P =
+        let next : j - a + 1 ≡ j + 1 - a = omega (arith, T .low) in
+        let here : j ≡ a + (j - a) = omega (arith, T .low) in
+        let at-x : x ≡ kept work (n# w) (first# w j) =
+        ex ∙ T .more .outside .over (2 * n + r) (omega arith) ∙ ap₂ (λ (n r : ℕ). kept work n r) (R .rows) er in
+        record {
+          more = subst (λ (k : ℕ). More work work₂ n len k (λ (i : ℕ). noded w work b y (a + i)) (size + 1)) next
+              (more-one work work₁ work₂ n len (j - a) (λ (i : ℕ). noded w work b y (a + i)) size v (T .more) (nodes-room h .0)
+              (ev ∙ ap (λ (key : ℕ). packed key j) (ek ∙ ap₂ (λ (x R′ : ℕ). childBound b y x R′) at-x eR) ∙ ap (noded w work b y) here) P);
+          low = omega (arith, T .low);
+          high = omega arith;
+        }
+
+    pub nodes-done : e ≤ j → More work work₁ n len (e - a) (λ (i : ℕ). noded w work b y (a + i)) size
+    nodes-done h =
+        let z : j ≡ e = omega (arith, T .high) in
+        subst (λ (j : ℕ). More work work₁ n len (j - a) (λ (i : ℕ). noded w work b y (a + i)) size) z (T .more)
+
+-- ---- the nearest centre: node j is next
+pub record LeastTo (w work : List ℕ) (a e j y : ℕ) : Type 0 where
+  pub least : y ≡ leastKept w work a (j - (a + 1))
+  pub low : a + 1 ≤ j
+  pub high : j ≤ e
+
+module _ (w work : List ℕ) (n a e : ℕ) (rows : n ≡ n# w) where
+  pub least-start : (r y : ℕ) → a < e → r ≡ first# w a → y ≡ getD work (2 * n + r) 0 → LeastTo w work a e (a + 1) y
+  least-start r y h f ey =
+      let z : 0 ≡ a + 1 - (a + 1) = omega arith in
+      let here : a ≡ a + 0 = omega arith in
+      record {
+        least = ey ∙ ap₂ (λ (n r : ℕ). kept work n r) rows (f ∙ ap (first# w) here) ∙ ap (leastKept w work a) z;
+        low = omega arith;
+        high = omega arith;
+      }
+
+  pub least-step : (j y r z : ℕ) → LeastTo w work a e j y → j < e → r ≡ first# w j → z ≡ min y (getD work (2 * n + r) 0) → LeastTo w work a e (j + 1) z
+  least-step j y r z T h f ez =
+      let here : j ≡ a + suc (j - (a + 1)) = omega (arith, T .low) in
+      let next : suc (j - (a + 1)) ≡ j + 1 - (a + 1) = omega (arith, T .low) in
+      record {
+        least = ez ∙ ap₂ (λ (u v : ℕ). min u v) (T .least) (ap₂ (λ (n r : ℕ). kept work n r) rows (f ∙ ap (first# w) here)) ∙ ap (leastKept w work a) next;
+        low = omega (arith, T .low);
+        high = omega arith;
+      }
+
+  pub least-done : (j y : ℕ) → e ≤ j → LeastTo w work a e j y → y ≡ leastKept w work a (e - (a + 1))
+  least-done j y h T =
+      let z : j ≡ e = omega (arith, T .high) in
+      subst (λ (j : ℕ). y ≡ leastKept w work a (j - (a + 1))) z (T .least)
+
+-- ---- entering an answer
+module _ (work : List ℕ) (b w k e : ℕ) (F : Full work b w k) where
+  pub enter-free : (work′ : List ℕ) → k < w → Pushed work work′ b k e → Entered work work′ b w k e (k + 1)
+  enter-free work′ h P = record {
+    queue = P .queue;
+    free = λ l. (refl, P .bag);
+    worse = λ l c. absurd (omega arith);
+    better = λ l c. absurd (omega arith);
+    outside = outside-more work work′ b (b + (w + w)) b (b + (k + k) + 2) (omega arith) (omega arith) (P .outside);
+  }
+
+  pub enter-less : w ≤ k → e < entryAt work b → Entered work work b w k e k
+  enter-less h c = record {
+    queue = F .queue;
+    free = λ l. absurd (omega arith);
+    worse = λ l q. (refl, λ f. refl);
+    better = λ l q. absurd (omega arith);
+    outside = outside-same work b (b + (w + w));
+  }
+
+  pub enter-more : (work₁ work′ : List ℕ) (v : ℕ) → w ≤ k → entryAt work b ≤ e → Popped work work₁ b k v → Pushed work₁ work′ b (k - 1) e → Entered work work′ b w k e k
+  enter-more work₁ work′ v h c Q P =
+      let back : k - 1 + 1 ≡ k = omega (arith, F .some) in
+      record {
+        queue = subst (Queue work′ b) back (P .queue);
+        free = λ l. absurd (omega arith);
+        worse = λ l q. absurd (omega arith);
+        better = λ l q. (
+          refl,
+          λ f. omega (arith, ap (λ (z : ℕ). total f (entries work′ b z)) back, P .bag f, Q .bag f, ap f (Q .front)),
+        );
+        outside = outside-then work work₁ work′ b (b + (w + w)) b (b + (k - 1 + (k - 1)) + 2) (omega arith) (omega (arith, F .some, F .most))
+            (outside-more work work₁ b (b + (w + w)) b (b + (k + k)) (omega arith) (omega (arith, F .most)) (Q .outside)) (P .outside);
+      }
+
+-- ---- a leaf, as the code reads it: s is its start, c its count, f its first
+module _ (w work : List ℕ) (n len k s c f : ℕ) (R : Room w work n len (count# w k)) (h : k < N# w) (es : s ≡ start# w k) (ec : c ≡ count# w k)
+    (ef : f ≡ first# w k) where
+  pub leaf-room : Room w work n len (s + c - (s + 1)) × ((s < s + c) × (s + c ≤ n))
+  leaf-room =
+      let N = R .shape .node k h in (
+        record { shape = R .shape; rows = R .rows; queue = R .queue; fits = omega (arith, R .fits); words = R .words },
+        (omega (arith, N .some), omega (arith, N .run, R .rows)),
+      )
+
+  pub leaf-more : (work′ : List ℕ) (b r : ℕ) → More work work′ n len (s + c - (s + 1)) (λ (i : ℕ). placed w b (getD work (2 * n + f) 0) (s + suc i)) r
+      → More work work′ n len (count# w k - 1) (λ (i : ℕ). placed w b (kept work n (first# w k)) (start# w k + suc i)) r
+  leaf-more work′ b r M =
+      let z : s + c - (s + 1) ≡ count# w k - 1 = omega arith in
+      subst (λ (s : ℕ). More work work′ n len (count# w k - 1) (λ (i : ℕ). placed w b (kept work n (first# w k)) (s + suc i)) r) es
+      (subst (λ (f : ℕ). More work work′ n len (count# w k - 1) (λ (i : ℕ). placed w b (getD work (2 * n + f) 0) (s + suc i)) r) ef
+      (subst (λ (m : ℕ). More work work′ n len m (λ (i : ℕ). placed w b (getD work (2 * n + f) 0) (s + suc i)) r) z M))
+
+-- the number of rows, as the code holds it
+pub room-at : (w work : List ℕ) (n len k : ℕ) → n ≡ n# w → Room w work (n# w) len k → Room w work n len k
+room-at w work n len k e R = subst (λ (n : ℕ). Room w work n len k) (sym e) R
+
+-- ---- whether a search goes on, as the code tests it
+pub still-by : (work : List ℕ) (b w k bound v d : ℕ) → w ≤ k → v ≡ entryAt work b → d ≡ distanceOf v → Still work b w k bound (leb bound d)
+still-by work b w k bound v d h ev ed =
+    let z : d ≡ distanceOf (entryAt work b) = ed ∙ ap distanceOf ev in
+    (λ t l. omega (arith, leb-true bound d t), λ f. le-leb bound d (omega (arith, f h)))

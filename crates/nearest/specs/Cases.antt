@@ -1,0 +1,34 @@
+-- What the call gives in the nearest cases of 01, The five-row table, and in one of ours. Assumes nothing.
+use Prim.Native.Nat.{_≤_, ℕ}
+use Rattle.nearest.specs.Calls.{Answered}
+use Rattle.tree.specs.Cases.{five, fiveWords}
+use lib.ListN.{drop, length}
+use mathlib.Core.List.{List, [], _++_, _∷_, map}
+use mathlib.Core.Path.{_≡_}
+
+-- a query, how many are wanted, the answers, the how-bytes, and how many rows are measured
+pub record Case : Type 0 where
+  pub query : ℕ
+  pub wanted : ℕ
+  pub answers : List (ℕ × ℕ)
+  pub bytes : List ℕ
+  pub met : ℕ
+
+-- the four that 01 marks P, and one that tells a home bound equal to D
+abbrev pub asked : List Case
+asked =
+    record { query = 9; wanted = 1; answers = (2, 1) ∷ []; bytes = 1 ∷ 0 ∷ 3 ∷ 0 ∷ 1 ∷ []; met = 3 }
+    ∷ record { query = 9; wanted = 2; answers = (2, 1) ∷ (3, 2) ∷ []; bytes = 1 ∷ 0 ∷ 3 ∷ 3 ∷ 1 ∷ []; met = 4 }
+    ∷ record { query = 5; wanted = 2; answers = (1, 4) ∷ (0, 5) ∷ []; bytes = 3 ∷ 3 ∷ 1 ∷ 0 ∷ 1 ∷ []; met = 4 }
+    ∷ record { query = 9; wanted = 9; answers = (2, 1) ∷ (3, 2) ∷ (1, 8) ∷ (0, 9) ∷ (4, 11) ∷ []; bytes = 3 ∷ 3 ∷ 3 ∷ 3 ∷ 3 ∷ []; met = 5 }
+    ∷ record { query = 6; wanted = 2; answers = (2, 4) ∷ (1, 5) ∷ []; bytes = 1 ∷ 3 ∷ 3 ∷ 1 ∷ 1 ∷ []; met = 5 }
+    ∷ []
+
+-- with the index of the five-row table, and with room enough, every outcome of the call has the number 0, these answers and how-bytes before
+-- what was lent beyond them, and these counts
+abbrev pub Gets : Case → Type 0
+Gets k =
+    (rs rs′ ds ds′ how how′ work work′ : List ℕ) (number given met : ℕ) → length (k .answers) ≤ length rs → length (k .answers) ≤ length ds → 5 ≤ length how → 30 ≤ length work
+    → Answered five 1 fiveWords (k .query ∷ []) (k .wanted) rs rs′ ds ds′ how how′ work work′ number given met
+    → (number ≡ 0) × (given ≡ length (k .answers)) × (met ≡ k .met) × (rs′ ≡ map (λ a. a .0) (k .answers) ++ drop (length (k .answers)) rs)
+    × (ds′ ≡ map (λ a. a .1) (k .answers) ++ drop (length (k .answers)) ds) × (how′ ≡ k .bytes ++ drop 5 how)

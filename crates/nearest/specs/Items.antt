@@ -1,0 +1,85 @@
+-- The search space of an index: what waits, what taking it measures, and what then waits in its place. 01, Which rows are measured.
+-- Assumes nothing.
+use Prim.Native.Nat.{_+_, _-_, max, min, suc, zero, ℕ}
+use Rattle.best.specs.Search.{Space}
+use Rattle.laws.specs.Bags.{is, upto}
+use Rattle.laws.specs.Lists.{gap}
+use Rattle.laws.specs.Upto.{sumTo}
+use Rattle.tree.specs.Homes.{childBound}
+use Rattle.words.specs.Words.{child#, count#, dist#, first#, m#, n#, radius#, row#, start#}
+use mathlib.Core.List.{List, []}
+
+-- What waits: node k under the bound b, with its first at x; or position p of an opened leaf under its own bound b.
+pub data Item : Type 0 where
+  node : (k b x : ℕ) → Item
+  place : (p b : ℕ) → Item
+
+abbrev pub boundOf : Item → ℕ
+boundOf (node k b x) = b
+boundOf (place p b) = b
+
+-- the least of f 0, f 1, .. f c
+abbrev pub leastTo : (ℕ → ℕ) → ℕ → ℕ
+leastTo f zero = f 0
+leastTo f (suc c) = min (leastTo f c) (f (suc c))
+
+module _ (w : List ℕ) where
+  -- ---- an inner node's children, from number q on, where its first is at x and the other rows are at d
+  -- the distance of child j's first: the first child shares its parent's
+  abbrev pub centreAt : (ℕ → ℕ) → ℕ → ℕ → ℕ → ℕ
+  centreAt d q x zero = x
+  centreAt d q x (suc j) = d (first# w (q + suc j))
+
+  -- y, the least distance over its centres
+  abbrev pub nearestAt : (ℕ → ℕ) → ℕ → ℕ → ℕ
+  nearestAt d q x = leastTo (centreAt d q x) (m# w - 1)
+
+  abbrev pub childOf : (ℕ → ℕ) → ℕ → ℕ → ℕ → ℕ → Item
+  childOf d q b x j = node (q + j) (childBound b (nearestAt d q x) (centreAt d q x j) (radius# w (q + j))) (centreAt d q x j)
+
+  -- ---- a leaf's rows but its first
+  abbrev pub placeBound : ℕ → ℕ → ℕ → ℕ
+  placeBound b x p = max b (gap x (dist# w p))
+
+  abbrev pub placeOf : ℕ → ℕ → ℕ → ℕ → Item
+  placeOf k b x i = place (start# w k + suc i) (placeBound b x (start# w k + suc i))
+
+  -- ---- taking an item
+  -- an inner node measures every centre but its own first, a leaf nothing, a position its row
+  abbrev pub measuresAt : ℕ → ℕ → ℕ
+  measuresAt zero r = 0
+  measuresAt (suc q) r = sumTo (λ (j : ℕ). is r (first# w (suc q + suc j))) (m# w - 1)
+
+  abbrev pub measuredBy : Item → ℕ → ℕ
+  measuredBy (node k b x) r = measuresAt (child# w k) r
+  measuredBy (place p b) r = is r (row# w p)
+
+  -- a leaf opens to its rows but the first, an inner node to its children
+  abbrev pub opensAt : (ℕ → ℕ) → ℕ → ℕ → ℕ → ℕ → List Item
+  opensAt d zero k b x = upto (placeOf k b x) (count# w k - 1)
+  opensAt d (suc q) k b x = upto (childOf d (suc q) b x) (m# w)
+
+  abbrev pub openedBy : (ℕ → ℕ) → Item → List Item
+  openedBy d (node k b x) = opensAt d (child# w k) k b x
+  openedBy d (place p b) = []
+
+  -- the space: no row is withdrawn
+  abbrev pub spaceOf : Space Item
+  spaceOf = record { bound = boundOf; measures = measuredBy; opens = openedBy; rows = n# w; live = λ (r : ℕ). 1 }
+
+  -- the rows still to be measured under an item: of a node, its members but the first
+  abbrev pub waitsNode : ℕ → ℕ → ℕ
+  waitsNode k r = sumTo (λ (i : ℕ). is r (row# w (start# w k + suc i))) (count# w k - 1)
+
+  abbrev pub waitsOf : Item → ℕ → ℕ
+  waitsOf (node k b x) r = waitsNode k r
+  waitsOf (place p b) r = is r (row# w p)
+
+  -- how many positions an item stands for
+  abbrev pub weight : Item → ℕ
+  weight (node k b x) = count# w k
+  weight (place p b) = 1
+
+  -- the search begins with the root, whose bound is 0
+  abbrev pub rootOf : (ℕ → ℕ) → Item
+  rootOf x = node 0 0 (x (first# w 0))

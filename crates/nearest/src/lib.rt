@@ -1,0 +1,141 @@
+// The nearest search: best first, over the nodes of an index and the single rows of its opened leaves.
+//
+// The workspace of 6n words holds, n being the number of rows: from word 0 the frontier, a queue of at most n entries (a node or, from 2n on, a
+// position, under its bound); from word 2n the distance of each row that is measured; from word 3n the answers, a queue of at most n entries.
+ghost use Prim.Native.Nat.{min};
+ghost use Rattle.nearest.specs.Calls.{Answered, Found, Lent};
+ghost use Rattle.tree.specs.Calls.{saidNearest};
+ghost use mathlib.Core.Path.{_≡_};
+use crate::giving::clear_bytes;
+use crate::giving::clear_words;
+use crate::giving::give;
+use crate::giving::tally;
+use crate::searching::search;
+
+mod bounds;
+mod giving;
+mod held;
+mod searching;
+mod taking;
+mod waiting;
+
+// What a call gives: 0 or why it was refused; on success how many answers, and how many rows were measured.
+pub struct Given {
+    pub number: u32,
+    pub given: usize,
+    pub measured: usize,
+}
+
+// The search on an index that is known to be in shape, with what is lent known to fit it: so that many searches take one test. Gives how many
+// answers there are.
+pub fn find(
+    table: &[u16],
+    c: usize,
+    index: &[u32],
+    query: &[u16],
+    wanted: usize,
+    rows: &mut [u32],
+    distances: &mut [u32],
+    how: &mut [u8],
+    work: &mut [u32],
+) -> usize
+    requires { ⌜ Lent (now table) c (now index) (now query) wanted (now rows) (now distances) (now how) (now work) ⌝ }
+    ensures { λ k. ⌜ Found (now (table .entry)) c (now (index .entry)) (now (query .entry)) wanted (now (rows .entry)) (now (rows .exit)) (now (distances .entry)) (now (distances .exit)) (now (how .entry)) (now (how .exit)) (now (work .entry)) (now (work .exit)) k ⌝ }
+{
+    let n = words::places::rows(index);
+    clear_bytes(how, n);
+    if n == 0 {
+        return 0;
+    }
+    let k = search(table, c, query, index, wanted, how, work);
+    give(rows, distances, how, work, n, k);
+    clear_words(work, 6 * n);
+    k
+}
+
+// The lesser of two.
+fn least(a: usize, b: usize) -> usize
+    ensures { λ r. ⌜ r ≡ min a b ⌝ }
+{
+    if b < a { b } else { a }
+}
+
+// Why a call is refused, or 0: of several, the lowest number. Lent are room for so many answers, how-bytes and words.
+fn refusal(
+    table: &[u16],
+    c: usize,
+    index: &[u32],
+    query: &[u16],
+    wanted: usize,
+    room: usize,
+    how: usize,
+    work: usize,
+) -> u32
+    ensures { λ r. ⌜ r ≡ saidNearest (now (table .entry)) c (now (index .entry)) (now (query .entry)) wanted room how work .0 ⌝ }
+{
+    let number = limits::table_number(table.len(), c);
+    if number != 0 {
+        return number;
+    }
+    let n = table.len() / c;
+    if room < least(wanted, n) {
+        return 5;
+    }
+    if how < n {
+        return 5;
+    }
+    if work < 6 * n {
+        return 5;
+    }
+    if query.len() != c {
+        return 6;
+    }
+    if wanted == 0 {
+        return 7;
+    }
+    words::listing::index_number(index, n, c)
+}
+
+// The rows nearest to the query, so many as are wanted or there are, by the index: each a row number and its distance, ordered by distance, then
+// row number. Of the first n how-bytes each says whether its row was measured (1, 3), and whether it is an answer (3).
+pub fn nearest(
+    table: &[u16],
+    c: usize,
+    index: &[u32],
+    query: &[u16],
+    wanted: usize,
+    rows: &mut [u32],
+    distances: &mut [u32],
+    how: &mut [u8],
+    work: &mut [u32],
+) -> Given
+    ensures { λ g. ⌜ Answered (now (table .entry)) c (now (index .entry)) (now (query .entry)) wanted (now (rows .entry)) (now (rows .exit)) (now (distances .entry)) (now (distances .exit)) (now (how .entry)) (now (how .exit)) (now (work .entry)) (now (work .exit)) (g .number) (g .given) (g .measured) ⌝ }
+{
+    let room = least(rows.len(), distances.len());
+    let number = refusal(table, c, index, query, wanted, room, how.len(), work.len());
+    if number != 0 {
+        return Given {
+            number: number,
+            given: 0,
+            measured: 0,
+        };
+    }
+    let n = words::places::rows(index);
+    let given = find(
+        table,
+        c,
+        index,
+        query,
+        least(wanted, n),
+        rows,
+        distances,
+        how,
+        work,
+    );
+    let measured = tally(how, n);
+    Given {
+        number: 0,
+        given: given,
+        measured: measured,
+    }
+}

@@ -1,0 +1,401 @@
+// The nearest call, run. A line for each case: its number, how many answers there are, how many rows were measured; six row numbers, which are 9 before;
+// six distances, which are 99 before; eight how-bytes, which are 9 before; and words 0, 29 and 30 of the workspace, which are 9 before.
+ghost use lib.ListN.{length};
+ghost use mathlib.Core.Path.{_≡_};
+use nearest::Given;
+
+const FIVE_ROWS: [u16; 5] = [0, 1, 10, 11, 20];
+
+const FIVE: [u32; 38] = [
+    1,
+    5,
+    1,
+    2,
+    2,
+    5,
+    1,
+    0,
+    0,
+    5,
+    1,
+    20,
+    0,
+    3,
+    3,
+    10,
+    3,
+    2,
+    0,
+    9,
+    0,
+    2,
+    0,
+    1,
+    2,
+    1,
+    0,
+    0,
+    0,
+    0,
+    1,
+    1,
+    2,
+    0,
+    4,
+    0,
+    3,
+    9,
+];
+
+// rows 6 9 5 3 0
+const ODD: [u32; 46] = [
+    1,
+    5,
+    1,
+    2,
+    2,
+    7,
+    1,
+    0,
+    0,
+    5,
+    1,
+    6,
+    0,
+    4,
+    3,
+    3,
+    4,
+    1,
+    0,
+    0,
+    0,
+    3,
+    5,
+    3,
+    3,
+    1,
+    0,
+    0,
+    0,
+    2,
+    0,
+    1,
+    2,
+    1,
+    0,
+    0,
+    0,
+    0,
+    2,
+    1,
+    3,
+    0,
+    1,
+    0,
+    4,
+    0,
+];
+
+// rows 7 7 7 7
+const SEVENS: [u32; 36] = [
+    1,
+    4,
+    1,
+    2,
+    2,
+    5,
+    1,
+    0,
+    0,
+    4,
+    1,
+    0,
+    0,
+    3,
+    3,
+    0,
+    3,
+    1,
+    0,
+    0,
+    0,
+    2,
+    0,
+    0,
+    2,
+    1,
+    0,
+    0,
+    0,
+    0,
+    3,
+    0,
+    2,
+    0,
+    1,
+    0,
+];
+
+// rows (1, 2), (3, 4), (10, 10), all in one leaf
+const PAIRS: [u32; 18] = [1, 3, 2, 2, 4, 1, 1, 0, 0, 3, 0, 17, 0, 0, 1, 4, 2, 17];
+
+fn digit(x: u32) -> u8 {
+    if x < 10 { (x as u8) + 48 } else { b'?' }
+}
+
+fn count(x: usize) -> u8 {
+    if x < 10 { (x as u8) + 48 } else { b'?' }
+}
+
+fn byte(h: u8) -> u8 {
+    digit(h as u32)
+}
+
+fn numbers(found: Given, rows: [u32; 6]) {
+    let text = [
+        digit(found.number),
+        b' ',
+        count(found.given),
+        b' ',
+        count(found.measured),
+        b' ',
+        digit(rows[0]),
+        digit(rows[1]),
+        digit(rows[2]),
+        digit(rows[3]),
+        digit(rows[4]),
+        digit(rows[5]),
+        b' ',
+    ];
+    io::write_all(1, &text);
+}
+
+fn distance(d: u32) {
+    let text = [digit(d / 10), digit(d % 10), b' '];
+    io::write_all(1, &text);
+}
+
+fn bytes(how: [u8; 8], work: [u32; 32]) {
+    let text = [
+        byte(how[0]),
+        byte(how[1]),
+        byte(how[2]),
+        byte(how[3]),
+        byte(how[4]),
+        byte(how[5]),
+        byte(how[6]),
+        byte(how[7]),
+        b' ',
+        digit(work[0]),
+        digit(work[29]),
+        digit(work[30]),
+        b'\n',
+    ];
+    io::write_all(1, &text);
+}
+
+fn line(found: Given, rows: [u32; 6], distances: [u32; 6], how: [u8; 8], work: [u32; 32]) {
+    numbers(found, rows);
+    distance(distances[0]);
+    distance(distances[1]);
+    distance(distances[2]);
+    distance(distances[3]);
+    distance(distances[4]);
+    distance(distances[5]);
+    bytes(how, work);
+}
+
+fn show(table: &[u16], c: usize, index: &[u32], query: &[u16], wanted: usize) {
+    let mut rows = [9u32; 6];
+    let mut distances = [99u32; 6];
+    let mut how = [9u8; 8];
+    let mut work = [9u32; 32];
+    let found = nearest::nearest(
+        table,
+        c,
+        index,
+        query,
+        wanted,
+        &mut rows,
+        &mut distances,
+        &mut how,
+        &mut work,
+    );
+    line(found, rows, distances, how, work);
+}
+
+fn five(query: u16, wanted: usize) {
+    let index = FIVE;
+    let table = FIVE_ROWS;
+    show(&table, 1, &index, &[query], wanted);
+}
+
+// The four cases of 01 that are proved; a home bound equal to D; a tie; all rows; a far query.
+fn five_rows() {
+    five(9, 1);
+    five(9, 2);
+    five(5, 2);
+    five(9, 9);
+    five(6, 2);
+    five(0, 5);
+    five(30, 3);
+}
+
+// Rows on which a search that rounds (x - y)/2 down would measure one more.
+fn odd_rows() {
+    let index = ODD;
+    show(&[6, 9, 5, 3, 0], 1, &index, &[10], 1);
+}
+
+// Equal rows: ties go to the lower row.
+fn equal_rows(wanted: usize) {
+    let index = SEVENS;
+    show(&[7, 7, 7, 7], 1, &index, &[9], wanted);
+}
+
+fn two_columns() {
+    let index = PAIRS;
+    show(&[1, 2, 3, 4, 10, 10], 2, &index, &[3, 3], 1);
+}
+
+fn no_row() {
+    show(&[], 1, &[1, 0, 1, 2, 2, 0, 1, 0], &[3], 7);
+}
+
+// 1: no column, and too many. 3: the length is odd. Each with later ones wrong too.
+fn wrong_columns(c: usize) {
+    let table = FIVE_ROWS;
+    show(&table, c, &[], &[9], 0);
+}
+
+// A table with a row too many: of it only the length is known, which is what lending it as a slice needs.
+fn many() -> [u16; 1048577]
+    ensures { λ r. ⌜ 1048577 ≡ length r ⌝ }
+{
+    [0; 1048577]
+}
+
+// 4: a row too many.
+fn too_many() {
+    let table = many();
+    show(&table, 1, &[], &[], 0);
+}
+
+// 5: room for one answer of two, and a query of two columns.
+fn short_answers() {
+    let index = FIVE;
+    let table = FIVE_ROWS;
+    let mut rows = [9u32; 6];
+    let mut distances = [99u32; 6];
+    let mut how = [9u8; 8];
+    let mut work = [9u32; 32];
+    let found = nearest::nearest(
+        &table,
+        1,
+        &index,
+        &[9, 9],
+        2,
+        &mut rows[..1],
+        &mut distances,
+        &mut how,
+        &mut work,
+    );
+    line(found, rows, distances, how, work);
+}
+
+// 5: four how-bytes for five rows, and a query of two columns.
+fn short_bytes() {
+    let index = FIVE;
+    let table = FIVE_ROWS;
+    let mut rows = [9u32; 6];
+    let mut distances = [99u32; 6];
+    let mut how = [9u8; 8];
+    let mut work = [9u32; 32];
+    let found = nearest::nearest(
+        &table,
+        1,
+        &index,
+        &[9, 9],
+        2,
+        &mut rows,
+        &mut distances,
+        &mut how[..4],
+        &mut work,
+    );
+    line(found, rows, distances, how, work);
+}
+
+// 5: a word of workspace too few.
+fn short_work() {
+    let index = FIVE;
+    let table = FIVE_ROWS;
+    let mut rows = [9u32; 6];
+    let mut distances = [99u32; 6];
+    let mut how = [9u8; 8];
+    let mut work = [9u32; 32];
+    let found = nearest::nearest(
+        &table,
+        1,
+        &index,
+        &[9],
+        2,
+        &mut rows,
+        &mut distances,
+        &mut how,
+        &mut work[..29],
+    );
+    line(found, rows, distances, how, work);
+}
+
+// 6: a query of two columns, and none wanted. 7: none wanted, and no index. 8: no index.
+fn wrong_call() {
+    let table = FIVE_ROWS;
+    show(&table, 1, &[], &[9, 9], 0);
+    show(&table, 1, &[], &[9], 0);
+    show(&table, 1, &[], &[9], 1);
+}
+
+// 8: another n.
+fn other_table() {
+    let index = FIVE;
+    show(&[0, 1, 10, 11], 1, &index, &[9], 1);
+}
+
+// The five-row table with one word of its index changed.
+fn changed(at: usize, word: u32) {
+    let mut index = FIVE;
+    let table = FIVE_ROWS;
+    if at < 38 {
+        index[at] = word;
+        show(&table, 1, &index, &[9], 2);
+    }
+}
+
+// 8: the edition. 9: the root's start, its radius, and a row number. 0: row 1 stands twice and row 4 not at all, which no table fits.
+fn wrong_index() {
+    changed(0, 2);
+    changed(8, 1);
+    changed(11, 1048561);
+    changed(28, 5);
+    changed(34, 1);
+}
+
+fn main() {
+    five_rows();
+    odd_rows();
+    equal_rows(1);
+    equal_rows(3);
+    two_columns();
+    no_row();
+    wrong_columns(0);
+    wrong_columns(17);
+    wrong_columns(2);
+    too_many();
+    short_answers();
+    short_bytes();
+    short_work();
+    wrong_call();
+    other_table();
+    wrong_index();
+}
