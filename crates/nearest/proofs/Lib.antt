@@ -11,6 +11,7 @@ pub mod Rounds
 pub mod Progress
 pub mod Handing
 pub mod Ordering
+pub mod Handouts
 pub mod Finding
 pub mod Refused
 pub mod Contract

@@ -7,7 +7,7 @@ use Rattle.laws.specs.Lists.{has, look, range}
 use Rattle.measure.proofs.Metric.{query-point}
 use Rattle.measure.specs.Table.{between, from, row, rowsOf}
 use Rattle.nearest.proofs.Contract.{byte-measured, same-answers}
-use Rattle.nearest.proofs.Finding.{sort-every}
+use Rattle.nearest.proofs.Handouts.{sort-every}
 use Rattle.nearest.proofs.Refused.{same-rows}
 use Rattle.nearest.specs.Calls.{Answered, Serves, Settled}
 use Rattle.nearest.specs.Fits.{homeBound}

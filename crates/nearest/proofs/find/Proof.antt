@@ -1,6 +1,7 @@
 -- `nearest::find` meets its contract: the search marks and holds, the rest hands out what is held and clears.
 -- Assumes nothing.
-use Rattle.nearest.proofs.Finding.{begin-blank, cleared-as, found-at, found-none, gives}
+use Rattle.nearest.proofs.Finding.{begin-blank, found-at, found-none, gives}
+use Rattle.nearest.proofs.Handouts.{cleared-as}
 use Rattle.nearest.proofs.find.Statement.{statement}
 use Rattle.nearest.proofs.find.Tie as tie
 use borrow.Author.Needs.{needs}
