@@ -9,8 +9,6 @@ use Rattle.nearest.proofs.searching.search.Tie as tie
 use Rattle.nearest.specs.Frontier.{State, items}
 use Rattle.nearest.specs.Standing.{Since}
 use Rattle.queue.proofs.Queued.{empty-queue}
-use Rattle.tree.proofs.Members.{held}
-use Rattle.tree.specs.Grove.{first}
 use Rattle.words.specs.Words.{n#}
 use borrow.Author.Needs.{needs}
 use borrow.Author.Tests.{not-false, not-true}

@@ -5,7 +5,6 @@ use Rattle.measure.specs.Table.{from}
 use Rattle.nearest.proofs.Growing.{CentresTo, centres-done, centres-start, centres-step, ready-on}
 use Rattle.nearest.proofs.taking.measure_centres.Statement.{statement}
 use Rattle.nearest.proofs.taking.measure_centres.Tie as tie
-use Rattle.tree.proofs.Members.{held}
 use borrow.Author.Needs.{needs}
 use native.Mathlib.Omega.{arith}
 

@@ -4,7 +4,6 @@ use Prim.Native.Nat.{_-_}
 use Rattle.nearest.proofs.Queueing.{NodesTo, node-words, nodes-done, nodes-room, nodes-start, nodes-step}
 use Rattle.nearest.proofs.waiting.queue_children.Statement.{statement}
 use Rattle.nearest.proofs.waiting.queue_children.Tie as tie
-use Rattle.tree.proofs.Good.{size}
 use borrow.Author.Needs.{needs}
 use mathlib.Core.Path.{refl}
 use native.Mathlib.Omega.{arith}

@@ -4,7 +4,6 @@ use Prim.Native.Nat.{_-_}
 use Rattle.nearest.proofs.Queueing.{RowsTo, place-words, rows-done, rows-room, rows-start, rows-step}
 use Rattle.nearest.proofs.waiting.queue_rows.Statement.{statement}
 use Rattle.nearest.proofs.waiting.queue_rows.Tie as tie
-use Rattle.tree.proofs.Good.{size}
 use borrow.Author.Needs.{needs}
 use native.Mathlib.Omega.{arith}
 
