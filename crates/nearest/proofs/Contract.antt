@@ -107,17 +107,15 @@ module _ (t t′ : List ℕ) (c : ℕ) (w q : List ℕ) (wanted k : ℕ) (ek : k
       }
 
 -- ---- the call
-module _ (t : List ℕ) (c : ℕ) (w q : List ℕ) (wanted : ℕ) (rs ds how work : List ℕ) {number room : ℕ} (er : room ≡ min (length rs) (length ds))
+module _ (t : List ℕ) (c : ℕ) (w q : List ℕ) (wanted : ℕ) (rs ds how work : List ℕ) {number room : ℕ} (fit : (room ≤ length rs) × (room ≤ length ds))
     (said-is : number ≡ saidNearest t c w q wanted room (length how) (length work) .0) where
-  said-right : number ≡ saidNearest t c w q wanted (min (length rs) (length ds)) (length how) (length work) .0
-  said-right = said-is ∙ ap (λ (room : ℕ). saidNearest t c w q wanted room (length how) (length work) .0) er
-
-  pub refused-is : (number ≡ 0 → ⊥) → Answered t c w q wanted rs rs ds ds how how work work number 0 0
+  pub refused-is : (number ≡ 0 → ⊥) → Answered t c w q wanted room rs rs ds ds how how work work number 0 0
   refused-is h = record {
-    said = said-right;
+    said = said-is;
     refused = λ k. (refl, refl, refl, refl, refl, refl);
     cleared = λ z. absurd (h z);
     beyond = λ z. absurd (h z);
+    few = λ z. absurd (h z);
     counted = λ z. absurd (h z);
     found = λ z. absurd (h z);
   }
@@ -125,18 +123,26 @@ module _ (t : List ℕ) (c : ℕ) (w q : List ℕ) (wanted : ℕ) (rs ds how wor
   -- what the core asks
   pub core-asks : (n k : ℕ) → number ≡ 0 → n ≡ n# w → k ≡ min wanted n → Lent t c w q k rs ds how work
   core-asks n k z en ek =
-      fits t c w q wanted rs ds how work k (ek ∙ ap (λ (n : ℕ). min wanted n) en) (sym said-right ∙ z)
+      fits t c w q wanted room rs ds how work fit k (ek ∙ ap (λ (n : ℕ). min wanted n) en) (sym said-is ∙ z)
 
   pub done-is : (n k given met : ℕ) (rs′ ds′ how′ work′ : List ℕ) → number ≡ 0 → n ≡ n# w → k ≡ min wanted n
       → Found t c w q k rs rs′ ds ds′ how how′ work work′ given → met ≡ measured (take n how′)
-      → Answered t c w q wanted rs rs′ ds ds′ how how′ work work′ 0 given met
+      → Answered t c w q wanted room rs rs′ ds ds′ how how′ work work′ 0 given met
   done-is n k given met rs′ ds′ how′ work′ z en ek₀ D em =
       let ek : k ≡ min wanted (n# w) = ek₀ ∙ ap (λ (n : ℕ). min wanted n) en in
       record {
-        said = sym z ∙ said-right;
+        said = sym z ∙ said-is;
         refused = λ f. absurd (f refl);
         cleared = λ e. D .cleared;
         beyond = λ e. subst (λ (k : ℕ). (drop k rs′ ≡ drop k rs) × (drop k ds′ ≡ drop k ds) × (drop (n# w) how′ ≡ drop (n# w) how)) ek (D .beyond);
+        few = λ e. omega (arith, D .few, ek);
         counted = λ e. em ∙ ap (λ (n : ℕ). measured (take n how′)) en;
         found = λ e t′ A. settled-wanted t t′ c w q wanted k ek A rs rs′ ds ds′ how how′ given (D .found (from t′ c q) (serves-fits t t′ c w q wanted k ek A));
       }
+
+-- the same with the room said in another way
+pub room-is : {t : List ℕ} {c : ℕ} {w q : List ℕ} {wanted room room′ : ℕ} {rs rs′ ds ds′ how how′ work work′ : List ℕ} {number given met : ℕ} → room ≡ room′
+    → Answered t c w q wanted room rs rs′ ds ds′ how how′ work work′ number given met
+    → Answered t c w q wanted room′ rs rs′ ds ds′ how how′ work work′ number given met
+room-is {t} {c} {w} {q} {wanted} {room} {room′} {rs} {rs′} {ds} {ds′} {how} {how′} {work} {work′} {number} {given} {met} e s =
+    subst (λ (room : ℕ). Answered t c w q wanted room rs rs′ ds ds′ how how′ work work′ number given met) e s

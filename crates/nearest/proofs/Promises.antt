@@ -72,11 +72,11 @@ passes-only x n wanted b h e =
     leb-true b (lastDistance (answers x n wanted)) (sym (ap (λ (a : Bool). a || leb b (lastDistance (answers x n wanted))) (le-ltb n wanted h)) ∙ e)
 
 -- ---- a call that is not refused, where a table serves
-module _ {t : List ℕ} {c : ℕ} {w q : List ℕ} {wanted : ℕ} {rs rs′ ds ds′ how how′ work work′ : List ℕ} {number given met : ℕ}
-    (s : Answered t c w q wanted rs rs′ ds ds′ how how′ work work′ number given met) (done : number ≡ 0) where
+module _ {t : List ℕ} {c : ℕ} {w q : List ℕ} {wanted room : ℕ} {rs rs′ ds ds′ how how′ work work′ : List ℕ} {number given met : ℕ}
+    (s : Answered t c w q wanted room rs rs′ ds ds′ how how′ work work′ number given met) (done : number ≡ 0) where
   -- the table has as many rows as the index
   rows-are : rowsOf t c ≡ n# w
-  rows-are = sym (same-rows t c w q wanted (min (length rs) (length ds)) (length how) (length work) (sym (s .said) ∙ done))
+  rows-are = sym (same-rows t c w q wanted room (length how) (length work) (sym (s .said) ∙ done))
 
   module _ (x : ℕ → ℕ) (Z : Settled x w wanted rs rs′ ds ds′ how how′ given) where
     near-length : length (nearHow x (n# w) (treeOf w) wanted) ≡ n# w
@@ -111,8 +111,8 @@ module _ {t : List ℕ} {c : ℕ} {w q : List ℕ} {wanted : ℕ} {rs rs′ ds d
         ∙ List·getD-append (nearHow x (n# w) (treeOf w) wanted) (drop (n# w) how) 0 i (subst (λ (n : ℕ). i < n) (sym near-length) h)
 
 -- ---- a call that is not refused, on an index that the full check accepts with its table
-module _ {t : List ℕ} {c : ℕ} {w q : List ℕ} {wanted : ℕ} {rs rs′ ds ds′ how how′ work work′ : List ℕ} {number given met : ℕ}
-    (s : Answered t c w q wanted rs rs′ ds ds′ how how′ work work′ number given met) (done : number ≡ 0) (A : Accepted (between t c) w) where
+module _ {t : List ℕ} {c : ℕ} {w q : List ℕ} {wanted room : ℕ} {rs rs′ ds ds′ how how′ work work′ : List ℕ} {number given met : ℕ}
+    (s : Answered t c w q wanted room rs rs′ ds ds′ how how′ work work′ number given met) (done : number ≡ 0) (A : Accepted (between t c) w) where
   abbrev x : ℕ → ℕ
   x = from t c q
 
@@ -145,8 +145,8 @@ module _ {t : List ℕ} {c : ℕ} {w q : List ℕ} {wanted : ℕ} {rs rs′ ds d
 
   -- TWO TABLES: WHERE A SECOND TABLE AGREES WITH THIS ONE IN EVERY ROW THAT WAS MEASURED, A SEARCH ON IT THAT IS NOT REFUSED GIVES THE SAME ANSWERS,
   -- HOW-BYTES AND COUNTS. Nothing else is asked of the second table, and its call may be lent other rooms
-  pub nearest-two-tables : {t₂ rs₂ rs₂′ ds₂ ds₂′ how₂ how₂′ work₂ work₂′ : List ℕ} {number₂ given₂ met₂ : ℕ}
-      → Answered t₂ c w q wanted rs₂ rs₂′ ds₂ ds₂′ how₂ how₂′ work₂ work₂′ number₂ given₂ met₂ → number₂ ≡ 0
+  pub nearest-two-tables : {t₂ rs₂ rs₂′ ds₂ ds₂′ how₂ how₂′ work₂ work₂′ : List ℕ} {room₂ number₂ given₂ met₂ : ℕ}
+      → Answered t₂ c w q wanted room₂ rs₂ rs₂′ ds₂ ds₂′ how₂ how₂′ work₂ work₂′ number₂ given₂ met₂ → number₂ ≡ 0
       → ((i : ℕ) → i < n# w → T (isMeasured (getD how′ i 0)) → row t c i ≡ row t₂ c i)
       → (given ≡ given₂) × (met ≡ met₂) × (take (min wanted (n# w)) rs′ ≡ take (min wanted (n# w)) rs₂′)
       × (take (min wanted (n# w)) ds′ ≡ take (min wanted (n# w)) ds₂′) × (take (n# w) how′ ≡ take (n# w) how₂′)
@@ -166,10 +166,10 @@ module _ {t : List ℕ} {c : ℕ} {w q : List ℕ} {wanted : ℕ} {rs rs′ ds d
       )
 
 -- ---- two outcomes of one call
-module _ {t : List ℕ} {c : ℕ} {w q : List ℕ} {wanted : ℕ} {rs ds how work : List ℕ} {rs₁ ds₁ how₁ work₁ rs₂ ds₂ how₂ work₂ : List ℕ}
+module _ {t : List ℕ} {c : ℕ} {w q : List ℕ} {wanted room : ℕ} {rs ds how work : List ℕ} {rs₁ ds₁ how₁ work₁ rs₂ ds₂ how₂ work₂ : List ℕ}
     {number₁ given₁ met₁ number₂ given₂ met₂ : ℕ}
-    (s₁ : Answered t c w q wanted rs rs₁ ds ds₁ how how₁ work work₁ number₁ given₁ met₁)
-    (s₂ : Answered t c w q wanted rs rs₂ ds ds₂ how how₂ work work₂ number₂ given₂ met₂) where
+    (s₁ : Answered t c w q wanted room rs rs₁ ds ds₁ how how₁ work work₁ number₁ given₁ met₁)
+    (s₂ : Answered t c w q wanted room rs rs₂ ds ds₂ how how₂ work work₂ number₂ given₂ met₂) where
   -- they have the same counts and buffers
   abbrev pub Same : Type 0
   Same = (given₁ ≡ given₂) × (met₁ ≡ met₂) × (rs₁ ≡ rs₂) × (ds₁ ≡ ds₂) × (how₁ ≡ how₂) × (work₁ ≡ work₂)

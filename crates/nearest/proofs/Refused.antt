@@ -103,10 +103,9 @@ module _ (t : List ℕ) (c : ℕ) (w q : List ℕ) (wanted room how work : ℕ) 
       by-index p k e′ = e′ ∙ fault-next 7 (indexFaults w n c) (ne-eqb wanted 0 k) ∙ after-query p
 
 -- WITH 0 THE INDEX IS IN SHAPE AND WHAT IS LENT FITS IT
-pub fits : (t : List ℕ) (c : ℕ) (w q : List ℕ) (wanted : ℕ) (rs ds how work : List ℕ) (k : ℕ) → k ≡ min wanted (n# w)
-    → saidNearest t c w q wanted (min (length rs) (length ds)) (length how) (length work) .0 ≡ 0 → Lent t c w q k rs ds how work
-fits t c w q wanted rs ds how work k ek z =
-    let room : ℕ = min (length rs) (length ds) in
+pub fits : (t : List ℕ) (c : ℕ) (w q : List ℕ) (wanted room : ℕ) (rs ds how work : List ℕ) → (room ≤ length rs) × (room ≤ length ds) → (k : ℕ) → k ≡ min wanted (n# w)
+    → saidNearest t c w q wanted room (length how) (length work) .0 ≡ 0 → Lent t c w q k rs ds how work
+fits t c w q wanted room rs ds how work fit k ek z =
     let n : ℕ = rowsOf t c in
     let s : Bool = ltb room (min wanted n) || ltb (length how) n || ltb (length work) (6 * n) in
     let b : Bool = eqb (length q) c in
@@ -127,8 +126,8 @@ fits t c w q wanted rs ds how work k ek z =
       columns = S .few;
       query = eqb-true (length q) c (not-false b (fault-not 6 (not b) (omega arith) (g .0)));
       asked = (omega arith, λ l. omega arith);
-      rows = omega arith;
-      distances = omega arith;
+      rows = omega (arith, fit .0);
+      distances = omega (arith, fit .1);
       bytes = omega (arith, ltb-false (length how) n (p .1));
       words = omega (arith, ltb-false (length work) (6 * n) (p .2));
     }

@@ -39,6 +39,7 @@ pub record Found (t : List ℕ) (c : ℕ) (w q : List ℕ) (wanted : ℕ) (rs rs
   pub cleared : work′ ≡ replicate (6 * n# w) 0 ++ drop (6 * n# w) work
   pub beyond : (drop wanted rs′ ≡ drop wanted rs) × (drop wanted ds′ ≡ drop wanted ds) × (drop (n# w) how′ ≡ drop (n# w) how)
   pub bytes : length how′ ≡ length how
+  pub few : given ≤ wanted
   -- for rows that the index fits, with which the lent ones agree where it counts, the answers and how-bytes are those of the definition
   pub found : (x′ : ℕ → ℕ) → Fits w wanted (from t c q) x′ → Settled x′ w wanted rs rs′ ds ds′ how how′ given
 
@@ -49,10 +50,11 @@ pub record Serves (t t′ : List ℕ) (c : ℕ) (w q : List ℕ) (wanted : ℕ) 
   pub accepted : Accepted (between t′ c) w
   pub agree : (i : ℕ) → i < n# w → T (isMeasured (getD (nearHow (from t′ c q) (n# w) (treeOf w) wanted) i 0)) → row t c i ≡ row t′ c i
 
--- the table t of c columns, the index w, the query q, and how many are wanted; each buffer before and after; the number, and the two counts
-pub record Answered (t : List ℕ) (c : ℕ) (w q : List ℕ) (wanted : ℕ) (rs rs′ ds ds′ how how′ work work′ : List ℕ) (number given met : ℕ) : Type 0 where
+-- the table t of c columns, the index w, the query q, how many are wanted, and how many there is room for; each buffer before and after; the
+-- number, and the two counts
+pub record Answered (t : List ℕ) (c : ℕ) (w q : List ℕ) (wanted room : ℕ) (rs rs′ ds ds′ how how′ work work′ : List ℕ) (number given met : ℕ) : Type 0 where
   -- 01, Numbers given back: 0, or the lowest that applies
-  pub said : number ≡ saidNearest t c w q wanted (min (length rs) (length ds)) (length how) (length work) .0
+  pub said : number ≡ saidNearest t c w q wanted room (length how) (length work) .0
   -- a refusal has zero counts and changes nothing
   pub refused : (number ≡ 0 → ⊥) → (given ≡ 0) × (met ≡ 0) × (rs′ ≡ rs) × (ds′ ≡ ds) × (how′ ≡ how) × (work′ ≡ work)
   -- on success the first 6n words of the workspace are zero
@@ -60,6 +62,8 @@ pub record Answered (t : List ℕ) (c : ℕ) (w q : List ℕ) (wanted : ℕ) (rs
   -- and entries beyond what is written stay
   pub beyond : number ≡ 0 → (drop (min wanted (n# w)) rs′ ≡ drop (min wanted (n# w)) rs) × (drop (min wanted (n# w)) ds′ ≡ drop (min wanted (n# w)) ds)
       × (drop (n# w) how′ ≡ drop (n# w) how)
+  -- there are no more answers than are wanted, nor than rows
+  pub few : number ≡ 0 → given ≤ min wanted (n# w)
   -- the count is that of the how-bytes 1 and 3 that stand there afterwards
   pub counted : number ≡ 0 → met ≡ measured (take (n# w) how′)
   -- 01, Which rows are measured, Nearest: answers and how-bytes are those of any table that fits the index and with which the lent one agrees

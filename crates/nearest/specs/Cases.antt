@@ -1,5 +1,5 @@
 -- What the call gives in the nearest cases of 01, The five-row table, and in one of ours. Assumes nothing.
-use Prim.Native.Nat.{_≤_, ℕ}
+use Prim.Native.Nat.{_≤_, min, ℕ}
 use Rattle.nearest.specs.Calls.{Answered}
 use Rattle.tree.specs.Cases.{five, fiveWords}
 use lib.ListN.{drop, length}
@@ -29,6 +29,6 @@ asked =
 abbrev pub Gets : Case → Type 0
 Gets k =
     (rs rs′ ds ds′ how how′ work work′ : List ℕ) (number given met : ℕ) → length (k .answers) ≤ length rs → length (k .answers) ≤ length ds → 5 ≤ length how → 30 ≤ length work
-    → Answered five 1 fiveWords (k .query ∷ []) (k .wanted) rs rs′ ds ds′ how how′ work work′ number given met
+    → Answered five 1 fiveWords (k .query ∷ []) (k .wanted) (min (length rs) (length ds)) rs rs′ ds ds′ how how′ work work′ number given met
     → (number ≡ 0) × (given ≡ length (k .answers)) × (met ≡ k .met) × (rs′ ≡ map (λ a. a .0) (k .answers) ++ drop (length (k .answers)) rs)
     × (ds′ ≡ map (λ a. a .1) (k .answers) ++ drop (length (k .answers)) ds) × (how′ ≡ k .bytes ++ drop 5 how)

@@ -2,9 +2,10 @@
 //
 // The workspace of 6n words holds, n being the number of rows: from word 0 the frontier, a queue of at most n entries (a node or, from 2n on, a
 // position, under its bound); from word 2n the distance of each row that is measured; from word 3n the answers, a queue of at most n entries.
-ghost use Prim.Native.Nat.{min};
+ghost use Prim.Native.Nat.{_≤_, min};
 ghost use Rattle.nearest.specs.Calls.{Answered, Found, Lent};
 ghost use Rattle.tree.specs.Calls.{saidNearest};
+ghost use lib.ListN.{length};
 ghost use mathlib.Core.Path.{_≡_};
 use crate::giving::clear_bytes;
 use crate::giving::clear_words;
@@ -96,22 +97,22 @@ fn refusal(
     words::listing::index_number(index, n, c)
 }
 
-// The rows nearest to the query, so many as are wanted or there are, by the index: each a row number and its distance, ordered by distance, then
-// row number. Of the first n how-bytes each says whether its row was measured (1, 3), and whether it is an answer (3).
-pub fn nearest(
+// The rows nearest to the query, as `nearest` gives them, where there is room for so many.
+fn answer(
     table: &[u16],
     c: usize,
     index: &[u32],
     query: &[u16],
     wanted: usize,
+    room: usize,
     rows: &mut [u32],
     distances: &mut [u32],
     how: &mut [u8],
     work: &mut [u32],
 ) -> Given
-    ensures { λ g. ⌜ Answered (now (table .entry)) c (now (index .entry)) (now (query .entry)) wanted (now (rows .entry)) (now (rows .exit)) (now (distances .entry)) (now (distances .exit)) (now (how .entry)) (now (how .exit)) (now (work .entry)) (now (work .exit)) (g .number) (g .given) (g .measured) ⌝ }
+    requires { ⌜ (room ≤ length (now rows)) × (room ≤ length (now distances)) ⌝ }
+    ensures { λ g. ⌜ Answered (now (table .entry)) c (now (index .entry)) (now (query .entry)) wanted room (now (rows .entry)) (now (rows .exit)) (now (distances .entry)) (now (distances .exit)) (now (how .entry)) (now (how .exit)) (now (work .entry)) (now (work .exit)) (g .number) (g .given) (g .measured) ⌝ }
 {
-    let room = least(rows.len(), distances.len());
     let number = refusal(table, c, index, query, wanted, room, how.len(), work.len());
     if number != 0 {
         return Given {
@@ -138,4 +139,64 @@ pub fn nearest(
         given: given,
         measured: measured,
     }
+}
+
+// The rows nearest to the query, so many as are wanted or there are, by the index: each a row number and its distance, ordered by distance, then
+// row number. Of the first n how-bytes each says whether its row was measured (1, 3), and whether it is an answer (3).
+pub fn nearest(
+    table: &[u16],
+    c: usize,
+    index: &[u32],
+    query: &[u16],
+    wanted: usize,
+    rows: &mut [u32],
+    distances: &mut [u32],
+    how: &mut [u8],
+    work: &mut [u32],
+) -> Given
+    ensures { λ g. ⌜ Answered (now (table .entry)) c (now (index .entry)) (now (query .entry)) wanted (min (length (now (rows .entry))) (length (now (distances .entry)))) (now (rows .entry)) (now (rows .exit)) (now (distances .entry)) (now (distances .exit)) (now (how .entry)) (now (how .exit)) (now (work .entry)) (now (work .exit)) (g .number) (g .given) (g .measured) ⌝ }
+{
+    let room = least(rows.len(), distances.len());
+    answer(
+        table,
+        c,
+        index,
+        query,
+        wanted,
+        room,
+        rows,
+        distances,
+        how,
+        work,
+    )
+}
+
+// The same for a caller who has room of his own for so many answers, which counts as lent: records, that he makes of rows and distances.
+pub fn within(
+    table: &[u16],
+    c: usize,
+    index: &[u32],
+    query: &[u16],
+    wanted: usize,
+    own: usize,
+    rows: &mut [u32],
+    distances: &mut [u32],
+    how: &mut [u8],
+    work: &mut [u32],
+) -> Given
+    ensures { λ g. ⌜ Answered (now (table .entry)) c (now (index .entry)) (now (query .entry)) wanted (min own (min (length (now (rows .entry))) (length (now (distances .entry))))) (now (rows .entry)) (now (rows .exit)) (now (distances .entry)) (now (distances .exit)) (now (how .entry)) (now (how .exit)) (now (work .entry)) (now (work .exit)) (g .number) (g .given) (g .measured) ⌝ }
+{
+    let room = least(own, least(rows.len(), distances.len()));
+    answer(
+        table,
+        c,
+        index,
+        query,
+        wanted,
+        room,
+        rows,
+        distances,
+        how,
+        work,
+    )
 }
