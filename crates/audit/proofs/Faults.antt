@@ -1,13 +1,16 @@
 -- The passes one after the other: the first that finds a fault gives the number and the place. Assumes nothing.
-use Prim.Native.Nat.{_<_, _≤_, ℕ}
+use Prim.Native.Nat.{_*_, _+_, _<_, _≤_, ℕ}
 use Rattle.audit.specs.Passes.{allStrays, measuredFaults, nodeStrays}
-use Rattle.laws.proofs.Every.{Every, every-all, every-append, every-map}
+use Rattle.laws.proofs.Every.{Every, every-append, every-keep, every-map}
 use Rattle.laws.proofs.First.{first-at-end, first-empty, first-kept}
+use Rattle.laws.proofs.Ranges.{at-every, range-every}
 use Rattle.laws.specs.First.{First}
 use Rattle.laws.specs.Lists.{each, keep, range}
+use Rattle.limits.specs.Limits.{maxRows}
 use Rattle.limits.specs.Said.{Said, said}
 use Rattle.tree.specs.Check.{again, faults, strays, wrongDist, wrongRadius}
-use Rattle.words.specs.Words.{N#, n#, run#}
+use Rattle.words.specs.InShape.{InShape}
+use Rattle.words.specs.Words.{N#, count#, n#, run#, start#}
 use mathlib.Core.Bool.{Bool}
 use mathlib.Core.List.{List, [], _++_, _∷_, append-assoc, map}
 use mathlib.Core.Path.{_∙_, _≡_, ap, subst, sym}
@@ -65,27 +68,45 @@ module _ (d : ℕ → ℕ → ℕ) (w : List ℕ) where
 
 -- ---- the numbers of the passes are 10 and above
 module _ {A B : Type 0} where
-  every-each : (P : B → Type 0) (f : A → List B) (xs : List A) → ((a : A) → Every P (f a)) → Every P (each f xs)
+  every-each : (P : B → Type 0) (f : A → List B) (xs : List A) → Every (λ a. Every P (f a)) xs → Every P (each f xs)
   every-each P f [] h = tt
-  every-each P f (x ∷ xs) h = every-append P (f x) (each f xs) (h x) (every-each P f xs h)
+  every-each P f (x ∷ xs) h = every-append P (f x) (each f xs) (h .0) (every-each P f xs (h .1))
+
+-- what holds of each fault that there could be holds of each that there is
+module _ (d : ℕ → ℕ → ℕ) (w : List ℕ) (P : Said → Type 0) where
+  one-pass : (g : ℕ → Said) (f : ℕ → Bool) (a n : ℕ) → ((i : ℕ) → i < n → P (g (a + i))) → Every P (map g (keep f (range a n)))
+  one-pass g f a n h = every-map P g (keep f (range a n)) (every-keep (λ p. P (g p)) f (range a n) (range-every (λ p. P (g p)) a n h))
+
+  pub every-fault : ((p : ℕ) → p < n# w → P (10, p, 0) × P (11, p, 0)) → ((k : ℕ) → k < N# w → P (12, k, 0))
+      → ((k i : ℕ) → k < N# w → i < count# w k → P (13, k, start# w k + i)) → Every P (faults d w)
+  unfolding faults
+  every-fault at-place at-node at-member =
+      let a : List Said = map (λ p. (10, p, 0)) (keep (again w) (range 0 (n# w))) in
+      let b : List Said = map (λ p. (11, p, 0)) (keep (wrongDist d w) (range 0 (n# w))) in
+      let c : List Said = map (λ k. (12, k, 0)) (keep (wrongRadius d w) (range 0 (N# w))) in
+      let f : ℕ → List Said = λ k. map (λ p. (13, k, p)) (keep (strays d w k) (run# w k)) in
+      let zero : (i : ℕ) → 0 + i ≡ i = λ i. omega arith in
+      every-append P (a ++ b ++ c) (each f (range 0 (N# w)))
+      (every-append P (a ++ b) c
+      (every-append P a b (one-pass (λ p. (10, p, 0)) (again w) 0 (n# w) (λ i h. rw (zero i) (at-place i h .0)))
+      (one-pass (λ p. (11, p, 0)) (wrongDist d w) 0 (n# w) (λ i h. rw (zero i) (at-place i h .1))))
+      (one-pass (λ k. (12, k, 0)) (wrongRadius d w) 0 (N# w) (λ i h. rw (zero i) (at-node i h))))
+      (every-each P f (range 0 (N# w))
+      (at-every (λ k. Every P (f k)) (N# w) (λ k h. one-pass (λ p. (13, k, p)) (strays d w k) (start# w k) (count# w k) (λ i l. at-member k i h l))))
 
 -- the number is one of the passes'
 abbrev pub Late : Said → Type 0
 Late s = 10 ≤ s .0
 
-late-pass : (g : ℕ → Said) → ((p : ℕ) → Late (g p)) → (f : ℕ → Bool) (xs : List ℕ) → Every Late (map g (keep f xs))
-late-pass g h f xs = every-map Late g (keep f xs) (every-all (λ p. Late (g p)) h (keep f xs))
-
 pub faults-late : (d : ℕ → ℕ → ℕ) (w : List ℕ) → Every Late (faults d w)
-unfolding faults
-faults-late d w =
-    let a : List Said = map (λ p. (10, p, 0)) (keep (again w) (range 0 (n# w))) in
-    let b : List Said = map (λ p. (11, p, 0)) (keep (wrongDist d w) (range 0 (n# w))) in
-    let c : List Said = map (λ k. (12, k, 0)) (keep (wrongRadius d w) (range 0 (N# w))) in
-    let f : ℕ → List Said = λ k. map (λ p. (13, k, p)) (keep (strays d w k) (run# w k)) in
-    every-append Late (a ++ b ++ c) (each f (range 0 (N# w)))
-    (every-append Late (a ++ b) c
-    (every-append Late a b (late-pass (λ p. (10, p, 0)) (λ p. omega arith) (again w) (range 0 (n# w)))
-    (late-pass (λ p. (11, p, 0)) (λ p. omega arith) (wrongDist d w) (range 0 (n# w))))
-    (late-pass (λ k. (12, k, 0)) (λ k. omega arith) (wrongRadius d w) (range 0 (N# w))))
-    (every-each Late f (range 0 (N# w)) (λ k. late-pass (λ p. (13, k, p)) (λ p. omega arith) (strays d w k) (run# w k)))
+faults-late d w = every-fault d w Late (λ p h. (omega arith, omega arith)) (λ k h. omega arith) (λ k i h l. omega arith)
+
+-- the places are those of an index in shape
+abbrev pub Small : Said → Type 0
+Small s = (s .1 ≤ 2 * maxRows) × (s .2 ≤ maxRows)
+
+pub faults-small : (d : ℕ → ℕ → ℕ) (w : List ℕ) → InShape w → Every Small (faults d w)
+faults-small d w S =
+    every-fault d w Small (λ p h. ((omega (arith, S .whole .rows), omega arith), (omega (arith, S .whole .rows), omega arith)))
+    (λ k h. (omega (arith, S .whole .nodes, S .whole .rows), omega arith))
+    (λ k i h l. (omega (arith, S .whole .nodes, S .whole .rows), omega (arith, S .node k h .run, S .whole .rows)))

@@ -1,12 +1,13 @@
 -- What the full check's contract comes to: it settles every outcome, and 0 is given exactly on an accepted index. Assumes nothing.
-use Prim.Native.Nat.{_*_, ℕ}
+use Prim.Native.Nat.{_*_, _≤_, ℕ}
 use Rattle.audit.proofs.Contract.{said-check}
-use Rattle.audit.proofs.Faults.{Late, faults-late}
+use Rattle.audit.proofs.Faults.{Late, Small, faults-late, faults-small}
 use Rattle.audit.proofs.Refused.{Early, past, past-none, refusals-early}
 use Rattle.audit.specs.Calls.{Checks, Passed}
 use Rattle.audit.specs.Refusals.{refusals}
 use Rattle.audit.specs.Workspace.{clears, wiped}
 use Rattle.laws.proofs.Every.{Every}
+use Rattle.limits.specs.Limits.{maxRows}
 use Rattle.limits.specs.Said.{Said, said}
 use Rattle.measure.specs.Table.{between, rowsOf}
 use Rattle.tree.specs.Check.{faults}
@@ -15,7 +16,7 @@ use lib.ListN.{length}
 use mathlib.Core.Bool.{cond}
 use mathlib.Core.List.{List, [], _++_, _∷_}
 use mathlib.Core.Logic.{_↔_}
-use mathlib.Core.Path.{_∙_, _≡_, ap, ap₂, refl, sym}
+use mathlib.Core.Path.{_∙_, _≡_, ap, ap₂, refl, subst, sym}
 use native.Mathlib.Omega.{arith}
 
 -- CHECK-ONLY: NO SECOND OUTCOME FITS
@@ -72,3 +73,23 @@ check-exact {T} {c} {w} {work} {number = number} C = (there, back)
           paired = record { shape = in-shape w (A .words) (A .shape); rows = P .same-rows; columns = P .same-columns };
         }) in
         C .said ∙ ap (λ (s : Said). s .0) (said-check T c w (length work) ∙ ap₂ (λ l m. said (l ++ m)) z (A .sound))
+
+-- CHECK-SMALL: THE PLACES ARE THOSE OF A NODE AND A POSITION, so that 32 bits hold them
+pub check-small : {T : List ℕ} {c : ℕ} {w work work′ : List ℕ} {number place second : ℕ} → Checks T c w work work′ number place second
+    → (place ≤ 2 * maxRows) × (second ≤ maxRows)
+check-small {T} {c} {w} {work} C =
+    let P = small (refusals T c w (length work)) (faults (between T c) w) (refusals-early T c w (length work))
+    (λ z. faults-small (between T c) w (past T c w (length work) z .paired .shape)) in
+    let e = said-check T c w (length work) in (
+      subst (λ (p : ℕ). p ≤ 2 * maxRows) (sym (C .placed .0 ∙ ap (λ (s : Said). s .1) e)) (P .0),
+      subst (λ (p : ℕ). p ≤ maxRows) (sym (C .placed .1 ∙ ap (λ (s : Said). s .2) e)) (P .1),
+    )
+  where
+    first : (m : List Said) → Every Small m → Small (said m)
+    first [] h = (omega arith, omega arith)
+    first (s ∷ m) h = h .0
+
+    -- a refusal names no place
+    small : (l m : List Said) → Every Early l → (l ≡ [] → Every Small m) → Small (said (l ++ m))
+    small [] m h k = first m (k refl)
+    small (s ∷ l) m h k = (omega (arith, h .0 .placeless .0), omega (arith, h .0 .placeless .1))

@@ -1,8 +1,8 @@
 -- Laws of the shared functions on lists. Assumes nothing.
-use Prim.Native.Nat.{_+_, ℕ}
+use Prim.Native.Nat.{_+_, _≤_, suc, zero, ℕ}
 use Rattle.laws.specs.Lists.{rest, tally}
-use lib.ListN.{length}
-use mathlib.Core.Bool.{Bool, true}
+use lib.ListN.{length, take}
+use mathlib.Core.Bool.{Bool, cond, false, true}
 use mathlib.Core.List.{List, [], _++_, _∷_, map}
 use mathlib.Core.Path.{_≡_, ap, refl}
 use native.Mathlib.Omega.{arith}
@@ -38,3 +38,13 @@ tally-append f (x ∷ xs) ys = omega (arith, tally-append f xs ys)
 pub tally-length : {A : Type 0} (xs : List A) → tally (λ a. true) xs ≡ length xs
 tally-length [] = refl
 tally-length (x ∷ xs) = omega (arith, tally-length xs)
+
+-- of the first k, no more than k pass
+pub tally-take : {A : Type 0} (f : A → Bool) (k : ℕ) (xs : List A) → tally f (take k xs) ≤ k
+tally-take f zero xs = omega arith
+tally-take f (suc k) [] = omega arith
+tally-take f (suc k) (x ∷ xs) = go (f x) (tally-take f k xs)
+  where
+    go : (b : Bool) → tally f (take k xs) ≤ k → cond b 1 0 + tally f (take k xs) ≤ suc k
+    go true h = omega arith
+    go false h = omega arith

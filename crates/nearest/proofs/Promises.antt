@@ -2,13 +2,15 @@
 -- it rests on the rows that it measures, and no second outcome fits. Assumes nothing.
 use Prim.Native.Nat.{_<_, _≤_, min, suc, zero, ℕ}
 use Rattle.laws.proofs.Every.{Every, every-both, every-map, every-take}
+use Rattle.laws.proofs.Lists.{tally-take}
 use Rattle.laws.proofs.Ranges.{at-every, range-length}
 use Rattle.laws.specs.Lists.{has, look, range}
+use Rattle.limits.specs.Limits.{maxRows}
 use Rattle.measure.proofs.Metric.{query-point}
 use Rattle.measure.specs.Table.{between, from, row, rowsOf}
 use Rattle.nearest.proofs.Contract.{byte-measured, same-answers}
 use Rattle.nearest.proofs.Handouts.{sort-every}
-use Rattle.nearest.proofs.Refused.{same-rows}
+use Rattle.nearest.proofs.Refused.{clear}
 use Rattle.nearest.specs.Calls.{Answered, Serves, Settled}
 use Rattle.nearest.specs.Fits.{homeBound}
 use Rattle.tree.proofs.Answers.{answers-length, near-at, passes-all, passes-near}
@@ -76,7 +78,7 @@ module _ {t : List ℕ} {c : ℕ} {w q : List ℕ} {wanted room : ℕ} {rs rs′
     (s : Answered t c w q wanted room rs rs′ ds ds′ how how′ work work′ number given met) (done : number ≡ 0) where
   -- the table has as many rows as the index
   rows-are : rowsOf t c ≡ n# w
-  rows-are = sym (same-rows t c w q wanted room (length how) (length work) (sym (s .said) ∙ done))
+  rows-are = sym (clear t c w q wanted room (length how) (length work) (sym (s .said) ∙ done) .index .rows)
 
   module _ (x : ℕ → ℕ) (Z : Settled x w wanted rs rs′ ds ds′ how how′ given) where
     near-length : length (nearHow x (n# w) (treeOf w) wanted) ≡ n# w
@@ -221,3 +223,18 @@ module _ {t : List ℕ} {c : ℕ} {w q : List ℕ} {wanted room : ℕ} {rs ds ho
               nearest-open .2 z .0,
             ),
           )
+
+-- THE COUNTS ARE NO MORE THAN THE ROWS, so that 32 bits hold them, and there are no more answers than there is room for
+pub nearest-small : {t : List ℕ} {c : ℕ} {w q : List ℕ} {wanted room : ℕ} {rs rs′ ds ds′ how how′ work work′ : List ℕ} {number given met : ℕ}
+    → Answered t c w q wanted room rs rs′ ds ds′ how how′ work work′ number given met → (given ≤ maxRows) × (met ≤ maxRows) × (given ≤ room)
+nearest-small {t} {c} {w} {q} {wanted} {room} {how = how} {how′ = how′} {work = work} {number = number} {given = given} {met = met} s = go (ℕ-discrete number 0)
+  where
+    go : Dec (number ≡ 0) → (given ≤ maxRows) × (met ≤ maxRows) × (given ≤ room)
+    go (no k) = (omega (arith, s .refused k .0), omega (arith, s .refused k .1), omega (arith, s .refused k .0))
+    go (yes z) =
+        let C = clear t c w q wanted room (length how) (length work) (sym (s .said) ∙ z) in
+        let n = C .index .shape .whole .rows in (
+          omega (arith, s .few z, n),
+          omega (arith, s .counted z, tally-take isMeasured (n# w) how′, n),
+          omega (arith, s .few z, C .answers, C .index .rows),
+        )

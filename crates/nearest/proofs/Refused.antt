@@ -3,10 +3,11 @@ use Prim.Native.Nat.{_*_, _<_, _≤_, min, ℕ}
 use Rattle.limits.specs.Said.{Said, fault, said, tableFaults}
 use Rattle.measure.specs.Table.{rowsOf}
 use Rattle.nearest.specs.Calls.{Lent}
-use Rattle.tree.proofs.Refusals.{fault-first, fault-next, fault-not, fault-numbered, says-first, says-next, says-none, sized, table-numbered}
+use Rattle.tree.proofs.Refusals.{Sized, fault-first, fault-next, fault-not, fault-numbered, says-first, says-next, says-none, sized, table-numbered}
 use Rattle.tree.specs.Calls.{saidNearest}
 use Rattle.words.proofs.Index as index
 use Rattle.words.specs.Calls.{indexFaults}
+use Rattle.words.specs.InShape.{Over}
 use Rattle.words.specs.Words.{n#}
 use borrow.Author.Tests.{eq-eqb, eqb-false, eqb-true, le-ltb, lt-ltb, ltb-false, ne-eqb, not-false}
 use lib.Dec.{T, eqb, ltb}
@@ -102,39 +103,18 @@ module _ (t : List ℕ) (c : ℕ) (w q : List ℕ) (wanted room how work : ℕ) 
       pub by-index : {i : ℕ} → length q ≡ c → (wanted ≡ 0 → ⊥) → i ≡ said (indexFaults w n c) .0 → i ≡ saidNearest t c w q wanted room how work .0
       by-index p k e′ = e′ ∙ fault-next 7 (indexFaults w n c) (ne-eqb wanted 0 k) ∙ after-query p
 
--- WITH 0 THE INDEX IS IN SHAPE AND WHAT IS LENT FITS IT
-pub fits : (t : List ℕ) (c : ℕ) (w q : List ℕ) (wanted room : ℕ) (rs ds how work : List ℕ) → (room ≤ length rs) × (room ≤ length ds) → (k : ℕ) → k ≡ min wanted (n# w)
-    → saidNearest t c w q wanted room (length how) (length work) .0 ≡ 0 → Lent t c w q k rs ds how work
-fits t c w q wanted room rs ds how work fit k ek z =
-    let n : ℕ = rowsOf t c in
-    let s : Bool = ltb room (min wanted n) || ltb (length how) n || ltb (length work) (6 * n) in
-    let b : Bool = eqb (length q) c in
-    let tab = says-none (first t c w q wanted room (length how) (length work)) (next t c w q wanted room (length how) (length work)) (table-numbered (length t) c)
-    (in-turn t c w q wanted room (length how) (length work) ∙ z) in
-    let f = says-none (fault 5 s) (later t c w q wanted room (length how) (length work)) (fault-numbered 5 s (omega arith)) (tab .1) in
-    let g = says-none (fault 6 (not b)) (last t c w q wanted room (length how) (length work)) (fault-numbered 6 (not b) (omega arith)) (f .1) in
-    let h = says-none (fault 7 (eqb wanted 0)) (indexFaults w n c) (fault-numbered 7 (eqb wanted 0) (omega arith)) (g .1) in
-    let O = index.over w n c (sym (h .1)) in
-    let S = sized (length t) c (tab .0) in
-    let p = or-parts (ltb room (min wanted n)) (ltb (length how) n) (ltb (length work) (6 * n)) (fault-not 5 s (omega arith) (f .0)) in
-    let a = ltb-false room (min wanted n) (p .0) in
-    let some : wanted ≢ 0 = eqb-false wanted 0 (fault-not 7 (eqb wanted 0) (omega arith) (h .0)) in
-    let same : n# w ≡ n = O .rows in
-    record {
-      shape = O .shape;
-      table = subst (λ (n : ℕ). c * n ≤ length t) (sym same) (S .inside);
-      columns = S .few;
-      query = eqb-true (length q) c (not-false b (fault-not 6 (not b) (omega arith) (g .0)));
-      asked = (omega arith, λ l. omega arith);
-      rows = omega (arith, fit .0);
-      distances = omega (arith, fit .1);
-      bytes = omega (arith, ltb-false (length how) n (p .1));
-      words = omega (arith, ltb-false (length work) (6 * n) (p .2));
-    }
+-- WITH 0 NOTHING IS WRONG: the table and the query, the rooms, what is wanted, and the index
+pub record Clear (t : List ℕ) (c : ℕ) (w q : List ℕ) (wanted room how work : ℕ) : Type 0 where
+  pub table : Sized (length t) c
+  pub index : Over w (rowsOf t c) c
+  pub answers : min wanted (rowsOf t c) ≤ room
+  pub bytes : rowsOf t c ≤ how
+  pub words : 6 * rowsOf t c ≤ work
+  pub query : length q ≡ c
+  pub some : wanted ≢ 0
 
--- and has as many rows as the table
-pub same-rows : (t : List ℕ) (c : ℕ) (w q : List ℕ) (wanted room how work : ℕ) → saidNearest t c w q wanted room how work .0 ≡ 0 → n# w ≡ rowsOf t c
-same-rows t c w q wanted room how work z =
+pub clear : (t : List ℕ) (c : ℕ) (w q : List ℕ) (wanted room how work : ℕ) → saidNearest t c w q wanted room how work .0 ≡ 0 → Clear t c w q wanted room how work
+clear t c w q wanted room how work z =
     let n : ℕ = rowsOf t c in
     let s : Bool = ltb room (min wanted n) || ltb how n || ltb work (6 * n) in
     let b : Bool = eqb (length q) c in
@@ -142,4 +122,31 @@ same-rows t c w q wanted room how work z =
     let f = says-none (fault 5 s) (later t c w q wanted room how work) (fault-numbered 5 s (omega arith)) (tab .1) in
     let g = says-none (fault 6 (not b)) (last t c w q wanted room how work) (fault-numbered 6 (not b) (omega arith)) (f .1) in
     let h = says-none (fault 7 (eqb wanted 0)) (indexFaults w n c) (fault-numbered 7 (eqb wanted 0) (omega arith)) (g .1) in
-    index.over w n c (sym (h .1)) .rows
+    let p = or-parts (ltb room (min wanted n)) (ltb how n) (ltb work (6 * n)) (fault-not 5 s (omega arith) (f .0)) in
+    record {
+      table = sized (length t) c (tab .0);
+      index = index.over w n c (sym (h .1));
+      answers = ltb-false room (min wanted n) (p .0);
+      bytes = ltb-false how n (p .1);
+      words = ltb-false work (6 * n) (p .2);
+      query = eqb-true (length q) c (not-false b (fault-not 6 (not b) (omega arith) (g .0)));
+      some = eqb-false wanted 0 (fault-not 7 (eqb wanted 0) (omega arith) (h .0));
+    }
+
+-- what is lent then fits the index
+pub fits : (t : List ℕ) (c : ℕ) (w q : List ℕ) (wanted room : ℕ) (rs ds how work : List ℕ) → (room ≤ length rs) × (room ≤ length ds) → (k : ℕ) → k ≡ min wanted (n# w)
+    → saidNearest t c w q wanted room (length how) (length work) .0 ≡ 0 → Lent t c w q k rs ds how work
+fits t c w q wanted room rs ds how work fit k ek z =
+    let C = clear t c w q wanted room (length how) (length work) z in
+    let same : n# w ≡ rowsOf t c = C .index .rows in
+    record {
+      shape = C .index .shape;
+      table = subst (λ (n : ℕ). c * n ≤ length t) (sym same) (C .table .inside);
+      columns = C .table .few;
+      query = C .query;
+      asked = (omega arith, λ l. omega (arith, C .some));
+      rows = omega (arith, C .answers, fit .0);
+      distances = omega (arith, C .answers, fit .1);
+      bytes = omega (arith, C .bytes);
+      words = omega (arith, C .words);
+    }

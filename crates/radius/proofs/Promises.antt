@@ -1,9 +1,12 @@
 -- What the contract of the radius call says, in 01's words: it is exact on an accepted index, it rests on the rows that it measures,
 -- and no second outcome fits. Assumes nothing.
 use Prim.Native.Nat.{_<_, _≤_, ℕ}
+use Rattle.laws.proofs.Lists.{tally-take}
+use Rattle.limits.specs.Limits.{maxRows}
 use Rattle.measure.proofs.Metric.{query-point}
 use Rattle.measure.specs.Table.{between, from, row}
 use Rattle.radius.proofs.How.{how-length}
+use Rattle.radius.proofs.Refused.{fits}
 use Rattle.radius.specs.Calls.{Once, Searched}
 use Rattle.tree.proofs.Accepted.{once-of}
 use Rattle.tree.proofs.Theorems.{radius-exact, radius-two-tables, same-row}
@@ -12,13 +15,13 @@ use Rattle.tree.specs.Grove.{treeOf}
 use Rattle.tree.specs.Nearest.{isMeasured, measured}
 use Rattle.tree.specs.Radius.{inside, radiusHow}
 use Rattle.words.specs.Words.{n#}
-use lib.Dec.{T}
+use lib.Dec.{T, leb}
 use lib.ListN.{List·getD-append, drop, getD, take, take-append-drop}
 use lib.Seq.{take-at}
 use mathlib.Core.List.{List, _++_}
 use mathlib.Core.Logic.{_↔_, by-cases}
 use mathlib.Core.Path.{_∙_, _≡_, ap, ap₂, subst, sym}
-use native.Mathlib.Decide.{decLt}
+use native.Mathlib.Decide.{decLt, ℕ-discrete}
 use native.Mathlib.Omega.{arith}
 
 -- ---- a call that is not refused, on an index in which each row stands once
@@ -97,3 +100,16 @@ module _ {t : List ℕ} {c : ℕ} {w q : List ℕ} {r : ℕ} {before a a′ : Li
       (λ h.
       let z : n ≡ 0 = omega arith in
       (one-number, (radius-open .2 z) .1 (first-bytes s z (once z) ∙ sym (first-bytes s′ (sym one-number ∙ z) (once z)))))
+
+-- THE COUNTS ARE NO MORE THAN THE ROWS, so that 32 bits hold them
+pub radius-small : {t : List ℕ} {c : ℕ} {w q : List ℕ} {r : ℕ} {before after : List ℕ} {number in# measured# : ℕ}
+    → Searched t c w q r before after number in# measured# → (in# ≤ maxRows) × (measured# ≤ maxRows)
+radius-small {t} {c} {w} {q} {r} {before} {after} {number} {in#} {measured#} s = go (ℕ-discrete number 0)
+  where
+    go : Dec (number ≡ 0) → (in# ≤ maxRows) × (measured# ≤ maxRows)
+    go (no k) = (omega (arith, s .refused k .0), omega (arith, s .refused k .1))
+    go (yes z) =
+        let few = fits t c w q before (sym (s .said) ∙ z) .shape .whole .rows in (
+          omega (arith, s .counts z .0, tally-take (leb 2) (n# w) after),
+          omega (arith, s .counts z .1, tally-take isMeasured (n# w) after),
+        )
