@@ -4,7 +4,8 @@ use Rattle.audit.proofs.Faults.{Late, faults-late}
 use Rattle.audit.proofs.Refused.{Early, early-low, early-placeless, refusals-early, said-first}
 use Rattle.audit.specs.Calls.{Checks}
 use Rattle.audit.specs.Refusals.{refusals}
-use Rattle.audit.specs.Workspace.{clears, wiped}
+use Rattle.audit.specs.Workspace.{clears}
+use Rattle.buffers.specs.Wiped.{wiped}
 use Rattle.laws.proofs.Every.{Every}
 use Rattle.limits.specs.Said.{Said, said}
 use Rattle.measure.specs.Table.{between, rowsOf}

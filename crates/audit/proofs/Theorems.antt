@@ -5,7 +5,8 @@ use Rattle.audit.proofs.Faults.{Late, Small, faults-late, faults-small}
 use Rattle.audit.proofs.Refused.{Early, past, past-none, refusals-early}
 use Rattle.audit.specs.Calls.{Checks, Passed}
 use Rattle.audit.specs.Refusals.{refusals}
-use Rattle.audit.specs.Workspace.{clears, wiped}
+use Rattle.audit.specs.Workspace.{clears}
+use Rattle.buffers.specs.Wiped.{wiped}
 use Rattle.laws.proofs.Every.{Every}
 use Rattle.limits.specs.Limits.{maxRows}
 use Rattle.limits.specs.Said.{Said, said}

@@ -1,6 +1,7 @@
 -- THE FULL CHECK'S CONTRACT, and what its 0 stands for: 01, The tree, full check, and Numbers given back. Assumes nothing.
 use Prim.Native.Nat.{_%_, _*_, _≤_, ℕ}
-use Rattle.audit.specs.Workspace.{clears, wiped}
+use Rattle.audit.specs.Workspace.{clears}
+use Rattle.buffers.specs.Wiped.{wiped}
 use Rattle.limits.specs.Limits.{maxColumns, maxRows}
 use Rattle.measure.specs.Table.{between, rowsOf}
 use Rattle.tree.specs.Calls.{saidCheck}

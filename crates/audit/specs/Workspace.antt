@@ -1,14 +1,10 @@
 -- The workspace: 01, Numbers given back, the last paragraph. Assumes nothing.
 use Prim.Native.Nat.{_<_, _≤_, ℕ}
 use lib.Dec.{eqb, leb}
-use lib.ListN.{drop, getD, length, replicate}
+use lib.ListN.{getD, length}
 use mathlib.Core.Bool.{Bool, _||_}
-use mathlib.Core.List.{List, _++_}
+use mathlib.Core.List.{List}
 use mathlib.Core.Path.{_≡_}
-
--- the first n words zero, the rest as it was
-abbrev pub wiped : ℕ → List ℕ → List ℕ
-wiped n work = replicate n 0 ++ drop n work
 
 -- 0, and 10 to 13, clear the workspace; 1 to 9 leave it
 abbrev pub clears : ℕ → Bool

@@ -9,18 +9,18 @@ ghost use Prim.Native.Nat.{_*_, _≤_};
 ghost use Rattle.audit.specs.Calls.{Checks};
 ghost use Rattle.audit.specs.Passes.{measuredFaults, told};
 ghost use Rattle.audit.specs.Refusals.{Paired, refusals};
-ghost use Rattle.audit.specs.Workspace.{wiped};
+ghost use Rattle.buffers.specs.Wiped.{wiped};
 ghost use Rattle.limits.specs.Said.{said};
 ghost use Rattle.measure.specs.Table.{between};
 ghost use Rattle.tree.specs.Check.{faults};
 ghost use Rattle.words.specs.Words.{n#};
 ghost use lib.ListN.{length};
 ghost use mathlib.Core.Path.{_≡_};
+use buffers::clear_words;
 use leaves::first_wrong_distance;
 use limits::table_number;
 use nearness::closeness;
 use radii::first_wrong_radius;
-use repeats::clear;
 use repeats::first_again;
 use words::listing::index_number;
 use words::places::nodes;
@@ -80,9 +80,9 @@ fn first_fault(table: &[u16], c: usize, index: &[u32], work: &mut [u32]) -> Chec
     ensures leaves { λ _. ⌜ now (work .exit) ≡ wiped (6 * n# (now (index .entry))) (now (work .entry)) ⌝ }
 {
     let n = rows(index);
-    clear(work, n);
+    clear_words(work, n);
     let p = first_again(index, work);
-    clear(work, 6 * n);
+    clear_words(work, 6 * n);
     if p < n {
         return Checked {
             number: 10,

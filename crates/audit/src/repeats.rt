@@ -1,6 +1,6 @@
 // 10: a row number again. The workspace marks the rows met so far.
 ghost use Prim.Native.Nat.{_≤_};
-ghost use Rattle.audit.specs.Workspace.{Clear, wiped};
+ghost use Rattle.audit.specs.Workspace.{Clear};
 ghost use Rattle.laws.specs.First.{First};
 ghost use Rattle.tree.specs.Check.{again};
 ghost use Rattle.words.specs.InShape.{InShape};
@@ -9,18 +9,6 @@ ghost use lib.ListN.{drop, length};
 ghost use mathlib.Core.Path.{_≡_};
 use words::places::row_at;
 use words::places::rows;
-
-// The first n words become zero.
-pub fn clear(work: &mut [u32], n: usize)
-    requires { ⌜ n ≤ length (now work) ⌝ }
-    ensures { λ _. ⌜ now (work .exit) ≡ wiped n (now (work .entry)) ⌝ }
-{
-    let mut i = 0;
-    while i < n {
-        work[i] = 0;
-        i += 1;
-    }
-}
 
 // The lowest position whose row stands at a lower one too, or n. The marks stay in the first n words.
 pub fn first_again(index: &[u32], work: &mut [u32]) -> usize

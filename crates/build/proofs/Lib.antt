@@ -8,7 +8,6 @@ pub mod Halfway
 pub mod Levelling
 pub mod Turns
 pub mod Laying
-pub mod Cleared
 pub mod Headed
 pub mod Pairing
 pub mod Rooting

@@ -1,5 +1,7 @@
 -- The tree that the levels make, and the words of the whole index. Assumes nothing.
 use Prim.Native.Nat.{_*_, _+_, _-_, _≤_, suc, zero, ℕ}
+use Rattle.buffers.proofs.Whole.{wiped-whole}
+use Rattle.buffers.specs.Wiped.{wiped}
 use Rattle.build.proofs.Numbering.{entries-leaves, numbered-levels, pairsOf}
 use Rattle.build.proofs.Rooting.{root-run}
 use Rattle.build.specs.Filled.{Filled, Grown, Layered, headerOf, pairsIn, rootItem}
@@ -122,7 +124,7 @@ module _ (t : List ℕ) (c m l n : ℕ) (fit : Fit t c m l n) (origin : List ℕ
     -- THE WHOLE INDEX STANDS IN THE ROOM
     pub filled : (work′ : List ℕ) → length room₂ ≡ length origin → room₂ ≡ headerOf n c m l made ++ drop 8 room
         → ys ≡ pairsIn (stretch work 0 (3 * n)) ++ drop (2 * n) (midOf (nodeAt made) (length room₂ - nodeAt made) room₂)
-        → length work ≡ 6 * n → work′ ≡ replicate (length work) 0
+        → length work ≡ 6 * n → work′ ≡ wiped (length work) work
         → Filled t c m l n origin (putMid (nodeAt made) (length room₂ - nodeAt made) room₂ ys) work′ made
     filled work′ same e f half cl =
         let z : 3 * n - 0 ≡ 3 * n = omega arith in
@@ -134,5 +136,5 @@ module _ (t : List ℕ) (c m l n : ℕ) (fit : Fit t c m l n) (origin : List ℕ
               ∙ ap₂ (λ (x : List ℕ) (k : ℕ). x ++ drop k origin) words-are (sym (encode-long made (grown .count)));
           count = grown .count;
           few = grown .few;
-          cleared = cl ∙ ap (λ (k : ℕ). replicate k 0) half;
+          cleared = cl ∙ wiped-whole work ∙ ap (λ (k : ℕ). replicate k 0) half;
         }

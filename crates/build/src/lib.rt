@@ -13,6 +13,7 @@ ghost use Rattle.split.specs.Groups.{stretch};
 ghost use lib.ListN.{drop, length, replicate};
 ghost use mathlib.Core.List.{_++_};
 ghost use mathlib.Core.Path.{_≡_};
+use buffers::clear_words;
 use limits::Chosen;
 use limits::Params;
 use limits::columns_ok;
@@ -189,17 +190,6 @@ fn put_positions(part: &mut [u32], n: usize, work: &[u32])
     }
 }
 
-// Sets every word to zero.
-fn clear(part: &mut [u32])
-    ensures { λ _. ⌜ now (part .exit) ≡ replicate (length (now (part .entry))) 0 ⌝ }
-{
-    let mut i = 0;
-    while i < part.len() {
-        part[i] = 0;
-        i += 1;
-    }
-}
-
 // The index over n rows, in a room that is long enough and with a workspace of 6n words. Gives the number of nodes.
 pub fn fill(
     table: &[u16],
@@ -217,7 +207,7 @@ pub fn fill(
     put_header(room, n, c, m, l, nodes);
     let at = HEADER + WIDTH * nodes;
     put_positions(&mut room[at..], n, work);
-    clear(work);
+    clear_words(work, work.len());
     nodes
 }
 

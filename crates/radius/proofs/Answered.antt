@@ -3,7 +3,8 @@ use Prim.Native.Nat.{ℕ}
 use Rattle.measure.specs.Table.{from}
 use Rattle.radius.proofs.How.{bytes, bytes-are, bytes-length, written-is}
 use Rattle.radius.specs.Calls.{Searched}
-use Rattle.radius.specs.Written.{cleared, write}
+use Rattle.buffers.specs.Wiped.{wiped}
+use Rattle.radius.specs.Written.{write}
 use Rattle.tree.specs.Calls.{saidRadius}
 use Rattle.tree.specs.Grove.{treeOf}
 use Rattle.tree.specs.Nearest.{measured}
@@ -21,7 +22,7 @@ module _ (T : List ℕ) (c : ℕ) (w q : List ℕ) (r : ℕ) (h : List ℕ) {num
       record { said = said-is; refused = λ k. (refl, refl, refl); beyond = λ z. absurd (n z); counts = λ z. absurd (n z); marks = λ z. absurd (n z) }
 
   pub done-is : {k i m : ℕ} (h′ : List ℕ) → number ≡ 0 → InShape w → k ≡ n# w
-      → h′ ≡ write (marks (from T c q) r (treeOf w)) (cleared (n# w) h)
+      → h′ ≡ write (marks (from T c q) r (treeOf w)) (wiped (n# w) h)
       → i ≡ inside (take k h′) → m ≡ measured (take k h′) → Searched T c w q r h h′ 0 i m
   done-is h′ z S k d i m =
       let x : ℕ → ℕ = from T c q in

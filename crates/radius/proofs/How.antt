@@ -6,7 +6,8 @@ use Rattle.laws.proofs.Times.{lefts, times-every}
 use Rattle.laws.specs.Lists.{look, times}
 use Rattle.radius.proofs.Written.{byte-length, write-length}
 use Rattle.radius.specs.Calls.{Once}
-use Rattle.radius.specs.Written.{byte, cleared, write}
+use Rattle.buffers.specs.Wiped.{wiped}
+use Rattle.radius.specs.Written.{byte, write}
 use Rattle.tree.proofs.Marks.{how-at, marks-rows}
 use Rattle.tree.proofs.Rows.{full-tree, rows-low, rows-once}
 use Rattle.tree.specs.Grove.{rowsIn, treeOf}
@@ -100,7 +101,7 @@ module _ (x : ℕ → ℕ) (r : ℕ) (w : List ℕ) (S : InShape w) where
   bytes-length = write-length (marks x r (treeOf w)) (replicate (n# w) 0) ∙ length-replicate (n# w) 0
 
   -- NO BYTE BEYOND n IS WRITTEN, WHATEVER ROWS THE INDEX NAMES
-  pub written-is : (h : List ℕ) → write (marks x r (treeOf w)) (cleared (n# w) h) ≡ bytes ++ drop (n# w) h
+  pub written-is : (h : List ℕ) → write (marks x r (treeOf w)) (wiped (n# w) h) ≡ bytes ++ drop (n# w) h
   written-is h =
       write-left (marks x r (treeOf w)) (replicate (n# w) 0) (drop (n# w) h)
       (subst (λ (n : ℕ). Every (λ m. m .0 < n) (marks x r (treeOf w))) (sym (length-replicate (n# w) 0)) marks-low)

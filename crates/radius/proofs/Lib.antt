@@ -4,7 +4,6 @@ pub mod Distances
 pub mod Below
 pub mod Nodes
 pub mod Ways
-pub mod Tallies
 pub mod Refused
 pub mod How
 pub mod Answered

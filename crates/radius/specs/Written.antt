@@ -17,7 +17,3 @@ write (m ∷ ms) h = write ms (byte (m .0) (m .1) h)
 -- the marks f lo, f (lo + 1), .. up to, not with, f hi
 unfoldable pub marked : (ℕ → List (ℕ × ℕ)) → ℕ → ℕ → List ℕ → List ℕ
 marked f lo hi h = write (each f (range lo (hi - lo))) h
-
--- the first n bytes cleared
-abbrev pub cleared : ℕ → List ℕ → List ℕ
-cleared n h = replicate n 0 ++ drop n h

@@ -7,8 +7,8 @@ ghost use Rattle.radius.specs.Lent.{Lent};
 ghost use Rattle.radius.specs.Written.{byte, marked};
 ghost use Rattle.words.specs.Words.{N#, count#, n#, row#, start#};
 ghost use mathlib.Core.Path.{_≡_};
-use crate::bounds::difference;
 use crate::marking::measure_row;
+use tree::bounds::apart;
 use words::places::node_count;
 use words::places::node_start;
 use words::places::row_at;
@@ -26,7 +26,7 @@ fn decide(x: u32, s: u32, r: u32) -> Verdict
     requires { ⌜ (x ≤ maxDistance) × (s ≤ maxDistance) ⌝ }
     ensures { λ v. ⌜ v ≡ decision x s r ⌝ }
 {
-    if r < difference(x, s) {
+    if r < apart(x, s) {
         return Verdict::Out;
     }
     if x + s <= r {

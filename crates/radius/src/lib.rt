@@ -2,23 +2,23 @@
 ghost use Rattle.measure.specs.Table.{from};
 ghost use Rattle.radius.specs.Calls.{Searched};
 ghost use Rattle.radius.specs.Lent.{Lent};
-ghost use Rattle.radius.specs.Written.{cleared, write};
+ghost use Rattle.buffers.specs.Wiped.{wiped};
+ghost use Rattle.radius.specs.Written.{write};
 ghost use Rattle.tree.specs.Calls.{saidRadius};
 ghost use Rattle.tree.specs.Grove.{treeOf};
 ghost use Rattle.tree.specs.Radius.{marks};
 ghost use Rattle.words.specs.Words.{n#};
 ghost use mathlib.Core.Path.{_≡_};
 use crate::descent::descend;
-use crate::marking::Counts;
-use crate::marking::clear;
 use crate::marking::measure_row;
-use crate::marking::tally;
+use buffers::clear_bytes;
 use limits::Params;
+use tree::how::tally;
 use words::places::node_first;
 use words::places::nodes;
 use words::places::rows;
 
-pub mod bounds;
+mod centres;
 mod descent;
 mod leaf;
 mod marking;
@@ -33,9 +33,9 @@ pub struct Found {
 // The search on an index that is known to be in shape, with what is lent known to fit it: so that many searches take one test.
 pub fn search(table: &[u16], c: usize, index: &[u32], query: &[u16], r: u32, how: &mut [u8])
     requires { ⌜ Lent (now index) (now table) c (now query) (now how) ⌝ }
-    ensures { λ _. ⌜ now (how .exit) ≡ write (marks (from (now (table .entry)) c (now (query .entry))) r (treeOf (now (index .entry)))) (cleared (n# (now (index .entry))) (now (how .entry))) ⌝ }
+    ensures { λ _. ⌜ now (how .exit) ≡ write (marks (from (now (table .entry)) c (now (query .entry))) r (treeOf (now (index .entry)))) (wiped (n# (now (index .entry))) (now (how .entry))) ⌝ }
 {
-    clear(how, rows(index));
+    clear_bytes(how, rows(index));
     if nodes(index) == 0 {
         return;
     }

@@ -23,3 +23,4 @@ pub mod Good
 pub mod Built
 pub mod Theorems
 pub mod Refusals
+pub mod Tallies

@@ -5,7 +5,8 @@ use Rattle.audit.proofs.Faults.{again-found, again-none}
 use Rattle.audit.proofs.Wiping.{wiped-again, wiped-clear}
 use Rattle.audit.proofs.first_fault.Statement.{statement}
 use Rattle.audit.proofs.first_fault.Tie as tie
-use Rattle.audit.specs.Workspace.{Clear, wiped}
+use Rattle.audit.specs.Workspace.{Clear}
+use Rattle.buffers.specs.Wiped.{wiped}
 use Rattle.measure.specs.Table.{between}
 use Rattle.words.specs.Words.{n#}
 use borrow.Author.Needs.{needs}
@@ -13,38 +14,38 @@ use mathlib.Core.Path.{_∙_, _≡_, ap, subst, sym}
 use native.Mathlib.Omega.{arith}
 
 -- the start, seen from the first wiping, and that, seen from the second
-abbrev start : tie.After-clear → tie.Start
+abbrev start : tie.After-clear-words → tie.Start
 start c = c .before .before .before .before .before .before
 
-abbrev first : tie.After-clear2 → tie.After-clear
+abbrev first : tie.After-clear-words2 → tie.After-clear-words
 first c = c .before .before .before .before .before .before .before .before
 
 -- the workspace before the marks, and at the end
-before-marks : (c : tie.After-clear) → c .clear .last .0 ≡ wiped (n# (start c .args .index .now)) (start c .args .work .now)
-before-marks c = c .clear .ensures ∙ ap (λ (i : ℕ). wiped i (start c .args .work .now)) (c .before .before .rows .ensures .0)
+before-marks : (c : tie.After-clear-words) → c .clear-words .last .0 ≡ wiped (n# (start c .args .index .now)) (start c .args .work .now)
+before-marks c = c .clear-words .ensures ∙ ap (λ (i : ℕ). wiped i (start c .args .work .now)) (c .before .before .rows .ensures .0)
 
-at-end : (c : tie.After-clear2) → c .clear2 .last .0 ≡ wiped (6 * n# (start (first c) .args .index .now)) (start (first c) .args .work .now)
+at-end : (c : tie.After-clear-words2) → c .clear-words2 .last .0 ≡ wiped (6 * n# (start (first c) .args .index .now)) (start (first c) .args .work .now)
 at-end c =
     let marks = c .before .before .before .before .first-again in
     wiped-again _ (start (first c) .args .work .now) (marks .last .1 .0) (first c .before .before .rows .ensures .0) (before-marks (first c))
-    (marks .ensures .1) (c .clear2 .ensures)
+    (marks .ensures .1) (c .clear-words2 .ensures)
 
 rows-requires : tie.Need-rows-requires
 rows-requires c κs = search needs
 
-clear-requires : tie.Need-clear-requires
-clear-requires c κs = search needs
+clear-words-requires : tie.Need-clear-words-requires
+clear-words-requires c κs = search needs
 
 first-again-requires : tie.Need-first-again-requires
 first-again-requires c κs =
     let f = c .before .before .before in
     (start f .pre .0 .shape, subst (Clear (n# (start f .args .index .now))) (sym (before-marks f)) (wiped-clear _ _ (omega arith)))
 
-mul-clear : tie.Need-mul-clear
-mul-clear c = search needs
+mul-clear-words : tie.Need-mul-clear-words
+mul-clear-words c = search needs
 
-clear-requires-2 : tie.Need-clear-requires-2
-clear-requires-2 c κs = search needs
+clear-words-requires-2 : tie.Need-clear-words-requires-2
+clear-words-requires-2 c κs = search needs
 
 same-length : tie.Need-same-length
 same-length c = search needs
@@ -77,10 +78,10 @@ first-fault-spec =
     tie.close
     (tie.spec
     rows-requires
-    clear-requires
+    clear-words-requires
     first-again-requires
-    mul-clear
-    clear-requires-2
+    mul-clear-words
+    clear-words-requires-2
     same-length
     returns
     measured-fault-requires

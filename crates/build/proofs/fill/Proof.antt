@@ -32,8 +32,8 @@ part-put-positions-end c = search needs
 put-positions-requires : tie.Need-put-positions-requires
 put-positions-requires c κs = search needs
 
-clear-requires : tie.Need-clear-requires
-clear-requires c κs = search needs
+clear-words-requires : tie.Need-clear-words-requires
+clear-words-requires c κs = search needs
 
 same-length : tie.Need-same-length
 same-length c = search needs
@@ -44,7 +44,7 @@ same-length-2 c = search needs
 returns : tie.Need-returns
 returns c =
     let s = c .before .before .before .before .before .before .before .before .before .before .before .before .before .before .before .before .before .before .before .before .before .before .before in
-    filled _ _ _ _ _ (s .pre .fit) _ _ _ _ _ _ (c .before .before .before .before .before .before .before .before .before .before .before .before .before .before .before .before .before .grow .ensures) (s .pre .space) _ (search needs) (c .before .before .before .before .before .before .before .before .before .before .before .put-header .ensures) (c .before .before .before .before .before .before .put-positions .ensures) (search needs) (c .before .before .clear .ensures)
+    filled _ _ _ _ _ (s .pre .fit) _ _ _ _ _ _ (c .before .before .before .before .before .before .before .before .before .before .before .before .before .before .before .before .before .grow .ensures) (s .pre .space) _ (search needs) (c .before .before .before .before .before .before .before .before .before .before .before .put-header .ensures) (c .before .before .before .before .before .before .put-positions .ensures) (search needs) (c .before .before .clear-words .ensures)
 
 pub fill-spec : {M : Type 1} → statement M
 fill-spec =
@@ -59,7 +59,7 @@ fill-spec =
     part-put-positions-start
     part-put-positions-end
     put-positions-requires
-    clear-requires
+    clear-words-requires
     same-length
     same-length-2
     returns)

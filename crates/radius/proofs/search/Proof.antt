@@ -6,7 +6,8 @@ use Rattle.radius.proofs.Fitted.{lent-same, measurable}
 use Rattle.radius.proofs.Ways.{centre-did, root-did, root-none}
 use Rattle.radius.proofs.search.Statement.{statement}
 use Rattle.radius.proofs.search.Tie as tie
-use Rattle.radius.specs.Written.{cleared, write}
+use Rattle.buffers.specs.Wiped.{wiped}
+use Rattle.radius.specs.Written.{write}
 use Rattle.tree.specs.Grove.{treeOf}
 use Rattle.tree.specs.Radius.{marks}
 use Rattle.words.proofs.InShape.{left-root}
@@ -17,8 +18,8 @@ use native.Mathlib.Omega.{arith}
 rows-requires : tie.Need-rows-requires
 rows-requires c κs = search needs
 
-clear-requires : tie.Need-clear-requires
-clear-requires c κs = search needs
+clear-bytes-requires : tie.Need-clear-bytes-requires
+clear-bytes-requires c κs = search needs
 
 nodes-requires : tie.Need-nodes-requires
 nodes-requires c κs = search needs
@@ -30,7 +31,7 @@ returns : tie.Need-returns
 returns c =
     let s = c .before .before .before .before .before .before .before .before .before .before .before in
     let cleared-to = c .before .before .before .before in
-    cleared-to .clear .ensures ∙ ap (λ (n : ℕ). cleared n (s .args .how .now)) (cleared-to .before .rows .ensures .0)
+    cleared-to .clear-bytes .ensures ∙ ap (λ (n : ℕ). wiped n (s .args .how .now)) (cleared-to .before .rows .ensures .0)
     ∙ root-none _ _ _ (s .pre .shape) _ (sym (c .before .nodes .ensures .0) ∙ c .if1 .taken)
 
 node-first-requires : tie.Need-node-first-requires
@@ -41,7 +42,7 @@ node-first-requires c κs =
 measure-row-requires : tie.Need-measure-row-requires
 measure-row-requires c κs =
     let s = c .before .before .before .before .before .before .before .before .before .before .before .before .before in
-    let clear = c .before .before .before .before .before .before .clear in
+    let clear = c .before .before .before .before .before .before .clear-bytes in
     measurable (lent-same (s .pre) (clear .last .0) (clear .kept .0)) _ (c .before .node-first .ensures .1)
 
 descend-requires : tie.Need-descend-requires
@@ -49,13 +50,13 @@ descend-requires c κs =
     let s = c .before .before .before .before .before .before .before .before .before .before .before .before .before .before .before .before .before in
     let row = c .before .before .before .measure-row in
     let x = from (s .args .table .now) (s .args .c) (s .args .query .now) in
-    let kept = row .kept .1 .1 .1 .1 .1 .0 ∙ c .before .before .before .before .before .before .before .before .before .before .clear .kept .0 in
+    let kept = row .kept .1 .1 .1 .1 .1 .0 ∙ c .before .before .before .before .before .before .before .before .before .before .clear-bytes .kept .0 in
     (lent-same (s .pre) _ kept, (left-root _, omega arith, row .ensures .0 .1, row .ensures .0 .0 ∙ ap x (c .before .before .before .before .before .node-first .ensures .0)))
 
 same-length-2 : tie.Need-same-length-2
 same-length-2 c =
     c .before .before .descend .kept .1 .1 .1 .1 .1 .1 .1 .1 .1 .0 ∙ c .before .before .before .before .before .before .measure-row .kept .1 .1 .1 .1 .1 .0
-    ∙ c .before .before .before .before .before .before .before .before .before .before .before .before .before .clear .kept .0
+    ∙ c .before .before .before .before .before .before .before .before .before .before .before .before .before .clear-bytes .kept .0
 
 returns-2 : tie.Need-returns-2
 returns-2 c =
@@ -64,14 +65,14 @@ returns-2 c =
     let cleared-to = c .before .before .before .before .before .before .before .before .before .before .before .before .before in
     let first = c .before .before .before .before .before .before .before .before .node-first .ensures .0 in
     root-did x _ _ (s .pre .shape) _ _ _ (omega (arith, c .before .before .before .before .before .before .before .before .before .if1 .left, c .before .before .before .before .before .before .before .before .before .before .nodes .ensures .0)) (centre-did x _ (s .args .index .now) 0 _ first (c .before .before .before .before .before .before .measure-row .ensures .1)) (c .before .before .descend .ensures)
-    ∙ ap (write (marks x (s .args .r) (treeOf (s .args .index .now)))) (cleared-to .clear .ensures ∙ ap (λ (n : ℕ). cleared n (s .args .how .now)) (cleared-to .before .rows .ensures .0))
+    ∙ ap (write (marks x (s .args .r) (treeOf (s .args .index .now)))) (cleared-to .clear-bytes .ensures ∙ ap (λ (n : ℕ). wiped n (s .args .how .now)) (cleared-to .before .rows .ensures .0))
 
 pub search-spec : {M : Type 1} → statement M
 search-spec =
     tie.close
     (tie.spec
     rows-requires
-    clear-requires
+    clear-bytes-requires
     nodes-requires
     same-length
     returns

@@ -8,8 +8,8 @@ use Rattle.radius.proofs.Distances.{bound-is, least-is}
 use Rattle.radius.proofs.Fitted.{lent-same}
 use Rattle.radius.proofs.Ways.{closed-did, inner-opened, leaf-opened, swept-did}
 use Rattle.radius.proofs.Written.{marked-end, marked-next, marked-none}
-use Rattle.radius.proofs.bounds.child_bound.Reads as child-bound-reads
-use Rattle.radius.proofs.bounds.least_of.Reads as least-of-reads
+use Rattle.tree.proofs.bounds.child_bound.Reads as child-bound-reads
+use Rattle.radius.proofs.centres.least_of.Reads as least-of-reads
 use Rattle.radius.proofs.descent.+descend.Lts-descend as descend-lts
 use Rattle.radius.proofs.descent.+descend.Tie.{close}
 use Rattle.radius.proofs.descent.+descend.{statement}
@@ -164,7 +164,7 @@ descend-node-radius-requires-2 : (t : ℕ) → descend-lts.Need-node-radius-requ
 descend-node-radius-requires-2 t c κs = search needs
 
 descend-child-bound-requires : (t : ℕ) → descend-lts.Need-child-bound-requires (claims t) (descend-at t) descend.Post descend-Inv-loop descend-μ-loop
-descend-child-bound-requires t c κs = c .before .before .loop .inv .5 .near _ (omega arith)
+descend-child-bound-requires t c κs = search needs
 
 descend-add-descend : (t : ℕ) → descend-lts.Need-add-descend (claims t) (descend-at t) descend.Post descend-Inv-loop descend-μ-loop
 descend-add-descend t c =

@@ -9,8 +9,8 @@ use borrow.Author.Needs.{needs}
 use borrow.Author.Tests.{le-leb, le-ltb, lt-leb, lt-ltb}
 use native.Mathlib.Omega.{arith}
 
-difference-requires : tie.Need-difference-requires
-difference-requires c κs = search needs
+apart-requires : tie.Need-apart-requires
+apart-requires c κs = search needs
 
 returns : tie.Need-returns
 unfolding decision
@@ -37,4 +37,4 @@ returns-3 c =
     simp (le-ltb _ _ h, lt-leb _ _ (c .if2 .left))
 
 pub decide-spec : {M : Type 1} → statement M
-decide-spec = tie.close (tie.spec difference-requires returns add-if2 returns-2 returns-3)
+decide-spec = tie.close (tie.spec apart-requires returns add-if2 returns-2 returns-3)

@@ -1,10 +1,10 @@
--- `radius::bounds::least_of` meets its contract: after j turns y is the least of the first j distances.
+-- `radius::centres::least_of` meets its contract: after j turns y is the least of the first j distances.
 -- Assumes nothing.
 use Prim.Native.Nat.{_-_, _≤_}
 use Rattle.laws.specs.Lists.{least}
 use Rattle.radius.proofs.Distances.{least-next}
-use Rattle.radius.proofs.bounds.least_of.Statement.{statement}
-use Rattle.radius.proofs.bounds.least_of.Tie as tie
+use Rattle.radius.proofs.centres.least_of.Statement.{statement}
+use Rattle.radius.proofs.centres.least_of.Tie as tie
 use borrow.Author.Needs.{needs}
 use lib.ListN.{getD, length, take}
 use mathlib.Core.Logic.{⊎-elim}

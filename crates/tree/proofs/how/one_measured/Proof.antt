@@ -1,8 +1,8 @@
--- `radius::marking::one_measured` meets its contract: its two tests are those of the count.
+-- `tree::how::one_measured` meets its contract: its two tests are those of the count.
 -- Assumes nothing.
-use Rattle.radius.proofs.Tallies.{measured-no, measured-one, measured-three}
-use Rattle.radius.proofs.marking.one_measured.Statement.{statement}
-use Rattle.radius.proofs.marking.one_measured.Tie as tie
+use Rattle.tree.proofs.Tallies.{measured-no, measured-one, measured-three}
+use Rattle.tree.proofs.how.one_measured.Statement.{statement}
+use Rattle.tree.proofs.how.one_measured.Tie as tie
 
 returns : tie.Need-returns
 returns c = measured-one _ (c .if1 .taken)

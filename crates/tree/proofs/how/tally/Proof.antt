@@ -1,11 +1,11 @@
--- `radius::marking::tally` meets its contract: after i turns the counters hold the tallies of the first i bytes.
+-- `tree::how::tally` meets its contract: after i turns the counters hold the tallies of the first i bytes.
 -- Assumes nothing.
 use Prim.Native.Nat.{_-_, _≤_}
-use Rattle.radius.proofs.Tallies.{one-most, tally-next}
-use Rattle.radius.proofs.marking.tally.Statement.{statement}
-use Rattle.radius.proofs.marking.tally.Tie as tie
+use Rattle.tree.proofs.Tallies.{one-most, tally-next}
+use Rattle.tree.proofs.how.tally.Statement.{statement}
+use Rattle.tree.proofs.how.tally.Tie as tie
 use Rattle.tree.specs.Nearest.{isMeasured, measured}
 use Rattle.tree.specs.Radius.{inside}
 use borrow.Author.Needs.{needs}
 use lib.Dec.{leb}
 use lib.ListN.{getD, length, take}

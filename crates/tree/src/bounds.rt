@@ -1,0 +1,54 @@
+// Bounds, from distances and radii. Nothing here knows of a search.
+ghost use Prim.Native.Nat.{_+_, _-_, _/_, max, min};
+ghost use Rattle.laws.specs.Lists.{gap};
+ghost use Rattle.tree.specs.Homes.{childBound};
+ghost use mathlib.Core.Path.{_≡_};
+
+// a - b, or 0 where b is more.
+pub fn less(a: u32, b: u32) -> u32
+    ensures { λ r. ⌜ r ≡ a - b ⌝ }
+{
+    if a < b { 0 } else { a - b }
+}
+
+// |a - b|
+pub fn apart(a: u32, b: u32) -> u32
+    ensures { λ r. ⌜ r ≡ gap a b ⌝ }
+{
+    if a < b { b - a } else { a - b }
+}
+
+// The greater of two.
+pub fn larger(a: u32, b: u32) -> u32
+    ensures { λ r. ⌜ r ≡ max a b ⌝ }
+{
+    if a < b { b } else { a }
+}
+
+// The lesser of two.
+pub fn smaller(a: u32, b: u32) -> u32
+    ensures { λ r. ⌜ r ≡ min a b ⌝ }
+{
+    if b < a { b } else { a }
+}
+
+// Half of a, rounded up. (a + 1 could wrap.)
+pub fn half_up(a: u32) -> u32
+    ensures { λ r. ⌜ r ≡ (a + 1) / 2 ⌝ }
+{
+    a - a / 2
+}
+
+// The bound of a child whose centre is at x and has this radius: b is its parent's, y the least distance over the centres.
+pub fn child_bound(b: u32, y: u32, x: u32, radius: u32) -> u32
+    ensures { λ r. ⌜ r ≡ childBound b y x radius ⌝ }
+{
+    larger(b, larger(less(x, radius), half_up(less(x, y))))
+}
+
+// The bound of a row of a leaf that has the bound b and its first at x: s is the row's stored distance.
+pub fn place_bound(b: u32, x: u32, s: u32) -> u32
+    ensures { λ r. ⌜ r ≡ max b (gap x s) ⌝ }
+{
+    larger(b, apart(x, s))
+}
