@@ -17,3 +17,4 @@ pub mod Refusals
 pub mod Outcomes
 pub mod Theorems
 pub mod Cases
+pub mod Small

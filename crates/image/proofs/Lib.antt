@@ -9,3 +9,4 @@ pub mod OneByte
 pub mod Standing
 pub mod RoundTrip
 pub mod Only
+pub mod Small

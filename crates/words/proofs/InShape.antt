@@ -25,7 +25,7 @@ use types.Kit.{later, some}
 within-is : (a b x : ℕ) → T (within a b x) → (a ≤ x) × (x ≤ b)
 within-is a b x t = (leb→le a x (and-l (leb a x) (leb x b) t), leb→le x b (and-r (leb a x) (leb x b) t))
 
-nodes-are : (n N : ℕ) → T (nodesOk n N) → (N ≤ 2 * n) × (1 ≤ n → 1 ≤ N)
+pub nodes-are : (n N : ℕ) → T (nodesOk n N) → (N ≤ 2 * n) × (1 ≤ n → 1 ≤ N)
 nodes-are zero N t = (omega (arith, eqb→eq N 0 t), λ h. absurd (not-suc-le-zero h))
 nodes-are (suc n) N t =
     let q = within-is 1 (2 * suc n - 1) N t in

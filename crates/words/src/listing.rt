@@ -1,9 +1,6 @@
 // An index for a table, and the listing of a node.
-ghost use Prim.Native.Nat.{_<_};
 ghost use Rattle.limits.specs.Said.{said};
-ghost use Rattle.words.specs.Calls.{indexFaults, listed, pairs};
-ghost use Rattle.words.specs.InShape.{InShape};
-ghost use Rattle.words.specs.Words.{N#};
+ghost use Rattle.words.specs.Calls.{Lists, indexFaults, listed};
 ghost use mathlib.Core.Path.{_≡_};
 use crate::header::words_ok;
 use crate::places::columns;
@@ -33,29 +30,46 @@ pub fn index_number(index: &[u32], n: usize, c: usize) -> u32
     0
 }
 
-// The part of the index words that holds the pairs of node k's run.
-pub fn pairs_of(index: &[u32], k: usize) -> &[u32]
-    requires { ⌜ InShape (now index) ⌝ }
-    requires { ⌜ k < N# (now index) ⌝ }
-    ensures { λ r. ⌜ now r ≡ pairs (now (index .entry)) k ⌝ }
-{
-    let start = pair_at(index, node_start(index, k));
-    let end = start + 2 * node_count(index, k);
-    &index[start..end]
+// Where among the index words a node's pairs stand: the first word's place, and how many words.
+pub struct Part {
+    pub start: usize,
+    pub length: usize,
 }
 
-// Node k's pairs; none where words are missing, the header is impossible, the shape is wrong, or k is no node's number.
+// Node k's pairs as a part; 0 words at 0 where words are missing, the header is impossible, the shape is wrong, or k is no node's number.
+pub fn part_of(index: &[u32], k: usize) -> Part
+    ensures { λ r. ⌜ Lists (now (index .entry)) k (r .start) (r .length) ⌝ }
+{
+    if !words_ok(index) {
+        return Part {
+            start: 0,
+            length: 0,
+        };
+    }
+    if !shape_ok(index) {
+        return Part {
+            start: 0,
+            length: 0,
+        };
+    }
+    if nodes(index) <= k {
+        return Part {
+            start: 0,
+            length: 0,
+        };
+    }
+    Part {
+        start: pair_at(index, node_start(index, k)),
+        length: 2 * node_count(index, k),
+    }
+}
+
+// Node k's pairs; none where `part_of` has 0 words.
 pub fn list_node(index: &[u32], k: usize) -> &[u32]
     ensures { λ r. ⌜ now r ≡ listed (now (index .entry)) k ⌝ }
 {
-    if !words_ok(index) {
-        return &index[..0];
-    }
-    if !shape_ok(index) {
-        return &index[..0];
-    }
-    if nodes(index) <= k {
-        return &index[..0];
-    }
-    pairs_of(index, k)
+    let part = part_of(index, k);
+    let start = part.start;
+    let end = start + part.length;
+    &index[start..end]
 }

@@ -1,0 +1,5 @@
+pub mod LentOn
+pub mod LentOut
+pub mod Opened
+pub mod Pairs
+pub mod Records

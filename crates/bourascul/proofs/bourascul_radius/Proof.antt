@@ -1,0 +1,29 @@
+-- `bourascul::bourascul_radius` meets its contract: the counts are no more than the rows.
+-- Assumes nothing.
+use Rattle.bourascul.proofs.bourascul_radius.Statement.{statement}
+use Rattle.bourascul.proofs.bourascul_radius.Tie as tie
+use Rattle.radius.proofs.Promises.{radius-small}
+use borrow.Author.Needs.{needs}
+use native.Mathlib.Omega.{arith}
+
+radius-requires : tie.Need-radius-requires
+radius-requires c κs = search needs
+
+cast-t11 : tie.Need-cast-t11
+cast-t11 c =
+    let radius = c .before .before .before .radius in
+    let small = radius-small (radius .ensures) in omega (arith, small .0, small .1)
+
+cast-t12 : tie.Need-cast-t12
+cast-t12 c =
+    let radius = c .before .before .before .before .radius in
+    let small = radius-small (radius .ensures) in omega (arith, small .0, small .1)
+
+same-length : tie.Need-same-length
+same-length c = search needs
+
+returns : tie.Need-returns
+returns c = search needs
+
+pub bourascul-radius-spec : {M : Type 1} → statement M
+bourascul-radius-spec = tie.close (tie.spec radius-requires cast-t11 cast-t12 same-length returns)

@@ -1,0 +1,31 @@
+-- `bourascul::bourascul_read` meets its contract: the words fit in 32 bits, and a block's number is cut to them.
+-- Assumes nothing.
+use Rattle.bourascul.proofs.bourascul_read.Statement.{statement}
+use Rattle.bourascul.proofs.bourascul_read.Tie as tie
+use Rattle.image.proofs.Small.{read-small}
+use borrow.Author.Needs.{needs}
+use native.Mathlib.Omega.{arith}
+
+read-image-requires : tie.Need-read-image-requires
+read-image-requires c κs = search needs
+
+block-number-requires : tie.Need-block-number-requires
+block-number-requires c κs = search needs
+
+cast-t7 : tie.Need-cast-t7
+cast-t7 c =
+    let read-image = c .before .before .before .before .read-image in
+    omega (arith, read-small (read-image .ensures))
+
+same-length : tie.Need-same-length
+same-length c = search needs
+
+returns : tie.Need-returns
+returns c =
+    let read-image = c .before .before .before .before .read-image in
+    let block-number = c .before .block-number in
+    record { block = read-image .result .place; reads = read-image .ensures; named = block-number .ensures }
+
+pub bourascul-read-spec : {M : Type 1} → statement M
+bourascul-read-spec =
+    tie.close (tie.spec read-image-requires block-number-requires cast-t7 same-length returns)

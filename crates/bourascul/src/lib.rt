@@ -1,0 +1,245 @@
+// The calls for C hosts: each calls one of the crates below, and keeps its contract. Every number that is given back has 32 bits; include/bourascul.h
+// says what is lent.
+ghost use Prim.Native.Nat.{min};
+ghost use Rattle.audit.specs.Calls.{Checks};
+ghost use Rattle.bourascul.specs.Calls.{ReadsBlock};
+ghost use Rattle.bourascul.specs.Recorded.{Recorded};
+ghost use Rattle.build.specs.Calls.{Builds};
+ghost use Rattle.image.specs.Calls.{Writes};
+ghost use Rattle.nearest.specs.Calls.{Answered};
+ghost use Rattle.radius.specs.Calls.{Searched};
+ghost use Rattle.words.specs.Calls.{Lists};
+ghost use lib.ListN.{length};
+ghost use mathlib.Core.Path.{_≡_};
+use answers::Answer;
+
+#[repr(C)]
+pub struct Built {
+    pub number: u32,
+    pub words: u32,
+    pub nodes: u32,
+}
+
+#[repr(C)]
+pub struct Checked {
+    pub number: u32,
+    pub place: u32,
+    pub second: u32,
+}
+
+#[repr(C)]
+pub struct Found {
+    pub number: u32,
+    pub inside: u32,
+    pub measured: u32,
+}
+
+#[repr(C)]
+pub struct Near {
+    pub number: u32,
+    pub given: u32,
+    pub measured: u32,
+}
+
+#[repr(C)]
+pub struct Written {
+    pub number: u32,
+    pub blocks: u32,
+}
+
+#[repr(C)]
+pub struct Read {
+    pub number: u32,
+    pub place: u32,
+    pub words: u32,
+}
+
+#[repr(C)]
+pub struct Part {
+    pub start: u32,
+    pub length: u32,
+}
+
+// The greatest number of 32 bits.
+const MOST: usize = 4_294_967_295;
+
+// A block's number in 32 bits: those of an image beyond two terabytes may not fit.
+fn block_number(x: usize) -> u32
+    ensures { λ r. ⌜ r ≡ min x 4294967295 ⌝ }
+{
+    if x < MOST { x as u32 } else { 4_294_967_295 }
+}
+
+#[no_mangle]
+pub extern "C" fn bourascul_build(
+    table: &[u16],
+    c: u32,
+    m: u32,
+    l: u32,
+    room: &mut [u32],
+    work: &mut [u32],
+) -> Built
+    ensures { λ r. ⌜ Builds (now (table .entry)) c m l (now (room .entry)) (now (work .entry)) (now (room .exit)) (now (work .exit)) (r .number) (r .words) (r .nodes) ⌝ }
+{
+    let built = build::build(table, c as usize, m as usize, l as usize, room, work);
+    Built {
+        number: built.number,
+        words: built.words as u32,
+        nodes: built.nodes as u32,
+    }
+}
+
+#[no_mangle]
+pub extern "C" fn bourascul_check(table: &[u16], c: u32, index: &[u32], work: &mut [u32]) -> Checked
+    ensures { λ r. ⌜ Checks (now (table .entry)) c (now (index .entry)) (now (work .entry)) (now (work .exit)) (r .number) (r .place) (r .second) ⌝ }
+{
+    let checked = audit::check(table, c as usize, index, work);
+    Checked {
+        number: checked.number,
+        place: checked.place as u32,
+        second: checked.second as u32,
+    }
+}
+
+#[no_mangle]
+pub extern "C" fn bourascul_radius(
+    table: &[u16],
+    c: u32,
+    index: &[u32],
+    query: &[u16],
+    r: u32,
+    how: &mut [u8],
+) -> Found
+    ensures { λ f. ⌜ Searched (now (table .entry)) c (now (index .entry)) (now (query .entry)) r (now (how .entry)) (now (how .exit)) (f .number) (f .inside) (f .measured) ⌝ }
+{
+    let found = radius::radius(table, c as usize, index, query, r, how);
+    Found {
+        number: found.number,
+        inside: found.inside as u32,
+        measured: found.measured as u32,
+    }
+}
+
+#[no_mangle]
+pub extern "C" fn bourascul_nearest(
+    table: &[u16],
+    c: u32,
+    index: &[u32],
+    query: &[u16],
+    w: u32,
+    rows: &mut [u32],
+    distances: &mut [u32],
+    how: &mut [u8],
+    work: &mut [u32],
+) -> Near
+    ensures { λ g. ⌜ Answered (now (table .entry)) c (now (index .entry)) (now (query .entry)) w (min (length (now (rows .entry))) (length (now (distances .entry)))) (now (rows .entry)) (now (rows .exit)) (now (distances .entry)) (now (distances .exit)) (now (how .entry)) (now (how .exit)) (now (work .entry)) (now (work .exit)) (g .number) (g .given) (g .measured) ⌝ }
+{
+    let near = nearest::nearest(
+        table,
+        c as usize,
+        index,
+        query,
+        w as usize,
+        rows,
+        distances,
+        how,
+        work,
+    );
+    Near {
+        number: near.number,
+        given: near.given as u32,
+        measured: near.measured as u32,
+    }
+}
+
+// The nearest search of crate nearest, for a caller who has room of his own for so many answers.
+fn within(
+    table: &[u16],
+    c: u32,
+    index: &[u32],
+    query: &[u16],
+    w: u32,
+    own: usize,
+    rows: &mut [u32],
+    distances: &mut [u32],
+    how: &mut [u8],
+    work: &mut [u32],
+) -> Near
+    ensures { λ g. ⌜ Answered (now (table .entry)) c (now (index .entry)) (now (query .entry)) w (min own (min (length (now (rows .entry))) (length (now (distances .entry))))) (now (rows .entry)) (now (rows .exit)) (now (distances .entry)) (now (distances .exit)) (now (how .entry)) (now (how .exit)) (now (work .entry)) (now (work .exit)) (g .number) (g .given) (g .measured) ⌝ }
+{
+    let near = nearest::within(
+        table,
+        c as usize,
+        index,
+        query,
+        w as usize,
+        own,
+        rows,
+        distances,
+        how,
+        work,
+    );
+    Near {
+        number: near.number,
+        given: near.given as u32,
+        measured: near.measured as u32,
+    }
+}
+
+// The rows nearest to the query, each with its distance as a record, in a row of answers that the caller lends. The two slices of numbers that the
+// search hands out are lent too, and hold the same answers afterwards.
+#[no_mangle]
+pub extern "C" fn bourascul_nearest_answers(
+    table: &[u16],
+    c: u32,
+    index: &[u32],
+    query: &[u16],
+    w: u32,
+    answers: &mut [Answer],
+    rows: &mut [u32],
+    distances: &mut [u32],
+    how: &mut [u8],
+    work: &mut [u32],
+) -> Near
+    ensures { λ g. ⌜ Recorded (now (table .entry)) c (now (index .entry)) (now (query .entry)) w (now (answers .entry)) (now (answers .exit)) (now (rows .entry)) (now (rows .exit)) (now (distances .entry)) (now (distances .exit)) (now (how .entry)) (now (how .exit)) (now (work .entry)) (now (work .exit)) (g .number) (g .given) (g .measured) ⌝ }
+{
+    let room = answers.len();
+    let near = within(table, c, index, query, w, room, rows, distances, how, work);
+    let given = near.given as usize;
+    answers::fill_answers(answers, rows, distances, given);
+    near
+}
+
+#[no_mangle]
+pub extern "C" fn bourascul_write(index: &[u32], image: &mut [u8]) -> Written
+    ensures { λ r. ⌜ Writes (now (index .entry)) (now (image .entry)) (now (image .exit)) (r .number) (r .blocks) ⌝ }
+{
+    let written = image::write_image(index, image);
+    Written {
+        number: written.number,
+        blocks: written.blocks as u32,
+    }
+}
+
+#[no_mangle]
+pub extern "C" fn bourascul_read(image: &[u8], room: &mut [u32]) -> Read
+    ensures { λ r. ⌜ ReadsBlock (now (image .entry)) (now (room .entry)) (now (room .exit)) (r .number) (r .place) (r .words) ⌝ }
+{
+    let read = image::read_image(image, room);
+    Read {
+        number: read.number,
+        place: block_number(read.place),
+        words: read.words as u32,
+    }
+}
+
+#[no_mangle]
+pub extern "C" fn bourascul_list(index: &[u32], node: u32) -> Part
+    ensures { λ r. ⌜ Lists (now (index .entry)) node (r .start) (r .length) ⌝ }
+{
+    let part = words::listing::part_of(index, node as usize);
+    Part {
+        start: part.start as u32,
+        length: part.length as u32,
+    }
+}

@@ -1,0 +1,80 @@
+-- How much the two image calls give back at most: 01, The image, for the most rows that there can be. Assumes nothing.
+use Prim.Native.Nat.{_%_, _*_, _+_, _-_, _/_, _≤_, suc, zero, ℕ}
+use Rattle.image.proofs.Calls.{writes-sixteen}
+use Rattle.image.proofs.Only.{write-only}
+use Rattle.image.specs.Calls.{Reads, Writes}
+use Rattle.image.specs.Lowest.{wrongBlocks}
+use Rattle.image.specs.Sound.{restZero}
+use Rattle.laws.proofs.Tests.{and-r, holds}
+use Rattle.limits.specs.Limits.{maxRows}
+use Rattle.limits.specs.Said.{fault, said}
+use Rattle.words.proofs.Headers.{bad-nodes, bad-rows}
+use Rattle.words.proofs.InShape.{nodes-are, whole}
+use Rattle.words.specs.Image.{blocksFor, imageFaults, imageTotal, imageWords, saidRead}
+use Rattle.words.specs.Words.{N#, headerOk, n#, nodesOk, wordsOf, wordsOk}
+use borrow.Author.Tests.{eqb-true}
+use lib.Dec.{eqb, leb, leb→le, ltb}
+use lib.ListN.{length}
+use mathlib.Core.Bool.{Bool, _||_, cond, false, not, true, true≢false}
+use mathlib.Core.List.{List, [], _++_, _∷_, map}
+use mathlib.Core.Logic.{by-cases}
+use mathlib.Core.Path.{_∙_, _≡_, refl, sym}
+use native.Mathlib.Decide.{decLt}
+use native.Mathlib.Omega.{arith}
+
+-- ---- writing
+blocks-few : (t : ℕ) → t ≤ 10 * maxRows + 8 → blocksFor t ≤ maxRows
+unfolding blocksFor
+blocks-few t h = omega arith
+
+-- WRITING: no more blocks than the most rows, so that 32 bits hold their number
+pub write-small : {w before after : List ℕ} {number blocks : ℕ} → Writes w before after number blocks → blocks ≤ maxRows
+write-small {w} {before} {after} {number} {blocks} r = by-words (wordsOk w) refl
+  where
+    counted : (b : Bool) → blocks ≡ cond b (blocksFor (wordsOf w)) 0 → blocksFor (wordsOf w) ≤ maxRows → blocks ≤ maxRows
+    counted true e h = omega arith
+    counted false e h = omega arith
+
+    by-words : (b : Bool) → wordsOk w ≡ b → blocks ≤ maxRows
+    by-words true e =
+        let W = whole w e in
+        counted (eqb number 0) (r .counted) (blocks-few (wordsOf w) (omega (arith, W .rows, W .nodes)))
+    by-words false e = omega (arith, write-only w before after before number 16 blocks 0 r (writes-sixteen w before e) .1)
+
+-- ---- reading
+-- a possible header asks for no more words than the greatest index has
+words-few : (w : List ℕ) → headerOk w ≡ true → wordsOf w ≤ 10 * maxRows + 8
+words-few w e = omega (arith, rows, nodes (nodesOk (n# w) (N# w)) refl)
+  where
+    rows : n# w ≤ maxRows
+    rows = by-cases (decLt maxRows (n# w)) (λ h. absurd (true≢false (sym e ∙ sym (bad-rows w h)))) (λ h. omega arith)
+
+    nodes : (b : Bool) → nodesOk (n# w) (N# w) ≡ b → N# w ≤ 2 * n# w
+    nodes true q = nodes-are (n# w) (N# w) (holds (nodesOk (n# w) (N# w)) q) .0
+    nodes false q = absurd (true≢false (sym e ∙ sym (bad-nodes w q)))
+
+-- number 0: the header is possible
+read-header : (i : List ℕ) (room : ℕ) → saidRead i room .0 ≡ 0 → headerOk (imageWords i 8) ≡ true
+unfolding saidRead imageFaults
+read-header i room e =
+    go (eqb (length i) 0 || not (eqb (length i % 512) 0)) (wrongBlocks i 0 (length i / 512)) (headerOk (imageWords i 8))
+    (eqb (length i / 512) (blocksFor (imageTotal i))) (restZero i (imageTotal i)) (ltb room (imageTotal i)) e
+  where
+    go : (a : Bool) (bs : List ℕ) (h k z s : Bool)
+        → said ((fault 14 a ++ map (λ b. (15, b, 0)) bs ++ fault 16 (not h || not k) ++ fault 17 (not z)) ++ fault 5 s) .0 ≡ 0 → h ≡ true
+    go true bs h k z s e = absurd (omega arith)
+    go false (b ∷ bs) h k z s e = absurd (omega arith)
+    go false [] true k z s e = refl
+    go false [] false k z s e = absurd (omega arith)
+
+total-few : (i : List ℕ) → headerOk (imageWords i 8) ≡ true → imageTotal i ≤ 10 * maxRows + 8
+unfolding imageTotal
+total-few i h = words-few (imageWords i 8) h
+
+-- READING: no more words than the greatest index has, so that 32 bits hold their number
+pub read-small : {i before after : List ℕ} {number place words : ℕ} → Reads i before after number place words → words ≤ 10 * maxRows + 8
+read-small {i} {before} {number = number} {words = words} r = go (eqb number 0) refl (r .counted)
+  where
+    go : (b : Bool) → eqb number 0 ≡ b → words ≡ cond b (imageTotal i) 0 → words ≤ 10 * maxRows + 8
+    go true e q = omega (arith, total-few i (read-header i (length before) (sym (r .said) ∙ eqb-true number 0 e)))
+    go false e q = omega arith
