@@ -1,47 +1,7 @@
 // The full check on the five-row index, on spoilt copies and on a few more, a line each: the number, its two places, and what the
 // workspace's words sum to after the call. Each word was 7; for the five rows one more is lent than is asked for, so that 7 is left.
-const ROWS: [u16; 5] = [0, 1, 10, 11, 20];
-
-const FIVE: [u32; 38] = [
-    1,
-    5,
-    1,
-    2,
-    2,
-    5,
-    1,
-    0,
-    0,
-    5,
-    1,
-    20,
-    0,
-    3,
-    3,
-    10,
-    3,
-    2,
-    0,
-    9,
-    0,
-    2,
-    0,
-    1,
-    2,
-    1,
-    0,
-    0,
-    0,
-    0,
-    1,
-    1,
-    2,
-    0,
-    4,
-    0,
-    3,
-    9,
-];
+use samples::FIVE;
+use samples::FIVE_ROWS as ROWS;
 
 fn wide(x: u32) -> u64 {
     x as u64

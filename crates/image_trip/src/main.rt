@@ -3,48 +3,7 @@ ghost use Prim.Native.Nat.{_<_, _≤_};
 ghost use Rattle.io.specs.Counts.{Counts};
 ghost use lib.ListN.{length};
 use libc::STDOUT_FILENO;
-
-// The index of the rows 0, 1, 10, 11, 20: header, nodes, positions.
-const INDEX: [u32; 38] = [
-    1,
-    5,
-    1,
-    2,
-    2,
-    5,
-    1,
-    0,
-    0,
-    5,
-    1,
-    20,
-    0,
-    3,
-    3,
-    10,
-    3,
-    2,
-    0,
-    9,
-    0,
-    2,
-    0,
-    1,
-    2,
-    1,
-    0,
-    0,
-    0,
-    0,
-    1,
-    1,
-    2,
-    0,
-    4,
-    0,
-    3,
-    9,
-];
+use samples::FIVE;
 
 // A word, as decimal digits.
 fn print_word(x: u32) {
@@ -132,7 +91,7 @@ fn load(path: &[u8], bytes: &mut [u8]) -> usize
 
 // The five-row index through a file: what writing and reading say, then its nodes and positions.
 fn trip(image: &mut [u8]) {
-    let written = image::write_image(&INDEX, image);
+    let written = image::write_image(&FIVE, image);
     print_pair(written.number, written.blocks);
     save(b"five", image);
     let mut back = [0u8; 512];

@@ -3,49 +3,12 @@
 ghost use lib.ListN.{length};
 ghost use mathlib.Core.Path.{_≡_};
 use nearest::Given;
-
-const FIVE_ROWS: [u16; 5] = [0, 1, 10, 11, 20];
-
-const FIVE: [u32; 38] = [
-    1,
-    5,
-    1,
-    2,
-    2,
-    5,
-    1,
-    0,
-    0,
-    5,
-    1,
-    20,
-    0,
-    3,
-    3,
-    10,
-    3,
-    2,
-    0,
-    9,
-    0,
-    2,
-    0,
-    1,
-    2,
-    1,
-    0,
-    0,
-    0,
-    0,
-    1,
-    1,
-    2,
-    0,
-    4,
-    0,
-    3,
-    9,
-];
+use samples::FIVE;
+use samples::FIVE_ROWS;
+use samples::PAIRS;
+use samples::count;
+use samples::digit;
+use samples::many;
 
 // rows 6 9 5 3 0
 const ODD: [u32; 46] = [
@@ -136,17 +99,6 @@ const SEVENS: [u32; 36] = [
     1,
     0,
 ];
-
-// rows (1, 2), (3, 4), (10, 10), all in one leaf
-const PAIRS: [u32; 18] = [1, 3, 2, 2, 4, 1, 1, 0, 0, 3, 0, 17, 0, 0, 1, 4, 2, 17];
-
-fn digit(x: u32) -> u8 {
-    if x < 10 { (x as u8) + 48 } else { b'?' }
-}
-
-fn count(x: usize) -> u8 {
-    if x < 10 { (x as u8) + 48 } else { b'?' }
-}
 
 fn byte(h: u8) -> u8 {
     digit(h as u32)
@@ -269,13 +221,6 @@ fn wrong_columns(c: usize) {
     show(&table, c, &[], &[9], 0);
 }
 
-// A table with a row too many: of it only the length is known, which is what lending it as a slice needs.
-fn many() -> [u16; 1048577]
-    ensures { λ r. ⌜ 1048577 ≡ length r ⌝ }
-{
-    [0; 1048577]
-}
-
 // 4: a row too many.
 fn too_many() {
     let table = many();
@@ -372,13 +317,46 @@ fn changed(at: usize, word: u32) {
     }
 }
 
-// 8: the edition. 9: the root's start, its radius, and a row number. 0: row 1 stands twice and row 4 not at all, which no table fits.
+// 8: the edition. 9: the root's start, its radius, and a row number.
 fn wrong_index() {
     changed(0, 2);
     changed(8, 1);
     changed(11, 1048561);
     changed(28, 5);
-    changed(34, 1);
+}
+
+// 0: row 1 stands twice and row 4 not at all, which no table fits. The number and the zero workspace are settled, and what lies beyond.
+fn row_twice() {
+    let mut index = FIVE;
+    let table = FIVE_ROWS;
+    index[34] = 1;
+    let mut rows = [9u32; 6];
+    let mut distances = [99u32; 6];
+    let mut how = [9u8; 8];
+    let mut work = [9u32; 32];
+    let found = nearest::nearest(
+        &table,
+        1,
+        &index,
+        &[9],
+        2,
+        &mut rows,
+        &mut distances,
+        &mut how,
+        &mut work,
+    );
+    let text = [
+        digit(found.number),
+        b' ',
+        digit(rows[2]),
+        byte(how[5]),
+        b' ',
+        digit(work[0]),
+        digit(work[29]),
+        digit(work[30]),
+        b'\n',
+    ];
+    io::write_all(1, &text);
 }
 
 fn main() {
@@ -398,4 +376,5 @@ fn main() {
     wrong_call();
     other_table();
     wrong_index();
+    row_twice();
 }

@@ -3,49 +3,12 @@
 ghost use lib.ListN.{length};
 ghost use mathlib.Core.Path.{_≡_};
 use radius::Found;
-
-const FIVE_ROWS: [u16; 5] = [0, 1, 10, 11, 20];
-
-const FIVE: [u32; 38] = [
-    1,
-    5,
-    1,
-    2,
-    2,
-    5,
-    1,
-    0,
-    0,
-    5,
-    1,
-    20,
-    0,
-    3,
-    3,
-    10,
-    3,
-    2,
-    0,
-    9,
-    0,
-    2,
-    0,
-    1,
-    2,
-    1,
-    0,
-    0,
-    0,
-    0,
-    1,
-    1,
-    2,
-    0,
-    4,
-    0,
-    3,
-    9,
-];
+use samples::FIVE;
+use samples::FIVE_ROWS;
+use samples::PAIRS;
+use samples::count;
+use samples::digit;
+use samples::many;
 
 // rows 4 2 2 6 7
 const ODD: [u32; 38] = [
@@ -89,24 +52,17 @@ const ODD: [u32; 38] = [
     1,
 ];
 
-// rows (1, 2), (3, 4), (10, 10), all in one leaf
-const PAIRS: [u32; 18] = [1, 3, 2, 2, 4, 1, 1, 0, 0, 3, 0, 17, 0, 0, 1, 4, 2, 17];
-
-fn digit(x: usize) -> u8 {
-    if x < 10 { (x as u8) + 48 } else { b'?' }
-}
-
 fn byte(h: u8) -> u8 {
-    digit(h as usize)
+    digit(h as u32)
 }
 
 fn line(found: Found, how: [u8; 8]) {
     let text = [
-        digit(found.number as usize),
+        digit(found.number),
         b' ',
-        digit(found.inside),
+        count(found.inside),
         b' ',
-        digit(found.measured),
+        count(found.measured),
         b' ',
         byte(how[0]),
         byte(how[1]),
@@ -218,13 +174,6 @@ fn wrong_index() {
     changed(8, 1);
     changed(11, 1048561);
     changed(28, 5);
-}
-
-// A table with a row too many: of it only the length is known, which is what lending it as a slice needs.
-fn many() -> [u16; 1048577]
-    ensures { λ r. ⌜ 1048577 ≡ length r ⌝ }
-{
-    [0; 1048577]
 }
 
 // 4: a row too many.
