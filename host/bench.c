@@ -38,7 +38,7 @@ struct set {
 
 /* Microseconds a call, for library, plain C and scan. */
 struct times {
-    double build[2], check[2], radius[3], nearest[3], shape;
+    double build[2], check[2], radius[3], nearest[3], shape, bytes, words;
     double inside, radius_measured, nearest_measured;
 };
 
@@ -196,11 +196,14 @@ static bourascul_closest nearest_library(struct set *s, uint32_t q)
                              s->distances[0], WANTED, s->how[0], s->table.n, s->work, BOURASCUL_WORK_WORDS(s->table.n));
 }
 
-/* One query of a kind: radius or nearest, each by library, plain C and scan, and the shape test alone. */
+/* One query of a kind: radius or nearest, each by library, plain C and scan; and alone what every call does, whatever it finds: the shape test, and
+   the clearing of how-bytes and workspace. */
 enum job {
     RADIUS,
     NEAREST = 3,
     SHAPE = 6,
+    CLEAR_BYTES,
+    CLEAR_WORDS,
     JOBS
 };
 
@@ -213,6 +216,8 @@ static void run_query(struct set *s, int job, uint32_t q)
     case NEAREST: nearest_library(s, q); break;
     case NEAREST + 1: plain_nearest(s->table, s->room[0], s->query[q], WANTED, s->rows[1], s->distances[1], s->how[1], s->work); break;
     case NEAREST + 2: plain_scan_nearest(s->table, s->query[q], WANTED, s->rows[1], s->distances[1]); break;
+    case CLEAR_BYTES: memset(s->how[1], 0, s->table.n); break;
+    case CLEAR_WORDS: memset(s->work, 0, BOURASCUL_WORK_WORDS(s->table.n) * sizeof *s->work); break;
     /* A listing tests header and shape as a search does and then only reads two words. */
     default: bourascul_list(s->room[0], s->words, 0); break;
     }
@@ -288,6 +293,8 @@ static struct times time_set(struct set *s)
     memcpy(t.radius, best + RADIUS, sizeof t.radius);
     memcpy(t.nearest, best + NEAREST, sizeof t.nearest);
     t.shape = best[SHAPE];
+    t.bytes = best[CLEAR_BYTES];
+    t.words = best[CLEAR_WORDS];
     return t;
 }
 
@@ -317,28 +324,29 @@ static void tell_builds(const struct line *lines, size_t count)
 
 static void tell_radius(const struct line *lines, size_t count)
 {
-    printf("\nRadius, microseconds a call; r is the median distance of the %dth neighbour. Shape: a listing of node 0, which tests the\n"
-           "shape and does nothing else of weight, and its share of a radius call.\n\n", NEIGHBOUR);
-    puts("| data | c | rows | r | in | measured | of rows | library | plain C | scan | library / plain C | scan / library | shape | share |\n"
+    printf("\nRadius, microseconds a call; r is the median distance of the %dth neighbour. Shape: the share of a call that the shape test takes, timed as\n"
+           "a listing of node 0, which does nothing else of weight. Clearing: that of the n how-bytes.\n\n", NEIGHBOUR);
+    puts("| data | c | rows | r | in | measured | of rows | library | plain C | scan | library / plain C | scan / library | shape | clearing |\n"
          "|---|---|---|---|---|---|---|---|---|---|---|---|---|---|");
     for (size_t i = 0; i < count; i++) {
         const struct times *t = &lines[i].times;
-        printf("| %s | %u | %u | %u | %.1f | %.1f | %.2f%% | %.1f | %.1f | %.1f | %.2f | %.2f | %.1f | %.0f%% |\n", name_of(&lines[i]), lines[i].c,
+        printf("| %s | %u | %u | %u | %.1f | %.1f | %.2f%% | %.1f | %.1f | %.1f | %.2f | %.2f | %.0f%% | %.1f%% |\n", name_of(&lines[i]), lines[i].c,
                lines[i].n, lines[i].r, t->inside, t->radius_measured, 100 * t->radius_measured / lines[i].n, t->radius[0], t->radius[1], t->radius[2],
-               t->radius[0] / t->radius[1], t->radius[2] / t->radius[0], t->shape, 100 * t->shape / t->radius[0]);
+               t->radius[0] / t->radius[1], t->radius[2] / t->radius[0], 100 * t->shape / t->radius[0], 100 * t->bytes / t->radius[0]);
     }
 }
 
 static void tell_nearest(const struct line *lines, size_t count)
 {
-    printf("\nNearest, %d wanted, microseconds a call.\n\n", WANTED);
-    puts("| data | c | rows | measured | of rows | library | plain C | scan | library / plain C | scan / library |\n"
-         "|---|---|---|---|---|---|---|---|---|---|");
+    printf("\nNearest, %d wanted, microseconds a call. Shape as above; clearing: that of the n how-bytes and of the 6n words.\n\n", WANTED);
+    puts("| data | c | rows | measured | of rows | library | plain C | scan | library / plain C | scan / library | shape | clearing |\n"
+         "|---|---|---|---|---|---|---|---|---|---|---|---|");
     for (size_t i = 0; i < count; i++) {
         const struct times *t = &lines[i].times;
-        printf("| %s | %u | %u | %.1f | %.2f%% | %.1f | %.1f | %.1f | %.2f | %.2f |\n", name_of(&lines[i]), lines[i].c, lines[i].n,
+        printf("| %s | %u | %u | %.1f | %.2f%% | %.1f | %.1f | %.1f | %.2f | %.2f | %.0f%% | %.0f%% |\n", name_of(&lines[i]), lines[i].c, lines[i].n,
                t->nearest_measured, 100 * t->nearest_measured / lines[i].n, t->nearest[0], t->nearest[1], t->nearest[2],
-               t->nearest[0] / t->nearest[1], t->nearest[2] / t->nearest[0]);
+               t->nearest[0] / t->nearest[1], t->nearest[2] / t->nearest[0], 100 * t->shape / t->nearest[0],
+               100 * (t->bytes + t->words) / t->nearest[0]);
     }
 }
 

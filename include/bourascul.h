@@ -111,7 +111,7 @@ typedef struct bourascul_written {
 
 typedef struct bourascul_taken {
     uint32_t number;
-    uint32_t place; /* 15: the lowest wrong block; else 0 */
+    uint32_t place; /* 15: the lowest wrong block (one beyond 4,294,967,295, in an image of terabytes, as that number); else 0 */
     uint32_t words; /* the index's words */
 } bourascul_taken;
 

@@ -2,7 +2,7 @@
 use Prim.Native.Nat.{_+_, _-_, _<_, _≤_, suc, zero, ℕ}
 use Rattle.answers.specs.Records.{made, records}
 use Rattle.answers.specs.declared.Answer.{Answer}
-use Rattle.laws.proofs.Every.{Every}
+use Rattle.laws.specs.Every.{Every}
 use Rattle.laws.proofs.Lists.{map-append}
 use Rattle.laws.proofs.Ranges.{at-every, range-append, range-length}
 use Rattle.laws.specs.Lists.{range}

@@ -1,7 +1,8 @@
 -- The passes one after the other: the first that finds a fault gives the number and the place. Assumes nothing.
 use Prim.Native.Nat.{_*_, _+_, _<_, _≤_, ℕ}
 use Rattle.audit.specs.Passes.{allStrays, measuredFaults, nodeStrays}
-use Rattle.laws.proofs.Every.{Every, every-append, every-keep, every-map}
+use Rattle.laws.proofs.Every.{every-append, every-keep, every-map}
+use Rattle.laws.specs.Every.{Every}
 use Rattle.laws.proofs.First.{first-at-end, first-empty, first-kept}
 use Rattle.laws.proofs.Ranges.{at-every, range-every}
 use Rattle.laws.specs.First.{First}

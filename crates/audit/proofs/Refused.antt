@@ -3,7 +3,8 @@ use Prim.Native.Nat.{_%_, _*_, _<_, _≤_, ℕ}
 use Rattle.audit.proofs.Pairing.{columns-low}
 use Rattle.audit.specs.Refusals.{Paired, refusals}
 use Rattle.laws.proofs.Empty.{append-nil-l, append-nil-r}
-use Rattle.laws.proofs.Every.{Every, every-append}
+use Rattle.laws.proofs.Every.{every-append}
+use Rattle.laws.specs.Every.{Every}
 use Rattle.laws.proofs.Tests.{and-l, holds, is-true}
 use Rattle.limits.proofs.Numbers.{some-columns}
 use Rattle.limits.specs.Limits.{columnsOk, maxColumns, maxRows}

@@ -7,7 +7,7 @@ use Rattle.audit.specs.Calls.{Checks, Passed}
 use Rattle.audit.specs.Refusals.{refusals}
 use Rattle.audit.specs.Workspace.{clears}
 use Rattle.buffers.specs.Wiped.{wiped}
-use Rattle.laws.proofs.Every.{Every}
+use Rattle.laws.specs.Every.{Every}
 use Rattle.limits.specs.Limits.{maxRows}
 use Rattle.limits.specs.Said.{Said, said}
 use Rattle.measure.specs.Table.{between, rowsOf}

@@ -1,7 +1,7 @@
 -- The cases of 01 that are builds, of any call that meets its contract. Assumes nothing.
 use Prim.Native.Nat.{_*_, _+_, ℕ}
 use Rattle.build.specs.Cases.{Comes, emptyWords, sevenWords, sevens, table}
-use Rattle.laws.proofs.Every.{Every}
+use Rattle.laws.specs.Every.{Every}
 use Rattle.laws.specs.Lists.{range}
 use Rattle.laws.specs.Upto.{sumTo}
 use Rattle.measure.specs.Distance.{l1}

@@ -8,7 +8,7 @@ use Rattle.laws.proofs.Joins.{each-append}
 use Rattle.laws.specs.Lists.{each, range}
 use Rattle.limits.specs.Limits.{maxDepth}
 use Rattle.measure.specs.Table.{between}
-use Rattle.split.proofs.Held.{laid}
+use Rattle.split.specs.Runs.{laid}
 use Rattle.tree.specs.Build.{split}
 use Rattle.tree.specs.Encode.{Node}
 use lib.Dec.{leb}

@@ -6,7 +6,7 @@ use Rattle.laws.proofs.Ranges.{range-append, range-length}
 use Rattle.laws.proofs.Upto.{most-next, most-none}
 use Rattle.laws.specs.Lists.{each, range}
 use Rattle.laws.specs.Upto.{mostTo}
-use Rattle.split.proofs.Parts.{put-more}
+use Rattle.laws.proofs.Parts.{put-more}
 use Rattle.split.proofs.SplitWords.{under-long}
 use borrow.Rule.Slice.PartMut.{midOf, putMid}
 use lib.ListN.{drop, length}

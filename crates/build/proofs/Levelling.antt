@@ -5,11 +5,11 @@ use Rattle.build.proofs.Numbering.{out-long}
 use Rattle.build.proofs.Waiting.{next-waits, none-waiting, small-opened}
 use Rattle.build.specs.Levels.{Item, leafNode, levelOut, nextLevel, opened, placed, waits}
 use Rattle.build.specs.Stages.{Fit, Openable, Opened, Stage, Tiled, withNodes}
-use Rattle.laws.proofs.Every.{Every}
+use Rattle.laws.specs.Every.{Every}
 use Rattle.laws.proofs.Joins.{each-append}
 use Rattle.laws.specs.Lists.{each, joined, keep}
 use Rattle.measure.specs.Table.{between}
-use Rattle.tree.proofs.Grow.{Run}
+use Rattle.tree.specs.Build.{Run}
 use Rattle.tree.specs.Encode.{Node}
 use lib.ListN.{length, length-append}
 use mathlib.Core.List.{List, [], _++_, _∷_, append-assoc, append-nil, map}

@@ -1,13 +1,14 @@
 -- The nodes level by level are the numbering of 01: what the code makes is `numbered` of the tree that is grown. Assumes nothing.
 use Prim.Native.Nat.{_+_, _≤_, suc, zero, ℕ}
 use Rattle.build.specs.Levels.{Item, allNodes, leafNode, leaves, levelOut, nextLevel, parts, placed}
-use Rattle.laws.proofs.Every.{Every, every-append}
+use Rattle.laws.proofs.Every.{every-append}
+use Rattle.laws.specs.Every.{Every}
 use Rattle.laws.proofs.Joins.{each-append}
 use Rattle.laws.proofs.Lists.{map-append, tally-length}
 use Rattle.laws.specs.Lists.{each, head}
 use Rattle.limits.specs.Limits.{maxDepth}
-use Rattle.tree.proofs.Grow.{Run, forest-span, forest-tally, split-length, split-runs, split-tally}
-use Rattle.tree.specs.Build.{grow, leafOf, radius, split}
+use Rattle.tree.proofs.Grow.{forest-span, forest-tally, split-length, split-runs, split-tally}
+use Rattle.tree.specs.Build.{Run, grow, leafOf, radius, split}
 use Rattle.tree.specs.Encode.{Node, below, broods, family, levelNodes, members, nodes, numbered, span}
 use Rattle.tree.specs.Grove.{Grove, bare, entries, fork, rowsIn}
 use borrow.Author.Tests.{leb-false}

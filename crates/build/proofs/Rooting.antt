@@ -10,11 +10,10 @@ use Rattle.laws.proofs.Upto.{most-next, most-none}
 use Rattle.laws.specs.Lists.{each, greatest, head, range}
 use Rattle.laws.specs.Upto.{mostTo}
 use Rattle.measure.specs.Table.{between}
-use Rattle.split.proofs.Held.{laid}
-use Rattle.split.proofs.Parts.{put-more}
+use Rattle.split.specs.Runs.{laid}
+use Rattle.laws.proofs.Parts.{put-more}
 use Rattle.split.proofs.SplitWords.{under-long}
-use Rattle.tree.proofs.Grow.{Run}
-use Rattle.tree.specs.Build.{radius}
+use Rattle.tree.specs.Build.{Run, radius}
 use Rattle.tree.specs.Encode.{nodeWords, nodes}
 use borrow.Rule.Slice.PartMut.{midOf, putMid}
 use lib.ListN.{drop, length, take, take-append-drop}

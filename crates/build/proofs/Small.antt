@@ -9,13 +9,14 @@ use Rattle.build.proofs.Whole.{encode-long}
 use Rattle.build.specs.Calls.{Builds}
 use Rattle.build.specs.Levels.{Item, allNodes, leafNode, levelOut, nextLevel, placed}
 use Rattle.build.specs.Stages.{Fit}
-use Rattle.laws.proofs.Every.{Every, every-append}
+use Rattle.laws.proofs.Every.{every-append}
+use Rattle.laws.specs.Every.{Every}
 use Rattle.laws.proofs.Ranges.{range-length}
 use Rattle.laws.specs.Lists.{joined, range}
 use Rattle.limits.specs.Limits.{maxDepth, maxRows}
 use Rattle.measure.specs.Table.{between}
-use Rattle.tree.proofs.Grow.{Run, split-length, split-runs}
-use Rattle.tree.specs.Build.{build, plant, split}
+use Rattle.tree.proofs.Grow.{split-length, split-runs}
+use Rattle.tree.specs.Build.{Run, build, plant, split}
 use Rattle.tree.specs.Calls.{saidBuild}
 use Rattle.tree.specs.Encode.{broods, encode, family, levelNodes, nodes, numbered}
 use Rattle.words.specs.Words.{N#}

@@ -7,8 +7,7 @@ use Rattle.build.specs.Stages.{Fit, Openable, Opened, Tiled}
 use Rattle.laws.specs.Lists.{each, joined}
 use Rattle.measure.proofs.Metric.{metric}
 use Rattle.measure.specs.Table.{between}
-use Rattle.split.proofs.Held.{laid}
-use Rattle.split.specs.Runs.{Splittable, Splitted, runAt, runNodes}
+use Rattle.split.specs.Runs.{Splittable, Splitted, laid, runAt, runNodes}
 use Rattle.tree.specs.Build.{split}
 use Rattle.tree.specs.Encode.{nodeWords}
 use Rattle.words.specs.Words.{count#, nodeAt, start#}

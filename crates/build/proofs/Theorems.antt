@@ -2,7 +2,7 @@
 use Prim.Native.Nat.{_*_, _≤_, ℕ}
 use Rattle.build.proofs.Refusals.{none-said}
 use Rattle.build.specs.Calls.{Builds}
-use Rattle.laws.proofs.Every.{Every}
+use Rattle.laws.specs.Every.{Every}
 use Rattle.measure.specs.Table.{between, rowsOf}
 use Rattle.tree.proofs.Built.{build-accepted as words-accepted}
 use Rattle.tree.specs.Build.{build}

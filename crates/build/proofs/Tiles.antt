@@ -2,16 +2,16 @@
 use Rattle.laws.proofs.Times.{every-same}
 use Prim.Native.Nat.{_*_, _+_, _-_, _<_, _≤_, ℕ}
 use Rattle.build.specs.Stages.{Tiled}
-use Rattle.laws.proofs.Every.{Every, every-append, every-left, every-right}
+use Rattle.laws.proofs.Every.{every-append, every-left, every-right}
+use Rattle.laws.specs.Every.{Every}
 use Rattle.laws.proofs.Joins.{each-append, part-one, part-three, part-two}
 use Rattle.laws.proofs.Lists.{tally-length}
 use Rattle.laws.specs.Lists.{each, head, joined}
-use Rattle.split.proofs.Held.{laid}
+use Rattle.split.specs.Runs.{laid, rows, runAt}
 use Rattle.split.proofs.SplitWords.{runs-long, under-long}
 use Rattle.split.specs.Groups.{stretch}
-use Rattle.split.specs.Runs.{rows, runAt}
-use Rattle.tree.proofs.Grow.{Run, split-length, split-runs, split-tally}
-use Rattle.tree.specs.Build.{split}
+use Rattle.tree.proofs.Grow.{split-length, split-runs, split-tally}
+use Rattle.tree.specs.Build.{Run, split}
 use lib.Dec.{eqb}
 use lib.ListN.{drop, length, length-append, take}
 use mathlib.Core.Bool.{true}

@@ -2,11 +2,10 @@
 use Prim.Native.Nat.{_+_, _≤_, ℕ}
 use Rattle.build.proofs.Tiles.{split-joined}
 use Rattle.build.specs.Levels.{Item, nextLevel, opened, parts, placed, waits}
-use Rattle.laws.proofs.Every.{Every}
+use Rattle.laws.specs.Every.{Every}
 use Rattle.laws.proofs.Joins.{keep-append}
 use Rattle.laws.specs.Lists.{each, joined, keep}
-use Rattle.tree.proofs.Grow.{Run}
-use Rattle.tree.specs.Build.{split}
+use Rattle.tree.specs.Build.{Run, split}
 use borrow.Author.Tests.{leb-false}
 use lib.Dec.{leb}
 use lib.ListN.{length, length-append}

@@ -13,8 +13,8 @@ use Rattle.laws.proofs.Ranges.{range-length}
 use Rattle.laws.specs.Lists.{each, head, range}
 use Rattle.limits.specs.Limits.{maxDepth}
 use Rattle.measure.specs.Table.{between}
-use Rattle.split.proofs.Held.{laid}
-use Rattle.split.proofs.Parts.{put-more}
+use Rattle.split.specs.Runs.{laid}
+use Rattle.laws.proofs.Parts.{put-more}
 use Rattle.split.specs.Groups.{stretch}
 use Rattle.tree.proofs.Grow.{grown-tally}
 use Rattle.tree.proofs.Written.{each-words}

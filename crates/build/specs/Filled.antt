@@ -5,7 +5,7 @@ use Rattle.build.specs.Stages.{Fit, Stage, withNodes}
 use Rattle.laws.specs.Lists.{each, range}
 use Rattle.limits.specs.Limits.{maxDepth}
 use Rattle.measure.specs.Table.{between}
-use Rattle.split.proofs.Held.{laid}
+use Rattle.split.specs.Runs.{laid}
 use Rattle.tree.specs.Build.{plant}
 use Rattle.tree.specs.Encode.{encode, numbered, pairWords}
 use Rattle.tree.specs.Grove.{entries}

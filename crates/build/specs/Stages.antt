@@ -1,13 +1,12 @@
 -- What stands in the room and in the workspace while the tree grows. Assumes nothing.
 use Prim.Native.Nat.{_*_, _+_, _<_, _≤_, ℕ}
 use Rattle.build.specs.Levels.{Item, leafNode, levelOut, nextLevel, opened, placed, waits}
-use Rattle.laws.proofs.Every.{Every}
+use Rattle.laws.specs.Every.{Every}
 use Rattle.laws.specs.Lists.{each, joined, keep}
 use Rattle.limits.specs.Limits.{maxColumns, maxRows}
 use Rattle.measure.specs.Table.{between}
-use Rattle.split.proofs.Held.{laid}
-use Rattle.split.specs.Runs.{Splittable, Splitted}
-use Rattle.tree.proofs.Grow.{Run}
+use Rattle.split.specs.Runs.{Splittable, Splitted, laid}
+use Rattle.tree.specs.Build.{Run}
 use Rattle.tree.specs.Encode.{Node, nodeWords}
 use Rattle.words.specs.Words.{count#, nodeAt, start#}
 use lib.ListN.{drop, length, set, take}

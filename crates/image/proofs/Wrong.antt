@@ -1,7 +1,8 @@
 -- The blocks whose check word is wrong: the lowest of them, looked for from block 0 on. Assumes nothing.
 use Prim.Native.Nat.{_+_, _-_, _<_, _≤_, suc, zero, ℕ}
 use Rattle.image.specs.Lowest.{lowest, wrongBlocks}
-use Rattle.laws.proofs.Every.{Every, every-keep}
+use Rattle.laws.proofs.Every.{every-keep}
+use Rattle.laws.specs.Every.{Every}
 use Rattle.laws.proofs.Ranges.{at-every}
 use Rattle.laws.specs.Lists.{range, rest}
 use Rattle.words.specs.Image.{blockGood}

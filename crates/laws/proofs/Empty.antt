@@ -1,5 +1,5 @@
 -- When a list that is kept, mapped or joined is empty. Assumes nothing.
-use Rattle.laws.proofs.Every.{Every}
+use Rattle.laws.specs.Every.{Every}
 use Rattle.laws.specs.Lists.{any, each, keep}
 use lib.Dec.{T}
 use mathlib.Core.Bool.{Bool, _||_, cond, false, true}

@@ -1,6 +1,7 @@
--- A fact of every element of a list. Assumes nothing.
+-- Laws of a fact of every element. Assumes nothing.
 use Prim.Native.Nat.{_≤_, suc, zero, ℕ}
 use Rattle.laws.proofs.Tests.{and-l, and-of, and-r}
+use Rattle.laws.specs.Every.{Every}
 use Rattle.laws.specs.Lists.{all, greatest, head, keep, rest}
 use lib.Dec.{T}
 use lib.ListN.{drop, length, take}
@@ -8,10 +9,6 @@ use mathlib.Core.Bool.{Bool, cond, false, true}
 use mathlib.Core.List.{List, [], _++_, _∷_, map}
 use native.Mathlib.Nat.{not-suc-le-zero}
 use native.Mathlib.Omega.{arith}
-
-abbrev pub Every : {A : Type 0} → (A → Type 0) → List A → Type 0
-Every P [] = Unit {0}
-Every P (x ∷ xs) = P x × Every P xs
 
 module _ {A : Type 0} where
   pub every-append : (P : A → Type 0) (xs ys : List A) → Every P xs → Every P ys → Every P (xs ++ ys)

@@ -1,6 +1,6 @@
 -- n different numbers below n are all of them. Assumes nothing.
 use Prim.Native.Nat.{_+_, _<_, _≤_, suc, zero, ℕ}
-use Rattle.laws.proofs.Every.{Every}
+use Rattle.laws.specs.Every.{Every}
 use Rattle.laws.specs.Lists.{times}
 use borrow.Author.Tests.{eqb-false, eqb-true, ne-eqb}
 use lib.Dec.{eqb}

@@ -1,6 +1,7 @@
 -- Ranges of numbers: joined, looked up, and a fact or a test of each of their numbers. Assumes nothing.
 use Prim.Native.Nat.{_+_, _-_, _<_, _≤_, suc, zero, ℕ}
-use Rattle.laws.proofs.Every.{Every, every-append}
+use Rattle.laws.proofs.Every.{every-append}
+use Rattle.laws.specs.Every.{Every}
 use Rattle.laws.specs.Lists.{all, range}
 use lib.ListN.{getD, length}
 use mathlib.Core.Bool.{Bool, false, true}

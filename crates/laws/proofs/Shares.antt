@@ -1,6 +1,7 @@
 -- Numbers shared out among lists: each goes to one, so that all have what there was. Assumes nothing.
 use Prim.Native.Nat.{_+_, _≤_, ℕ}
-use Rattle.laws.proofs.Every.{Every, every-of}
+use Rattle.laws.proofs.Every.{every-of}
+use Rattle.laws.specs.Every.{Every}
 use Rattle.laws.proofs.Lists.{tally-append}
 use Rattle.laws.specs.Lists.{each, head, joined, keep, rest, tally, times, without}
 use borrow.Author.Tests.{eqb-true}

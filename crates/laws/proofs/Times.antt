@@ -1,6 +1,6 @@
 -- How often a number stands in a list, and what is looked up beside it. Assumes nothing.
 use Prim.Native.Nat.{_+_, _<_, _≤_, suc, zero, ℕ}
-use Rattle.laws.proofs.Every.{Every}
+use Rattle.laws.specs.Every.{Every}
 use Rattle.laws.proofs.Lists.{map-append, tally-append}
 use Rattle.laws.specs.Lists.{any, head, look, range, rest, tally, times}
 use borrow.Author.Tests.{eq-eqb, eqb-true}

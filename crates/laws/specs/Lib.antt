@@ -1,3 +1,4 @@
+pub mod Every
 pub mod Lists
 pub mod Upto
 pub mod Bags

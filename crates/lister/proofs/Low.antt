@@ -1,12 +1,11 @@
 -- No number that the program meets is above 18. Assumes nothing.
-use Prim.Native.Nat.{_≤_, ℕ}
+use Prim.Native.Nat.{_%_, _*_, _+_, _≤_, ℕ}
 use Rattle.limits.specs.Limits.{columnsOk, maxRows, shareOk}
 use Rattle.limits.specs.Said.{fault, said}
 use Rattle.measure.specs.Table.{rowsOf}
 use Rattle.text.specs.Calls.{saidRead}
 use Rattle.text.specs.Reading.{numbers, readable}
 use Rattle.tree.specs.Calls.{saidBuild}
-use Prim.Native.Nat.{_%_, _*_, _+_}
 use lib.Dec.{eqb, ltb}
 use lib.ListN.{length}
 use mathlib.Core.Bool.{Bool, _||_, cond, false, not, true}

@@ -1,6 +1,7 @@
 -- The distance of two rows is a metric, and no two rows are farther apart than the index kind allows. Assumes nothing.
 use Prim.Native.Nat.{_*_, _+_, _≤_, suc, zero, ℕ}
-use Rattle.laws.proofs.Every.{Every, every-drop, every-take}
+use Rattle.laws.proofs.Every.{every-drop, every-take}
+use Rattle.laws.specs.Every.{Every}
 use Rattle.laws.proofs.Sums.{sum-below-same, sum-below-zero, sum-most, sum-triangle}
 use Rattle.limits.specs.Limits.{maxColumns, maxDistance}
 use Rattle.measure.specs.Distance.{apart, l1}

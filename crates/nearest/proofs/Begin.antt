@@ -2,7 +2,7 @@
 use Prim.Native.Nat.{_+_, _-_, _<_, _≤_, min, suc, ℕ}
 use Rattle.best.specs.Search.{Due, Kept, closer}
 use Rattle.laws.proofs.Bags.{times-total, total-append, total-map, total-range}
-use Rattle.laws.proofs.Every.{Every}
+use Rattle.laws.specs.Every.{Every}
 use Rattle.laws.proofs.Sums.{sum-below-zero}
 use Rattle.laws.proofs.Times.{lefts, look-every, times-every}
 use Rattle.laws.specs.Bags.{is, total}

@@ -1,6 +1,7 @@
 -- The nearest cases of 01, The five-row table, of the call. Assumes nothing.
 use Prim.Native.Nat.{min, ℕ}
-use Rattle.laws.proofs.Every.{Every, every-of}
+use Rattle.laws.proofs.Every.{every-of}
+use Rattle.laws.specs.Every.{Every}
 use Rattle.laws.specs.Upto.{sumTo}
 use Rattle.limits.specs.Said.{said, tableFaults}
 use Rattle.measure.specs.Distance.{l1}

@@ -1,6 +1,6 @@
 -- What the code did is what the contract says: a refusal, and a search. Assumes nothing.
 use Prim.Native.Nat.{_<_, _≤_, min, ℕ}
-use Rattle.laws.proofs.Every.{Every}
+use Rattle.laws.specs.Every.{Every}
 use Rattle.laws.proofs.Ranges.{at-every}
 use Rattle.laws.specs.Bags.{is}
 use Rattle.laws.specs.Lists.{has, look, range, times}

@@ -4,7 +4,8 @@ use Prim.Native.Nat.{_+_, _<_, _≤_, min, ℕ}
 use Rattle.best.proofs.Keeps.{search-keeps}
 use Rattle.best.proofs.Local.{measured-on-both, search-back}
 use Rattle.best.specs.Search.{Due, Homes, Kept, Lawful, Reach}
-use Rattle.laws.proofs.Every.{Every, every-map}
+use Rattle.laws.proofs.Every.{every-map}
+use Rattle.laws.specs.Every.{Every}
 use Rattle.laws.proofs.Ranges.{at-every}
 use Rattle.laws.specs.Bags.{SameBag, is}
 use Rattle.laws.specs.Lists.{keep, range}

@@ -2,7 +2,7 @@
 use Prim.Native.Nat.{_*_, _+_, _-_, _<_, _≤_, suc, zero, ℕ}
 use Rattle.best.proofs.Keeps.{closer-le}
 use Rattle.best.specs.Search.{Ended, Reach, both, closer, start, step}
-use Rattle.laws.proofs.Bags.{total-append, total-le, total-map, total-none, total-upto}
+use Rattle.laws.proofs.Bags.{same-map, total-append, total-le, total-map, total-none, total-upto}
 use Rattle.laws.proofs.Ones.{is-bit, is-self}
 use Rattle.laws.proofs.Sums.{sum-add, sum-below-same, sum-below-zero, sum-ones, sum-part}
 use Rattle.laws.specs.Bags.{SameBag, is, total, upto}
@@ -22,7 +22,6 @@ use Rattle.nearest.specs.Standing.{Ready, Since, Stands, Took}
 use Rattle.queue.proofs.Queued.{empty-queue, entries-count}
 use Rattle.queue.specs.Entry.{keyOf}
 use Rattle.queue.specs.Queue.{Popped, Pushed, entries, entry}
-use Rattle.laws.proofs.Bags.{same-map}
 use Rattle.words.specs.InShape.{InShape}
 use Rattle.words.specs.Shape.{inner}
 use Rattle.words.specs.Words.{N#, at, child#, count#, first#, m#, n#, row#, start#}

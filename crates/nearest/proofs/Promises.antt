@@ -1,7 +1,8 @@
 -- What the contract of the nearest call says, in 01's words: it is exact on an accepted index, it measures the rows whose home bound is at most D,
 -- it rests on the rows that it measures, and no second outcome fits. Assumes nothing.
 use Prim.Native.Nat.{_<_, _≤_, min, suc, zero, ℕ}
-use Rattle.laws.proofs.Every.{Every, every-both, every-map, every-take}
+use Rattle.laws.proofs.Every.{every-both, every-map, every-take}
+use Rattle.laws.specs.Every.{Every}
 use Rattle.laws.proofs.Lists.{tally-take}
 use Rattle.laws.proofs.Ranges.{at-every, range-length}
 use Rattle.laws.specs.Lists.{has, look, range}

@@ -3,7 +3,8 @@ use Prim.Native.Nat.{_+_, _-_, _<_, _≤_, min, suc, zero, ℕ}
 use Rattle.best.proofs.Keeps.{closer-le}
 use Rattle.best.specs.Search.{closer}
 use Rattle.laws.proofs.Bags.{total-map, total-range}
-use Rattle.laws.proofs.Every.{Every, every-of}
+use Rattle.laws.proofs.Every.{every-of}
+use Rattle.laws.specs.Every.{Every}
 use Rattle.laws.proofs.Ones.{is-self}
 use Rattle.laws.proofs.Sums.{sum-add, sum-below-le, sum-below-same, sum-ones, sum-part}
 use Rattle.laws.specs.Bags.{is, total}

@@ -1,6 +1,6 @@
 -- The how-bytes that a search writes: those of the definition where each row stands once, and on any index none beyond n. Assumes nothing.
 use Prim.Native.Nat.{_+_, _<_, _≤_, suc, zero, ℕ}
-use Rattle.laws.proofs.Every.{Every}
+use Rattle.laws.specs.Every.{Every}
 use Rattle.laws.proofs.Ranges.{range-length}
 use Rattle.laws.proofs.Times.{lefts, times-every}
 use Rattle.laws.specs.Lists.{look, times}

@@ -1,6 +1,7 @@
 -- One centre's group, as it is written. Assumes nothing.
 use Prim.Native.Nat.{_%_, _*_, _+_, _-_, _<_, _≤_, max, ℕ}
-use Rattle.split.proofs.Parts.{put-more, read-front, stretch-front, stretch-three}
+use Rattle.split.proofs.Parts.{read-front, stretch-front, stretch-three}
+use Rattle.laws.proofs.Parts.{put-more}
 use Rattle.split.specs.Entries.{own}
 use Rattle.split.specs.Groups.{Gatherable, Gathered, Picked, Picking, group, picked, size, stretch, widest}
 use borrow.Author.Tests.{eq-eqb, ne-eqb}

@@ -5,6 +5,7 @@ use Rattle.laws.specs.Lists.{each, head, least, rest, without}
 use Rattle.split.specs.Entries.{ahead, aheadOf, allBut, far, nearAll, nearOne, others, own, roundsOf}
 use Rattle.tree.specs.Build.{choose, closer, closest, farther, farthest, nearness}
 use borrow.Author.Tests.{eq-eqb, le-leb, le-ltb, leb-false, leb-true, lt-leb, lt-ltb, ltb-false, ltb-true, ne-eqb}
+use Rattle.split.specs.Runs.{laid}
 use lib.Dec.{eqb, leb, ltb}
 use lib.ListN.{drop, getD, length, take}
 use mathlib.Core.Bool.{Bool, _&&_, _||_, cond, false, false≢true, true}
@@ -182,17 +183,13 @@ module _ (d : ℕ → ℕ → ℕ) where
       ∙ ap (λ (l : List ℕ). l ++ roundsOf d k (each (held d (a ∷ cs ++ j ∷ [])) (without j is))) (sym (each-append own (a ∷ cs) (j ∷ [])))
       ∙ rounds-held k a (cs ++ j ∷ []) (without j is) (omega (arith, without-length j is))
 
-  -- a run as its parent's rounds leave it: each member with its distance from the run's first, which is its centre
-  abbrev pub laid : List ℕ → List ℕ
-  laid run = each (λ i. i ∷ d (head run) i ∷ head run ∷ []) run
-
   laid-held : (a : ℕ) (is : List ℕ) → each (λ i. i ∷ d a i ∷ a ∷ []) is ≡ each (held d (a ∷ [])) is
   laid-held a [] = refl
   laid-held a (i ∷ is) = ap₂ (λ (x : ℕ) (l : List ℕ). i ∷ x ∷ a ∷ l) (sym (nearness-closest d a [] i)) (laid-held a is)
 
   -- THE ROUNDS ON A RUN'S WORDS: the centres of 01, in their order, then the other rows, each with its closest centre and the distance
   pub chosen-words : (m : ℕ) (run : List ℕ) → 1 ≤ m → m ≤ length run → d (head run) (head run) ≡ 0
-      → take 3 (laid run) ++ roundsOf d (m - 1) (drop 3 (laid run))
+      → take 3 (laid d run) ++ roundsOf d (m - 1) (drop 3 (laid d run))
       ≡ each own (choose d (m - 1) (head run ∷ []) (rest run) .0)
       ++ each (held d (choose d (m - 1) (head run ∷ []) (rest run) .0)) (choose d (m - 1) (head run ∷ []) (rest run) .1)
   chosen-words m [] h l z = absurd (omega arith)

@@ -11,25 +11,6 @@ use native.Mathlib.Decide.{decLe}
 use native.Mathlib.Numerals.{add-one}
 use native.Mathlib.Omega.{arith}
 
--- the part from n to the end is lent, and comes back with new in front: one step of an append
-pub put-more : (front new p₀ p ys : List ℕ) (n k : ℕ) → length front ≡ n → n ≤ length p → p ≡ front ++ drop n p₀
-    → ys ≡ new ++ drop k (midOf n (length p - n) p) → putMid n (length p - n) p ys ≡ (front ++ new) ++ drop (n + k) p₀
-put-more front new p₀ p ys n k lf fits e f =
-    let d : drop n p ≡ drop n p₀ = ap (drop n) e ∙ drop-at front (drop n p₀) n lf in
-    let t : take n p ≡ front = ap (take n) e ∙ take-at front (drop n p₀) n lf in
-    let m : midOf n (length p - n) p ≡ drop n p₀ = take-all (length p - n) (drop n p) (omega (arith, length-drop n p)) ∙ d in
-    let o : postOf n (length p - n) p ≡ [] = drop-of-length-le (drop n p) {i = length p - n} (omega (arith, length-drop n p)) in
-    let y : ys ≡ new ++ drop (n + k) p₀ = f ∙ ap (λ (l : List ℕ). new ++ drop k l) m ∙ ap (λ (l : List ℕ). new ++ l) (drop-drop k n p₀) in
-    cc (append-nil (new ++ drop (n + k) p₀), append-assoc front new (drop (n + k) p₀))
-
--- four stores at the front
-pub four-sets : (l : List ℕ) (a b c d : ℕ) → 4 ≤ length l → set (set (set (set l 0 a) 1 b) 2 c) 3 d ≡ a ∷ b ∷ c ∷ d ∷ drop 4 l
-four-sets [] a b c d h = absurd (omega arith)
-four-sets (x ∷ []) a b c d h = absurd (omega arith)
-four-sets (x ∷ y ∷ []) a b c d h = absurd (omega arith)
-four-sets (x ∷ y ∷ z ∷ []) a b c d h = absurd (omega arith)
-four-sets (x ∷ y ∷ z ∷ v ∷ l) a b c d h = refl
-
 -- what stands before the part that is written is as it was
 pub read-front : (w w₀ more : List ℕ) (to k : ℕ) → to ≤ length w₀ → w ≡ take to w₀ ++ more → k < to → getD w k 0 ≡ getD w₀ k 0
 read-front w w₀ more to k h e l =

@@ -1,7 +1,8 @@
 -- The groups of a run's centres, one after the other, with their nodes. Assumes nothing.
 use Prim.Native.Nat.{_*_, _+_, _-_, _<_, _≤_, suc, zero, ℕ}
 use Rattle.split.proofs.Gathered.{group-size}
-use Rattle.split.proofs.Parts.{put-more, read-front, stretch-front}
+use Rattle.split.proofs.Parts.{read-front, stretch-front}
+use Rattle.laws.proofs.Parts.{put-more}
 use Rattle.split.specs.Groups.{Gatherable, Gathered, Sharable, Shared, centres, group, groupNodes, groupWords, shared, sharedNodes, size, stretch, waiting, widest}
 use borrow.Rule.Slice.PartMut.{midOf, putMid}
 use lib.ListN.{drop, getD, length, length-append, length-drop, take, take-append-drop}

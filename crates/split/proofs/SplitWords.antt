@@ -1,14 +1,14 @@
 -- The groups of the words that the rounds leave are the runs of 01's `split`. Assumes nothing.
 use Prim.Native.Nat.{_*_, _+_, _-_, _≤_, max, suc, ℕ}
-use Rattle.laws.proofs.Every.{Every}
+use Rattle.laws.specs.Every.{Every}
 use Rattle.laws.proofs.Lists.{tally-length}
 use Rattle.laws.specs.Lists.{each, greatest, head, joined, keep, rest}
 use Rattle.split.proofs.Held.{held, nearness-closest}
 use Rattle.split.specs.Entries.{Entries, own}
 use Rattle.split.specs.Groups.{centres, group, picked, shared, sharedNodes, size, stretch, widest}
 use Rattle.split.specs.Runs.{laid, runNodes}
-use Rattle.tree.proofs.Grow.{Run, split-length, split-tally}
-use Rattle.tree.specs.Build.{choose, closest, nearness, radius, split}
+use Rattle.tree.proofs.Grow.{split-length, split-tally}
+use Rattle.tree.specs.Build.{Run, choose, closest, nearness, radius, split}
 use borrow.Author.Tests.{eqb-true}
 use lib.Dec.{eqb}
 use lib.ListN.{drop, getD, length, length-append, length-map, take}

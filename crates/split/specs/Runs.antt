@@ -1,6 +1,6 @@
 -- Runs in the workspace, and the split of one of them where it stands: 01, The tree. Assumes nothing.
 use Prim.Native.Nat.{_*_, _+_, _<_, _≤_, ℕ}
-use Rattle.laws.proofs.Every.{Every}
+use Rattle.laws.specs.Every.{Every}
 use Rattle.laws.specs.Lists.{each, head, times}
 use Rattle.limits.specs.Limits.{maxColumns, maxRows}
 use Rattle.measure.specs.Table.{between}

@@ -1,6 +1,6 @@
 -- The nearest search's answers and how-bytes, by row. Assumes nothing.
 use Prim.Native.Nat.{_<_, _≤_, min, suc, ℕ}
-use Rattle.laws.proofs.Every.{Every}
+use Rattle.laws.specs.Every.{Every}
 use Rattle.laws.proofs.Ranges.{getD-range, range-length}
 use Rattle.laws.proofs.Times.{lefts}
 use Rattle.laws.specs.Lists.{has, look, range}

@@ -1,6 +1,7 @@
 -- The tree that the build grows is well made, and so its index is accepted. Assumes nothing.
 use Prim.Native.Nat.{_<_, _≤_, suc, zero, ℕ}
-use Rattle.laws.proofs.Every.{Every, every-all, every-append, every-map}
+use Rattle.laws.proofs.Every.{every-all, every-append, every-map}
+use Rattle.laws.specs.Every.{Every}
 use Rattle.laws.proofs.Lists.{tally-length}
 use Rattle.laws.proofs.Ranges.{range-every, range-length}
 use Rattle.laws.proofs.Tests.{and-r, holds}
@@ -13,9 +14,9 @@ use Rattle.measure.specs.Space.{Space}
 use Rattle.measure.specs.Table.{between, rowsOf}
 use Rattle.tree.proofs.Full.{Full}
 use Rattle.tree.proofs.Good.{Good, empty-accepted, encode-accepted, share-is}
-use Rattle.tree.proofs.Grow.{Run, forest-span, grown-even, grown-fine, grown-span, grown-tally, split-length, split-runs}
+use Rattle.tree.proofs.Grow.{forest-span, grown-even, grown-fine, grown-span, grown-tally, split-length, split-runs}
+use Rattle.tree.specs.Build.{Run, build, grow, leafOf, plant, radius, split}
 use Rattle.tree.proofs.Grown.{grown-sound}
-use Rattle.tree.specs.Build.{build, grow, leafOf, plant, radius, split}
 use Rattle.tree.specs.Check.{Accepted}
 use Rattle.tree.specs.Encode.{encode}
 use Rattle.tree.specs.Grove.{Grove, bare, entries, fork, rowsIn}

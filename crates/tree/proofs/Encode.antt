@@ -1,6 +1,7 @@
 -- A well-made tree, numbered and written, is in shape. Assumes nothing.
 use Prim.Native.Nat.{_+_, _<_, _≤_, suc, zero, ℕ}
-use Rattle.laws.proofs.Every.{Every, every-append, every-left, every-right}
+use Rattle.laws.proofs.Every.{every-append, every-left, every-right}
+use Rattle.laws.specs.Every.{Every}
 use Rattle.laws.proofs.Ranges.{every-range-append, range-append, range-every}
 use Rattle.laws.specs.Lists.{range}
 use Rattle.limits.specs.Limits.{maxDepth, maxDistance}

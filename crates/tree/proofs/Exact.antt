@@ -1,7 +1,8 @@
 -- The radius search is exact on a tree that fits its table: a row's how-byte is 2 or 3 exactly if its distance is at most r.
 -- Assumes nothing.
 use Prim.Native.Nat.{_+_, _≤_, ℕ}
-use Rattle.laws.proofs.Every.{Every, every-all, every-append, every-map, every-of, every-rest}
+use Rattle.laws.proofs.Every.{every-all, every-append, every-map, every-of, every-rest}
+use Rattle.laws.specs.Every.{Every}
 use Rattle.laws.proofs.Times.{lefts}
 use Rattle.laws.specs.Lists.{gap, head, rest}
 use Rattle.measure.specs.Space.{Point}

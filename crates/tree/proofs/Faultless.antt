@@ -1,7 +1,8 @@
 -- The full check accepts a tree that fits its table, once written. Assumes nothing.
 use Prim.Native.Nat.{_+_, _-_, _<_, _≤_, suc, ℕ}
 use Rattle.laws.proofs.Empty.{any-none, each-none, keep-none}
-use Rattle.laws.proofs.Every.{Every, every-of}
+use Rattle.laws.proofs.Every.{every-of}
+use Rattle.laws.specs.Every.{Every}
 use Rattle.laws.proofs.Lists.{map-append, tally-append}
 use Rattle.laws.proofs.Ranges.{every-at, every-range, range-append, range-every}
 use Rattle.laws.proofs.Tests.{and-none}

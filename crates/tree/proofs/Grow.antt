@@ -1,13 +1,14 @@
 -- The tree that the build grows is well made. Assumes nothing.
 use Prim.Native.Nat.{_+_, _-_, _≤_, suc, zero, ℕ}
-use Rattle.laws.proofs.Every.{Every, every-all, every-both, every-map, every-of}
+use Rattle.laws.proofs.Every.{every-all, every-both, every-map, every-of}
+use Rattle.laws.specs.Every.{Every}
 use Rattle.laws.proofs.Lists.{map-id, paired, tally-append, tally-length}
 use Rattle.laws.proofs.Shares.{every-∀, heads-tally, part-times, share, tally-split, without-tally}
 use Rattle.laws.proofs.Times.{tally-lefts}
 use Rattle.laws.specs.Lists.{greatest, head, joined, keep, rest, tally, times, without}
 use Rattle.limits.specs.Limits.{maxDistance}
 use Rattle.tree.proofs.Encode.{Even, Fine}
-use Rattle.tree.specs.Build.{choose, closest, farthest, grow, leafOf, nearness, radius, split}
+use Rattle.tree.specs.Build.{Run, choose, closest, farthest, grow, leafOf, nearness, radius, split}
 use Rattle.tree.specs.Encode.{span}
 use Rattle.tree.specs.Grove.{Grove, bare, entries, fork, rowsIn}
 use borrow.Author.Tests.{eq-eqb, leb-false, leb-true}
@@ -76,10 +77,6 @@ module _ (d : ℕ → ℕ → ℕ) where
       go : (s : Bool) → leb (d a i) (d k i) ≡ s → Every (λ c. d k i ≤ d c i) (b ∷ cs) → Every (λ c. d (cond s a k) i ≤ d c i) (a ∷ b ∷ cs)
       go true e h = (omega arith, every-of (λ c. d k i ≤ d c i) (λ c. d a i ≤ d c i) (λ c q. omega (arith, leb-true (d a i) (d k i) e)) (b ∷ cs) h)
       go false e h = (omega (arith, leb-false (d a i) (d k i) e), h)
-
--- a run: not empty, no row twice
-abbrev pub Run : List ℕ → Type 0
-Run r = (1 ≤ length r) × ((i : ℕ) → times i r ≤ 1)
 
 leaf-tally : (d : ℕ → ℕ → ℕ) (f : ℕ → Bool) (run : List ℕ) (g : Grove) → tally f (rowsIn (leafOf d run g)) ≡ tally f run + tally f (rowsIn g)
 leaf-tally d f run g =

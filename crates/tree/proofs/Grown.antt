@@ -1,12 +1,13 @@
 -- The tree that the build grows fits its table. Assumes nothing.
 use Prim.Native.Nat.{_-_, _≤_, suc, zero, ℕ}
-use Rattle.laws.proofs.Every.{Every, every-all, every-map, every-unmap, greatest-le}
+use Rattle.laws.proofs.Every.{every-all, every-map, every-unmap, greatest-le}
+use Rattle.laws.specs.Every.{Every}
 use Rattle.laws.proofs.Lists.{map-id, paired}
 use Rattle.laws.proofs.Times.{every-same, lefts}
 use Rattle.laws.specs.Lists.{greatest, head, keep, rest, times, without}
-use Rattle.tree.proofs.Grow.{Run, chosen, closest-least, forest-tally, greatest-under, left, split-runs, split-tally}
+use Rattle.tree.proofs.Grow.{chosen, closest-least, forest-tally, greatest-under, left, split-runs, split-tally}
+use Rattle.tree.specs.Build.{Run, choose, closest, farthest, grow, leafOf, radius, split}
 use Rattle.tree.proofs.Sound.{Close, Sound}
-use Rattle.tree.specs.Build.{choose, closest, farthest, grow, leafOf, radius, split}
 use Rattle.tree.specs.Grove.{Grove, bare, first, firsts, fork, leaf, rowsIn}
 use borrow.Author.Tests.{eqb-true, leb-false}
 use lib.Dec.{eqb, leb}

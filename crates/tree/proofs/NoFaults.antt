@@ -1,7 +1,8 @@
 -- No faults, read: what the full check says node by node and position by position. Assumes nothing.
 use Prim.Native.Nat.{_+_, _-_, _<_, _≤_, ℕ}
 use Rattle.laws.proofs.Empty.{any-false, append-nil-l, append-nil-r, each-nil, keep-nil, map-nil}
-use Rattle.laws.proofs.Every.{Every, every-of, every-unmap, greatest-le}
+use Rattle.laws.proofs.Every.{every-of, every-unmap, greatest-le}
+use Rattle.laws.specs.Every.{Every}
 use Rattle.laws.proofs.Ranges.{every-at, every-range}
 use Rattle.laws.proofs.Tests.{and-second}
 use Rattle.laws.specs.Lists.{any, each, greatest, keep, range}

@@ -1,6 +1,7 @@
 -- What the calls share of their lists of faults: the first of two lists, and what a table with no fault is. Assumes nothing.
 use Prim.Native.Nat.{_%_, _*_, _/_, _≤_, ℕ}
-use Rattle.laws.proofs.Every.{Every, every-append}
+use Rattle.laws.proofs.Every.{every-append}
+use Rattle.laws.specs.Every.{Every}
 use Rattle.laws.proofs.Tests.{and-l, and-r, holds}
 use Rattle.limits.specs.Limits.{columnsOk, maxColumns, maxRows}
 use Rattle.limits.specs.Said.{Said, fault, lengthFaults, said, tableFaults}

@@ -1,6 +1,7 @@
 -- Answers in order: sorted lists, and a test that the first w pass may be put before the sorting. Assumes nothing.
 use Prim.Native.Nat.{_≤_, suc, zero, ℕ}
-use Rattle.laws.proofs.Every.{Every, every-both, every-keep, every-of, every-take}
+use Rattle.laws.proofs.Every.{every-both, every-keep, every-of, every-take}
+use Rattle.laws.specs.Every.{Every}
 use Rattle.laws.specs.Lists.{keep}
 use Rattle.tree.specs.Nearest.{before, insert, lastDistance, sort}
 use borrow.Author.Tests.{eq-eqb, eqb-false, eqb-true, le-leb, leb-false, leb-true, ltb-false, ltb-true}

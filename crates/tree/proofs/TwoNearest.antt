@@ -1,7 +1,8 @@
 -- The statement on two tables, for the nearest search: the rows whose home bound is at most D, with their bounds, follow from the
 -- distances of those rows alone. Nothing is asked of the tree. Assumes nothing.
 use Prim.Native.Nat.{_+_, _<_, _≤_, max, ℕ}
-use Rattle.laws.proofs.Every.{Every, every-all, every-append, every-left, every-map, every-of, every-right}
+use Rattle.laws.proofs.Every.{every-all, every-append, every-left, every-map, every-of, every-right}
+use Rattle.laws.specs.Every.{Every}
 use Rattle.laws.specs.Lists.{gap, has, head, keep, least, look, range, rest, times}
 use Rattle.tree.proofs.TwoRadius.{all-firsts, same-map}
 use Rattle.tree.specs.Grove.{Grove, bare, first, firsts, fork, leaf}

@@ -1,6 +1,6 @@
 -- The tree that the build grows: 01, The tree. Over the distance d between rows. Assumes nothing.
-use Prim.Native.Nat.{_-_, suc, zero, ℕ}
-use Rattle.laws.specs.Lists.{greatest, head, keep, least, range, rest, without}
+use Prim.Native.Nat.{_-_, _≤_, suc, zero, ℕ}
+use Rattle.laws.specs.Lists.{greatest, head, keep, least, range, rest, times, without}
 use Rattle.limits.specs.Limits.{maxDepth}
 use Rattle.measure.specs.Table.{between, rowsOf}
 use Rattle.tree.specs.Encode.{encode}
@@ -9,6 +9,10 @@ use lib.Dec.{eqb, leb, ltb}
 use lib.ListN.{length}
 use mathlib.Core.Bool.{_&&_, _||_, cond}
 use mathlib.Core.List.{List, [], _++_, _∷_, foldr, map}
+
+-- a run: not empty, no row twice
+abbrev pub Run : List ℕ → Type 0
+Run r = (1 ≤ length r) × ((i : ℕ) → times i r ≤ 1)
 
 module _ (d : ℕ → ℕ → ℕ) where
   -- ---- centres

@@ -1,6 +1,6 @@
 -- `split::groups::put_node` meets its contract: four stores at the front.
 -- Assumes nothing.
-use Rattle.split.proofs.Parts.{four-sets}
+use Rattle.laws.proofs.Parts.{four-sets}
 use Rattle.split.proofs.groups.put_node.Statement.{statement}
 use Rattle.split.proofs.groups.put_node.Tie as tie
 use borrow.Author.Needs.{needs}
