@@ -9,18 +9,20 @@ use Rattle.laws.specs.Upto.{sumTo}
 use Rattle.limits.specs.Limits.{maxDistance, maxRows}
 use Rattle.measure.specs.Table.{from}
 use Rattle.nearest.proofs.Holding.{enter-held}
-use Rattle.nearest.specs.Answers.{Entered, Full, Held, lastRow, rowOf, turned}
+use Rattle.nearest.specs.Answers.{Entered, Full, Held, distanceOf, greatestWord, lastOf, lastRow, rowOf, turned}
 use Rattle.nearest.specs.Standing.{Grew, Ready, Since, Stands, Took, kept, stray}
 use Rattle.queue.proofs.Entries.{entries-stay, id-packed}
 use Rattle.queue.proofs.Queued.{queue-stays}
-use Rattle.queue.specs.Entry.{entryAt}
+use Rattle.queue.specs.Entry.{entryAt, packed}
 use Rattle.queue.specs.Queue.{Queue, entries}
 use Rattle.words.specs.Words.{at, first#, n#}
+use lib.Dec.{ltb}
 use lib.ListN.{getD, length, length-set, set}
 use lib.Seq.{getD-set-other, getD-set-same}
+use mathlib.Core.Bool.{cond}
 use mathlib.Core.List.{List}
 use mathlib.Core.Logic.{_≢_}
-use mathlib.Core.Path.{_∙_, _≡_, ap, refl, subst, sym}
+use mathlib.Core.Path.{_∙_, _≡_, ap, ap₂, refl, subst, sym}
 use native.Mathlib.Decide.{decLt, ℕ-discrete}
 use native.Mathlib.Omega.{arith}
 
@@ -72,6 +74,11 @@ module _ (n : ℕ) (work work′ : List ℕ) (same : (i : ℕ) → 2 * n ≤ i �
 
   pub held-stay : (x m : ℕ → ℕ) (w held : ℕ) → Held x m n work (3 * n) w held → Held x m n work′ (3 * n) w held
   held-stay x m w held H = record { floor = H .floor; bag = λ f. ap (total f) (answers-stay held) ∙ H .bag f; all = H .all }
+
+  pub last-stays : (w held : ℕ) → lastOf work′ (3 * n) w held ≡ lastOf work (3 * n) w held
+  unfolding entryAt lastOf
+  last-stays w held =
+      ap₂ (λ (a b : ℕ). cond (ltb held w) greatestWord (distanceOf (packed a b))) (same (3 * n) (omega arith)) (same (3 * n + 1) (omega arith))
 
 -- ---- what lies beyond stays
 pub since-none : (n : ℕ) (how work : List ℕ) → Since n how how work work
@@ -255,12 +262,12 @@ module _ (x : ℕ → ℕ) (index : List ℕ) (n w : ℕ) (how work : List ℕ) 
   abbrev seenTo : ℕ → ℕ → ℕ
   seenTo k s = sumTo (λ (i : ℕ). is s (first# index (a + suc i))) k
 
-  pub centres-start : a < e → Stands x n w how work held → CentresTo x index n w how how work work a e (a + 1) held held
-  centres-start h St =
-      let z : a + 1 - (a + 1) ≡ 0 = omega arith in
+  pub centres-start : (j : ℕ) → j ≡ a + 1 → a < e → Stands x n w how work held → CentresTo x index n w how how work work a e j held held
+  centres-start j first h St =
+      let z : j - (a + 1) ≡ 0 = omega arith in
       record {
         took = record {
-          grew = grew-none x n w how work held (seenTo (a + 1 - (a + 1))) (λ s. ap (λ (k : ℕ). seenTo k s) z ∙ sum-none (λ (i : ℕ). is s (first# index (a + suc i)))) St;
+          grew = grew-none x n w how work held (seenTo (j - (a + 1))) (λ s. ap (λ (k : ℕ). seenTo k s) z ∙ sum-none (λ (i : ℕ). is s (first# index (a + suc i)))) St;
           front = λ i l. refl;
         };
         low = omega arith;

@@ -1,9 +1,10 @@
 -- Queueing the rows of a leaf and the children of an inner node, one by one. Assumes nothing.
 use Prim.Native.Nat.{_*_, _+_, _-_, _<_, _≤_, max, min, suc, ℕ}
 use Rattle.laws.proofs.Outside.{outside-more, outside-same, outside-then}
-use Rattle.laws.specs.Bags.{total, upto}
+use Rattle.laws.specs.Bags.{total}
 use Rattle.laws.specs.Lists.{gap}
-use Rattle.nearest.specs.Answers.{Entered, Full, Still, distanceOf}
+use Rattle.nearest.proofs.Beyond.{more-none, more-one}
+use Rattle.nearest.specs.Answers.{Entered, Full}
 use Rattle.nearest.specs.Frontier.{More, Room, leastKept, noded, placed}
 use Rattle.nearest.specs.Standing.{kept}
 use Rattle.queue.specs.Entry.{entryAt, packed}
@@ -11,76 +12,58 @@ use Rattle.queue.specs.Queue.{Popped, Pushed, Queue, entries}
 use Rattle.tree.specs.Homes.{childBound}
 use Rattle.words.specs.InShape.{InShape}
 use Rattle.words.specs.Words.{N#, count#, dist#, first#, n#, nodeAt, pairAt, radius#, start#}
-use borrow.Author.Tests.{le-leb, leb-true}
-use lib.Dec.{leb}
 use lib.ListN.{getD, length}
-use mathlib.Core.List.{List, _++_}
+use mathlib.Core.List.{List}
 use mathlib.Core.Path.{_∙_, _≡_, ap, ap₂, refl, subst, sym}
-use native.Mathlib.Numerals.{add-one}
 use native.Mathlib.Omega.{arith}
 
--- ---- entries more
-more-none : (work : List ℕ) (n len : ℕ) (g : ℕ → ℕ) → Queue work 0 len → More work work n len 0 g len
-more-none work n len g q = record { queue = q; count = omega arith; bag = λ f. refl; outside = outside-same work 0 (2 * n) }
+-- there is room for fewer
+pub room-less : (w work : List ℕ) (n len k k′ : ℕ) → Room w work n len k → k′ ≤ k → Room w work n len k′
+room-less w work n len k k′ R h = record { shape = R .shape; rows = R .rows; queue = R .queue; fits = omega (arith, R .fits); words = R .words }
 
-more-one : (work work₁ work₂ : List ℕ) (n len k : ℕ) (g : ℕ → ℕ) (size e : ℕ) → More work work₁ n len k g size → size < n → e ≡ g k → Pushed work₁ work₂ 0 size e
-    → More work work₂ n len (k + 1) g (size + 1)
-more-one work work₁ work₂ n len k g size e M h q P = record {
-  queue = P .queue;
-  count = omega (arith, M .count);
-  bag = λ f. bag f;
-  outside = outside-then work work₁ work₂ 0 (2 * n) 0 (0 + (size + size) + 2) (omega arith) (omega arith) (M .outside) (P .outside);
-}
-  where
-    bag : (f : ℕ → ℕ) → total f (entries work₂ 0 (size + 1)) ≡ total f (upto g (k + 1) ++ entries work 0 len)
-    bag f =
-        P .bag f
-        ∙ subst (λ (z : ℕ). f e + total f (entries work₁ 0 size) ≡ total f (upto g z ++ entries work 0 len)) (sym (add-one k))
-        (omega (arith, M .bag f, ap f q))
-
-module _ (w work : List ℕ) (n len k : ℕ) (R : Room w work n len k) where
-  -- there is room for one more of k
-  room-one : (work₁ : List ℕ) (g : ℕ → ℕ) (i size : ℕ) → More work work₁ n len i g size → i < k → (size < n) × (0 + (size + size) + 1 < length work₁)
-  room-one work₁ g i size M h = (omega (arith, M .count, R .fits), omega (arith, M .count, R .fits, M .outside .same, R .words))
+-- there is room for one more of k
+room-one : (w work : List ℕ) (n len k : ℕ) → Room w work n len k → (work₁ : List ℕ) (g : ℕ → ℕ) (last i size : ℕ) → More work work₁ len i g last size → i < k
+    → size + size + 1 < length work₁
+room-one w work n len k R work₁ g last i size M h = omega (arith, M .count, R .fits, M .outside .same, R .words)
 
 -- ---- the rows of a leaf: position p is next
-pub record RowsTo (w work work₁ : List ℕ) (n len s e b x p size : ℕ) : Type 0 where
-  pub more : More work work₁ n len (p - (s + 1)) (λ (i : ℕ). placed w b x (s + suc i)) size
+pub record RowsTo (w work work₁ : List ℕ) (len s e b x last p size : ℕ) : Type 0 where
+  pub more : More work work₁ len (p - (s + 1)) (λ (i : ℕ). placed w b x (s + suc i)) last size
   pub low : s + 1 ≤ p
   pub high : p ≤ e
 
-module _ (w work : List ℕ) (n len s e b x : ℕ) (R : Room w work n len (e - (s + 1))) where
-  pub rows-start : s < e → RowsTo w work work n len s e b x (s + 1) len
+module _ (w work : List ℕ) (n len s e b x last : ℕ) (R : Room w work n len (e - (s + 1))) where
+  pub rows-start : s < e → RowsTo w work work len s e b x last (s + 1) len
   rows-start h =
       let z : 0 ≡ s + 1 - (s + 1) = omega arith in
       record {
-        more = subst (λ (k : ℕ). More work work n len k (λ (i : ℕ). placed w b x (s + suc i)) len) z
-            (more-none work n len (λ (i : ℕ). placed w b x (s + suc i)) (R .queue));
+        more = subst (λ (k : ℕ). More work work len k (λ (i : ℕ). placed w b x (s + suc i)) last len) z
+            (more-none work len (λ (i : ℕ). placed w b x (s + suc i)) last (R .queue));
         low = omega arith;
         high = omega arith;
       }
 
-  module _ (work₁ : List ℕ) (p size : ℕ) (T : RowsTo w work work₁ n len s e b x p size) where
-    pub rows-room : p < e → (size < n) × (0 + (size + size) + 1 < length work₁)
-    rows-room h = room-one w work n len (e - (s + 1)) R work₁ (λ (i : ℕ). placed w b x (s + suc i)) (p - (s + 1)) size (T .more) (omega (arith, T .low))
+  module _ (work₁ : List ℕ) (p size : ℕ) (T : RowsTo w work work₁ len s e b x last p size) where
+    pub rows-room : p < e → size + size + 1 < length work₁
+    rows-room h = room-one w work n len (e - (s + 1)) R work₁ (λ (i : ℕ). placed w b x (s + suc i)) last (p - (s + 1)) size (T .more) (omega (arith, T .low))
 
-    pub rows-step : (work₂ : List ℕ) (stored key v : ℕ) → p < e → stored ≡ dist# w p → key ≡ max b (gap x stored) → v ≡ packed key (2 * n + p)
-        → Pushed work₁ work₂ 0 size v → RowsTo w work work₂ n len s e b x (p + 1) (size + 1)
-    rows-step work₂ stored key v h es ek ev P =
+    pub rows-step : (work₂ : List ℕ) (stored key size′ : ℕ) → p < e → stored ≡ dist# w p → key ≡ max b (gap x stored)
+        → More work₁ work₂ size 1 (λ (i : ℕ). packed key (2 * n + p)) last size′ → RowsTo w work work₂ len s e b x last (p + 1) size′
+    rows-step work₂ stored key size′ h es ek P =
         let next : p - (s + 1) + 1 ≡ p + 1 - (s + 1) = omega (arith, T .low) in
         let here : p ≡ s + suc (p - (s + 1)) = omega (arith, T .low) in
         record {
-          more = subst (λ (k : ℕ). More work work₂ n len k (λ (i : ℕ). placed w b x (s + suc i)) (size + 1)) next
-              (more-one work work₁ work₂ n len (p - (s + 1)) (λ (i : ℕ). placed w b x (s + suc i)) size v (T .more) (rows-room h .0)
-              (ev ∙ ap₂ (λ (key n : ℕ). packed key (2 * n + p)) (ek ∙ ap (λ (z : ℕ). max b (gap x z)) es) (R .rows) ∙ ap (placed w b x) here) P);
+          more = subst (λ (k : ℕ). More work work₂ len k (λ (i : ℕ). placed w b x (s + suc i)) last size′) next
+              (more-one work work₁ work₂ len (p - (s + 1)) (λ (i : ℕ). placed w b x (s + suc i)) last size size′ (packed key (2 * n + p)) (T .more)
+              (ap₂ (λ (key n : ℕ). packed key (2 * n + p)) (ek ∙ ap (λ (z : ℕ). max b (gap x z)) es) (R .rows) ∙ ap (placed w b x) here) P);
           low = omega (arith, T .low);
           high = omega arith;
         }
 
-    pub rows-done : e ≤ p → More work work₁ n len (e - (s + 1)) (λ (i : ℕ). placed w b x (s + suc i)) size
+    pub rows-done : e ≤ p → More work work₁ len (e - (s + 1)) (λ (i : ℕ). placed w b x (s + suc i)) last size
     rows-done h =
         let z : p ≡ e = omega (arith, T .high) in
-        subst (λ (p : ℕ). More work work₁ n len (p - (s + 1)) (λ (i : ℕ). placed w b x (s + suc i)) size) z (T .more)
+        subst (λ (p : ℕ). More work work₁ len (p - (s + 1)) (λ (i : ℕ). placed w b x (s + suc i)) last size) z (T .more)
 
 -- position p can be read
 pub place-words : (w : List ℕ) (p : ℕ) → InShape w → p < n# w → pairAt w p + 1 < length w
@@ -91,46 +74,46 @@ pub node-words : (w : List ℕ) (k : ℕ) → InShape w → k < N# w → nodeAt 
 node-words w k S h = omega (arith, S .whole .words)
 
 -- ---- the children of an inner node: node j is next
-pub record NodesTo (w work work₁ : List ℕ) (n len a e b y j size : ℕ) : Type 0 where
-  pub more : More work work₁ n len (j - a) (λ (i : ℕ). noded w work b y (a + i)) size
+pub record NodesTo (w work work₁ : List ℕ) (len a e b y last j size : ℕ) : Type 0 where
+  pub more : More work work₁ len (j - a) (λ (i : ℕ). noded w work b y (a + i)) last size
   pub low : a ≤ j
   pub high : j ≤ e
 
-module _ (w work : List ℕ) (n len a e b y : ℕ) (R : Room w work n len (e - a)) where
-  pub nodes-start : a ≤ e → NodesTo w work work n len a e b y a len
+module _ (w work : List ℕ) (n len a e b y last : ℕ) (R : Room w work n len (e - a)) where
+  pub nodes-start : a ≤ e → NodesTo w work work len a e b y last a len
   nodes-start h =
       let z : 0 ≡ a - a = omega arith in
       record {
-        more = subst (λ (k : ℕ). More work work n len k (λ (i : ℕ). noded w work b y (a + i)) len) z
-            (more-none work n len (λ (i : ℕ). noded w work b y (a + i)) (R .queue));
+        more = subst (λ (k : ℕ). More work work len k (λ (i : ℕ). noded w work b y (a + i)) last len) z
+            (more-none work len (λ (i : ℕ). noded w work b y (a + i)) last (R .queue));
         low = omega arith;
         high = h;
       }
 
-  module _ (work₁ : List ℕ) (j size : ℕ) (T : NodesTo w work work₁ n len a e b y j size) where
-    pub nodes-room : j < e → (size < n) × (0 + (size + size) + 1 < length work₁)
-    nodes-room h = room-one w work n len (e - a) R work₁ (λ (i : ℕ). noded w work b y (a + i)) (j - a) size (T .more) (omega (arith, T .low))
+  module _ (work₁ : List ℕ) (j size : ℕ) (T : NodesTo w work work₁ len a e b y last j size) where
+    pub nodes-room : j < e → size + size + 1 < length work₁
+    nodes-room h = room-one w work n len (e - a) R work₁ (λ (i : ℕ). noded w work b y (a + i)) last (j - a) size (T .more) (omega (arith, T .low))
 
     -- x is what is kept for the node's first, r
-    pub nodes-step : (work₂ : List ℕ) (r x R′ key v : ℕ) → j < e → r ≡ first# w j → x ≡ getD work₁ (2 * n + r) 0 → R′ ≡ radius# w j → key ≡ childBound b y x R′
-        → v ≡ packed key j → Pushed work₁ work₂ 0 size v → NodesTo w work work₂ n len a e b y (j + 1) (size + 1)
-    nodes-step work₂ r x R′ key v h er ex eR ek ev P =
+    pub nodes-step : (work₂ : List ℕ) (r x R′ key size′ : ℕ) → j < e → r ≡ first# w j → x ≡ getD work₁ (2 * n + r) 0 → R′ ≡ radius# w j → key ≡ childBound b y x R′
+        → More work₁ work₂ size 1 (λ (i : ℕ). packed key j) last size′ → NodesTo w work work₂ len a e b y last (j + 1) size′
+    nodes-step work₂ r x R′ key size′ h er ex eR ek P =
         let next : j - a + 1 ≡ j + 1 - a = omega (arith, T .low) in
         let here : j ≡ a + (j - a) = omega (arith, T .low) in
         let at-x : x ≡ kept work (n# w) (first# w j) =
-        ex ∙ T .more .outside .over (2 * n + r) (omega arith) ∙ ap₂ (λ (n r : ℕ). kept work n r) (R .rows) er in
+        ex ∙ T .more .outside .over (2 * n + r) (omega (arith, R .fits, T .high)) ∙ ap₂ (λ (n r : ℕ). kept work n r) (R .rows) er in
         record {
-          more = subst (λ (k : ℕ). More work work₂ n len k (λ (i : ℕ). noded w work b y (a + i)) (size + 1)) next
-              (more-one work work₁ work₂ n len (j - a) (λ (i : ℕ). noded w work b y (a + i)) size v (T .more) (nodes-room h .0)
-              (ev ∙ ap (λ (key : ℕ). packed key j) (ek ∙ ap₂ (λ (x R′ : ℕ). childBound b y x R′) at-x eR) ∙ ap (noded w work b y) here) P);
+          more = subst (λ (k : ℕ). More work work₂ len k (λ (i : ℕ). noded w work b y (a + i)) last size′) next
+              (more-one work work₁ work₂ len (j - a) (λ (i : ℕ). noded w work b y (a + i)) last size size′ (packed key j) (T .more)
+              (ap (λ (key : ℕ). packed key j) (ek ∙ ap₂ (λ (x R′ : ℕ). childBound b y x R′) at-x eR) ∙ ap (noded w work b y) here) P);
           low = omega (arith, T .low);
           high = omega arith;
         }
 
-    pub nodes-done : e ≤ j → More work work₁ n len (e - a) (λ (i : ℕ). noded w work b y (a + i)) size
+    pub nodes-done : e ≤ j → More work work₁ len (e - a) (λ (i : ℕ). noded w work b y (a + i)) last size
     nodes-done h =
         let z : j ≡ e = omega (arith, T .high) in
-        subst (λ (j : ℕ). More work work₁ n len (j - a) (λ (i : ℕ). noded w work b y (a + i)) size) z (T .more)
+        subst (λ (j : ℕ). More work work₁ len (j - a) (λ (i : ℕ). noded w work b y (a + i)) last size) z (T .more)
 
 -- ---- the nearest centre: node j is next
 pub record LeastTo (w work : List ℕ) (a e j y : ℕ) : Type 0 where
@@ -205,24 +188,18 @@ module _ (w work : List ℕ) (n len k s c f : ℕ) (R : Room w work n len (count
   pub leaf-room : Room w work n len (s + c - (s + 1)) × ((s < s + c) × (s + c ≤ n))
   leaf-room =
       let N = R .shape .node k h in (
-        record { shape = R .shape; rows = R .rows; queue = R .queue; fits = omega (arith, R .fits); words = R .words },
+        room-less w work n len (count# w k) (s + c - (s + 1)) R (omega arith),
         (omega (arith, N .some), omega (arith, N .run, R .rows)),
       )
 
-  pub leaf-more : (work′ : List ℕ) (b r : ℕ) → More work work′ n len (s + c - (s + 1)) (λ (i : ℕ). placed w b (getD work (2 * n + f) 0) (s + suc i)) r
-      → More work work′ n len (count# w k - 1) (λ (i : ℕ). placed w b (kept work n (first# w k)) (start# w k + suc i)) r
-  leaf-more work′ b r M =
+  pub leaf-more : (work′ : List ℕ) (b last r : ℕ) → More work work′ len (s + c - (s + 1)) (λ (i : ℕ). placed w b (getD work (2 * n + f) 0) (s + suc i)) last r
+      → More work work′ len (count# w k - 1) (λ (i : ℕ). placed w b (kept work n (first# w k)) (start# w k + suc i)) last r
+  leaf-more work′ b last r M =
       let z : s + c - (s + 1) ≡ count# w k - 1 = omega arith in
-      subst (λ (s : ℕ). More work work′ n len (count# w k - 1) (λ (i : ℕ). placed w b (kept work n (first# w k)) (s + suc i)) r) es
-      (subst (λ (f : ℕ). More work work′ n len (count# w k - 1) (λ (i : ℕ). placed w b (getD work (2 * n + f) 0) (s + suc i)) r) ef
-      (subst (λ (m : ℕ). More work work′ n len m (λ (i : ℕ). placed w b (getD work (2 * n + f) 0) (s + suc i)) r) z M))
+      subst (λ (s : ℕ). More work work′ len (count# w k - 1) (λ (i : ℕ). placed w b (kept work n (first# w k)) (s + suc i)) last r) es
+      (subst (λ (f : ℕ). More work work′ len (count# w k - 1) (λ (i : ℕ). placed w b (getD work (2 * n + f) 0) (s + suc i)) last r) ef
+      (subst (λ (m : ℕ). More work work′ len m (λ (i : ℕ). placed w b (getD work (2 * n + f) 0) (s + suc i)) last r) z M))
 
 -- the number of rows, as the code holds it
 pub room-at : (w work : List ℕ) (n len k : ℕ) → n ≡ n# w → Room w work (n# w) len k → Room w work n len k
 room-at w work n len k e R = subst (λ (n : ℕ). Room w work n len k) (sym e) R
-
--- ---- whether a search goes on, as the code tests it
-pub still-by : (work : List ℕ) (b w k bound v d : ℕ) → w ≤ k → v ≡ entryAt work b → d ≡ distanceOf v → Still work b w k bound (leb bound d)
-still-by work b w k bound v d h ev ed =
-    let z : d ≡ distanceOf (entryAt work b) = ed ∙ ap distanceOf ev in
-    (λ t l. omega (arith, leb-true bound d t), λ f. le-leb bound d (omega (arith, f h)))

@@ -2,13 +2,17 @@
 use Prim.Native.Nat.{_*_, _+_, _-_, _<_, _≤_, suc, zero, ℕ}
 use Rattle.laws.proofs.Bags.{total-append, total-map, total-upto}
 use Rattle.laws.proofs.Ones.{is-self}
-use Rattle.laws.proofs.Sums.{sum-below-le, sum-below-same, sum-ones, sum-part}
+use Rattle.laws.proofs.Outside.{outside-more}
+use Rattle.laws.proofs.Sums.{sum-below-le, sum-below-zero, sum-ones, sum-part}
 use Rattle.laws.specs.Bags.{SameBag, is, total, upto}
+use Rattle.laws.specs.Outside.{Outside}
 use Rattle.laws.specs.Upto.{sumTo}
 use Rattle.measure.specs.Table.{from}
-use Rattle.nearest.proofs.Growing.{grew-as, grew-front, grew-none, ready-at}
+use Rattle.nearest.proofs.Beyond.{parts-same}
+use Rattle.nearest.proofs.Growing.{grew-as, grew-front, grew-none, last-stays, ready-at}
 use Rattle.nearest.proofs.Opening.{inner-some, kid-in, kid-some, kids-count, least-same}
-use Rattle.nearest.specs.Frontier.{More, Room, Taken, Takes, itemBy, itemOf, items, leastKept, noded, placed}
+use Rattle.nearest.specs.Answers.{greatestWord, lastOf}
+use Rattle.nearest.specs.Frontier.{More, Room, Taken, Takes, atMost, itemBy, itemOf, items, leastKept, noded, placed}
 use Rattle.nearest.specs.Items.{Item, boundOf, centreAt, childOf, measuredBy, measuresAt, nearestAt, node, openedBy, opensAt, place, placeBound, placeOf, weight}
 use Rattle.nearest.specs.Standing.{Ready, Took, kept}
 use Rattle.queue.proofs.Entries.{entries-stay, id-packed, key-packed}
@@ -65,22 +69,38 @@ module _ (w : List ℕ) (x : ℕ → ℕ) where
       go true = refl
       go false = refl
 
-  -- ---- items that wait besides: k of them, known by their entries
-  added : (work work′ : List ℕ) (n len k : ℕ) (g : ℕ → ℕ) (len′ : ℕ) (f : ℕ → Item) → More work work′ n len k g len′
-      → ((i : ℕ) → i < k → itemOf w x (g i) ≡ f i) → SameBag (items w x work′ len′) (upto f k ++ items w x work len)
-  added work work′ n len k g len′ f M e h =
-      let v : ℕ → ℕ = λ (a : ℕ). h (itemOf w x a) in
-      omega (
-        arith,
-        total-map h (itemOf w x) (entries work′ 0 len′),
-        total-map h (itemOf w x) (entries work 0 len),
-        M .bag v,
-        total-append v (upto g k) (entries work 0 len),
-        total-append h (upto f k) (items w x work len),
-        total-upto v g k,
-        total-upto h f k,
-        sum-below-same (λ (i : ℕ). h (itemOf w x (g i))) (λ (i : ℕ). h (f i)) k (λ i l. ap h (e i l)),
-      )
+  -- ---- items that wait besides, of k that are opened: these are known by their entries
+  module _ (work work′ : List ℕ) (len k : ℕ) (g : ℕ → ℕ) (last len′ : ℕ) (f : ℕ → Item) (M : More work work′ len k g last len′)
+      (e : (i : ℕ) → i < k → itemOf w x (g i) ≡ f i) where
+    same-bound : (i : ℕ) → i < k → keyOf (g i) ≡ boundOf (f i)
+    same-bound i l = sym (item-bound (g i)) ∙ ap boundOf (e i l)
+
+    added : SameBag (items w x work′ len′) (atMost boundOf last (upto f k) ++ items w x work len)
+    added h =
+        let v : ℕ → ℕ = λ (a : ℕ). h (itemOf w x a) in
+        omega (
+          arith,
+          total-map h (itemOf w x) (entries work′ 0 len′),
+          total-map h (itemOf w x) (entries work 0 len),
+          M .bag v,
+          total-append v (atMost keyOf last (upto g k)) (entries work 0 len),
+          total-append h (atMost boundOf last (upto f k)) (items w x work len),
+          parts-same keyOf v boundOf h last g f k (λ i l. (same-bound i l, ap h (e i l))),
+        )
+
+    small : total (λ (j : Item). boundOf j - greatestWord) (upto f k) ≡ 0
+    small =
+        total-upto (λ (j : Item). boundOf j - greatestWord) f k
+        ∙ sum-below-zero (λ (i : ℕ). boundOf (f i) - greatestWord) k (λ i l. omega (arith, same-bound i l, M .keys i l))
+
+    -- as Taken says it: where the last distance stays, and these are what an item opens
+    opened : (last′ : ℕ) (l : List Item) → last ≡ last′ → upto f k ≡ l
+        → (total (λ (j : Item). boundOf j - greatestWord) l ≡ 0) × SameBag (items w x work′ len′) (atMost boundOf last′ l ++ items w x work len)
+    opened last′ l el ef = (
+      subst (λ (l : List Item). total (λ (j : Item). boundOf j - greatestWord) l ≡ 0) ef small,
+      subst (λ (l : List Item). SameBag (items w x work′ len′) (atMost boundOf last′ l ++ items w x work len)) ef
+          (subst (λ (last : ℕ). SameBag (items w x work′ len′) (atMost boundOf last (upto f k) ++ items w x work len)) el added),
+    )
 
 -- ---- what taking asks, and gives
 module _ (t : List ℕ) (c : ℕ) (q w : List ℕ) (wanted : ℕ) (how work : List ℕ) (len held : ℕ) where
@@ -106,8 +126,19 @@ module _ (t : List ℕ) (c : ℕ) (q w : List ℕ) (wanted : ℕ) (how work : Li
       record {
         grew = K .grew;
         queue = f .0;
+        small = refl;
         queued = λ g. ap (λ (es : List ℕ). total g (map (itemOf w x) es)) (f .1);
       }
+
+  -- queueing changes the frontier's words alone
+  front-alone : (work₁ work₂ : List ℕ) (m : ℕ) → len + m ≤ n# w → Outside work₁ work₂ 0 (len + m + (len + m)) → Outside work₁ work₂ 0 (2 * n# w)
+  front-alone work₁ work₂ m h = outside-more work₁ work₂ 0 (2 * n# w) 0 (len + m + (len + m)) (omega arith) (omega arith)
+
+  -- so the last distance stays
+  last-then : (work₁ work₂ : List ℕ) (held′ last n : ℕ) → n ≡ n# w → last ≡ lastOf work₁ (3 * n) wanted held′ → Outside work₁ work₂ 0 (2 * n# w)
+      → last ≡ lastOf work₂ (3 * n# w) wanted held′
+  last-then work₁ work₂ held′ last n en el O =
+      el ∙ ap (λ (n : ℕ). lastOf work₁ (3 * n) wanted held′) en ∙ sym (last-stays (n# w) work₁ work₂ (O .over) (O .same) wanted held′)
 
   module _ (k b : ℕ) (T : Takes t c q w wanted how work len held (node k b (x (first# w k)))) where
     abbrev u : ℕ
@@ -130,25 +161,28 @@ module _ (t : List ℕ) (c : ℕ) (q w : List ℕ) (wanted : ℕ) (how work : Li
     id-small i h = omega (arith, S .whole .rows)
 
     -- A LEAF IS OPENED
-    pub taken-leaf : child# w k ≡ 0 → (work′ : List ℕ) (n len′ : ℕ) → n ≡ n# w
-        → More work work′ n len (count# w k - 1) (λ (i : ℕ). placed w b (kept work n (first# w k)) (start# w k + suc i)) len′
+    pub taken-leaf : child# w k ≡ 0 → (work′ : List ℕ) (n last len′ : ℕ) → n ≡ n# w → last ≡ lastOf work (3 * n) wanted held
+        → More work work′ len (count# w k - 1) (λ (i : ℕ). placed w b (kept work n (first# w k)) (start# w k + suc i)) last len′
         → Taken w x wanted how how work work′ len len′ held held (node k b (x (first# w k)))
-    taken-leaf z work′ n len′ en M₀ =
+    taken-leaf z work′ n last len′ en el M₀ =
         let g : ℕ → ℕ = λ (i : ℕ). placed w b (kept work (n# w) (first# w k)) (start# w k + suc i) in
-        let M : More work work′ (n# w) len (count# w k - 1) g len′ =
-        subst (λ (n : ℕ). More work work′ n len (count# w k - 1) (λ (i : ℕ). placed w b (kept work n (first# w k)) (start# w k + suc i)) len′) en M₀ in
+        let M : More work work′ len (count# w k - 1) g last len′ =
+        subst (λ (n : ℕ). More work work′ len (count# w k - 1) (λ (i : ℕ). placed w b (kept work n (first# w k)) (start# w k + suc i)) last len′) en M₀ in
+        let O : Outside work work′ 0 (2 * n# w) = front-alone work work′ (count# w k - 1) (omega (arith, T .room .fits)) (M .outside) in
         let near : kept work (n# w) (first# w k) ≡ u = T .ready .stands .far (first# w k) first-row first-seen .0 in
         let this : (i : ℕ) → i < count# w k - 1 → itemOf w x (g i) ≡ placeOf w k b u i =
         λ i l. item-place w x (placeBound w b (kept work (n# w) (first# w k)) (start# w k + suc i)) (start# w k + suc i)
         (id-small (2 * n# w + (start# w k + suc i)) (omega (arith, S .node k node-there .run)))
         ∙ ap (λ (v : ℕ). place (start# w k + suc i) (placeBound w b v (start# w k + suc i))) near in
         let leafy : upto (placeOf w k b u) (count# w k - 1) ≡ opensAt w x (child# w k) k b u = ap (λ (q : ℕ). opensAt w x q k b u) (sym z) in
+        let o = opened w x work work′ len (count# w k - 1) g last len′ (placeOf w k b u) M this (lastOf work′ (3 * n# w) wanted held) (openedBy w x (node k b u))
+        (last-then work work′ held last n en el O) leafy in
         record {
           grew = grew-front x (n# w) wanted how how work work work′ held held (measuredBy w (node k b u))
-              (grew-none x (n# w) wanted how work held (measuredBy w (node k b u)) (λ r. ap (λ (q : ℕ). measuresAt w q r) z) (T .ready .stands)) (M .outside);
+              (grew-none x (n# w) wanted how work held (measuredBy w (node k b u)) (λ r. ap (λ (q : ℕ). measuresAt w q r) z) (T .ready .stands)) O;
           queue = M .queue;
-          queued = subst (λ (l : List Item). SameBag (items w x work′ len′) (l ++ items w x work len)) leafy
-              (added w x work work′ (n# w) len (count# w k - 1) g len′ (placeOf w k b u) M this);
+          small = o .0;
+          queued = o .1;
         }
 
     -- AN INNER NODE IS OPENED
@@ -194,7 +228,7 @@ module _ (t : List ℕ) (c : ℕ) (q w : List ℕ) (wanted : ℕ) (how work : Li
       centre-is zero = ap x (sym same-first)
       centre-is (suc i) = refl
 
-      module _ (how′ work₁ work₂ : List ℕ) (n e y len′ held′ : ℕ) (en : n ≡ n# w) (ee : e ≡ a + m# w)
+      module _ (how′ work₁ work₂ : List ℕ) (n e y last len′ held′ : ℕ) (en : n ≡ n# w) (ee : e ≡ a + m# w)
           (K₀ : Took x n wanted how how′ work work₁ held held′ (λ (s : ℕ). sumTo (λ (i : ℕ). is s (first# w (a + suc i))) (e - (a + 1)))) where
         fewer : e - (a + 1) ≡ m# w - 1
         fewer = omega arith
@@ -223,18 +257,18 @@ module _ (t : List ℕ) (c : ℕ) (q w : List ℕ) (wanted : ℕ) (how work : Li
         pub inner-words : 6 * n ≤ length work₁
         inner-words = omega (arith, T .room .words, K .grew .since .words)
 
-        pub inner-room : Room w work₁ n len (e - a)
+        pub inner-room : Room w work₁ n len (m# w)
         inner-room =
             let f = frontier-stays work₁ (omega (arith, T .room .fits)) (K .front) (K .grew .since .words) (T .room .queue) in
             record { shape = S; rows = en; queue = f .0; fits = omega (arith, T .room .fits, kids-fit); words = inner-words }
 
-        pub taken-inner : y ≡ leastKept w work₁ a (e - (a + 1)) → More work₁ work₂ n len (e - a) (λ (i : ℕ). noded w work₁ b y (a + i)) len′
+        pub taken-inner : (kids : ℕ) → kids ≡ m# w → y ≡ leastKept w work₁ a (e - (a + 1)) → last ≡ lastOf work₁ (3 * n) wanted held′
+            → More work₁ work₂ len kids (λ (i : ℕ). noded w work₁ b y (a + i)) last len′
             → Taken w x wanted how how′ work work₂ len len′ held held′ (node k b (x (first# w k)))
-        taken-inner ey M₀ =
-            let all : e - a ≡ m# w = omega arith in
+        taken-inner kids all ey el M₀ =
             let g : ℕ → ℕ = λ (i : ℕ). noded w work₁ b y (a + i) in
-            let M : More work₁ work₂ (n# w) len (m# w) g len′ =
-            subst (λ (k : ℕ). More work₁ work₂ (n# w) len k g len′) all (subst (λ (n : ℕ). More work₁ work₂ n len (e - a) g len′) en M₀) in
+            let M : More work₁ work₂ len (m# w) g last len′ = subst (λ (k : ℕ). More work₁ work₂ len k g last len′) all M₀ in
+            let O : Outside work₁ work₂ 0 (2 * n# w) = front-alone work₁ work₂ (m# w) (omega (arith, T .room .fits, kids-fit)) (M .outside) in
             let near : y ≡ nearestAt w x a u =
             ey ∙ ap (leastKept w work₁ a) fewer
             ∙ least-same (λ (i : ℕ). kept work₁ (n# w) (first# w (a + i))) (centreAt w x a u) (m# w - 1)
@@ -247,14 +281,15 @@ module _ (t : List ℕ) (c : ℕ) (q w : List ℕ) (wanted : ℕ) (how work : Li
             ∙ ap₂ (λ (v z : ℕ). node j (childBound b z v (radius# w j)) (x (first# w j))) (centre-kept i l ∙ sym (centre-is i)) near
             ∙ ap (λ (v : ℕ). node j (childBound b (nearestAt w x a u) (centreAt w x a u i) (radius# w j)) v) (sym (centre-is i)) in
             let f = frontier-stays work₁ (omega (arith, T .room .fits)) (K .front) (K .grew .since .words) (T .room .queue) in
+            let o = opened w x work₁ work₂ len (m# w) g last len′ (childOf w x a b u) M this (lastOf work₂ (3 * n# w) wanted held′) (openedBy w x (node k b u))
+            (last-then work₁ work₂ held′ last n en el O) opens-are in
             record {
               grew = grew-front x (n# w) wanted how how′ work work₁ work₂ held held′ (measuredBy w (node k b u))
                   (grew-as x (n# w) wanted how how′ work work₁ held held′ (λ (s : ℕ). sumTo (λ (i : ℕ). is s (first# w (a + suc i))) (m# w - 1)) (measuredBy w (node k b u)) measures-are (K .grew))
-                  (M .outside);
+                  O;
               queue = M .queue;
-              queued = subst (λ (l : List Item). SameBag (items w x work₂ len′) (l ++ items w x work len)) opens-are
-                  (subst (λ (es : List ℕ). SameBag (items w x work₂ len′) (upto (childOf w x a b u) (m# w) ++ map (itemOf w x) es)) (f .1)
-                  (added w x work₁ work₂ (n# w) len (m# w) g len′ (childOf w x a b u) M this));
+              small = o .0;
+              queued = subst (λ (es : List ℕ). SameBag (items w x work₂ len′) (atMost boundOf (lastOf work₂ (3 * n# w) wanted held′) (openedBy w x (node k b u)) ++ map (itemOf w x) es)) (f .1) (o .1);
             }
 
 -- ---- the same, as the code holds the numbers
@@ -275,21 +310,21 @@ module _ (t : List ℕ) (c : ℕ) (q w : List ℕ) (wanted : ℕ) (how work : Li
 
   pub inner-then : (how′ work₁ : List ℕ) (n a m held′ : ℕ) → n ≡ n# w → a ≡ child# w k → m ≡ m# w
       → Took (from t c q) n wanted how how′ work work₁ held held′ (λ (s : ℕ). sumTo (λ (i : ℕ). is s (first# w (a + suc i))) (a + m - (a + 1)))
-      → Room w work₁ n len (a + m - a)
+      → Room w work₁ n len (m# w)
   inner-then how′ work₁ n a m held′ en ea em =
       subst (λ (a : ℕ). Took (from t c q) n wanted how how′ work work₁ held held′ (λ (s : ℕ). sumTo (λ (i : ℕ). is s (first# w (a + suc i))) (a + m - (a + 1)))
-      → Room w work₁ n len (a + m - a)) (sym ea)
-      (λ K. inner-room t c q w wanted how work len held k b T some how′ work₁ work₁ n (child# w k + m) 0 0 held′ en (ap (λ (z : ℕ). child# w k + z) em) K)
+      → Room w work₁ n len (m# w)) (sym ea)
+      (λ K. inner-room t c q w wanted how work len held k b T some how′ work₁ work₁ n (child# w k + m) 0 0 0 held′ en (ap (λ (z : ℕ). child# w k + z) em) K)
 
-  pub inner-done : (how′ work₁ work₂ : List ℕ) (n a m y len′ held′ : ℕ) → n ≡ n# w → a ≡ child# w k → m ≡ m# w
+  pub inner-done : (how′ work₁ work₂ : List ℕ) (n a m kids y last len′ held′ : ℕ) → n ≡ n# w → a ≡ child# w k → m ≡ m# w → kids ≡ m# w → last ≡ lastOf work₁ (3 * n) wanted held′
       → Took (from t c q) n wanted how how′ work work₁ held held′ (λ (s : ℕ). sumTo (λ (i : ℕ). is s (first# w (a + suc i))) (a + m - (a + 1)))
-      → y ≡ leastKept w work₁ a (a + m - (a + 1)) → More work₁ work₂ n len (a + m - a) (λ (i : ℕ). noded w work₁ b y (a + i)) len′
+      → y ≡ leastKept w work₁ a (a + m - (a + 1)) → More work₁ work₂ len kids (λ (i : ℕ). noded w work₁ b y (a + i)) last len′
       → Taken w (from t c q) wanted how how′ work work₂ len len′ held held′ (node k b (from t c q (first# w k)))
-  inner-done how′ work₁ work₂ n a m y len′ held′ en ea em =
+  inner-done how′ work₁ work₂ n a m kids y last len′ held′ en ea em all el =
       subst (λ (a : ℕ). Took (from t c q) n wanted how how′ work work₁ held held′ (λ (s : ℕ). sumTo (λ (i : ℕ). is s (first# w (a + suc i))) (a + m - (a + 1)))
-      → y ≡ leastKept w work₁ a (a + m - (a + 1)) → More work₁ work₂ n len (a + m - a) (λ (i : ℕ). noded w work₁ b y (a + i)) len′
+      → y ≡ leastKept w work₁ a (a + m - (a + 1)) → More work₁ work₂ len kids (λ (i : ℕ). noded w work₁ b y (a + i)) last len′
       → Taken w (from t c q) wanted how how′ work work₂ len len′ held held′ (node k b (from t c q (first# w k)))) (sym ea)
-      (λ K ey M. taken-inner t c q w wanted how work len held k b T some how′ work₁ work₂ n (child# w k + m) y len′ held′ en (ap (λ (z : ℕ). child# w k + z) em) K ey M)
+      (λ K ey M. taken-inner t c q w wanted how work len held k b T some how′ work₁ work₂ n (child# w k + m) y last len′ held′ en (ap (λ (z : ℕ). child# w k + z) em) K kids all ey el M)
 
 module _ (t : List ℕ) (c : ℕ) (q w : List ℕ) (wanted : ℕ) (how work : List ℕ) (len held e id n : ℕ) (en : n ≡ n# w) (ei : id ≡ idOf e)
     (T : Takes t c q w wanted how work len held (itemOf w (from t c q) e)) where

@@ -1,19 +1,20 @@
 -- The frontier in the workspace, as a queue of items, and what taking one does to it. Assumes nothing.
 use Prim.Native.Nat.{_*_, _+_, _-_, _<_, _≤_, suc, ℕ}
 use Rattle.laws.specs.Bags.{SameBag, total, upto}
+use Rattle.laws.specs.Lists.{keep}
 use Rattle.laws.specs.Outside.{Outside}
 use Rattle.measure.specs.Table.{from}
-use Rattle.nearest.specs.Answers.{Held}
+use Rattle.nearest.specs.Answers.{Held, greatestWord, lastOf}
 use Rattle.nearest.specs.Fits.{Fits}
-use Rattle.nearest.specs.Items.{Item, leastTo, measuredBy, node, openedBy, place, placeBound, weight}
-use Rattle.nearest.specs.Run.{Ran, Run}
+use Rattle.nearest.specs.Items.{Item, boundOf, leastTo, measuredBy, node, openedBy, place, placeBound, weight}
+use Rattle.nearest.specs.Run.{Ran, Running}
 use Rattle.nearest.specs.Standing.{Grew, Ready, Since, Stands, kept}
 use Rattle.queue.specs.Entry.{idOf, keyOf, packed}
 use Rattle.queue.specs.Queue.{Queue, entries}
 use Rattle.tree.specs.Homes.{childBound}
 use Rattle.words.specs.InShape.{InShape}
 use Rattle.words.specs.Words.{N#, at, first#, n#, radius#}
-use lib.Dec.{ltb}
+use lib.Dec.{leb, ltb}
 use lib.ListN.{length}
 use mathlib.Core.Bool.{cond}
 use mathlib.Core.List.{List, _++_, map}
@@ -38,12 +39,18 @@ placed w b x p = packed (placeBound w b x p) (2 * n# w + p)
 abbrev pub noded : List ℕ → List ℕ → ℕ → ℕ → ℕ → ℕ
 noded w work b y j = packed (childBound b y (kept work (n# w) (first# w j)) (radius# w j)) j
 
--- k entries g 0, g 1, .. wait besides, and the words from 2n on are as they were
-pub record More (work work′ : List ℕ) (n len k : ℕ) (g : ℕ → ℕ) (len′ : ℕ) : Type 0 where
+-- of things with bounds, those whose bound is at most the last distance
+abbrev pub atMost : {A : Type 0} → (A → ℕ) → ℕ → List A → List A
+atMost bound last xs = keep (λ a. leb (bound a) last) xs
+
+-- of k entries g 0, g 1, .. whose keys are numbers of 32 bits, those at most the last distance wait besides; the words behind the room for all are
+-- as they were
+pub record More (work work′ : List ℕ) (len k : ℕ) (g : ℕ → ℕ) (last len′ : ℕ) : Type 0 where
   pub queue : Queue work′ 0 len′
-  pub count : len′ ≡ len + k
-  pub bag : SameBag (entries work′ 0 len′) (upto g k ++ entries work 0 len)
-  pub outside : Outside work work′ 0 (2 * n)
+  pub count : len′ ≤ len + k
+  pub keys : (i : ℕ) → i < k → keyOf (g i) ≤ greatestWord
+  pub bag : SameBag (entries work′ 0 len′) (atMost keyOf last (upto g k) ++ entries work 0 len)
+  pub outside : Outside work work′ 0 (len + k + (len + k))
 
 -- there is room to queue k more, on an index in shape over n rows
 pub record Room (w work : List ℕ) (n len k : ℕ) : Type 0 where
@@ -69,11 +76,13 @@ pub record Takes (t : List ℕ) (c : ℕ) (q w : List ℕ) (wanted : ℕ) (how w
   pub room : Room w work (n# w) len (weight w i)
   pub sound : amiss w how i ≡ 0
 
--- it is taken: what it measures is measured, and what it opens waits with the others
+-- it is taken: what it measures is measured, and what it opens, all under bounds of 32 bits, waits with the others, but for what lies beyond the last
+-- distance by then
 pub record Taken (w : List ℕ) (x : ℕ → ℕ) (wanted : ℕ) (how how′ work work′ : List ℕ) (len len′ held held′ : ℕ) (i : Item) : Type 0 where
   pub grew : Grew x (n# w) wanted how how′ work work′ held held′ (measuredBy w i)
   pub queue : Queue work′ 0 len′
-  pub queued : SameBag (items w x work′ len′) (openedBy w x i ++ items w x work len)
+  pub small : total (λ (j : Item). boundOf j - greatestWord) (openedBy w x i) ≡ 0
+  pub queued : SameBag (items w x work′ len′) (atMost boundOf (lastOf work′ (3 * n# w) wanted held′) (openedBy w x i) ++ items w x work len)
 
 -- ---- the whole search
 -- Between two rounds. The last promise is for lent rows that are, where it counts, those of a table that the index fits.
@@ -83,7 +92,7 @@ pub record State (t : List ℕ) (c : ℕ) (q w : List ℕ) (wanted : ℕ) (how w
   pub sound : total (amiss w how) (items w (from t c q) work len) ≡ 0
   pub room : total (weight w) (items w (from t c q) work len) ≤ n# w
   pub run : (x′ : ℕ → ℕ) → Fits w wanted (from t c q) x′
-      → Held (from t c q) (at how) (n# w) work (3 * n# w) wanted held × Run w wanted (from t c q) (items w (from t c q) work len) (at how)
+      → Held (from t c q) (at how) (n# w) work (3 * n# w) wanted held × Running w wanted (from t c q) (items w (from t c q) work len) (at how)
 
 -- Before it begins: an index in shape that is not empty, and no row marked.
 pub record Blank (t : List ℕ) (c : ℕ) (q w : List ℕ) (wanted : ℕ) (how work : List ℕ) : Type 0 where

@@ -7,7 +7,7 @@ use Rattle.nearest.specs.Items.{Item, rootOf, spaceOf}
 use Rattle.tree.specs.Nearest.{candidates, sort}
 use Rattle.words.specs.Words.{first#, n#}
 use lib.Dec.{ltb}
-use mathlib.Core.List.{List, [], _∷_}
+use mathlib.Core.List.{List, [], _++_, _∷_}
 use mathlib.Core.Path.{_≡_}
 
 -- The search with the rows at x, that began with the root and its first, has come to where these items wait and the rows of m are measured.
@@ -15,6 +15,12 @@ pub record Run (w : List ℕ) (wanted : ℕ) (x : ℕ → ℕ) (waiting : List I
   pub start : ℕ → ℕ
   pub begun : (r : ℕ) → r < n# w → start r ≡ is r (first# w 0)
   pub reached : Reach (spaceOf w) wanted x (rootOf w x ∷ []) start waiting m
+
+-- It has come to where these items wait, but for those that are left out: w measured rows are closer than the bound of each.
+pub record Running (w : List ℕ) (wanted : ℕ) (x : ℕ → ℕ) (waiting : List Item) (m : ℕ → ℕ) : Type 0 where
+  pub left : List Item
+  pub run : Run w wanted x (waiting ++ left) m
+  pub beyond : Ended (spaceOf w) wanted x left m
 
 -- It has come to its end.
 pub record Ran (w : List ℕ) (wanted : ℕ) (x m : ℕ → ℕ) : Type 0 where

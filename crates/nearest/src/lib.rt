@@ -7,13 +7,12 @@ ghost use Rattle.nearest.specs.Calls.{Answered, Found, Lent};
 ghost use Rattle.tree.specs.Calls.{saidNearest};
 ghost use lib.ListN.{length};
 ghost use mathlib.Core.Path.{_≡_};
-use crate::giving::clear_bytes;
-use crate::giving::clear_words;
 use crate::giving::give;
-use crate::giving::tally;
 use crate::searching::search;
+use buffers::clear_bytes;
+use buffers::clear_words;
+use tree::how::tally;
 
-mod bounds;
 mod giving;
 mod held;
 mod searching;
@@ -133,11 +132,11 @@ fn answer(
         how,
         work,
     );
-    let measured = tally(how, n);
+    let counts = tally(how, n);
     Given {
         number: 0,
         given: given,
-        measured: measured,
+        measured: counts.measured,
     }
 }
 

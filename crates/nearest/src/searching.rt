@@ -1,6 +1,6 @@
 // The search: best first, until what waits is farther than the last answer.
 ghost use Rattle.nearest.specs.Frontier.{Blank, Searched};
-use crate::held::due;
+use crate::held::last;
 use crate::taking::measure_row;
 use crate::taking::take_item;
 use queue::key_of;
@@ -29,7 +29,7 @@ pub fn search(
     let mut len = 1;
     while 0 < len {
         let e = pop(work, 0, len);
-        if !due(work, 3 * n, w, held, key_of(e)) {
+        if last(work, 3 * n, w, held) < key_of(e) {
             return held;
         }
         let sizes = take_item(table, c, query, index, n, w, how, work, len - 1, held, e);

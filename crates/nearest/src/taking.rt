@@ -10,6 +10,7 @@ ghost use Rattle.words.specs.InShape.{InShape};
 ghost use Rattle.words.specs.Words.{N#, child#, first#, n#};
 ghost use mathlib.Core.Path.{_≡_};
 use crate::held::enter;
+use crate::held::last;
 use crate::held::turn;
 use crate::waiting::nearest_centre;
 use crate::waiting::open_leaf;
@@ -101,7 +102,8 @@ fn open_inner(
     let e = a + centres(index);
     let now_held = measure_centres(table, c, query, index, n, w, how, work, held, a, e);
     let y = nearest_centre(index, work, n, a, e);
-    let now_len = queue_children(index, work, n, len, a, e, b, y);
+    let far = last(work, 3 * n, w, now_held);
+    let now_len = queue_children(index, work, n, len, a, e, b, y, far);
     Sizes {
         len: now_len,
         held: now_held,
@@ -128,7 +130,8 @@ fn open_node(
     ensures { λ s. ⌜ Taken (now (index .entry)) (from (now (table .entry)) c (now (query .entry))) w (now (how .entry)) (now (how .exit)) (now (work .entry)) (now (work .exit)) len (s .len) held (s .held) (node k b (from (now (table .entry)) c (now (query .entry)) (first# (now (index .entry)) k))) ⌝ }
 {
     if node_child(index, k) == 0 {
-        let now_len = open_leaf(index, work, n, len, k, b);
+        let far = last(work, 3 * n, w, held);
+        let now_len = open_leaf(index, work, n, len, k, b, far);
         return Sizes {
             len: now_len,
             held: held,

@@ -72,7 +72,7 @@ returns-2 c =
     let least = c .before .before .before .before .before .before .before .before .before .before .before .before .before .before .before .least in
     let find = c .before .before .before .before .before .before .before .before .before .before .find in
     let tally = c .tally in
-    done-is _ _ _ _ _ (args .rows .now) (args .distances .now) (args .how .now) (args .work .now) pre (refusal .ensures) _ _ _ _ _ _ _ _ (if1 .left) (rows .ensures .0) (least .ensures) (find .ensures) (tally .ensures)
+    done-is _ _ _ _ _ (args .rows .now) (args .distances .now) (args .how .now) (args .work .now) pre (refusal .ensures) _ _ _ _ _ _ _ _ (if1 .left) (rows .ensures .0) (least .ensures) (find .ensures) (tally .ensures .1)
 
 pub answer-spec : {M : Type 1} → statement M
 answer-spec =

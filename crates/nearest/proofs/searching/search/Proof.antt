@@ -3,7 +3,8 @@
 use Rattle.laws.specs.Bags.{total}
 use Rattle.measure.specs.Table.{from}
 use Rattle.nearest.proofs.Growing.{ready-at, since-none, since-then}
-use Rattle.nearest.proofs.Progress.{begins-since, begins-state, cost, ends, round, round-less, round-since, still-at, stops, takes}
+use Rattle.nearest.proofs.Progress.{begins-since, begins-state, ends, round, round-less, round-since, stops, takes}
+use Rattle.nearest.proofs.Weights.{cost}
 use Rattle.nearest.proofs.searching.search.Statement.{statement}
 use Rattle.nearest.proofs.searching.search.Tie as tie
 use Rattle.nearest.specs.Frontier.{State, items}
@@ -11,7 +12,6 @@ use Rattle.nearest.specs.Standing.{Since}
 use Rattle.queue.proofs.Queued.{empty-queue}
 use Rattle.words.specs.Words.{n#}
 use borrow.Author.Needs.{needs}
-use borrow.Author.Tests.{not-false, not-true}
 use mathlib.Core.Path.{_∙_}
 use native.Mathlib.Omega.{arith}
 
@@ -56,22 +56,22 @@ loop-holds c =
 pop-requires : tie.Need-pop-requires Inv-loop μ-loop
 pop-requires c κs = (c .before .before .loop .inv .0 .queue, c .before .loop-test .taken)
 
-mul-due : tie.Need-mul-due Inv-loop μ-loop
-mul-due c =
+mul-last : tie.Need-mul-last Inv-loop μ-loop
+mul-last c =
     let pre = c .before .before .before .before .before .before .before .before .before .before .before .before .before .before .before .before .before .before .before .before .before .before .before .before .before .pre in
     let rows = c .before .before .before .before .before .before .before .before .before .before .before .before .before .before .before .before .before .before .before .rows in
     omega (arith, rows .ensures .0, pre .shape .whole .rows)
 
+last-requires : tie.Need-last-requires Inv-loop μ-loop
+last-requires c κs =
+    let pre = c .before .before .before .before .before .before .before .before .before .before .before .before .before .before .before .before .before .before .before .before .before .before .before .before .before .pre in
+    let rows = c .before .before .before .before .before .before .before .before .before .before .before .before .before .before .before .before .before .before .before .rows in
+    let loop = c .before .before .before .before .before .before .loop in
+    let pop = c .before .before .before .pop in
+    omega (arith, pop .ensures .outside .same, loop .inv .0 .ready .stands .room, rows .ensures .0, pre .filled)
+
 key-of-requires : tie.Need-key-of-requires Inv-loop μ-loop
 key-of-requires c κs = search needs
-
-due-requires : tie.Need-due-requires Inv-loop μ-loop
-due-requires c κs =
-    let pre = c .before .before .before .before .before .before .before .before .before .before .before .before .before .before .before .before .before .before .before .before .before .before .before .before .before .before .pre in
-    let rows = c .before .before .before .before .before .before .before .before .before .before .before .before .before .before .before .before .before .before .before .before .rows in
-    let loop = c .before .before .before .before .before .before .before .loop in
-    let pop = c .before .before .before .before .pop in
-    omega (arith, pop .ensures .outside .same, loop .inv .0 .ready .stands .room, rows .ensures .0, pre .filled)
 
 same-length : tie.Need-same-length Inv-loop μ-loop
 same-length c =
@@ -95,17 +95,15 @@ same-length-2 c =
 returns : tie.Need-returns Inv-loop μ-loop
 returns c =
     let pre = c .before .before .before .before .before .before .before .before .before .before .before .before .before .before .before .before .before .before .before .before .before .before .before .before .before .before .before .before .pre in
-    let args = c .before .before .before .before .before .before .before .before .before .before .before .before .before .before .before .before .before .before .before .before .before .before .before .before .before .before .before .before .args in
     let rows = c .before .before .before .before .before .before .before .before .before .before .before .before .before .before .before .before .before .before .before .before .before .before .rows in
     let measure-row = c .before .before .before .before .before .before .before .before .before .before .before .before .before .before .before .before .before .before .measure-row in
     let push = c .before .before .before .before .before .before .before .before .before .before .before .before .push in
     let loop = c .before .before .before .before .before .before .before .before .before .loop in
     let loop-test = c .before .before .before .before .before .before .before .before .loop-test in
     let pop = c .before .before .before .before .before .before .pop in
-    let key-of = c .before .before .key-of in
-    let due = c .before .due in
-    let if1 = c .if1 in
-    stops _ _ _ _ _ (pre .shape) (pre .filled) _ _ _ _ (loop .inv .0) _ _ (pop .ensures) (loop-test .taken) _ _ (since-then _ _ _ _ _ _ _ (begins-since _ _ _ _ _ (pre .shape) (pre .filled) _ _ _ _ _ _ _ _ (rows .ensures .0) (measure-row .ensures) (push .ensures)) (loop .inv .1)) _ (not-true _ (if1 .taken)) (still-at (args .index .now) _ _ _ _ _ _ _ (rows .ensures .0) (key-of .ensures) (due .ensures))
+    let last = c .before .before .last in
+    let key-of = c .before .key-of in
+    stops _ _ _ _ _ (pre .shape) (pre .filled) _ _ _ _ (loop .inv .0) _ _ (pop .ensures) (loop-test .taken) _ _ _ (rows .ensures .0) (last .ensures) (key-of .ensures) (omega arith) (omega arith) _ _ (since-then _ _ _ _ _ _ _ (begins-since _ _ _ _ _ (pre .shape) (pre .filled) _ _ _ _ _ _ _ _ (rows .ensures .0) (measure-row .ensures) (push .ensures)) (loop .inv .1))
 
 sub-take-item : tie.Need-sub-take-item Inv-loop μ-loop
 sub-take-item c = omega (arith, c .before .before .before .before .before .before .before .before .before .before .loop-test .taken)
@@ -131,16 +129,14 @@ loop-less c =
 loop-again : tie.Need-loop-again Inv-loop μ-loop
 loop-again c =
     let pre = c .before .before .before .before .before .before .before .before .before .before .before .before .before .before .before .before .before .before .before .before .before .before .before .before .before .before .before .before .before .before .before .before .before .before .before .pre in
-    let args = c .before .before .before .before .before .before .before .before .before .before .before .before .before .before .before .before .before .before .before .before .before .before .before .before .before .before .before .before .before .before .before .before .before .before .before .args in
     let rows = c .before .before .before .before .before .before .before .before .before .before .before .before .before .before .before .before .before .before .before .before .before .before .before .before .before .before .before .before .before .rows in
     let loop = c .before .before .before .before .before .before .before .before .before .before .before .before .before .before .before .before .loop in
     let loop-test = c .before .before .before .before .before .before .before .before .before .before .before .before .before .before .before .loop-test in
     let pop = c .before .before .before .before .before .before .before .before .before .before .before .before .before .pop in
-    let key-of = c .before .before .before .before .before .before .before .before .before .key-of in
-    let due = c .before .before .before .before .before .before .before .before .due in
-    let if1 = c .before .before .before .before .before .before .before .if1 in
+    let last = c .before .before .before .before .before .before .before .before .before .last in
+    let key-of = c .before .before .before .before .before .before .before .before .key-of in
     let take-item = c .before .before .before .before .take-item in
-    (round _ _ _ _ _ (pre .shape) (pre .filled) _ _ _ _ (loop .inv .0) _ _ (pop .ensures) (loop-test .taken) _ _ _ _ (take-item .ensures) _ (not-false _ (if1 .left)) (still-at (args .index .now) _ _ _ _ _ _ _ (rows .ensures .0) (key-of .ensures) (due .ensures)), round-since _ _ _ _ _ (pre .shape) (pre .filled) _ _ _ _ (loop .inv .0) _ _ (pop .ensures) (loop-test .taken) _ _ _ _ (take-item .ensures) _ _ (loop .inv .1))
+    (round _ _ _ _ _ (pre .shape) (pre .filled) _ _ _ _ (loop .inv .0) _ _ (pop .ensures) (loop-test .taken) _ _ _ _ (take-item .ensures) _ _ _ (rows .ensures .0) (last .ensures) (key-of .ensures) (omega arith) (omega arith), round-since _ _ _ _ _ (pre .shape) (pre .filled) _ _ _ _ (loop .inv .0) _ _ (pop .ensures) (loop-test .taken) _ _ _ _ (take-item .ensures) _ _ (loop .inv .1))
 
 same-length-3 : tie.Need-same-length-3 Inv-loop μ-loop
 same-length-3 c =
@@ -181,9 +177,9 @@ search-spec =
     push-requires
     loop-holds
     pop-requires
-    mul-due
+    mul-last
+    last-requires
     key-of-requires
-    due-requires
     same-length
     same-length-2
     returns

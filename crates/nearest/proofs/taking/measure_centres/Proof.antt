@@ -20,7 +20,7 @@ add-j c = search needs
 loop-holds : tie.Need-loop-holds Inv-loop μ-loop
 loop-holds c =
     let pre = c .before .before .before .before .before .pre in
-    centres-start _ _ _ _ _ _ _ _ _ (pre .1 .2) (pre .0 .stands)
+    centres-start _ _ _ _ _ _ _ _ _ _ (omega arith) (pre .1 .2) (pre .0 .stands)
 
 node-first-requires : tie.Need-node-first-requires Inv-loop μ-loop
 node-first-requires c κs =

@@ -63,7 +63,7 @@ returns c =
     let node-start = c .before .before .before .before .before .node-start in
     let node-count = c .before .before .before .node-count in
     let queue-rows = c .before .before .queue-rows in
-    leaf-more _ _ _ _ _ _ _ _ (pre .0) (pre .1) (node-start .ensures .0) (node-count .ensures .0) (node-first .ensures .0) _ _ _ (queue-rows .ensures)
+    leaf-more _ _ _ _ _ _ _ _ (pre .0) (pre .1) (node-start .ensures .0) (node-count .ensures .0) (node-first .ensures .0) _ _ _ _ (queue-rows .ensures)
 
 pub open-leaf-spec : {M : Type 1} → statement M
 open-leaf-spec =

@@ -9,13 +9,13 @@ use mathlib.Core.Path.{refl}
 use native.Mathlib.Omega.{arith}
 
 abbrev Inv-loop : tie.InvT-loop
-Inv-loop index work₀ n len a e b y size₀ j₀ work size j = NodesTo index work₀ work n len a e b y j size
+Inv-loop index work₀ n len a e b y last size₀ j₀ work size j = NodesTo index work₀ work len a e b y last j size
 
 abbrev μ-loop : tie.MeasureT-loop
-μ-loop index work₀ n len a e b y size₀ j₀ work size j = e - j
+μ-loop index work₀ n len a e b y last size₀ j₀ work size j = e - j
 
 loop-holds : tie.Need-loop-holds Inv-loop μ-loop
-loop-holds c = nodes-start _ _ _ _ _ _ _ _ (c .before .before .pre .0) (c .before .before .pre .1 .0)
+loop-holds c = nodes-start _ _ _ _ _ _ _ _ _ (c .before .before .pre .0) (c .before .before .pre .1 .0)
 
 node-first-requires : tie.Need-node-first-requires Inv-loop μ-loop
 node-first-requires c κs =
@@ -55,42 +55,32 @@ node-radius-requires c κs =
 child-bound-requires : tie.Need-child-bound-requires Inv-loop μ-loop
 child-bound-requires c κs = search needs
 
-cast-pack : tie.Need-cast-pack Inv-loop μ-loop
-cast-pack c =
+cast-push-due : tie.Need-cast-push-due Inv-loop μ-loop
+cast-push-due c =
     let pre = c .before .before .before .before .before .before .before .before .before .pre in
     omega (arith, pre .1 .1, pre .0 .shape .whole .nodes, pre .0 .shape .whole .rows)
 
-pack-requires : tie.Need-pack-requires Inv-loop μ-loop
-pack-requires c κs = search needs
-
-push-requires : tie.Need-push-requires Inv-loop μ-loop
-push-requires c κs =
-    let pre = c .before .before .before .before .before .before .before .before .before .before .pre in
-    let loop = c .before .before .before .before .before .before .before .loop in
-    (loop .inv .more .queue, nodes-room _ _ _ _ _ _ _ _ (pre .0) _ _ _ (loop .inv) (omega arith) .1)
-
-add-size : tie.Need-add-size Inv-loop μ-loop
-add-size c =
-    let pre = c .before .before .before .before .before .before .before .before .before .before .before .before .before .pre in
-    let loop = c .before .before .before .before .before .before .before .before .before .before .loop in
-    omega (arith, nodes-room _ _ _ _ _ _ _ _ (pre .0) _ _ _ (loop .inv) (omega arith) .0, pre .0 .rows, pre .0 .shape .whole .rows)
+push-due-requires : tie.Need-push-due-requires Inv-loop μ-loop
+push-due-requires c κs =
+    let pre = c .before .before .before .before .before .before .before .before .before .pre in
+    let loop = c .before .before .before .before .before .before .loop in
+    (loop .inv .more .queue, nodes-room _ _ _ _ _ _ _ _ _ (pre .0) _ _ _ (loop .inv) (omega arith))
 
 add-j : tie.Need-add-j Inv-loop μ-loop
 add-j c = search needs
 
 loop-less : tie.Need-loop-less Inv-loop μ-loop
-loop-less c = omega (arith, c .before .before .before .before .before .before .before .before .before .loop-test .taken)
+loop-less c = omega (arith, c .before .before .before .before .before .before .before .before .loop-test .taken)
 
 loop-again : tie.Need-loop-again Inv-loop μ-loop
 loop-again c =
-    let pre = c .before .before .before .before .before .before .before .before .before .before .before .before .before .pre in
-    let loop = c .before .before .before .before .before .before .before .before .before .before .loop in
-    let node-first = c .before .before .before .before .before .before .before .before .node-first in
-    let node-radius = c .before .before .before .before .before .before .node-radius in
-    let child-bound = c .before .before .before .before .before .child-bound in
-    let pack = c .before .before .before .pack in
-    let push = c .before .before .push in
-    nodes-step _ _ _ _ _ _ _ _ (pre .0) _ _ _ (loop .inv) _ _ _ _ _ _ (omega arith) (node-first .ensures .0) refl (node-radius .ensures) (child-bound .ensures) (pack .ensures) (push .ensures)
+    let pre = c .before .before .before .before .before .before .before .before .before .before .before .before .pre in
+    let loop = c .before .before .before .before .before .before .before .before .before .loop in
+    let node-first = c .before .before .before .before .before .before .before .node-first in
+    let node-radius = c .before .before .before .before .before .node-radius in
+    let child-bound = c .before .before .before .before .child-bound in
+    let push-due = c .before .before .push-due in
+    nodes-step _ _ _ _ _ _ _ _ _ (pre .0) _ _ _ (loop .inv) _ _ _ _ _ _ (omega arith) (node-first .ensures .0) refl (node-radius .ensures) (child-bound .ensures) (push-due .ensures)
 
 same-length : tie.Need-same-length Inv-loop μ-loop
 same-length c = c .before .loop .inv .more .outside .same
@@ -99,7 +89,7 @@ returns : tie.Need-returns Inv-loop μ-loop
 returns c =
     let pre = c .before .before .before .before .pre in
     let loop = c .before .loop in
-    nodes-done _ _ _ _ _ _ _ _ (pre .0) _ _ _ (loop .inv) (omega arith)
+    nodes-done _ _ _ _ _ _ _ _ _ (pre .0) _ _ _ (loop .inv) (omega arith)
 
 pub queue-children-spec : {M : Type 1} → statement M
 queue-children-spec =
@@ -115,10 +105,8 @@ queue-children-spec =
     slice-read-x
     node-radius-requires
     child-bound-requires
-    cast-pack
-    pack-requires
-    push-requires
-    add-size
+    cast-push-due
+    push-due-requires
     add-j
     loop-less
     loop-again

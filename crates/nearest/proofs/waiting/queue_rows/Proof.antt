@@ -8,16 +8,16 @@ use borrow.Author.Needs.{needs}
 use native.Mathlib.Omega.{arith}
 
 abbrev Inv-loop : tie.InvT-loop
-Inv-loop index work₀ n len s e b x size₀ p₀ work size p = RowsTo index work₀ work n len s e b x p size
+Inv-loop index work₀ n len s e b x last size₀ p₀ work size p = RowsTo index work₀ work len s e b x last p size
 
 abbrev μ-loop : tie.MeasureT-loop
-μ-loop index work₀ n len s e b x size₀ p₀ work size p = e - p
+μ-loop index work₀ n len s e b x last size₀ p₀ work size p = e - p
 
 add-p : tie.Need-add-p Inv-loop μ-loop
 add-p c = omega (arith, c .before .before .pre .1 .0)
 
 loop-holds : tie.Need-loop-holds Inv-loop μ-loop
-loop-holds c = rows-start _ _ _ _ _ _ _ _ (c .before .before .pre .0) (c .before .before .pre .1 .0)
+loop-holds c = rows-start _ _ _ _ _ _ _ _ _ (c .before .before .pre .0) (c .before .before .pre .1 .0)
 
 stored-at-requires : tie.Need-stored-at-requires Inv-loop μ-loop
 stored-at-requires c κs =
@@ -27,51 +27,41 @@ stored-at-requires c κs =
 place-bound-requires : tie.Need-place-bound-requires Inv-loop μ-loop
 place-bound-requires c κs = search needs
 
-mul-pack : tie.Need-mul-pack Inv-loop μ-loop
-mul-pack c =
+mul-push-due : tie.Need-mul-push-due Inv-loop μ-loop
+mul-push-due c =
     let pre = c .before .before .before .before .before .before .before .pre in
     omega (arith, pre .1 .1, pre .0 .rows, pre .0 .shape .whole .rows)
 
-add-pack : tie.Need-add-pack Inv-loop μ-loop
-add-pack c =
+add-push-due : tie.Need-add-push-due Inv-loop μ-loop
+add-push-due c =
     let pre = c .before .before .before .before .before .before .before .pre in
     omega (arith, pre .1 .1, pre .0 .rows, pre .0 .shape .whole .rows)
 
-cast-pack : tie.Need-cast-pack Inv-loop μ-loop
-cast-pack c =
+cast-push-due : tie.Need-cast-push-due Inv-loop μ-loop
+cast-push-due c =
     let pre = c .before .before .before .before .before .before .before .pre in
     omega (arith, pre .1 .1, pre .0 .rows, pre .0 .shape .whole .rows)
 
-pack-requires : tie.Need-pack-requires Inv-loop μ-loop
-pack-requires c κs = search needs
-
-push-requires : tie.Need-push-requires Inv-loop μ-loop
-push-requires c κs =
-    let pre = c .before .before .before .before .before .before .before .before .pre in
-    let loop = c .before .before .before .before .before .loop in
-    (loop .inv .more .queue, rows-room _ _ _ _ _ _ _ _ (pre .0) _ _ _ (loop .inv) (omega arith) .1)
-
-add-size : tie.Need-add-size Inv-loop μ-loop
-add-size c =
-    let pre = c .before .before .before .before .before .before .before .before .before .before .before .pre in
-    let loop = c .before .before .before .before .before .before .before .before .loop in
-    omega (arith, rows-room _ _ _ _ _ _ _ _ (pre .0) _ _ _ (loop .inv) (omega arith) .0, pre .0 .rows, pre .0 .shape .whole .rows)
+push-due-requires : tie.Need-push-due-requires Inv-loop μ-loop
+push-due-requires c κs =
+    let pre = c .before .before .before .before .before .before .before .pre in
+    let loop = c .before .before .before .before .loop in
+    (loop .inv .more .queue, rows-room _ _ _ _ _ _ _ _ _ (pre .0) _ _ _ (loop .inv) (omega arith))
 
 add-p-2 : tie.Need-add-p-2 Inv-loop μ-loop
 add-p-2 c = search needs
 
 loop-less : tie.Need-loop-less Inv-loop μ-loop
-loop-less c = omega (arith, c .before .before .before .before .before .before .before .loop-test .taken)
+loop-less c = omega (arith, c .before .before .before .before .before .before .loop-test .taken)
 
 loop-again : tie.Need-loop-again Inv-loop μ-loop
 loop-again c =
-    let pre = c .before .before .before .before .before .before .before .before .before .before .before .pre in
-    let loop = c .before .before .before .before .before .before .before .before .loop in
-    let stored-at = c .before .before .before .before .before .before .stored-at in
-    let place-bound = c .before .before .before .before .before .place-bound in
-    let pack = c .before .before .before .pack in
-    let push = c .before .before .push in
-    rows-step _ _ _ _ _ _ _ _ (pre .0) _ _ _ (loop .inv) _ _ _ _ (omega arith) (stored-at .ensures) (place-bound .ensures) (pack .ensures) (push .ensures)
+    let pre = c .before .before .before .before .before .before .before .before .before .before .pre in
+    let loop = c .before .before .before .before .before .before .before .loop in
+    let stored-at = c .before .before .before .before .before .stored-at in
+    let place-bound = c .before .before .before .before .place-bound in
+    let push-due = c .before .before .push-due in
+    rows-step _ _ _ _ _ _ _ _ _ (pre .0) _ _ _ (loop .inv) _ _ _ _ (omega arith) (stored-at .ensures) (place-bound .ensures) (push-due .ensures)
 
 same-length : tie.Need-same-length Inv-loop μ-loop
 same-length c = c .before .loop .inv .more .outside .same
@@ -80,7 +70,7 @@ returns : tie.Need-returns Inv-loop μ-loop
 returns c =
     let pre = c .before .before .before .before .pre in
     let loop = c .before .loop in
-    rows-done _ _ _ _ _ _ _ _ (pre .0) _ _ _ (loop .inv) (omega arith)
+    rows-done _ _ _ _ _ _ _ _ _ (pre .0) _ _ _ (loop .inv) (omega arith)
 
 pub queue-rows-spec : {M : Type 1} → statement M
 queue-rows-spec =
@@ -92,12 +82,10 @@ queue-rows-spec =
     loop-holds
     stored-at-requires
     place-bound-requires
-    mul-pack
-    add-pack
-    cast-pack
-    pack-requires
-    push-requires
-    add-size
+    mul-push-due
+    add-push-due
+    cast-push-due
+    push-due-requires
     add-p-2
     loop-less
     loop-again
