@@ -9,14 +9,15 @@ use Rattle.laws.specs.Upto.{sumTo}
 use Rattle.limits.specs.Limits.{maxDepth}
 use Rattle.nearest.proofs.Opening.{least-same}
 use Rattle.nearest.specs.Items.{leastTo, placeBound}
-use Rattle.tree.proofs.Members.{firsts-at, kids-firsts, run-first}
+use Rattle.tree.proofs.Forks.{as-fork, as-leaf, forkNode, kids-first, kidsAt, leafNode, no-levels}
+use Rattle.tree.proofs.Members.{kids-firsts, run-first}
 use Rattle.tree.specs.Grove.{Grove, bare, first, firsts, fork, leaf, members#, treeAt}
 use Rattle.tree.specs.Homes.{childBound, homesIn, nearestOf, rowBound}
 use Rattle.words.proofs.InShape.{left-root}
 use Rattle.words.specs.InShape.{InShape, Kids, Left}
 use Rattle.words.specs.Shape.{inner}
 use Rattle.words.specs.Words.{N#, child#, count#, dist#, first#, m#, radius#, row#, start#}
-use mathlib.Core.Bool.{Bool, cond, false, true}
+use mathlib.Core.Bool.{Bool, false, true}
 use mathlib.Core.List.{List, _++_, foldr, map}
 use mathlib.Core.Path.{_∙_, _≡_, ap, ap₂, refl, subst, sym}
 use native.Mathlib.Nat.{add-suc, add-zero, not-suc-le-zero, suc-add}
@@ -101,28 +102,6 @@ module _ (x : ℕ → ℕ) (f : ℕ × ℕ → ℕ) where
 
 -- ---- node k as a grove
 module _ (w : List ℕ) where
-  abbrev leafAt : ℕ → Grove → Grove
-  leafAt k g = leaf (radius# w k) (members# w k) g
-
-  abbrev kidsAt : ℕ → ℕ → Grove
-  kidsAt deep k = foldr (treeAt w deep) bare (range (child# w k) (m# w))
-
-  abbrev forkAt : ℕ → ℕ → Grove → Grove
-  forkAt deep k g = fork (radius# w k) (kidsAt deep k) g
-
-  as-leaf : (deep k : ℕ) (g : Grove) → inner w k ≡ false → treeAt w deep k g ≡ leafAt k g
-  unfolding treeAt
-  as-leaf zero k g e = refl
-  as-leaf (suc deep) k g e = ap (λ (b : Bool). cond b (forkAt deep k g) (leafAt k g)) e
-
-  as-fork : (deep k : ℕ) (g : Grove) → inner w k ≡ true → treeAt w (suc deep) k g ≡ forkAt deep k g
-  unfolding treeAt
-  as-fork deep k g e = ap (λ (b : Bool). cond b (forkAt deep k g) (leafAt k g)) e
-
-  no-levels : (k : ℕ) (g : Grove) → treeAt w 0 k g ≡ leafAt k g
-  unfolding treeAt
-  no-levels k g = refl
-
   -- nodes side by side, by two readings that agree at each
   fold-same : (t u : ℕ → Grove → Grove) (j m : ℕ) → ((i : ℕ) (g : Grove) → i < m → t (j + i) g ≡ u (j + i) g) → foldr t bare (range j m) ≡ foldr u bare (range j m)
   fold-same t u j zero h = refl
@@ -133,7 +112,7 @@ module _ (w : List ℕ) where
   module _ (S : InShape w) where
     -- A NODE WITH AT MOST `deep` LEVELS BELOW IT IS THE SAME WITH ONE MORE
     pub tree-deeper : (deep k : ℕ) (g : Grove) → k < N# w → Left w deep k → treeAt w deep k g ≡ treeAt w (suc deep) k g
-    tree-deeper zero k g h l = no-levels k g ∙ sym (as-leaf 1 k g (S .node k h .bottom l))
+    tree-deeper zero k g h l = no-levels w k g ∙ sym (as-leaf w 1 k g (S .node k h .bottom l))
     tree-deeper (suc deep) k g h l = go (λ j f q m. tree-deeper deep j f q m) (inner w k) refl
       where
         go : ((j : ℕ) (f : Grove) → j < N# w → Left w deep j → treeAt w deep j f ≡ treeAt w (suc deep) j f)
@@ -141,12 +120,12 @@ module _ (w : List ℕ) where
         go ih true e =
             let K : Kids w k = S .node k h .kids e in
             let z : suc deep - 1 ≡ deep = omega arith in
-            as-fork deep k g e
+            as-fork w deep k g e
             ∙ ap (λ (ks : Grove). fork (radius# w k) ks g)
             (fold-same (treeAt w deep) (treeAt w (suc deep)) (child# w k) (m# w)
             (λ i f q. ih (child# w k + i) f (omega (arith, K .inside)) (subst (λ (d : ℕ). Left w d (child# w k + i)) z (K .down (suc deep) i l))))
-            ∙ sym (as-fork (suc deep) k g e)
-        go ih false e = as-leaf (suc deep) k g e ∙ sym (as-leaf (suc (suc deep)) k g e)
+            ∙ sym (as-fork w (suc deep) k g e)
+        go ih false e = as-leaf w (suc deep) k g e ∙ sym (as-leaf w (suc (suc deep)) k g e)
 
   module _ (x : ℕ → ℕ) (f : ℕ × ℕ → ℕ) where
     -- the rows at home below node k, whose bound is b, by their weight
@@ -157,39 +136,35 @@ module _ (w : List ℕ) where
     below k b = total f (homesIn x (λ u v. b) (treeAt w maxDepth k bare))
 
     module _ (S : InShape w) where
-      -- the first of node k's children
-      kids-first : (deep k : ℕ) → k < N# w → inner w k ≡ true → first (kidsAt deep k) ≡ first# w k
-      kids-first deep k h e = ap head (ap firsts (sym (as-fork deep k bare e)) ∙ firsts-at w S (suc deep) k bare h)
-
       -- A NODE'S PART OF THE TOTAL
       node-total : (deep k : ℕ) (β : ℕ → ℕ → ℕ) (g : Grove) → k < N# w
           → total f (homesIn x β (treeAt w deep k g)) ≡ belowAt deep k (β (x (first# w k)) (radius# w k)) + total f (homesIn x β g)
       unfolding belowAt
       node-total deep k β g h = go deep
         where
-          by-leaf : (deep : ℕ) → ((g : Grove) → treeAt w deep k g ≡ leafAt k g)
+          by-leaf : (deep : ℕ) → ((g : Grove) → treeAt w deep k g ≡ leafNode w k g)
               → total f (homesIn x β (treeAt w deep k g)) ≡ belowAt deep k (β (x (first# w k)) (radius# w k)) + total f (homesIn x β g)
           by-leaf deep e =
               ap (λ (t : Grove). total f (homesIn x β t)) (e g) ∙ leaf-alone x f β (radius# w k) (members# w k) g
               ∙ ap (λ (z : ℕ). z + total f (homesIn x β g))
-              (ap (λ (i : ℕ). total f (homesIn x (λ u v. β (x i) (radius# w k)) (leafAt k bare))) (run-first w S (start# w k) (count# w k) (S .node k h .some))
+              (ap (λ (i : ℕ). total f (homesIn x (λ u v. β (x i) (radius# w k)) (leafNode w k bare))) (run-first w S (start# w k) (count# w k) (S .node k h .some))
               ∙ ap (λ (t : Grove). total f (homesIn x (λ u v. β (x (first# w k)) (radius# w k)) t)) (sym (e bare)))
 
           by-fork : (deep : ℕ) → inner w k ≡ true
               → total f (homesIn x β (treeAt w (suc deep) k g)) ≡ belowAt (suc deep) k (β (x (first# w k)) (radius# w k)) + total f (homesIn x β g)
           by-fork deep e =
-              ap (λ (t : Grove). total f (homesIn x β t)) (as-fork deep k g e) ∙ fork-alone x f β (radius# w k) (kidsAt deep k) g
+              ap (λ (t : Grove). total f (homesIn x β t)) (as-fork w deep k g e) ∙ fork-alone x f β (radius# w k) (kidsAt w deep k) g
               ∙ ap (λ (z : ℕ). z + total f (homesIn x β g))
-              (ap (λ (i : ℕ). total f (homesIn x (λ u v. β (x i) (radius# w k)) (forkAt deep k bare))) (kids-first deep k h e)
-              ∙ ap (λ (t : Grove). total f (homesIn x (λ u v. β (x (first# w k)) (radius# w k)) t)) (sym (as-fork deep k bare e)))
+              (ap (λ (i : ℕ). total f (homesIn x (λ u v. β (x i) (radius# w k)) (forkNode w deep k bare))) (kids-first w S deep k h e)
+              ∙ ap (λ (t : Grove). total f (homesIn x (λ u v. β (x (first# w k)) (radius# w k)) t)) (sym (as-fork w deep k bare e)))
 
           at : (deep : ℕ) (b : Bool) → inner w k ≡ b
               → total f (homesIn x β (treeAt w (suc deep) k g)) ≡ belowAt (suc deep) k (β (x (first# w k)) (radius# w k)) + total f (homesIn x β g)
           at deep true e = by-fork deep e
-          at deep false e = by-leaf (suc deep) (λ g. as-leaf (suc deep) k g e)
+          at deep false e = by-leaf (suc deep) (λ g. as-leaf w (suc deep) k g e)
 
           go : (deep : ℕ) → total f (homesIn x β (treeAt w deep k g)) ≡ belowAt deep k (β (x (first# w k)) (radius# w k)) + total f (homesIn x β g)
-          go zero = by-leaf zero (no-levels k)
+          go zero = by-leaf zero (no-levels w k)
           go (suc deep) = at deep (inner w k) refl
 
       -- nodes side by side
@@ -212,7 +187,7 @@ module _ (w : List ℕ) where
       leaf-below k b h e =
           let home : ℕ → ℕ × ℕ → ℕ × ℕ = λ i e. (e .0, rowBound x b i e) in
           let es : List (ℕ × ℕ) = members# w k in
-          ap (λ (t : Grove). total f (homesIn x (λ u v. b) t)) (as-leaf maxDepth k bare e) ∙ leaf-total x f (λ u v. b) (radius# w k) es bare
+          ap (λ (t : Grove). total f (homesIn x (λ u v. b) t)) (as-leaf w maxDepth k bare e) ∙ leaf-total x f (λ u v. b) (radius# w k) es bare
           ∙ ap₂ (λ (a c : ℕ). a + c)
           (ap (λ (i : ℕ). total f (map (home i) (rest es))) (run-first w S (start# w k) (count# w k) (S .node k h .some))
           ∙ total-map f (home (first# w k)) (rest es)
@@ -224,7 +199,7 @@ module _ (w : List ℕ) where
       abbrev pub nearestTo : ℕ → ℕ
       nearestTo k = leastTo (λ (i : ℕ). x (first# w (child# w k + i))) (m# w - 1)
 
-      nearest-kids : (deep k : ℕ) → k < N# w → inner w k ≡ true → nearestOf x (kidsAt deep k) ≡ nearestTo k
+      nearest-kids : (deep k : ℕ) → k < N# w → inner w k ≡ true → nearestOf x (kidsAt w deep k) ≡ nearestTo k
       nearest-kids deep k h e =
           ap (λ (l : List ℕ). foldr min (x (head l)) (map x l)) (kids-firsts w S deep (child# w k) (m# w) (S .node k h .kids e .inside))
           ∙ least-all x (first# w) (child# w k) (m# w) (omega (arith, S .whole .fan .0))
@@ -248,22 +223,22 @@ module _ (w : List ℕ) where
           → below k b ≡ sumTo (λ (i : ℕ). f (first# w (child# w k + suc i), b)) (m# w - 1) + sumTo (λ (i : ℕ). belowAt 23 (child# w k + i) (kidBound k b i)) (m# w)
       unfolding below
       fork-parts k b h e =
-          ap (λ (t : Grove). total f (homesIn x (λ u v. b) t)) (as-fork 23 k bare e) ∙ fork-total x f (λ u v. b) (radius# w k) (kidsAt 23 k) bare
+          ap (λ (t : Grove). total f (homesIn x (λ u v. b) t)) (as-fork w 23 k bare e) ∙ fork-total x f (λ u v. b) (radius# w k) (kidsAt w 23 k) bare
           ∙ ap₂ (λ (a c : ℕ). a + c) (ap₂ (λ (a c : ℕ). a + c) centres kids) (bare-total x f (λ u v. b))
           ∙ omega arith
         where
           within : child# w k + m# w ≤ N# w
           within = S .node k h .kids e .inside
 
-          centres : total f (map (λ (r : ℕ). (r, b)) (rest (firsts (kidsAt 23 k)))) ≡ sumTo (λ (i : ℕ). f (first# w (child# w k + suc i), b)) (m# w - 1)
+          centres : total f (map (λ (r : ℕ). (r, b)) (rest (firsts (kidsAt w 23 k)))) ≡ sumTo (λ (i : ℕ). f (first# w (child# w k + suc i), b)) (m# w - 1)
           centres =
               ap (λ (l : List ℕ). total f (map (λ (r : ℕ). (r, b)) (rest l))) (kids-firsts w S 23 (child# w k) (m# w) within)
               ∙ total-map f (λ (r : ℕ). (r, b)) (rest (map (first# w) (range (child# w k) (m# w))))
               ∙ total-rest (λ (r : ℕ). f (r, b)) (first# w) (child# w k) (m# w)
 
-          kids : total f (homesIn x (childBound b (nearestOf x (kidsAt 23 k))) (kidsAt 23 k)) ≡ sumTo (λ (i : ℕ). belowAt 23 (child# w k + i) (kidBound k b i)) (m# w)
+          kids : total f (homesIn x (childBound b (nearestOf x (kidsAt w 23 k))) (kidsAt w 23 k)) ≡ sumTo (λ (i : ℕ). belowAt 23 (child# w k + i) (kidBound k b i)) (m# w)
           kids =
-              ap (λ (y : ℕ). total f (homesIn x (childBound b y) (kidsAt 23 k))) (nearest-kids 23 k h e)
+              ap (λ (y : ℕ). total f (homesIn x (childBound b y) (kidsAt w 23 k))) (nearest-kids 23 k h e)
               ∙ kids-total 23 (child# w k) (m# w) (childBound b (nearestTo k)) within
 
       -- BELOW AN INNER NODE: its centres but the first under its own bound, and what is below its children under theirs

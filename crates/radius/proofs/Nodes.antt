@@ -5,8 +5,9 @@ use Rattle.laws.proofs.Times.{lefts}
 use Rattle.laws.specs.Lists.{each, gap, head, least, range, rest}
 use Rattle.radius.specs.Descent.{centreAt, decision, firstAt, kidMarks, leafAt, leafMark, leastFrom, nodeMarks, verdictByte}
 use Rattle.radius.specs.declared.leaf.Verdict.the-variants.{In, Measure, Out}
-use Rattle.tree.proofs.Members.{entries-at, kids-entries, kids-firsts, run-first}
-use Rattle.tree.specs.Grove.{Grove, bare, first, firsts, fork, leaf, members#, rowsIn, treeAt}
+use Rattle.tree.proofs.Forks.{as-fork, as-leaf, forkNode, kids-first, kids-rows, kidsAt, leafNode, no-levels}
+use Rattle.tree.proofs.Members.{kids-firsts, run-first}
+use Rattle.tree.specs.Grove.{Grove, bare, first, firsts, leaf, members#, rowsIn, treeAt}
 use Rattle.tree.specs.Homes.{childBound, nearestOf}
 use Rattle.tree.specs.Radius.{byDistance, inLeaf, marksIn, visit}
 use Rattle.words.specs.InShape.{InShape}
@@ -50,37 +51,25 @@ decision-mark x r f e = go (ltb r (gap (x f) (e .1))) (leb (x f + e .1) r)
     go false false = refl
 
 module _ (w : List ℕ) where
-  -- node k's children, with `deep` levels left below them
-  abbrev kidsAt : ℕ → ℕ → Grove
-  kidsAt deep k = foldr (treeAt w deep) bare (range (child# w k) (m# w))
-
   -- the positions of node k's run but the first
   abbrev pub rest# : ℕ → List ℕ
   rest# k = range (suc (start# w k)) (count# w k - 1)
 
-  -- the tree at a leaf, and at an inner node with a level left
-  tree-leaf : (deep k : ℕ) (g : Grove) → inner w k ≡ false → treeAt w deep k g ≡ leaf (radius# w k) (members# w k) g
-  unfolding treeAt
-  tree-leaf zero k g e = refl
-  tree-leaf (suc deep) k g e = ap (λ b. cond b (fork (radius# w k) (kidsAt deep k) g) (leaf (radius# w k) (members# w k) g)) e
-
-  tree-fork : (deep k : ℕ) (g : Grove) → 1 ≤ deep → inner w k ≡ true → treeAt w deep k g ≡ fork (radius# w k) (kidsAt (deep - 1) k) g
-  unfolding treeAt
+  -- the tree at an inner node with a level left
+  tree-fork : (deep k : ℕ) (g : Grove) → 1 ≤ deep → inner w k ≡ true → treeAt w deep k g ≡ forkNode w (deep - 1) k g
   tree-fork zero k g h e = absurd (not-suc-le-zero h)
   tree-fork (suc deep) k g h e =
       let p : deep ≡ suc deep - 1 = omega arith in
-      ap (λ b. cond b (fork (radius# w k) (kidsAt deep k) g) (leaf (radius# w k) (members# w k) g)) e
-      ∙ ap (λ d. fork (radius# w k) (kidsAt d k) g) p
+      as-fork w deep k g e ∙ ap (λ d. forkNode w d k g) p
 
   -- one of the two is the case
-  by-node : {P : Type 0} (deep k : ℕ) → (((g : Grove) → treeAt w deep k g ≡ leaf (radius# w k) (members# w k) g) → P)
-      → (inner w k ≡ true → ((g : Grove) → treeAt w deep k g ≡ fork (radius# w k) (kidsAt (deep - 1) k) g) → P) → P
-  unfolding treeAt
-  by-node zero k a b = a (λ g. refl)
+  by-node : {P : Type 0} (deep k : ℕ) → (((g : Grove) → treeAt w deep k g ≡ leafNode w k g) → P)
+      → (inner w k ≡ true → ((g : Grove) → treeAt w deep k g ≡ forkNode w (deep - 1) k g) → P) → P
+  by-node zero k a b = a (λ g. no-levels w k g)
   by-node {P} (suc deep) k a b = go (inner w k) refl
     where
       go : (i : Bool) → inner w k ≡ i → P
-      go false e = a (λ g. tree-leaf (suc deep) k g e)
+      go false e = a (λ g. as-leaf w (suc deep) k g e)
       go true e = b e (λ g. tree-fork (suc deep) k g (omega arith) e)
 
 module _ (x : ℕ → ℕ) (r : ℕ) (w : List ℕ) where
@@ -99,21 +88,8 @@ module _ (x : ℕ → ℕ) (r : ℕ) (w : List ℕ) (S : InShape w) where
   rows-rest : (k : ℕ) → rest (lefts (members# w k)) ≡ map (row# w) (rest# w k)
   rows-rest k = ap rest (paired (row# w) (dist# w) (range (start# w k) (count# w k))) ∙ rest-at (row# w) (start# w k) (count# w k)
 
-  -- an inner node's children have its first and its rows
-  kids-first : (deep k : ℕ) → k < N# w → inner w k ≡ true → first (kidsAt w deep k) ≡ first# w k
-  kids-first deep k h e =
-      let K = S .node k h .kids e in
-      ap head (kids-firsts w S deep (child# w k) (m# w) (K .inside)) ∙ head-range (m# w) (omega (arith, S .whole .fan .0)) ∙ ap (row# w) (K .same)
-    where
-      head-range : (m : ℕ) → 1 ≤ m → head (map (first# w) (range (child# w k) m)) ≡ first# w (child# w k)
-      head-range zero l = absurd (not-suc-le-zero l)
-      head-range (suc m) l = refl
-
-  kids-rows : (deep k : ℕ) → k < N# w → inner w k ≡ true → rest (rowsIn (kidsAt w deep k)) ≡ map (row# w) (rest# w k)
-  kids-rows deep k h e =
-      let K = S .node k h .kids e in
-      ap (λ es. rest (lefts es)) (kids-entries w S (treeAt w deep) (entries-at w S deep) (child# w k) (m# w) (start# w k) (count# w k) (K .inside) (K .tiled))
-      ∙ rows-rest k
+  rest-rows : (deep k : ℕ) → k < N# w → inner w k ≡ true → rest (rowsIn (kidsAt w deep k)) ≡ map (row# w) (rest# w k)
+  rest-rows deep k h e = ap rest (kids-rows w S deep k h e) ∙ rows-rest k
 
   -- ---- the marks at a node, and those of the nodes after it
   -- one node with the first f and the marks `here` by its bound: f is the row at the start of its run
@@ -141,7 +117,7 @@ module _ (x : ℕ → ℕ) (r : ℕ) (w : List ℕ) (S : InShape w) where
       ap (marksIn x r β) (t g)
       ∙ one-node β k (first ks)
       (λ b. visit x r (x (first ks)) (radius# w k) b (rest (rowsIn ks)) (map (λ i. (i, byDistance x r i)) (rest (firsts ks)) ++ marksIn x r (childBound b (nearestOf x ks)) ks))
-      (marksIn x r β g) (marksIn x r (λ x R. b) (treeAt w deep k bare)) (kids-first (deep - 1) k h e) (ap (marksIn x r (λ x R. b)) (t bare)))
+      (marksIn x r β g) (marksIn x r (λ x R. b) (treeAt w deep k bare)) (kids-first w S (deep - 1) k h e) (ap (marksIn x r (λ x R. b)) (t bare)))
 
   kids-marks : (β : ℕ → ℕ → ℕ) (deep j m : ℕ) → j + m ≤ N# w
       → marksIn x r β (foldr (treeAt w deep) bare (range j m)) ≡ each (λ i. nodeMarks x r w deep i (β (firstAt x w i) (radius# w i))) (range j m)
@@ -152,7 +128,7 @@ module _ (x : ℕ → ℕ) (r : ℕ) (w : List ℕ) (S : InShape w) where
       ∙ ap (λ l. nodeMarks x r w deep j (β (firstAt x w j) (radius# w j)) ++ l) (kids-marks β deep (suc j) m (omega arith))
 
   -- ---- the marks at a node, by its words
-  leaf-by : (deep k b : ℕ) → k < N# w → ((g : Grove) → treeAt w deep k g ≡ leaf (radius# w k) (members# w k) g)
+  leaf-by : (deep k b : ℕ) → k < N# w → ((g : Grove) → treeAt w deep k g ≡ leafNode w k g)
       → nodeMarks x r w deep k b ≡ visitAt x r w k b (leafOpened x r w k)
   unfolding marksIn nodeMarks leafMark
   leaf-by deep k b h t =
@@ -168,14 +144,14 @@ module _ (x : ℕ → ℕ) (r : ℕ) (w : List ℕ) (S : InShape w) where
       (λ p. ap (λ v. (row# w p, v)) (sym (decision-mark x r (first# w k) (row# w p, dist# w p)))) (rest# w k)
       ∙ map-each (λ p. (row# w p, leafMark x r w (firstAt x w k) p)) (rest# w k))
 
-  inner-by : (deep k b : ℕ) → k < N# w → inner w k ≡ true → ((g : Grove) → treeAt w deep k g ≡ fork (radius# w k) (kidsAt w (deep - 1) k) g)
+  inner-by : (deep k b : ℕ) → k < N# w → inner w k ≡ true → ((g : Grove) → treeAt w deep k g ≡ forkNode w (deep - 1) k g)
       → nodeMarks x r w deep k b ≡ visitAt x r w k b (innerOpened x r w (deep - 1) b (child# w k))
   unfolding marksIn nodeMarks
   inner-by deep k b h i t =
       let ks : Grove = kidsAt w (deep - 1) k in
       let ch : ℕ = child# w k in
       let K = S .node k h .kids i in
-      let f : first ks ≡ first# w k = kids-first (deep - 1) k h i in
+      let f : first ks ≡ first# w k = kids-first w S (deep - 1) k h i in
       let fs : firsts ks ≡ map (first# w) (range ch (m# w)) = kids-firsts w S (deep - 1) ch (m# w) (K .inside) in
       let vis : ℕ → List ℕ → List (ℕ × ℕ) → List (ℕ × ℕ) = λ f o q. visit x r (x f) (radius# w k) b o q in
       let cs : List ℕ → List (ℕ × ℕ) = λ l. map (λ i. (i, byDistance x r i)) (rest l) in
@@ -184,7 +160,7 @@ module _ (x : ℕ → ℕ) (r : ℕ) (w : List ℕ) (S : InShape w) where
       ap₂ (λ f l. least (x f) (map x l)) (f ∙ sym (ap (row# w) (K .same))) fs ∙ ap (least (firstAt x w ch)) (sym (map-map x (first# w) (range ch (m# w)))) in
       ap (marksIn x r (λ x R. b)) (t bare) ∙ append-nil (vis (first ks) (rest (rowsIn ks)) (cs (firsts ks) ++ us (nearestOf x ks)))
       ∙ ap (λ (f : ℕ). vis f (rest (rowsIn ks)) (cs (firsts ks) ++ us (nearestOf x ks))) f
-      ∙ ap₂ (vis (first# w k)) (kids-rows (deep - 1) k h i)
+      ∙ ap₂ (vis (first# w k)) (rest-rows (deep - 1) k h i)
       (ap₂ (λ a c. a ++ c)
       (ap cs fs ∙ ap (map (λ i. (i, byDistance x r i))) (rest-at (first# w) ch (m# w))
       ∙ sym (map-map (λ i. (i, byDistance x r i)) (first# w) (range (suc ch) (m# w - 1)))
@@ -193,7 +169,7 @@ module _ (x : ℕ → ℕ) (r : ℕ) (w : List ℕ) (S : InShape w) where
 
   -- THE MARKS OF A LEAF, THOSE OF AN INNER NODE, and what holds of both
   pub node-leaf : (deep k b : ℕ) → k < N# w → inner w k ≡ false → nodeMarks x r w deep k b ≡ visitAt x r w k b (leafOpened x r w k)
-  node-leaf deep k b h e = leaf-by deep k b h (λ g. tree-leaf w deep k g e)
+  node-leaf deep k b h e = leaf-by deep k b h (λ g. as-leaf w deep k g e)
 
   pub node-inner : (deep k b : ℕ) → k < N# w → 1 ≤ deep → inner w k ≡ true → nodeMarks x r w deep k b ≡ visitAt x r w k b (innerOpened x r w (deep - 1) b (child# w k))
   node-inner deep k b h l e = inner-by deep k b h e (λ g. tree-fork w deep k g l e)

@@ -4,16 +4,17 @@ use Rattle.laws.proofs.Every.{every-map}
 use Rattle.laws.specs.Every.{Every}
 use Rattle.laws.proofs.Ranges.{range-every}
 use Rattle.laws.proofs.Times.{lefts}
-use Rattle.laws.specs.Lists.{head, range}
-use Rattle.tree.proofs.Members.{entries-at, firsts-at, held, kids-entries, kids-firsts, run-first}
+use Rattle.laws.specs.Lists.{range}
+use Rattle.tree.proofs.Forks.{kids-first, kids-rows}
+use Rattle.tree.proofs.Members.{held, kids-firsts, run-first}
 use Rattle.tree.proofs.Sound.{Close, Sound}
-use Rattle.tree.specs.Grove.{Grove, bare, first, firsts, fork, leaf, members#, rowsIn, treeAt}
+use Rattle.tree.specs.Grove.{Grove, bare, first, fork, leaf, members#, rowsIn, treeAt}
 use Rattle.words.specs.InShape.{InShape, Left}
 use Rattle.words.specs.Shape.{inner}
 use Rattle.words.specs.Words.{N#, child#, count#, dist#, first#, m#, n#, radius#, row#, start#}
 use mathlib.Core.Bool.{Bool, cond, false, true}
 use mathlib.Core.List.{List, foldr, map}
-use mathlib.Core.Path.{_∙_, _≡_, ap, refl, subst, sym}
+use mathlib.Core.Path.{_≡_, refl, subst, sym}
 use native.Mathlib.Nat.{add-suc, add-zero, suc-add}
 use native.Mathlib.Omega.{arith}
 
@@ -37,18 +38,6 @@ module _ (d : ℕ → ℕ → ℕ) (w : List ℕ) (S : InShape w) (F : Fits d w)
   abbrev AsClose : List ℕ → ℕ → Type 0
   AsClose cs k = Every (λ i. Every (λ c. d (first# w k) i ≤ d c i) cs) (lefts (members# w k))
 
-  -- the rows and the first of the children of an inner node are the node's
-  kids-rows : (deep k : ℕ) → k < N# w → inner w k ≡ true
-      → rowsIn (foldr (treeAt w deep) bare (range (child# w k) (m# w))) ≡ lefts (members# w k)
-  kids-rows deep k h e =
-      ap lefts (kids-entries w S (treeAt w deep) (entries-at w S deep) (child# w k) (m# w) (start# w k) (count# w k) (S .node k h .kids e .inside) (S .node k h .kids e .tiled))
-
-  kids-first : (deep k : ℕ) → k < N# w → inner w k ≡ true → first (foldr (treeAt w deep) bare (range (child# w k) (m# w))) ≡ first# w k
-  unfolding treeAt
-  kids-first deep k h e =
-      ap head (sym (ap (λ b. firsts (cond b (fork (radius# w k) (foldr (treeAt w deep) bare (range (child# w k) (m# w))) bare) (leaf (radius# w k) (members# w k) bare))) e)
-      ∙ firsts-at w S (suc deep) k bare h)
-
   close-at : (cs : List ℕ) (deep k : ℕ) (g : Grove) → k < N# w → AsClose cs k → Close d cs g → Close d cs (treeAt w deep k g)
   unfolding treeAt
   close-at cs zero k g h a c =
@@ -58,8 +47,8 @@ module _ (d : ℕ → ℕ → ℕ) (w : List ℕ) (S : InShape w) (F : Fits d w)
       go : (b : Bool) → inner w k ≡ b
           → Close d cs (cond b (fork (radius# w k) (foldr (treeAt w deep) bare (range (child# w k) (m# w))) g) (leaf (radius# w k) (members# w k) g))
       go true e = (
-        subst (λ f. Every (λ i. Every (λ c. d f i ≤ d c i) cs) (rowsIn (foldr (treeAt w deep) bare (range (child# w k) (m# w))))) (sym (kids-first deep k h e))
-            (subst (λ l. Every (λ i. Every (λ c. d (first# w k) i ≤ d c i) cs) l) (sym (kids-rows deep k h e)) a),
+        subst (λ f. Every (λ i. Every (λ c. d f i ≤ d c i) cs) (rowsIn (foldr (treeAt w deep) bare (range (child# w k) (m# w))))) (sym (kids-first w S deep k h e))
+            (subst (λ l. Every (λ i. Every (λ c. d (first# w k) i ≤ d c i) cs) l) (sym (kids-rows w S deep k h e)) a),
         c,
       )
       go false e =
@@ -115,8 +104,8 @@ module _ (d : ℕ → ℕ → ℕ) (w : List ℕ) (S : InShape w) (F : Fits d w)
           let one : suc deep - 1 ≡ deep = omega arith in (
             subst (λ cs. Close d cs ks) (sym (kids-firsts w S deep (child# w k) (m# w) (K .inside)))
                 (close-kids (map (first# w) (range (child# w k) (m# w))) deep (child# w k) (m# w) (K .inside) (near-kids k h e)),
-            subst (λ f. Every (λ i. d f i ≤ radius# w k) (rowsIn ks)) (sym (kids-first deep k h e))
-                (subst (λ l. Every (λ i. d (first# w k) i ≤ radius# w k) l) (sym (kids-rows deep k h e))
+            subst (λ f. Every (λ i. d f i ≤ radius# w k) (rowsIn ks)) (sym (kids-first w S deep k h e))
+                (subst (λ l. Every (λ i. d (first# w k) i ≤ radius# w k) l) (sym (kids-rows w S deep k h e))
                 (rows-every (λ i. d (first# w k) i ≤ radius# w k) (start# w k) (count# w k) (λ i u. F .radii k i h u))),
             kid-sound ih (child# w k) (m# w) (K .inside) (λ a p. subst (λ n. Left w n (child# w k + a)) one (K .down (suc deep) a l)),
             s,

@@ -9,6 +9,7 @@ pub mod Sorted
 pub mod TwoNearest
 pub mod Answers
 pub mod Members
+pub mod Forks
 pub mod Rows
 pub mod Fitting
 pub mod NoFaults
