@@ -2,11 +2,13 @@
 use Prim.Native.Nat.{_≤_, suc, zero, ℕ}
 use Rattle.laws.proofs.Tests.{and-l, and-of, and-r}
 use Rattle.laws.specs.Every.{Every}
-use Rattle.laws.specs.Lists.{all, greatest, head, keep, rest}
-use lib.Dec.{T}
+use Rattle.laws.specs.Lists.{all, greatest, has, head, keep, rest}
+use borrow.Author.Tests.{eqb-true}
+use lib.Dec.{T, eqb}
 use lib.ListN.{drop, length, take}
-use mathlib.Core.Bool.{Bool, cond, false, true}
+use mathlib.Core.Bool.{Bool, _||_, cond, false, true}
 use mathlib.Core.List.{List, [], _++_, _∷_, map}
+use mathlib.Core.Path.{_≡_, refl, subst, sym}
 use native.Mathlib.Nat.{not-suc-le-zero}
 use native.Mathlib.Omega.{arith}
 
@@ -83,3 +85,12 @@ every-head P (x ∷ xs) w h = h .0
 pub greatest-le : (xs : List ℕ) → Every (λ a. a ≤ greatest xs) xs
 greatest-le [] = tt
 greatest-le (x ∷ xs) = (omega arith, every-of (λ a. a ≤ greatest xs) (λ a. a ≤ greatest (x ∷ xs)) (λ a h. omega arith) xs (greatest-le xs))
+
+-- a fact of every element is one of each that the list has
+pub has-every : (P : ℕ → Type 0) (i : ℕ) (xs : List ℕ) → Every P xs → has i xs ≡ true → P i
+has-every P i [] h e = absurd (subst T (sym e) tt)
+has-every P i (x ∷ xs) h e = go (λ q. has-every P i xs (h .1) q) (eqb i x) refl e
+  where
+    go : (has i xs ≡ true → P i) → (b : Bool) → eqb i x ≡ b → (b || has i xs) ≡ true → P i
+    go f true q e = subst P (sym (eqb-true i x q)) (h .0)
+    go f false q e = f e

@@ -1,8 +1,7 @@
 -- What the contract of the nearest call says, in 01's words: it is exact on an accepted index, it measures the rows whose home bound is at most D,
 -- it rests on the rows that it measures, and no second outcome fits. Assumes nothing.
-use Prim.Native.Nat.{_<_, _≤_, min, suc, zero, ℕ}
-use Rattle.laws.proofs.Every.{every-both, every-map, every-take}
-use Rattle.laws.specs.Every.{Every}
+use Prim.Native.Nat.{_<_, _≤_, min, ℕ}
+use Rattle.laws.proofs.Every.{every-both, every-map, every-take, has-every}
 use Rattle.laws.proofs.Lists.{tally-take}
 use Rattle.laws.proofs.Ranges.{at-every, range-length}
 use Rattle.laws.specs.Lists.{has, look, range}
@@ -10,50 +9,29 @@ use Rattle.limits.specs.Limits.{maxRows}
 use Rattle.measure.proofs.Metric.{query-point}
 use Rattle.measure.specs.Table.{between, from, row, rowsOf}
 use Rattle.nearest.proofs.Contract.{byte-measured, same-answers}
-use Rattle.nearest.proofs.Handouts.{sort-every}
 use Rattle.nearest.proofs.Refused.{clear}
 use Rattle.nearest.specs.Calls.{Answered, Serves, Settled}
 use Rattle.nearest.specs.Fits.{homeBound}
 use Rattle.tree.proofs.Answers.{answers-length, near-at, passes-all, passes-near}
-use Rattle.tree.proofs.Sorted.{Le, Sorted, sort-sorted}
+use Rattle.tree.proofs.Sorted.{sort-every, sort-sorted, sorted-take, under-last}
 use Rattle.tree.proofs.Theorems.{home-below}
 use Rattle.tree.specs.Check.{Accepted}
 use Rattle.tree.specs.Grove.{treeOf}
 use Rattle.tree.specs.Homes.{homes}
 use Rattle.tree.specs.Nearest.{answers, candidates, isMeasured, lastDistance, measured, nearHow, passes, sort}
 use Rattle.words.specs.Words.{n#}
-use borrow.Author.Tests.{eqb-true, le-ltb, leb-true}
-use lib.Dec.{T, eqb, leb}
+use borrow.Author.Tests.{le-ltb, leb-true}
+use lib.Dec.{T, leb}
 use lib.ListN.{List·getD-append, drop, getD, length, length-map, take}
 use lib.Seq.{take-at}
 use mathlib.Core.Bool.{Bool, _||_, cond, false, true}
-use mathlib.Core.List.{List, [], _∷_, map}
+use mathlib.Core.List.{List, map}
 use mathlib.Core.Logic.{_↔_}
 use mathlib.Core.Path.{_∙_, _≡_, ap, refl, subst, sym}
 use native.Mathlib.Decide.{ℕ-discrete}
 use native.Mathlib.Omega.{arith}
 
 -- ---- answers and D
-sorted-take : (k : ℕ) (s : List (ℕ × ℕ)) → Sorted s → Sorted (take k s)
-sorted-take zero s h = tt
-sorted-take (suc k) [] h = tt
-sorted-take (suc k) (a ∷ s) h = (every-take (Le a) k s (h .0), sorted-take k s (h .1))
-
-under-last : (s : List (ℕ × ℕ)) → Sorted s → Every (λ a. a .1 ≤ lastDistance s) s
-under-last [] h = tt
-under-last (a ∷ []) h = (omega arith, tt)
-under-last (a ∷ b ∷ s) h =
-    let k = under-last (b ∷ s) (h .1) in
-    (omega (arith, h .0 .0 .0, k .0), k)
-
-has-every : (P : ℕ → Type 0) (i : ℕ) (l : List (ℕ × ℕ)) → Every (λ a. P (a .0)) l → has i (map (λ a. a .0) l) ≡ true → P i
-has-every P i [] h e = absurd (subst T (sym e) tt)
-has-every P i (a ∷ l) h e = go (λ q. has-every P i l (h .1) q) (eqb i (a .0)) refl e
-  where
-    go : (has i (map (λ a. a .0) l) ≡ true → P i) → (b : Bool) → eqb i (a .0) ≡ b → (b || has i (map (λ a. a .0) l)) ≡ true → P i
-    go f true q e = subst P (sym (eqb-true i (a .0) q)) (h .0)
-    go f false q e = f e
-
 -- an answer's home bound is at most D
 answer-near : (x hb : ℕ → ℕ) (n wanted i : ℕ) → ((r : ℕ) → r < n → hb r ≤ x r) → has i (map (λ a. a .0) (answers x n wanted)) ≡ true
     → hb i ≤ lastDistance (answers x n wanted)
@@ -61,11 +39,12 @@ unfolding answers
 answer-near x hb n wanted i under e =
     let k : ℕ = min wanted n in
     let s : List (ℕ × ℕ) = sort (candidates x n) in
-    has-every (λ i. hb i ≤ lastDistance (take k s)) i (take k s)
+    has-every (λ i. hb i ≤ lastDistance (take k s)) i (map (λ a. a .0) (take k s))
+    (every-map (λ i. hb i ≤ lastDistance (take k s)) (λ a. a .0) (take k s)
     (every-both (λ a. a .1 ≤ lastDistance (take k s)) (λ a. hb (a .0) ≤ a .1) (λ a. hb (a .0) ≤ lastDistance (take k s)) (λ a p q. omega arith) (take k s)
     (under-last (take k s) (sorted-take k s (sort-sorted (candidates x n))))
     (every-take (λ a. hb (a .0) ≤ a .1) k s
-    (sort-every (λ a. hb (a .0) ≤ a .1) (candidates x n) (every-map (λ a. hb (a .0) ≤ a .1) (λ i. (i, x i)) (range 0 n) (at-every (λ i. hb i ≤ x i) n under)))))
+    (sort-every (λ a. hb (a .0) ≤ a .1) (candidates x n) (every-map (λ a. hb (a .0) ≤ a .1) (λ i. (i, x i)) (range 0 n) (at-every (λ i. hb i ≤ x i) n under))))))
     e
 
 -- a bound that passes is at most D, where no more are wanted than there are

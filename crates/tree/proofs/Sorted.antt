@@ -50,13 +50,18 @@ abbrev pub Sorted : List (ℕ × ℕ) → Type 0
 Sorted [] = Unit {0}
 Sorted (a ∷ s) = Every (Le a) s × Sorted s
 
-insert-every : (c a : ℕ × ℕ) (s : List (ℕ × ℕ)) → Le c a → Every (Le c) s → Every (Le c) (insert a s)
-insert-every c a [] h k = (h, tt)
-insert-every c a (b ∷ s) h k = go (before a b) (insert-every c a s h (k .1))
+-- what holds of each holds of each where one is inserted, and where all are sorted
+insert-every : (Q : ℕ × ℕ → Type 0) (a : ℕ × ℕ) (s : List (ℕ × ℕ)) → Q a → Every Q s → Every Q (insert a s)
+insert-every Q a [] h k = (h, tt)
+insert-every Q a (b ∷ s) h k = go (before a b) (insert-every Q a s h (k .1))
   where
-    go : (p : Bool) → Every (Le c) (insert a s) → Every (Le c) (cond p (a ∷ b ∷ s) (b ∷ insert a s))
+    go : (p : Bool) → Every Q (insert a s) → Every Q (cond p (a ∷ b ∷ s) (b ∷ insert a s))
     go true i = (h, k)
     go false i = (k .0, i)
+
+pub sort-every : (Q : ℕ × ℕ → Type 0) (l : List (ℕ × ℕ)) → Every Q l → Every Q (sort l)
+sort-every Q [] h = tt
+sort-every Q (a ∷ l) h = insert-every Q a (sort l) (h .0) (sort-every Q l (h .1))
 
 insert-sorted : (a : ℕ × ℕ) (s : List (ℕ × ℕ)) → Sorted s → Sorted (insert a s)
 insert-sorted a [] h = (tt, tt)
@@ -64,7 +69,7 @@ insert-sorted a (b ∷ s) h = go (before a b) refl (insert-sorted a s (h .1))
   where
     go : (p : Bool) → before a b ≡ p → Sorted (insert a s) → Sorted (cond p (a ∷ b ∷ s) (b ∷ insert a s))
     go true e i = let l = before-le a b e in ((l, every-of (Le b) (Le a) (λ c k. le-trans a b c l k) s (h .0)), h)
-    go false e i = (insert-every b a s (before-not a b e) (h .0), i)
+    go false e i = (insert-every (Le b) a s (before-not a b e) (h .0), i)
 
 pub sort-sorted : (l : List (ℕ × ℕ)) → Sorted (sort l)
 sort-sorted [] = tt
@@ -117,12 +122,12 @@ take-keep p (suc w) [] h = refl
 take-keep p (suc w) (a ∷ s) h = rw (h .0) (ap (λ l. a ∷ l) (take-keep p w s (h .1)))
 
 -- no answer is farther than the last
-sorted-take : (w : ℕ) (s : List (ℕ × ℕ)) → Sorted s → Sorted (take w s)
+pub sorted-take : (w : ℕ) (s : List (ℕ × ℕ)) → Sorted s → Sorted (take w s)
 sorted-take zero s h = tt
 sorted-take (suc w) [] h = tt
 sorted-take (suc w) (a ∷ s) h = (every-take (Le a) w s (h .0), sorted-take w s (h .1))
 
-under-last : (s : List (ℕ × ℕ)) → Sorted s → Every (λ a. a .1 ≤ lastDistance s) s
+pub under-last : (s : List (ℕ × ℕ)) → Sorted s → Every (λ a. a .1 ≤ lastDistance s) s
 under-last [] h = tt
 under-last (a ∷ []) h = (omega arith, tt)
 under-last (a ∷ b ∷ s) h =
@@ -138,15 +143,3 @@ best-of p w l f =
     ap (take w) (sort-keep p l)
     ∙ take-keep p w (sort l) (every-both (λ a. a .1 ≤ D) Q (λ a. p a ≡ true) (λ a h k. k h) (take w (sort l)) (under-last (take w (sort l)) (sorted-take w (sort l) (sort-sorted l)))
     (every-take Q w (sort l) (sort-every Q l f)))
-  where
-    insert-all : (Q : ℕ × ℕ → Type 0) (a : ℕ × ℕ) (s : List (ℕ × ℕ)) → Q a → Every Q s → Every Q (insert a s)
-    insert-all Q a [] h k = (h, tt)
-    insert-all Q a (b ∷ s) h k = put (before a b) h k (insert-all Q a s h (k .1))
-      where
-        put : (u : Bool) → Q a → Every Q (b ∷ s) → Every Q (insert a s) → Every Q (cond u (a ∷ b ∷ s) (b ∷ insert a s))
-        put true h k i = (h, k)
-        put false h k i = (k .0, i)
-
-    sort-every : (Q : ℕ × ℕ → Type 0) (l : List (ℕ × ℕ)) → Every Q l → Every Q (sort l)
-    sort-every Q [] h = tt
-    sort-every Q (a ∷ l) h = insert-all Q a (sort l) (h .0) (sort-every Q l (h .1))

@@ -1,19 +1,19 @@
 -- The statement on two tables, for the nearest search: the rows whose home bound is at most D, with their bounds, follow from the
 -- distances of those rows alone. Nothing is asked of the tree. Assumes nothing.
 use Prim.Native.Nat.{_+_, _<_, _≤_, max, ℕ}
-use Rattle.laws.proofs.Every.{every-all, every-append, every-left, every-map, every-of, every-right}
+use Rattle.laws.proofs.Every.{every-all, every-append, every-left, every-map, every-of, every-right, has-every}
 use Rattle.laws.specs.Every.{Every}
 use Rattle.laws.specs.Lists.{gap, has, head, keep, least, look, range, rest, times}
 use Rattle.tree.proofs.TwoRadius.{all-firsts, same-map}
 use Rattle.tree.specs.Grove.{Grove, bare, first, firsts, fork, leaf}
 use Rattle.tree.specs.Homes.{childBound, homes, homesIn, nearestOf, rowBound}
 use Rattle.tree.specs.Nearest.{Own, best, lastDistance, rowsUpTo, sort, upTo}
-use borrow.Author.Tests.{eqb-true, leb-false, leb-true, lt-leb}
-use lib.Dec.{T, eqb, leb}
+use borrow.Author.Tests.{leb-false, leb-true, lt-leb}
+use lib.Dec.{eqb, leb}
 use lib.ListN.{length, take}
 use mathlib.Core.Bool.{Bool, _||_, cond, false, true}
 use mathlib.Core.List.{List, [], _++_, _∷_, map}
-use mathlib.Core.Path.{_∙_, _≡_, ap, ap₂, refl, subst, sym}
+use mathlib.Core.Path.{_∙_, _≡_, ap, ap₂, refl, sym}
 use native.Mathlib.Nat.{not-suc-le-zero}
 use native.Mathlib.Omega.{arith}
 
@@ -113,14 +113,6 @@ module _ (x y : ℕ → ℕ) (D : ℕ) where
       ∙ sym (up-append D c (homesIn y (λ x R. 0) t))
 
 -- ---- the first w of these rows, and their D
-has-every : (P : ℕ → Type 0) (i : ℕ) (xs : List ℕ) → Every P xs → has i xs ≡ true → P i
-has-every P i [] h e = absurd (subst T (sym e) tt)
-has-every P i (x ∷ xs) h e = go (λ q. has-every P i xs (h .1) q) (eqb i x) refl e
-  where
-    go : (has i xs ≡ true → P i) → (b : Bool) → eqb i x ≡ b → (b || has i xs) ≡ true → P i
-    go f true q e = subst P (sym (eqb-true i x q)) (h .0)
-    go f false q e = f e
-
 module _ (x y : ℕ → ℕ) (D : ℕ) where
   rows-agree : (hs : List (ℕ × ℕ)) → Every (AgreeUpTo x y D) hs → Every (λ i. x i ≡ y i) (map (λ h. h .0) (upTo D hs))
   rows-agree [] k = tt
