@@ -1,0 +1,68 @@
+-- `analyst::answering::mark_like` meets its contract: the index is the one just built, so the search on it is exact.
+-- Assumes nothing.
+use Prim.Native.Nat.{ℕ}
+use native.Mathlib.Omega.{arith}
+use mathlib.Core.Path.{sym}
+use lib.Seq.{length-take-le}
+use Rattle.analyst.proofs.Indexed.{marked-exact, small, words-there}
+use borrow.Author.Needs.{needs}
+use Rattle.analyst.proofs.answering.mark_like.Statement.{statement}
+use Rattle.analyst.proofs.answering.mark_like.Tie as tie
+use Rattle.analyst.proofs.answering.mark_like.Reads as reads
+use Rattle.analyst.proofs.answering.mark_like.Lts as lts
+use Rattle.build.proofs.build.Reads as build-reads
+use Rattle.measure.proofs.row_of.Reads as row-of-reads
+use Rattle.radius.proofs.radius.Reads as radius-reads
+
+row-of-requires : tie.Need-row-of-requires
+row-of-requires c κs = search needs
+
+build-requires : tie.Need-build-requires
+build-requires c κs = search needs
+
+same-length : tie.Need-same-length
+same-length c = search needs
+
+same-length-2 : tie.Need-same-length-2
+same-length-2 c = search needs
+
+returns : tie.Need-returns
+returns c = record { exact = λ z. absurd (c .if1 .taken z) }
+
+slice-reshare-prefix-radius : tie.Need-slice-reshare-prefix-radius
+slice-reshare-prefix-radius c = words-there (c .before .before .before .before .before .build .ensures) (c .if1 .left)
+
+slice-aggregate-radius : tie.Need-slice-aggregate-radius
+slice-aggregate-radius c = sym (length-take-le _ _ (words-there (c .before .before .before .before .before .before .build .ensures) (c .before .if1 .left)))
+
+radius-requires : tie.Need-radius-requires
+radius-requires c κs = search needs
+
+same-length-3 : tie.Need-same-length-3
+same-length-3 c = search needs
+
+same-length-4 : tie.Need-same-length-4
+same-length-4 c = search needs
+
+same-length-5 : tie.Need-same-length-5
+same-length-5 c = search needs
+
+returns-2 : tie.Need-returns-2
+returns-2 c = marked-exact (c .before .before .before .before .before .before .before .before .before .before .build .ensures) (c .before .before .before .before .before .if1 .left) (small (c .before .before .before .before .before .before .before .before .before .before .before .before .before .before .before .before .before .before .args .table .now) (λ (i : ℕ). omega (arith, c .before .before .before .before .before .before .before .before .before .before .before .before .before .before .before .before .before .shared-slice-known .given i))) (c .before .before .radius .ensures) (c .before .before .before .before .before .before .before .before .before .before .before .before .before .row-of .ensures .0)
+
+pub mark-like-spec : {M : Type 1} → statement M
+mark-like-spec =
+    tie.close
+    (tie.spec
+    row-of-requires
+    build-requires
+    same-length
+    same-length-2
+    returns
+    slice-reshare-prefix-radius
+    slice-aggregate-radius
+    radius-requires
+    same-length-3
+    same-length-4
+    same-length-5
+    returns-2)

@@ -1,0 +1,52 @@
+-- `analyst::answering::say_rows` meets its contract: row i ends inside the table.
+-- Assumes nothing.
+use native.Mathlib.Omega.{arith}
+use Rattle.measure.proofs.Rows.{row-ends}
+use Prim.Native.Nat.{_-_, _≤_}
+use borrow.Author.Needs.{needs}
+use Rattle.analyst.proofs.answering.say_rows.Statement.{statement}
+use Rattle.analyst.proofs.answering.say_rows.Tie as tie
+use Rattle.analyst.proofs.answering.say_rows.Reads as reads
+use Rattle.analyst.proofs.answering.say_rows.Lts as lts
+use Rattle.analyst.proofs.answering.say_marked.Reads as say-marked-reads
+
+abbrev Inv-loop : tie.InvT-loop
+Inv-loop table c query n how i₀ i = i ≤ n
+
+abbrev μ-loop : tie.MeasureT-loop
+μ-loop table c query n how i₀ i = n - i
+
+loop-holds : tie.Need-loop-holds Inv-loop μ-loop
+loop-holds c = search needs
+
+shared-slice-read-say-marked : tie.Need-shared-slice-read-say-marked Inv-loop μ-loop
+shared-slice-read-say-marked c = search needs
+
+say-marked-requires : tie.Need-say-marked-requires Inv-loop μ-loop
+say-marked-requires c κs = (c .before .before .before .before .before .before .pre .0, omega (arith, c .before .before .before .before .before .before .pre .1, row-ends (c .before .before .before .before .before .before .args .c) (c .before .before .before .before .before .before .args .n) (c .before .before .loop .i) (c .before .loop-test .taken)), c .before .before .before .before .before .before .pre .2)
+
+add-i : tie.Need-add-i Inv-loop μ-loop
+add-i c = search needs
+
+loop-less : tie.Need-loop-less Inv-loop μ-loop
+loop-less c = search needs
+
+loop-again : tie.Need-loop-again Inv-loop μ-loop
+loop-again c = search needs
+
+returns : tie.Need-returns Inv-loop μ-loop
+returns c = search needs
+
+pub say-rows-spec : {M : Type 1} → statement M
+say-rows-spec =
+    tie.close
+    (tie.spec
+    Inv-loop
+    μ-loop
+    loop-holds
+    shared-slice-read-say-marked
+    say-marked-requires
+    add-i
+    loop-less
+    loop-again
+    returns)

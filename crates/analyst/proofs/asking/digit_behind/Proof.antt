@@ -1,0 +1,49 @@
+-- `analyst::asking::digit_behind` meets its contract: each return has its test.
+-- Assumes nothing.
+use native.Mathlib.Omega.{arith}
+use Rattle.text.proofs.Within.{within-both}
+use Rattle.laws.proofs.Tests.{no, yes}
+use Rattle.analyst.proofs.Worths.{behind-digit, behind-most, behind-other}
+use borrow.Author.Needs.{needs}
+use Rattle.analyst.proofs.asking.digit_behind.Statement.{statement}
+use Rattle.analyst.proofs.asking.digit_behind.Tie as tie
+use Rattle.analyst.proofs.asking.digit_behind.Reads as reads
+use Rattle.analyst.proofs.asking.digit_behind.Lts as lts
+use Rattle.limits.proofs.is_within.Reads as is-within-reads
+
+is-within-requires : tie.Need-is-within-requires
+is-within-requires c κs = search needs
+
+returns : tie.Need-returns
+returns c = (behind-other _ _ (no (c .before .is-within .ensures) (c .if1 .taken)), omega arith)
+
+mul-grown : tie.Need-mul-grown
+mul-grown c = search needs
+
+sub-grown : tie.Need-sub-grown
+sub-grown c = within-both _ _ _ (yes (c .before .is-within .ensures) (c .if1 .left)) .0
+
+cast-grown : tie.Need-cast-grown
+cast-grown c = search needs
+
+add-grown : tie.Need-add-grown
+add-grown c = search needs
+
+returns-2 : tie.Need-returns-2
+returns-2 c = (behind-most _ _ (yes (c .before .before .is-within .ensures) (c .before .if1 .left)) (c .if2 .taken), omega arith)
+
+returns-3 : tie.Need-returns-3
+returns-3 c = (behind-digit _ _ (yes (c .before .before .is-within .ensures) (c .before .if1 .left)) (c .if2 .left), omega (arith, c .if2 .left))
+
+pub digit-behind-spec : {M : Type 1} → statement M
+digit-behind-spec =
+    tie.close
+    (tie.spec
+    is-within-requires
+    returns
+    mul-grown
+    sub-grown
+    cast-grown
+    add-grown
+    returns-2
+    returns-3)

@@ -1,0 +1,57 @@
+-- `analyst::asking::number` meets its contract: a turn reads one digit.
+-- Assumes nothing.
+use lib.ListN.{length}
+use Prim.Native.Nat.{_-_}
+use native.Mathlib.Omega.{arith}
+use Rattle.analyst.proofs.Worths.{Counted, counted-end, counted-next, counted-start, none-worth}
+use borrow.Author.Needs.{needs}
+use Rattle.analyst.proofs.asking.number.Statement.{statement}
+use Rattle.analyst.proofs.asking.number.Tie as tie
+use Rattle.analyst.proofs.asking.number.Reads as reads
+use Rattle.analyst.proofs.asking.number.Lts as lts
+use Rattle.analyst.proofs.asking.digit_behind.Reads as digit-behind-reads
+
+abbrev Inv-loop : tie.InvT-loop
+Inv-loop word value₀ i₀ value i = Counted word value i
+
+abbrev μ-loop : tie.MeasureT-loop
+μ-loop word value₀ i₀ value i = length word - i
+
+returns : tie.Need-returns Inv-loop μ-loop
+returns c = (none-worth (c .before .before .args .word .now) (c .if1 .taken), omega arith)
+
+loop-holds : tie.Need-loop-holds Inv-loop μ-loop
+loop-holds c = counted-start _
+
+shared-slice-read-digit-behind : tie.Need-shared-slice-read-digit-behind Inv-loop μ-loop
+shared-slice-read-digit-behind c = search needs
+
+digit-behind-requires : tie.Need-digit-behind-requires Inv-loop μ-loop
+digit-behind-requires c κs = search needs
+
+add-i : tie.Need-add-i Inv-loop μ-loop
+add-i c = search needs
+
+loop-less : tie.Need-loop-less Inv-loop μ-loop
+loop-less c = search needs
+
+loop-again : tie.Need-loop-again Inv-loop μ-loop
+loop-again c = counted-next _ _ _ (c .before .before .before .loop .inv) _ (c .before .before .loop-test .taken) (c .digit-behind .ensures .0) (c .digit-behind .ensures .1)
+
+returns-2 : tie.Need-returns-2 Inv-loop μ-loop
+returns-2 c = (counted-end (c .before .before .before .before .args .word .now) _ _ (c .before .loop .inv) (c .loop-test .left) (c .before .before .if1 .left), c .before .loop .inv .few)
+
+pub number-spec : {M : Type 1} → statement M
+number-spec =
+    tie.close
+    (tie.spec
+    Inv-loop
+    μ-loop
+    returns
+    loop-holds
+    shared-slice-read-digit-behind
+    digit-behind-requires
+    add-i
+    loop-less
+    loop-again
+    returns-2)

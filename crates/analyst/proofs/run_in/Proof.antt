@@ -1,0 +1,92 @@
+-- `analyst::run_in` meets its contract: the reader is tidy, so the rows that it counts stand in the table.
+-- Assumes nothing.
+use native.Mathlib.Omega.{arith}
+use mathlib.Core.Path.{sym}
+use lib.Seq.{length-take-le}
+use Rattle.sheet.proofs.Tidying.{part-fits}
+use borrow.Author.Needs.{needs}
+use Rattle.analyst.proofs.run_in.Statement.{statement}
+use Rattle.analyst.proofs.run_in.Tie as tie
+use Rattle.analyst.proofs.run_in.Reads as reads
+use Rattle.analyst.proofs.run_in.Lts as lts
+use Rattle.analyst.proofs.answer.Reads as answer-reads
+use Rattle.analyst.proofs.reading.read_rows.Reads as read-rows-reads
+use Rattle.analyst.proofs.telling.say.Reads as say-reads
+use Rattle.analyst.proofs.telling.say_fault.Reads as say-fault-reads
+
+read-rows-requires : tie.Need-read-rows-requires
+read-rows-requires c κs = search needs
+
+slice-aggregate-say : tie.Need-slice-aggregate-say
+slice-aggregate-say c = search needs
+
+say-requires : tie.Need-say-requires
+say-requires c κs = search needs
+
+same-length : tie.Need-same-length
+same-length c = search needs
+
+returns : tie.Need-returns
+returns c = search needs
+
+say-fault-requires : tie.Need-say-fault-requires
+say-fault-requires c κs = search needs
+
+same-length-2 : tie.Need-same-length-2
+same-length-2 c = search needs
+
+returns-2 : tie.Need-returns-2
+returns-2 c = search needs
+
+slice-reshare-prefix-part : tie.Need-slice-reshare-prefix-part
+slice-reshare-prefix-part c = search needs
+
+slice-aggregate-part : tie.Need-slice-aggregate-part
+slice-aggregate-part c = sym (length-take-le _ _ (c .before .before .before .before .before .before .before .before .read-rows .ensures .space))
+
+answer-requires : tie.Need-answer-requires
+answer-requires c κs = let t = c .before .before .before .before .before .before .before .before .before .before .before .before .before .read-rows .ensures in (t .wide, part-fits _ (c .before .before .before .before .before .before .before .before .before .before .before .before .before .read-rows .last .1 .0) t, omega (arith, t .few, c .before .before .before .before .before .before .before .before .before .before .before .before .before .before .before .before .before .before .before .before .before .before .pre))
+
+same-length-3 : tie.Need-same-length-3
+same-length-3 c = search needs
+
+same-length-4 : tie.Need-same-length-4
+same-length-4 c = search needs
+
+same-length-5 : tie.Need-same-length-5
+same-length-5 c = search needs
+
+same-length-6 : tie.Need-same-length-6
+same-length-6 c = search needs
+
+same-length-7 : tie.Need-same-length-7
+same-length-7 c = search needs
+
+same-length-8 : tie.Need-same-length-8
+same-length-8 c = search needs
+
+returns-3 : tie.Need-returns-3
+returns-3 c = search needs
+
+pub run-in-spec : {M : Type 1} → statement M
+run-in-spec =
+    tie.close
+    (tie.spec
+    read-rows-requires
+    slice-aggregate-say
+    say-requires
+    same-length
+    returns
+    say-fault-requires
+    same-length-2
+    returns-2
+    slice-reshare-prefix-part
+    slice-aggregate-part
+    answer-requires
+    same-length-3
+    same-length-4
+    same-length-5
+    same-length-6
+    same-length-7
+    same-length-8
+    returns-3)

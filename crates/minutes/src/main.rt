@@ -1,0 +1,4 @@
+// The analyst's program, run here on the shipped sample.
+fn main() {
+    analyst::run();
+}

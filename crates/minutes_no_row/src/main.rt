@@ -1,0 +1,4 @@
+// A row that the text has not.
+fn main() {
+    analyst::run();
+}

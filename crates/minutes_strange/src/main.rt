@@ -1,0 +1,4 @@
+// Names below the first line are no numbers.
+fn main() {
+    analyst::run();
+}

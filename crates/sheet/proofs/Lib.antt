@@ -1,0 +1,9 @@
+pub mod Putting
+pub mod Runs
+pub mod Closings
+pub mod Kinded
+pub mod LineRuns
+pub mod LineEnds
+pub mod Sheets
+pub mod Tidying
+pub mod Stopping

@@ -1,0 +1,43 @@
+-- `sheet::bytes::kind_of` meets its contract: each return has its test, in the order of the definition.
+-- Assumes nothing.
+use mathlib.Core.Path.{_∙_, sym}
+use Rattle.text.proofs.Within.{within-both}
+use Rattle.sheet.specs.Kinds.{kindOf}
+use borrow.Author.Tests.{eq-eqb, ne-eqb}
+use borrow.Author.Needs.{needs}
+use Rattle.sheet.proofs.bytes.kind_of.Statement.{statement}
+use Rattle.sheet.proofs.bytes.kind_of.Tie as tie
+use Rattle.sheet.proofs.bytes.kind_of.Reads as reads
+use Rattle.sheet.proofs.bytes.kind_of.Lts as lts
+use Rattle.limits.proofs.is_within.Reads as is-within-reads
+use Rattle.sheet.proofs.bytes.parts.Reads as parts-reads
+
+is-within-requires : tie.Need-is-within-requires
+is-within-requires c κs = search needs
+
+sub-t4 : tie.Need-sub-t4
+sub-t4 c = within-both _ _ _ (sym (c .before .is-within .ensures) ∙ c .if1 .taken) .0
+
+returns : tie.Need-returns
+unfolding kindOf
+returns c = rw (sym (c .before .is-within .ensures) ∙ c .if1 .taken)
+
+parts-requires : tie.Need-parts-requires
+parts-requires c κs = search needs
+
+returns-2 : tie.Need-returns-2
+unfolding kindOf
+returns-2 c = rw (sym (c .before .before .before .is-within .ensures) ∙ c .before .before .if1 .left, sym (c .before .parts .ensures) ∙ c .if2 .taken)
+
+returns-3 : tie.Need-returns-3
+unfolding kindOf
+returns-3 c = rw (sym (c .before .before .before .before .is-within .ensures) ∙ c .before .before .before .if1 .left, sym (c .before .before .parts .ensures) ∙ c .before .if2 .left, eq-eqb _ _ (c .if3 .taken))
+
+returns-4 : tie.Need-returns-4
+unfolding kindOf
+returns-4 c = rw (sym (c .before .before .before .before .is-within .ensures) ∙ c .before .before .before .if1 .left, sym (c .before .before .parts .ensures) ∙ c .before .if2 .left, ne-eqb _ _ (c .if3 .left))
+
+pub kind-of-spec : {M : Type 1} → statement M
+kind-of-spec =
+    tie.close
+    (tie.spec is-within-requires sub-t4 returns parts-requires returns-2 returns-3 returns-4)

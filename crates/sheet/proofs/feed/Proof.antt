@@ -1,0 +1,57 @@
+-- `sheet::feed` meets its contract: a turn reads one byte, and what is left leads to the same end.
+-- Assumes nothing.
+use lib.ListN.{length}
+use Prim.Native.Nat.{_-_}
+use mathlib.Core.Path.{ap}
+use Rattle.sheet.proofs.Runs.{Fed, fed-end, fed-next, fed-start}
+use borrow.Author.Needs.{needs}
+use Rattle.sheet.proofs.feed.Statement.{statement}
+use Rattle.sheet.proofs.feed.Tie as tie
+use Rattle.sheet.proofs.feed.Reads as reads
+use Rattle.sheet.proofs.feed.Lts as lts
+use Rattle.sheet.proofs.step.Reads as step-reads
+
+abbrev Inv-loop : tie.InvT-loop
+Inv-loop text table₀ r₀ i₀ table r i = Fed r₀ table₀ text r table i
+
+abbrev μ-loop : tie.MeasureT-loop
+μ-loop text table₀ r₀ i₀ table r i = length text - i
+
+loop-holds : tie.Need-loop-holds Inv-loop μ-loop
+loop-holds c = fed-start _ _ _
+
+shared-slice-read-step : tie.Need-shared-slice-read-step Inv-loop μ-loop
+shared-slice-read-step c = search needs
+
+step-requires : tie.Need-step-requires Inv-loop μ-loop
+step-requires c κs = search needs
+
+add-i : tie.Need-add-i Inv-loop μ-loop
+add-i c = search needs
+
+loop-less : tie.Need-loop-less Inv-loop μ-loop
+loop-less c = search needs
+
+loop-again : tie.Need-loop-again Inv-loop μ-loop
+loop-again c = fed-next _ _ _ _ _ _ (c .before .before .before .before .before .before .loop .inv) _ _ (c .before .before .before .before .before .loop-test .taken) (c .before .before .step .ensures .0) (c .before .before .step .ensures .1) (search needs)
+
+same-length : tie.Need-same-length Inv-loop μ-loop
+same-length c = c .before .loop .inv .long
+
+returns : tie.Need-returns Inv-loop μ-loop
+returns c = let e = fed-end _ _ _ _ _ _ (c .before .loop .inv) (c .loop-test .left) in (ap (λ s. s .0) e, ap (λ s. s .1) e)
+
+pub feed-spec : {M : Type 1} → statement M
+feed-spec =
+    tie.close
+    (tie.spec
+    Inv-loop
+    μ-loop
+    loop-holds
+    shared-slice-read-step
+    step-requires
+    add-i
+    loop-less
+    loop-again
+    same-length
+    returns)

@@ -1,0 +1,47 @@
+-- `sheet::finish` meets its contract: the last line ends, and a text without rows is a fault.
+-- Assumes nothing.
+use Rattle.sheet.proofs.Runs.{finish-fault, finish-none, finish-rows, finish-table}
+use borrow.Author.Needs.{needs}
+use Rattle.sheet.proofs.finish.Statement.{statement}
+use Rattle.sheet.proofs.finish.Tie as tie
+use Rattle.sheet.proofs.finish.Reads as reads
+use Rattle.sheet.proofs.finish.Lts as lts
+use Rattle.sheet.proofs.fail.Reads as fail-reads
+use Rattle.sheet.proofs.step.Reads as step-reads
+
+step-requires : tie.Need-step-requires
+step-requires c κs = search needs
+
+same-length : tie.Need-same-length
+same-length c = search needs
+
+returns : tie.Need-returns
+returns c = (finish-fault _ _ (c .before .before .before .before .step .ensures .0) (c .if1 .taken), finish-table _ _ (c .before .before .before .before .step .ensures .0) _ (c .before .before .before .before .step .ensures .1))
+
+same-length-2 : tie.Need-same-length-2
+same-length-2 c = search needs
+
+returns-2 : tie.Need-returns-2
+returns-2 c = (finish-rows _ _ (c .before .before .before .before .before .before .step .ensures .0) (c .before .before .if1 .left) (c .if2 .taken), finish-table _ _ (c .before .before .before .before .before .before .step .ensures .0) _ (c .before .before .before .before .before .before .step .ensures .1))
+
+fail-requires : tie.Need-fail-requires
+fail-requires c κs = search needs
+
+same-length-3 : tie.Need-same-length-3
+same-length-3 c = search needs
+
+returns-3 : tie.Need-returns-3
+returns-3 c = (finish-none _ _ (c .before .before .before .before .before .before .before .step .ensures .0) _ (c .fail .ensures) (c .before .before .before .if1 .left) (c .before .if2 .left), finish-table _ _ (c .before .before .before .before .before .before .before .step .ensures .0) _ (c .before .before .before .before .before .before .before .step .ensures .1))
+
+pub finish-spec : {M : Type 1} → statement M
+finish-spec =
+    tie.close
+    (tie.spec
+    step-requires
+    same-length
+    returns
+    same-length-2
+    returns-2
+    fail-requires
+    same-length-3
+    returns-3)

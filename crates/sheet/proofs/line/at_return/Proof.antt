@@ -1,0 +1,52 @@
+-- `sheet::line::at_return` meets its contract: one return for each case of the place.
+-- Assumes nothing.
+use borrow.Author.Needs.{needs}
+use Rattle.sheet.proofs.line.at_return.Statement.{statement}
+use Rattle.sheet.proofs.line.at_return.Tie as tie
+use Rattle.sheet.proofs.line.at_return.Reads as reads
+use Rattle.sheet.proofs.line.at_return.Lts as lts
+
+enum-told : tie.Need-enum-told
+enum-told c = search needs
+
+enum-told-2 : tie.Need-enum-told-2
+enum-told-2 c = search needs
+
+enum-told-3 : tie.Need-enum-told-3
+enum-told-3 c = search needs
+
+enum-told-4 : tie.Need-enum-told-4
+enum-told-4 c = search needs
+
+enum-known-place : tie.Need-enum-known-place
+enum-known-place c = search needs
+
+returns : tie.Need-returns
+returns c = search needs
+
+returns-2 : tie.Need-returns-2
+returns-2 c = search needs
+
+returns-3 : tie.Need-returns-3
+returns-3 c = search needs
+
+returns-4 : tie.Need-returns-4
+returns-4 c = search needs
+
+returns-5 : tie.Need-returns-5
+returns-5 c = cc
+
+pub at-return-spec : {M : Type 1} → statement M
+at-return-spec =
+    tie.close
+    (tie.spec
+    enum-told
+    enum-told-2
+    enum-told-3
+    enum-told-4
+    enum-known-place
+    returns
+    returns-2
+    returns-3
+    returns-4
+    returns-5)

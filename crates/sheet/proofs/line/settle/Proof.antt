@@ -1,0 +1,57 @@
+-- `sheet::line::settle` meets its contract: one return for each case of the place.
+-- Assumes nothing.
+use borrow.Author.Needs.{needs}
+use Rattle.sheet.proofs.line.settle.Statement.{statement}
+use Rattle.sheet.proofs.line.settle.Tie as tie
+use Rattle.sheet.proofs.line.settle.Reads as reads
+use Rattle.sheet.proofs.line.settle.Lts as lts
+use Rattle.sheet.proofs.line.add.Reads as add-reads
+
+enum-told : tie.Need-enum-told
+enum-told c = search needs
+
+enum-known-place : tie.Need-enum-known-place
+enum-known-place c = search needs
+
+add-requires : tie.Need-add-requires
+add-requires c κs = search needs
+
+enum-told-2 : tie.Need-enum-told-2
+enum-told-2 c = search needs
+
+enum-told-3 : tie.Need-enum-told-3
+enum-told-3 c = search needs
+
+enum-told-4 : tie.Need-enum-told-4
+enum-told-4 c = search needs
+
+returns : tie.Need-returns
+returns c = cc
+
+returns-2 : tie.Need-returns-2
+returns-2 c = cc
+
+returns-3 : tie.Need-returns-3
+returns-3 c = cc
+
+returns-4 : tie.Need-returns-4
+returns-4 c = cc
+
+returns-5 : tie.Need-returns-5
+returns-5 c = cc
+
+pub settle-spec : {M : Type 1} → statement M
+settle-spec =
+    tie.close
+    (tie.spec
+    enum-told
+    enum-known-place
+    add-requires
+    enum-told-2
+    enum-told-3
+    enum-told-4
+    returns
+    returns-2
+    returns-3
+    returns-4
+    returns-5)

@@ -1,0 +1,19 @@
+-- `sheet::start` meets its contract: the record field by field.
+-- Assumes nothing.
+use Rattle.sheet.specs.Reading.{begun}
+use borrow.Author.Needs.{needs}
+use Rattle.sheet.proofs.start.Statement.{statement}
+use Rattle.sheet.proofs.start.Tie as tie
+use Rattle.sheet.proofs.start.Reads as reads
+use Rattle.sheet.proofs.start.Lts as lts
+use Rattle.sheet.proofs.line.fresh.Reads as fresh-reads
+
+fresh-requires : tie.Need-fresh-requires
+fresh-requires c κs = search needs
+
+returns : tie.Need-returns
+unfolding begun
+returns c = cc
+
+pub start-spec : {M : Type 1} → statement M
+start-spec = tie.close (tie.spec fresh-requires returns)

@@ -1,0 +1,20 @@
+-- `sheet::uneven` meets its contract: one return for no rows above, one for the test.
+-- Assumes nothing.
+use borrow.Author.Tests.{eq-eqb, ne-eqb}
+use Rattle.sheet.specs.Closing.{differs}
+use borrow.Author.Needs.{needs}
+use Rattle.sheet.proofs.uneven.Statement.{statement}
+use Rattle.sheet.proofs.uneven.Tie as tie
+use Rattle.sheet.proofs.uneven.Reads as reads
+use Rattle.sheet.proofs.uneven.Lts as lts
+
+returns : tie.Need-returns
+unfolding differs
+returns c = rw (eq-eqb _ _ (c .if1 .taken))
+
+returns-2 : tie.Need-returns-2
+unfolding differs
+returns-2 c = rw (ne-eqb _ _ (c .if1 .left))
+
+pub uneven-spec : {M : Type 1} → statement M
+uneven-spec = tie.close (tie.spec returns returns-2)
