@@ -75,6 +75,20 @@ check-exact {T} {c} {w} {work} {number = number} C = (there, back)
         }) in
         C .said ∙ ap (λ (s : Said). s .0) (said-check T c w (length work) ∙ ap₂ (λ l m. said (l ++ m)) z (A .sound))
 
+-- CHECK-PLACELESS: 0 AND THE REFUSALS 1 TO 9 NAME NO PLACE
+pub check-placeless : {T : List ℕ} {c : ℕ} {w work work′ : List ℕ} {number place second : ℕ} → Checks T c w work work′ number place second → number ≤ 9
+    → (place ≡ 0) × (second ≡ 0)
+check-placeless {T} {c} {w} {work} C low =
+    let e = said-check T c w (length work) in
+    let p = none (refusals T c w (length work)) (faults (between T c) w) (refusals-early T c w (length work)) (faults-late (between T c) w)
+    (omega (arith, C .said, ap (λ (s : Said). s .0) e)) in
+    (C .placed .0 ∙ ap (λ (s : Said). s .1) e ∙ p .0, C .placed .1 ∙ ap (λ (s : Said). s .2) e ∙ p .1)
+  where
+    none : (l m : List Said) → Every Early l → Every Late m → said (l ++ m) .0 ≤ 9 → (said (l ++ m) .1 ≡ 0) × (said (l ++ m) .2 ≡ 0)
+    none [] [] h k q = (refl, refl)
+    none [] (s ∷ m) h k q = absurd (omega (arith, k .0))
+    none (s ∷ l) m h k q = h .0 .placeless
+
 -- CHECK-SMALL: THE PLACES ARE THOSE OF A NODE AND A POSITION, so that 32 bits hold them
 pub check-small : {T : List ℕ} {c : ℕ} {w work work′ : List ℕ} {number place second : ℕ} → Checks T c w work work′ number place second
     → (place ≤ 2 * maxRows) × (second ≤ maxRows)

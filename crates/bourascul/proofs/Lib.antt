@@ -1,2 +1,4 @@
 pub mod Counts
+pub mod Demands
+pub mod Numbers
 pub mod Promises

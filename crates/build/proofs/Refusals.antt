@@ -4,7 +4,7 @@ use Rattle.build.specs.Filled.{shortOf}
 use Rattle.limits.specs.Limits.{columnsOk, maxRows, shareOk}
 use Rattle.limits.specs.Said.{Said, fault, lengthFaults, said}
 use Rattle.tree.specs.Calls.{saidBuild}
-use borrow.Author.Tests.{ltb-false}
+use borrow.Author.Tests.{eqb-true, ltb-false}
 use lib.Dec.{eqb, ltb}
 use lib.ListN.{length}
 use mathlib.Core.Bool.{Bool, false, not, true, true≢false}
@@ -91,15 +91,15 @@ module _ (T : List ℕ) (c m l room work : ℕ) where
       go a b e f = rw (e, f)
 
   -- number 0: every test is passed
-  pub none-said : saidBuild T c m l room work .0 ≡ 0 → (columnsOk c ≡ true) × (shareOk m l ≡ true) × (length T / c ≤ maxRows)
+  pub none-said : saidBuild T c m l room work .0 ≡ 0 → (columnsOk c ≡ true) × (shareOk m l ≡ true) × (length T / c ≤ maxRows) × (length T % c ≡ 0)
   unfolding buildSaid
   none-said e =
       let h = none (columnsOk c) (shareOk m l) (eqb (length T % c) 0) (ltb maxRows (length T / c)) (shortOf (length T / c) room work) (said-is ∙ e) in
-      (h .0, h .1, ltb-false maxRows (length T / c) (h .2))
+      (h .0, h .1, ltb-false maxRows (length T / c) (h .2), eqb-true (length T % c) 0 (h .3))
     where
-      none : (a b d e f : Bool) → buildSaid a b d e f ≡ 0 → (a ≡ true) × (b ≡ true) × (e ≡ false)
+      none : (a b d e f : Bool) → buildSaid a b d e f ≡ 0 → (a ≡ true) × (b ≡ true) × (e ≡ false) × (d ≡ true)
       none true true true true f q = absurd (omega arith)
-      none true true true false f q = (refl, refl, refl)
+      none true true true false f q = (refl, refl, refl, refl)
       none true true false e f q = absurd (omega arith)
       none true false d e f q = absurd (omega arith)
       none false b d e f q = absurd (omega arith)

@@ -1,32 +1,70 @@
--- The theorems on the call: what it wrote is accepted, and no second outcome fits. Assumes nothing.
+-- The theorems on the call: what it wrote is the table's and accepted, and no second outcome fits. Assumes nothing.
 use Prim.Native.Nat.{_*_, _≤_, ℕ}
 use Rattle.build.proofs.Refusals.{none-said}
+use Rattle.build.proofs.Whole.{pairs-long, positions}
 use Rattle.build.specs.Calls.{Builds}
 use Rattle.laws.specs.Every.{Every}
+use Rattle.laws.specs.Lists.{each}
+use Rattle.limits.proofs.Numbers.{by-length, none-of-length}
+use Rattle.limits.specs.Limits.{shareOk}
 use Rattle.measure.specs.Table.{between, rowsOf}
 use Rattle.tree.proofs.Built.{build-accepted as words-accepted}
-use Rattle.tree.specs.Build.{build}
+use Rattle.tree.proofs.Good.{share-is}
+use Rattle.tree.proofs.Refusals.{Sized, sized}
+use Rattle.tree.proofs.Written.{each-words}
+use Rattle.tree.specs.Build.{build, plant}
 use Rattle.tree.specs.Check.{Accepted}
-use Rattle.words.specs.Words.{N#}
+use Rattle.tree.specs.Encode.{encode, nodeWords, numbered, pairWords}
+use Rattle.tree.specs.Grove.{Grove, entries}
+use Rattle.words.specs.Words.{N#, c#, n#, wordsOf}
+use borrow.Author.Tests.{eq-eqb}
 use lib.Dec.{eqb}
-use lib.ListN.{drop, length, replicate, take}
+use lib.ListN.{drop, length, length-append, replicate, take}
 use lib.Seq.{take-at}
-use mathlib.Core.Bool.{Bool, cond, true}
+use mathlib.Core.Bool.{cond, true}
 use mathlib.Core.List.{List, _++_}
 use mathlib.Core.Path.{_∙_, _≡_, ap, ap₂, refl, subst, sym}
+use native.Mathlib.Omega.{arith}
 
+-- ---- the definition's words
+module _ (T : List ℕ) (c m l : ℕ) where
+  -- the header has the table's rows and columns
+  headed : shareOk m l ≡ true → (n# (build T c m l) ≡ rowsOf T c) × (c# (build T c m l) ≡ c)
+  unfolding build encode
+  headed e =
+      let s = share-is m l e in
+      (positions (between T c) m l (omega (arith, s .0)) (s .1) (rowsOf T c), refl)
+
+  -- and asks for just the words that there are
+  just-words : length (build T c m l) ≡ wordsOf (build T c m l)
+  unfolding build encode
+  just-words =
+      let t : Grove = plant (between T c) m l (rowsOf T c) in
+      omega (arith, length-append (each nodeWords (numbered t)) (each pairWords (entries t)), each-words (numbered t), pairs-long (entries t))
+
+-- ---- the call
 module _ (T : List ℕ) (c m l : ℕ) (room work : List ℕ) where
+  -- the index stands at the front of the room
+  index-there : {room′ work′ : List ℕ} {number words nodes : ℕ} → Builds T c m l room work room′ work′ number words nodes → number ≡ 0 → take words room′ ≡ build T c m l
+  index-there {number = number} b z =
+      let q : eqb number 0 ≡ true = eq-eqb number 0 z in
+      ap₂ take (rw q at (b .counted .0)) (rw q at (b .index)) ∙ take-at (build T c m l) (drop (length (build T c m l)) room) (length (build T c m l)) refl
+
   -- WHAT THE CALL WROTE IS ACCEPTED BY THE FULL CHECK
   pub build-accepted : (room′ work′ : List ℕ) (number words nodes : ℕ) → Builds T c m l room work room′ work′ number words nodes → number ≡ 0 → Every (λ v. v ≤ 65535) T
       → Accepted (between T c) (take words room′)
   build-accepted room′ work′ number words nodes b z small =
       let t = none-said T c m l (length room) (length work) (sym (b .said) ∙ z) in
-      let q : eqb number 0 ≡ true = ap (λ (k : ℕ). eqb k 0) z in
-      let w : words ≡ length (build T c m l) = b .counted .0 ∙ ap (λ (p : Bool). cond p (length (build T c m l)) 0) q in
-      let r : room′ ≡ build T c m l ++ drop (length (build T c m l)) room =
-      b .index ∙ ap (λ (p : Bool). cond p (build T c m l ++ drop (length (build T c m l)) room) room) q in
-      subst (Accepted (between T c)) (sym (ap₂ take w r ∙ take-at (build T c m l) (drop (length (build T c m l)) room) (length (build T c m l)) refl))
-      (words-accepted T c m l (t .0) (t .1) (t .2) small)
+      subst (Accepted (between T c)) (sym (index-there b z)) (words-accepted T c m l (t .0) (t .1) (t .2) small)
+
+  -- WHAT THE CALL WROTE IS THE TABLE'S INDEX: NO CALL REFUSES SUCH A TABLE, THE HEADER HAS ITS ROWS AND COLUMNS, AND ASKS FOR JUST THESE WORDS
+  pub build-headed : {room′ work′ : List ℕ} {number words nodes : ℕ} → Builds T c m l room work room′ work′ number words nodes → number ≡ 0
+      → Sized (length T) c × (n# (take words room′) ≡ rowsOf T c) × (c# (take words room′) ≡ c) × (length (take words room′) ≡ wordsOf (take words room′))
+  build-headed b z =
+      let t = none-said T c m l (length room) (length work) (sym (b .said) ∙ z) in
+      let h = headed T c m l (t .1) in
+      rw (index-there b z)
+      (sized (length T) c (sym (none-of-length (length T) c (t .3) (t .2) ∙ by-length (length T) c (t .0))), h .0, h .1, just-words T c m l)
 
   -- NO SECOND OUTCOME FITS
   pub build-only : (room₁ work₁ room₂ work₂ : List ℕ) (number₁ words₁ nodes₁ number₂ words₂ nodes₂ : ℕ)

@@ -119,7 +119,7 @@ wrote : (a s : Bool) → said (fault 16 (not a) ++ fault 5 s) .0 ≡ 0 → a ≡
 wrote true s e = refl
 wrote false s e = absurd (omega arith)
 
-written-ok : (w : List ℕ) (room : ℕ) → saidWrite w room .0 ≡ 0 → wordsOk w ≡ true
+pub written-ok : (w : List ℕ) (room : ℕ) → saidWrite w room .0 ≡ 0 → wordsOk w ≡ true
 unfolding saidWrite
 written-ok w room e = wrote (wordsOk w) (ltb room (512 * blocksFor (wordsOf w))) e
 

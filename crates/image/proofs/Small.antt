@@ -1,19 +1,20 @@
--- How much the two image calls give back at most: 01, The image, for the most rows that there can be. Assumes nothing.
-use Prim.Native.Nat.{_%_, _*_, _+_, _-_, _/_, _≤_, suc, zero, ℕ}
+-- How much the two image calls give back at most, for the most rows that there can be, and what their numbers say: 01, The image. Assumes nothing.
+use Prim.Native.Nat.{_%_, _*_, _+_, _/_, _≤_, ℕ}
 use Rattle.image.proofs.Calls.{writes-sixteen}
 use Rattle.image.proofs.Only.{write-only}
+use Rattle.image.proofs.RoundTrip.{written-ok}
 use Rattle.image.specs.Calls.{Reads, Writes}
 use Rattle.image.specs.Lowest.{wrongBlocks}
 use Rattle.image.specs.Sound.{restZero}
-use Rattle.laws.proofs.Tests.{and-r, holds}
+use Rattle.laws.proofs.Tests.{holds}
 use Rattle.limits.specs.Limits.{maxRows}
-use Rattle.limits.specs.Said.{fault, said}
+use Rattle.limits.specs.Said.{Said, fault, said}
 use Rattle.words.proofs.Headers.{bad-nodes, bad-rows}
 use Rattle.words.proofs.InShape.{nodes-are, whole}
 use Rattle.words.specs.Image.{blocksFor, imageFaults, imageTotal, imageWords, saidRead}
 use Rattle.words.specs.Words.{N#, headerOk, n#, nodesOk, wordsOf, wordsOk}
 use borrow.Author.Tests.{eqb-true}
-use lib.Dec.{eqb, leb, leb→le, ltb}
+use lib.Dec.{eqb, ltb}
 use lib.ListN.{length}
 use mathlib.Core.Bool.{Bool, _||_, cond, false, not, true, true≢false}
 use mathlib.Core.List.{List, [], _++_, _∷_, map}
@@ -41,6 +42,10 @@ write-small {w} {before} {after} {number} {blocks} r = by-words (wordsOk w) refl
         counted (eqb number 0) (r .counted) (blocks-few (wordsOf w) (omega (arith, W .rows, W .nodes)))
     by-words false e = omega (arith, write-only w before after before number 16 blocks 0 r (writes-sixteen w before e) .1)
 
+-- WRITING: 0 says that no word of the index is missing
+pub write-whole : {w before after : List ℕ} {blocks : ℕ} → Writes w before after 0 blocks → wordsOf w ≤ length w
+write-whole {w} {before} r = whole w (written-ok w (length before) (sym (r .said))) .words
+
 -- ---- reading
 -- a possible header asks for no more words than the greatest index has
 words-few : (w : List ℕ) → headerOk w ≡ true → wordsOf w ≤ 10 * maxRows + 8
@@ -53,6 +58,10 @@ words-few w e = omega (arith, rows, nodes (nodesOk (n# w) (N# w)) refl)
     nodes true q = nodes-are (n# w) (N# w) (holds (nodesOk (n# w) (N# w)) q) .0
     nodes false q = absurd (true≢false (sym e ∙ sym (bad-nodes w q)))
 
+-- the faults in their order, by their tests and the wrong blocks
+abbrev by-tests : Bool → List ℕ → Bool → Bool → Bool → List Said
+by-tests a bs k z s = (fault 14 a ++ map (λ b. (15, b, 0)) bs ++ fault 16 k ++ fault 17 z) ++ fault 5 s
+
 -- number 0: the header is possible
 read-header : (i : List ℕ) (room : ℕ) → saidRead i room .0 ≡ 0 → headerOk (imageWords i 8) ≡ true
 unfolding saidRead imageFaults
@@ -60,12 +69,27 @@ read-header i room e =
     go (eqb (length i) 0 || not (eqb (length i % 512) 0)) (wrongBlocks i 0 (length i / 512)) (headerOk (imageWords i 8))
     (eqb (length i / 512) (blocksFor (imageTotal i))) (restZero i (imageTotal i)) (ltb room (imageTotal i)) e
   where
-    go : (a : Bool) (bs : List ℕ) (h k z s : Bool)
-        → said ((fault 14 a ++ map (λ b. (15, b, 0)) bs ++ fault 16 (not h || not k) ++ fault 17 (not z)) ++ fault 5 s) .0 ≡ 0 → h ≡ true
+    go : (a : Bool) (bs : List ℕ) (h k z s : Bool) → said (by-tests a bs (not h || not k) (not z) s) .0 ≡ 0 → h ≡ true
     go true bs h k z s e = absurd (omega arith)
     go false (b ∷ bs) h k z s e = absurd (omega arith)
     go false [] true k z s e = refl
     go false [] false k z s e = absurd (omega arith)
+
+-- READING: no number but 15 names a block
+pub read-placed : {i before after : List ℕ} {number place words : ℕ} → Reads i before after number place words → (number ≡ 15 → ⊥) → place ≡ 0
+unfolding saidRead imageFaults
+read-placed {i} {before} r h =
+    r .placed ∙ go (eqb (length i) 0 || not (eqb (length i % 512) 0)) (wrongBlocks i 0 (length i / 512))
+    (not (headerOk (imageWords i 8)) || not (eqb (length i / 512) (blocksFor (imageTotal i)))) (not (restZero i (imageTotal i)))
+    (ltb (length before) (imageTotal i)) (λ e. h (r .said ∙ e))
+  where
+    go : (a : Bool) (bs : List ℕ) (k z s : Bool) → (said (by-tests a bs k z s) .0 ≡ 15 → ⊥) → said (by-tests a bs k z s) .1 ≡ 0
+    go true bs k z s h = refl
+    go false (b ∷ bs) k z s h = absurd (h refl)
+    go false [] true z s h = refl
+    go false [] false true s h = refl
+    go false [] false false true h = refl
+    go false [] false false false h = refl
 
 total-few : (i : List ℕ) → headerOk (imageWords i 8) ≡ true → imageTotal i ≤ 10 * maxRows + 8
 unfolding imageTotal

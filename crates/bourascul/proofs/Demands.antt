@@ -1,0 +1,197 @@
+-- The three demands, as theorems on what the calls give: an index is accepted where a check of it gave 0. Assumes nothing.
+use Prim.Native.Nat.{_*_, _<_, _^_, _≤_, min, ℕ}
+use Rattle.answers.specs.Records.{made}
+use Rattle.answers.specs.declared.Answer.{Answer}
+use Rattle.audit.proofs.Theorems.{check-exact, check-only, check-placeless}
+use Rattle.audit.specs.Calls.{Checks, Passed}
+use Rattle.bourascul.proofs.Numbers.{both-parts, last-is, passed, same-number}
+use Rattle.bourascul.proofs.Promises.{answers-exact as records-exact, refused-records}
+use Rattle.bourascul.specs.Calls.{ReadsBlock}
+use Rattle.bourascul.specs.Recorded.{Recorded}
+use Rattle.build.proofs.Theorems.{build-accepted, build-headed}
+use Rattle.build.specs.Calls.{Builds}
+use Rattle.image.proofs.Calls.{reads-none}
+use Rattle.image.proofs.RoundTrip.{round-trip}
+use Rattle.image.proofs.Small.{read-placed, write-whole}
+use Rattle.image.specs.Below.{Below}
+use Rattle.image.specs.Calls.{Writes}
+use Rattle.laws.specs.Every.{Every}
+use Rattle.laws.specs.Lists.{last, times}
+use Rattle.measure.specs.Table.{between, from, row, rowsOf}
+use Rattle.nearest.proofs.Promises.{nearest-exact as call-exact, nearest-measured, nearest-measured-all, nearest-two-tables}
+use Rattle.nearest.specs.Calls.{Answered, Settled}
+use Rattle.nearest.specs.Fits.{homeBound}
+use Rattle.radius.proofs.Promises.{radius-call-exact}
+use Rattle.radius.specs.Calls.{Searched}
+use Rattle.tree.proofs.Theorems.{one-home}
+use Rattle.tree.specs.Grove.{treeOf}
+use Rattle.tree.specs.Homes.{homes}
+use Rattle.tree.specs.Nearest.{answers, isMeasured, lastDistance, measured}
+use Rattle.words.proofs.Listed.{list-only, node-there, part-none, part-pairs}
+use Rattle.words.specs.Calls.{Lists, listed, lists}
+use Rattle.words.specs.Words.{n#, wordsOf}
+use borrow.Author.Tests.{le-leb, lt-leb, ne-eqb}
+use lib.Dec.{T, eqb}
+use lib.ListN.{drop, getD, length, replicate, take}
+use lib.Seq.{length-take-le, take-all, take-at}
+use mathlib.Core.Bool.{Bool, false, or-true, true}
+use mathlib.Core.List.{List, [], _++_, map}
+use mathlib.Core.Logic.{_↔_}
+use mathlib.Core.Path.{_∙_, _≡_, ap, ap₂, refl, subst, sym}
+use native.Mathlib.Omega.{arith}
+
+-- ---- DEMAND 1: A REFUSAL GIVES ITS NUMBER, COUNTS OF ZERO OR AN EMPTY PART, AND LEAVES EVERY BUFFER AS IT WAS
+-- a refused build
+pub build-refused : {t : List ℕ} {c m l : ℕ} {room work room′ work′ : List ℕ} {number words nodes : ℕ} → Builds t c m l room work room′ work′ number words nodes
+    → (number ≡ 0 → ⊥) → (words ≡ 0) × (nodes ≡ 0) × (room′ ≡ room) × (work′ ≡ work)
+build-refused {number = number} b k =
+    let e = ne-eqb number 0 k in
+    (rw e at (b .counted .0), rw e at (b .counted .1), rw e at (b .index), rw e at (b .cleared))
+
+-- a check: 1 to 9 are refusals; 10 and above are what it found, and clear the workspace as 0 does
+module _ {t : List ℕ} {c : ℕ} {w work work′ : List ℕ} {number place second : ℕ} (s : Checks t c w work work′ number place second) where
+  pub check-refused : 1 ≤ number → number ≤ 9 → (place ≡ 0) × (second ≡ 0) × (work′ ≡ work)
+  check-refused some low =
+      let p = check-placeless s low in
+      (p .0, p .1, rw (ne-eqb number 0 (λ z. omega arith), lt-leb 10 number (omega arith)) at (s .cleared))
+
+  pub check-found : 10 ≤ number → work′ ≡ replicate (6 * rowsOf t c) 0 ++ drop (6 * rowsOf t c) work
+  check-found h = rw (le-leb 10 number h, or-true (eqb number 0)) at (s .cleared)
+
+-- a refused radius search
+pub radius-refused : {t : List ℕ} {c : ℕ} {w q : List ℕ} {r : ℕ} {before after : List ℕ} {number in# met : ℕ} → Searched t c w q r before after number in# met
+    → (number ≡ 0 → ⊥) → (in# ≡ 0) × (met ≡ 0) × (after ≡ before)
+radius-refused s = s .refused
+
+-- a refused nearest search
+pub nearest-refused : {t : List ℕ} {c : ℕ} {w q : List ℕ} {wanted room : ℕ} {rs rs′ ds ds′ how how′ work work′ : List ℕ} {number given met : ℕ}
+    → Answered t c w q wanted room rs rs′ ds ds′ how how′ work work′ number given met
+    → (number ≡ 0 → ⊥) → (given ≡ 0) × (met ≡ 0) × (rs′ ≡ rs) × (ds′ ≡ ds) × (how′ ≡ how) × (work′ ≡ work)
+nearest-refused s = s .refused
+
+-- a refused nearest search with records
+pub answers-refused : {t : List ℕ} {c : ℕ} {w q : List ℕ} {wanted : ℕ} {as₀ as₁ : List Answer} {rs rs′ ds ds′ how how′ work work′ : List ℕ} {number given met : ℕ}
+    → Recorded t c w q wanted as₀ as₁ rs rs′ ds ds′ how how′ work work′ number given met
+    → (number ≡ 0 → ⊥) → (as₁ ≡ as₀) × ((given ≡ 0) × (met ≡ 0) × (rs′ ≡ rs) × (ds′ ≡ ds) × (how′ ≡ how) × (work′ ≡ work))
+answers-refused s k = (refused-records s k, s .plain .refused k)
+
+-- a refused writing of an image
+pub write-refused : {w before after : List ℕ} {number blocks : ℕ} → Writes w before after number blocks → (number ≡ 0 → ⊥) → (blocks ≡ 0) × (after ≡ before)
+write-refused {number = number} s k = (rw (ne-eqb number 0 k) at (s .counted), rw (ne-eqb number 0 k) at (s .lent))
+
+-- a refused reading of one: 15 names a block, no other number does
+pub read-refused : {i before after : List ℕ} {number place words : ℕ} → ReadsBlock i before after number place words
+    → (number ≡ 0 → ⊥) → (words ≡ 0) × (after ≡ before) × ((number ≡ 15 → ⊥) → place ≡ 0)
+read-refused {i} {before} {after} {number} {place} {words} s k =
+    let p = reads-none i before after number (s .block) words (s .reads) k in
+    (p .0, p .1, λ h. omega (arith, s .named, read-placed (s .reads) h))
+
+-- a listing of nothing
+pub list-refused : {w : List ℕ} {k start long : ℕ} → Lists w k start long → listed w k ≡ [] → (start ≡ 0) × (long ≡ 0)
+list-refused {w} {k} {start} {long} p z = go (lists w k) refl
+  where
+    go : (b : Bool) → lists w k ≡ b → (start ≡ 0) × (long ≡ 0)
+    go false e = list-only p (part-none w k e refl refl)
+    go true e =
+        let S = node-there w k e in
+        absurd (omega (arith, list-only p (part-pairs w k e refl refl) .1, p .whole, ap length z, S .0 .node k (S .1) .some))
+
+-- ---- DEMAND 2: THE CHECK IS EXACT, THE BUILD PASSES IT, THE SEARCHES ARE EXACT, AND AN IMAGE KEEPS THE INDEX
+-- a check gives 0 exactly where no refusal meets it, the header is the table's, and the words, the shape and every part of the full check hold
+pub check-accepts : {t : List ℕ} {c : ℕ} {w work work′ : List ℕ} {number place second : ℕ} → Checks t c w work work′ number place second
+    → (number ≡ 0) ↔ Passed t c w work
+check-accepts s = check-exact s
+
+-- what a build wrote over a table of 16-bit numbers passes, in a workspace that is long enough
+pub build-passes : {t : List ℕ} {c m l : ℕ} {room work room′ work′ work₂ work₃ : List ℕ} {words nodes number place second : ℕ}
+    → Builds t c m l room work room′ work′ 0 words nodes → Every (λ v. v ≤ 65535) t → 6 * rowsOf t c ≤ length work₂
+    → Checks t c (take words room′) work₂ work₃ number place second → (number ≡ 0) × (place ≡ 0) × (second ≡ 0)
+build-passes {t} {c} {m} {l} {room} {work} {room′} {work′} {words = words} {nodes} b small enough s =
+    let h = build-headed t c m l room work b refl in
+    let a = build-accepted t c m l room work room′ work′ 0 words nodes b refl small in
+    let z = check-exact s .1
+    (record { columns = (h .0 .some, h .0 .few); multiple = h .0 .whole; few = h .0 .rows; room = enough; same-rows = h .1; same-columns = h .2; accepted = a }) in
+    let p = check-placeless s (omega arith) in
+    (z, p .0, p .1)
+
+-- an index of which a check gave 0
+module _ {t : List ℕ} {c : ℕ} {w work₀ work₁ : List ℕ} {place second : ℕ} (ok : Checks t c w work₀ work₁ 0 place second) where
+  -- a radius search marks exactly the rows within the radius
+  pub radius-exact : {q : List ℕ} {r : ℕ} {before after : List ℕ} {in# met : ℕ} → Searched t c w q r before after 0 in# met
+      → (i : ℕ) → i < n# w → (2 ≤ getD after i 0) ↔ (from t c q i ≤ r)
+  radius-exact s = radius-call-exact s refl (passed ok .accepted)
+
+  -- a nearest search gives the first of all rows by distance, then row number
+  pub nearest-exact : {q : List ℕ} {wanted room : ℕ} {rs rs′ ds ds′ how how′ work work′ : List ℕ} {given met : ℕ}
+      → Answered t c w q wanted room rs rs′ ds ds′ how how′ work work′ 0 given met → Settled (from t c q) w wanted rs rs′ ds ds′ how how′ given
+  nearest-exact s = call-exact s refl (passed ok .accepted)
+
+  -- and as records the same
+  pub answers-exact : {q : List ℕ} {wanted : ℕ} {as₀ as₁ : List Answer} {rs rs′ ds ds′ how how′ work work′ : List ℕ} {given met : ℕ}
+      → Recorded t c w q wanted as₀ as₁ rs rs′ ds ds′ how how′ work work′ 0 given met
+      → as₁ ≡ map (λ a. made (a .0) (a .1)) (answers (from t c q) (n# w) wanted) ++ drop (min wanted (n# w)) as₀
+  answers-exact s = records-exact s refl (passed ok .accepted)
+
+-- an index that was written, and the written blocks read into a room that is long enough
+module _ {w before after room room′ : List ℕ} {blocks number place words : ℕ} (s : Writes w before after 0 blocks) (low : Below (2 ^ 32) w)
+    (enough : wordsOf w ≤ length room) (r : ReadsBlock (take (512 * blocks) after) room room′ number place words) where
+  -- it is the same, word for word
+  pub image-same : (number ≡ 0) × (place ≡ 0) × (words ≡ wordsOf w) × (take words room′ ≡ take (wordsOf w) w)
+  image-same =
+      let d = round-trip w before after room room′ blocks number (r .block) words low s enough (r .reads) in
+      let t = take-at (take (wordsOf w) w) (drop (wordsOf w) room) (wordsOf w) (length-take-le (wordsOf w) w (write-whole s)) in
+      (d .0, omega (arith, r .named, read-placed (r .reads) (λ e. omega (arith, d .0))), d .1, ap₂ take (d .1) (d .2) ∙ t)
+
+  -- so that where nothing stood behind it, a check says the same of both
+  pub image-checked : {t : List ℕ} {c : ℕ} {work work₁ work₂ : List ℕ} {n₁ p₁ s₁ n₂ p₂ s₂ : ℕ} → length w ≡ wordsOf w
+      → Checks t c w work work₁ n₁ p₁ s₁ → Checks t c (take words room′) work work₂ n₂ p₂ s₂ → (n₁ ≡ n₂) × (p₁ ≡ p₂) × (s₁ ≡ s₂) × (work₁ ≡ work₂)
+  image-checked {t} {c} {work} {work₂ = work₂} {n₂ = n₂} {p₂} {s₂} e a b =
+      check-only a (subst (λ (v : List ℕ). Checks t c v work work₂ n₂ p₂ s₂) (image-same .3 ∙ take-all (wordsOf w) w (omega arith)) b)
+
+-- ---- DEMAND 3: WHICH ROWS A NEAREST SEARCH MEASURES, AND THAT ITS OUTCOME RESTS ON THESE ALONE
+module _ {t : List ℕ} {c : ℕ} {w work₀ work₁ : List ℕ} {place second : ℕ} (ok : Checks t c w work₀ work₁ 0 place second) where
+  -- none twice: each row has exactly one home
+  pub home-once : (q : List ℕ) (i : ℕ) → i < n# w → times i (map (λ h. h .0) (homes (from t c q) (treeOf w))) ≡ 1
+  home-once q i h = one-home (between t c) w (passed ok .accepted) (from t c q) i h
+
+  module _ {q : List ℕ} {wanted room : ℕ} {rs rs′ ds ds′ how how′ work work′ : List ℕ} {given met : ℕ}
+      (s : Answered t c w q wanted room rs rs′ ds ds′ how how′ work work′ 0 given met) where
+    -- a row is measured exactly if its home bound is at most the last distance in the answer
+    pub measured-by-home : wanted ≤ n# w → (i : ℕ) → i < n# w
+        → T (isMeasured (getD how′ i 0)) ↔ (homeBound w (from t c q) i ≤ lastDistance (answers (from t c q) (n# w) wanted))
+    measured-by-home = nearest-measured s refl (passed ok .accepted)
+
+    -- that is the last distance given
+    pub last-given : last (take given ds′) ≡ lastDistance (answers (from t c q) (n# w) wanted)
+    last-given = last-is (nearest-exact ok s)
+
+    -- every row, if there are fewer than wanted
+    pub measured-all : n# w < wanted → (i : ℕ) → i < n# w → T (isMeasured (getD how′ i 0))
+    measured-all = nearest-measured-all s refl (passed ok .accepted)
+
+    -- another table that differs only in rows not measured gets the same outcome, whether or not the index fits it, from a call that is not refused
+    pub same-elsewhere : {t₂ rs₂ rs₂′ ds₂ ds₂′ how₂ how₂′ work₂ work₂′ : List ℕ} {room₂ given₂ met₂ : ℕ}
+        → Answered t₂ c w q wanted room₂ rs₂ rs₂′ ds₂ ds₂′ how₂ how₂′ work₂ work₂′ 0 given₂ met₂
+        → ((i : ℕ) → i < n# w → T (isMeasured (getD how′ i 0)) → row t c i ≡ row t₂ c i)
+        → (given ≡ given₂) × (met ≡ met₂) × (take (min wanted (n# w)) rs′ ≡ take (min wanted (n# w)) rs₂′)
+        × (take (min wanted (n# w)) ds′ ≡ take (min wanted (n# w)) ds₂′) × (take (n# w) how′ ≡ take (n# w) how₂′)
+    same-elsewhere s₂ agree = nearest-two-tables s refl (passed ok .accepted) s₂ refl agree
+
+    -- and where it is as long and its call is lent the same, all is the same: the number and every buffer
+    pub same-outcome : {t₂ rs₂ ds₂ how₂ work₂ : List ℕ} {number₂ given₂ met₂ : ℕ}
+        → Answered t₂ c w q wanted room rs rs₂ ds ds₂ how how₂ work work₂ number₂ given₂ met₂ → length t ≡ length t₂
+        → ((i : ℕ) → i < n# w → T (isMeasured (getD how′ i 0)) → row t c i ≡ row t₂ c i)
+        → (0 ≡ number₂) × (given ≡ given₂) × (met ≡ met₂) × (rs′ ≡ rs₂) × (ds′ ≡ ds₂) × (how′ ≡ how₂) × (work′ ≡ work₂)
+    same-outcome {t₂} {rs₂} {ds₂} {how₂} s₂ e agree =
+        let z = same-number s s₂ e in
+        let E = nearest-two-tables s refl (passed ok .accepted) s₂ (sym z) agree in
+        let b = s .beyond refl in
+        let b₂ = s₂ .beyond (sym z) in
+        let rows = both-parts (min wanted (n# w)) rs′ rs₂ (E .2) (b .0 ∙ sym (b₂ .0)) in
+        let distances = both-parts (min wanted (n# w)) ds′ ds₂ (E .3) (b .1 ∙ sym (b₂ .1)) in
+        (z, E .0, E .1, rows, distances, both-parts (n# w) how′ how₂ (E .4) (b .2 ∙ sym (b₂ .2)), s .cleared refl ∙ sym (s₂ .cleared (sym z)))
+
+-- the count is the number of rows so marked
+pub measured-counted : {t : List ℕ} {c : ℕ} {w q : List ℕ} {wanted room : ℕ} {rs rs′ ds ds′ how how′ work work′ : List ℕ} {given met : ℕ}
+    → Answered t c w q wanted room rs rs′ ds ds′ how how′ work work′ 0 given met → met ≡ measured (take (n# w) how′)
+measured-counted s = s .counted refl

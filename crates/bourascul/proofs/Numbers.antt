@@ -1,0 +1,80 @@
+-- What the searches' numbers rest on: an accepted index is not refused where query and rooms fit, and of the table only its length counts; and D is
+-- the last distance given. Assumes nothing.
+use Prim.Native.Nat.{_*_, _≤_, min, ℕ}
+use Rattle.audit.proofs.Theorems.{check-exact}
+use Rattle.audit.specs.Calls.{Checks, Passed}
+use Rattle.laws.specs.Lists.{last}
+use Rattle.limits.proofs.Numbers.{by-length, none-of-length}
+use Rattle.limits.specs.Limits.{columnsOk, maxColumns}
+use Rattle.limits.specs.Said.{said, tableFaults}
+use Rattle.measure.specs.Table.{rowsOf}
+use Rattle.nearest.proofs.Contract.{same-answers}
+use Rattle.nearest.proofs.Refused as near
+use Rattle.nearest.specs.Calls.{Answered, Settled}
+use Rattle.radius.proofs.Refused as within-radius
+use Rattle.radius.specs.Calls.{Searched}
+use Rattle.tree.proofs.Answers.{answers-length}
+use Rattle.tree.specs.Calls.{saidNearest}
+use Rattle.tree.specs.Nearest.{answers, lastDistance}
+use Rattle.words.proofs.Index.{none-wrong}
+use Rattle.words.specs.Calls.{indexFaults}
+use Rattle.words.specs.Words.{n#}
+use borrow.Author.Tests.{le-leb}
+use lib.ListN.{drop, length, length-map, take, take-append-drop}
+use lib.Seq.{take-at}
+use mathlib.Core.Bool.{true}
+use mathlib.Core.List.{List, _++_, map}
+use mathlib.Core.Path.{_∙_, _≡_, ap, ap₂, refl, sym}
+use native.Mathlib.Omega.{arith}
+
+-- ---- an index of which a check gave 0
+module _ {t : List ℕ} {c : ℕ} {w work₀ work₁ : List ℕ} {place second : ℕ} (ok : Checks t c w work₀ work₁ 0 place second) where
+  -- THE CALL WAS NOT REFUSED, THE INDEX IS THE TABLE'S AND ACCEPTED
+  pub passed : Passed t c w work₀
+  passed = check-exact ok .0 refl
+
+  -- no search refuses the table, nor the index
+  table-right : 0 ≡ said (tableFaults (length t) c) .0
+  table-right =
+      let right : columnsOk c ≡ true = rw (le-leb 1 c (passed .columns .0), le-leb c maxColumns (passed .columns .1)) in
+      none-of-length (length t) c (passed .multiple) (passed .few) ∙ by-length (length t) c right
+
+  index-right : 0 ≡ said (indexFaults w (rowsOf t c) c) .0
+  index-right = none-wrong w (rowsOf t c) c (passed .accepted .words) (passed .same-rows) (passed .same-columns) (passed .accepted .shape)
+
+  -- A RADIUS SEARCH IS NOT REFUSED WHERE THE QUERY HAS c NUMBERS AND THERE IS A HOW-BYTE FOR EACH ROW
+  pub radius-taken : {q : List ℕ} {r : ℕ} {before after : List ℕ} {number in# met : ℕ} → Searched t c w q r before after number in# met
+      → length q ≡ c → n# w ≤ length before → number ≡ 0
+  radius-taken {q} {before = before} s e h =
+      s .said ∙ sym (within-radius.by-index t c w q (length before) table-right refl (omega (arith, passed .same-rows)) e index-right)
+
+  -- NOR IS A NEAREST SEARCH WHERE SOME ARE WANTED AND THERE IS ROOM FOR THE ANSWERS, THE HOW-BYTES AND 6n WORDS
+  pub nearest-taken : {q : List ℕ} {wanted room : ℕ} {rs rs′ ds ds′ how how′ work work′ : List ℕ} {number given met : ℕ}
+      → Answered t c w q wanted room rs rs′ ds ds′ how how′ work work′ number given met
+      → length q ≡ c → 1 ≤ wanted → min wanted (n# w) ≤ room → n# w ≤ length how → 6 * n# w ≤ length work → number ≡ 0
+  nearest-taken {q} {wanted} {room} {how = how} {work = work} s e some a b d =
+      let n = passed .same-rows in
+      s .said ∙ sym (near.by-index t c w q wanted room (length how) (length work) table-right refl refl (omega arith) (omega arith) (omega arith) e (λ z. omega arith) index-right)
+
+-- ---- D
+-- THE LAST DISTANCE GIVEN IS D
+pub last-is : {x : ℕ → ℕ} {w : List ℕ} {wanted : ℕ} {rs rs′ ds ds′ how how′ : List ℕ} {given : ℕ} → Settled x w wanted rs rs′ ds ds′ how how′ given
+    → last (take given ds′) ≡ lastDistance (answers x (n# w) wanted)
+last-is {x} {w} {wanted} {ds = ds} s =
+    let k : ℕ = min wanted (n# w) in
+    let A : List (ℕ × ℕ) = answers x (n# w) wanted in
+    let long : length (map (λ a. a .1) A) ≡ k =
+    length-map A (λ a. a .1) ∙ ap length (sym (same-answers x (n# w) wanted k refl)) ∙ answers-length x (n# w) k (omega arith) in
+    ap last (ap₂ take (s .count) (s .distances) ∙ take-at (map (λ a. a .1) A) (drop k ds) k long)
+
+-- ---- two calls
+-- lists that agree up to k and from k on are one
+pub both-parts : (k : ℕ) (a b : List ℕ) → take k a ≡ take k b → drop k a ≡ drop k b → a ≡ b
+both-parts k a b e d = sym (take-append-drop k a) ∙ ap₂ (λ (x y : List ℕ). x ++ y) e d ∙ take-append-drop k b
+
+-- TWO NEAREST SEARCHES ON TABLES THAT ARE EQUALLY LONG, LENT AS MUCH, GIVE THE SAME NUMBER
+pub same-number : {t t₂ : List ℕ} {c : ℕ} {w q : List ℕ} {wanted room : ℕ} {rs rs′ ds ds′ how how′ work work′ : List ℕ} {number given met : ℕ}
+    {rs₂ rs₂′ ds₂ ds₂′ how₂′ work₂′ : List ℕ} {number₂ given₂ met₂ : ℕ} → Answered t c w q wanted room rs rs′ ds ds′ how how′ work work′ number given met
+    → Answered t₂ c w q wanted room rs₂ rs₂′ ds₂ ds₂′ how how₂′ work work₂′ number₂ given₂ met₂ → length t ≡ length t₂ → number ≡ number₂
+unfolding saidNearest
+same-number s s₂ e = s .said ∙ rw e (sym (s₂ .said))
