@@ -66,7 +66,7 @@ module _ {t : List ℕ} {c m l : ℕ} {room work room′ work′ : List ℕ} {nu
   accepted : Accepted (between t c) (take words room′)
   accepted = build-accepted t c m l room work room′ work′ number words nodes b z s
 
-  pub marked-exact : {q q′ before after : List ℕ} {r number′ in# measured# : ℕ} → Searched t c (take words room′) q r before after number′ in# measured# → q ≡ q′
+  pub marked-exact : {q q′ before after : List ℕ} {r number′ in# met : ℕ} → Searched t c (take words room′) q r before after number′ in# met → q ≡ q′
       → Alike t c q′ r after number′
   marked-exact {q} {q′} {before} {after} {r} {number′} x e =
       subst (λ (q : List ℕ). Alike t c q r after number′) e

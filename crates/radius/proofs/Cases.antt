@@ -81,7 +81,7 @@ module _ (t : List ℕ) (f : T (fit t)) where
     right-is ok = ok
 
     gives : T (right (radius t q r how i k)) → Gives t q r how i k
-    gives ok before after number in# measured# room s =
+    gives ok before after number in# met room s =
         let ts = tests in
         let once = ts .4 in
         let a = same bytes how in

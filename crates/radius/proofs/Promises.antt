@@ -25,8 +25,8 @@ use native.Mathlib.Decide.{decLt, ℕ-discrete}
 use native.Mathlib.Omega.{arith}
 
 -- ---- a call that is not refused, on an index in which each row stands once
-module _ {t : List ℕ} {c : ℕ} {w q : List ℕ} {r : ℕ} {before after : List ℕ} {number in# measured# : ℕ}
-    (s : Searched t c w q r before after number in# measured#) (done : number ≡ 0) (once : Once w) where
+module _ {t : List ℕ} {c : ℕ} {w q : List ℕ} {r : ℕ} {before after : List ℕ} {number in# met : ℕ}
+    (s : Searched t c w q r before after number in# met) (done : number ≡ 0) (once : Once w) where
   -- the how-bytes that are the rows'
   pub first-bytes : take (n# w) after ≡ radiusHow (from t c q) r (n# w) (treeOf w)
   first-bytes =
@@ -38,8 +38,8 @@ module _ {t : List ℕ} {c : ℕ} {w q : List ℕ} {r : ℕ} {before after : Lis
       ∙ List·getD-append (radiusHow (from t c q) r (n# w) (treeOf w)) (drop (n# w) before) 0 i (subst (λ n. i < n) (sym (how-length (from t c q) r w)) h)
 
 -- ---- a call that is not refused, on an accepted index
-module _ {t : List ℕ} {c : ℕ} {w q : List ℕ} {r : ℕ} {before after : List ℕ} {number in# measured# : ℕ}
-    (s : Searched t c w q r before after number in# measured#) (done : number ≡ 0) (A : Accepted (between t c) w) where
+module _ {t : List ℕ} {c : ℕ} {w q : List ℕ} {r : ℕ} {before after : List ℕ} {number in# met : ℕ}
+    (s : Searched t c w q r before after number in# met) (done : number ≡ 0) (A : Accepted (between t c) w) where
   -- EXACT: A ROW IS MARKED IN EXACTLY IF ITS DISTANCE FROM THE QUERY IS AT MOST r
   pub radius-call-exact : (i : ℕ) → i < n# w → (2 ≤ getD after i 0) ↔ (from t c q i ≤ r)
   radius-call-exact i h =
@@ -48,9 +48,9 @@ module _ {t : List ℕ} {c : ℕ} {w q : List ℕ} {r : ℕ} {before after : Lis
 
   -- TWO TABLES: WHERE THE SECOND AGREES WITH THIS ONE IN EVERY ROW THAT WAS MEASURED, A SEARCH ON IT THAT IS NOT REFUSED GIVES THE SAME
   -- HOW-BYTES AND COUNTS. Nothing is asked of the second table but that, and its call may be lent other bytes
-  pub radius-call-two-tables : {t′ before′ after′ : List ℕ} {number′ in#′ measured#′ : ℕ} → Searched t′ c w q r before′ after′ number′ in#′ measured#′ → number′ ≡ 0
+  pub radius-call-two-tables : {t′ before′ after′ : List ℕ} {number′ in#′ met′ : ℕ} → Searched t′ c w q r before′ after′ number′ in#′ met′ → number′ ≡ 0
       → ((i : ℕ) → i < n# w → T (isMeasured (getD after i 0)) → row t c i ≡ row t′ c i)
-      → (take (n# w) after ≡ take (n# w) after′) × (in# ≡ in#′) × (measured# ≡ measured#′)
+      → (take (n# w) after ≡ take (n# w) after′) × (in# ≡ in#′) × (met ≡ met′)
   radius-call-two-tables {t′} s′ done′ agree =
       let once : Once w = once-of (between t c) w A in
       let e = first-bytes s done once
@@ -102,11 +102,11 @@ module _ {t : List ℕ} {c : ℕ} {w q : List ℕ} {r : ℕ} {before a a′ : Li
       (one-number, (radius-open .2 z) .1 (first-bytes s z (once z) ∙ sym (first-bytes s′ (sym one-number ∙ z) (once z)))))
 
 -- THE COUNTS ARE NO MORE THAN THE ROWS, so that 32 bits hold them
-pub radius-small : {t : List ℕ} {c : ℕ} {w q : List ℕ} {r : ℕ} {before after : List ℕ} {number in# measured# : ℕ}
-    → Searched t c w q r before after number in# measured# → (in# ≤ maxRows) × (measured# ≤ maxRows)
-radius-small {t} {c} {w} {q} {r} {before} {after} {number} {in#} {measured#} s = go (ℕ-discrete number 0)
+pub radius-small : {t : List ℕ} {c : ℕ} {w q : List ℕ} {r : ℕ} {before after : List ℕ} {number in# met : ℕ}
+    → Searched t c w q r before after number in# met → (in# ≤ maxRows) × (met ≤ maxRows)
+radius-small {t} {c} {w} {q} {r} {before} {after} {number} {in#} {met} s = go (ℕ-discrete number 0)
   where
-    go : Dec (number ≡ 0) → (in# ≤ maxRows) × (measured# ≤ maxRows)
+    go : Dec (number ≡ 0) → (in# ≤ maxRows) × (met ≤ maxRows)
     go (no k) = (omega (arith, s .refused k .0), omega (arith, s .refused k .1))
     go (yes z) =
         let few = fits t c w q before (sym (s .said) ∙ z) .shape .whole .rows in (

@@ -10,6 +10,6 @@ use mathlib.Core.Path.{_≡_}
 -- with m = 2 and l = 2, has the number 0, these how-bytes in front of those that were lent beyond n, and these counts
 abbrev pub Gives : List ℕ → ℕ → ℕ → List ℕ → ℕ → ℕ → Type 0
 Gives T q r how i k =
-    (before after : List ℕ) (number in# measured# : ℕ) → length T ≤ length before
-    → Searched T 1 (build T 1 2 2) (q ∷ []) r before after number in# measured#
-    → (number ≡ 0) × (after ≡ how ++ drop (length T) before) × (in# ≡ i) × (measured# ≡ k)
+    (before after : List ℕ) (number in# met : ℕ) → length T ≤ length before
+    → Searched T 1 (build T 1 2 2) (q ∷ []) r before after number in# met
+    → (number ≡ 0) × (after ≡ how ++ drop (length T) before) × (in# ≡ i) × (met ≡ k)
