@@ -28,6 +28,24 @@ static void build_any(struct trial *t, uint32_t limit)
     try_build(t, &lot);
 }
 
+/* Each end of m and of l, and one beyond it: asked of a build, and in the header of an index. */
+static void each_end(struct trial *t, uint32_t limit)
+{
+    static const uint32_t pairs[][2] = { { 0, 2 }, { 1, 1 }, { 1, 2 }, { 2, 1 }, { 2, 2 }, { 2, 1024 }, { 2, 1025 }, { 64, 63 }, { 64, 64 }, { 64, 1024 },
+                                         { 64, 1025 }, { 65, 64 }, { 65, 65 }, { 65, 1024 }, { UINT32_MAX, UINT32_MAX } };
+    draw_sample(&t->draw, &sample, limit);
+    index_built(&sample);
+    for (size_t i = 0; i < sizeof pairs / sizeof *pairs; i++) {
+        sample.index[3] = pairs[i][0];
+        sample.index[4] = pairs[i][1];
+        struct lot lot = fair_lot(&t->draw, &sample);
+        lot.m = pairs[i][0];
+        lot.l = pairs[i][1];
+        try_build(t, &lot);
+        every_call(t, &lot);
+    }
+}
+
 /* m and l at their ends, with enough rows that the root is inner. */
 static void build_ends(struct trial *t, uint32_t limit)
 {
@@ -215,7 +233,7 @@ static void refusals(struct trial *t, uint32_t limit)
     every_call(t, &lot);
 }
 
-/* One row more than the limit, and rooms that would be too short as well. */
+/* One row more than the limit, one number less than that, and rooms that would be too short as well. */
 static void too_many_rows(struct trial *t, uint32_t limit)
 {
     (void)limit;
@@ -227,12 +245,14 @@ static void too_many_rows(struct trial *t, uint32_t limit)
     index_built(&sample);
     struct lot lot = fair_lot(&t->draw, &sample);
     lot.table = table;
-    lot.table_length = length - draw_below(&t->draw, 2);
     lot.c = length == 1048577 ? 1 : 2;
     lot.query_length = draw_between(&t->draw, 1, 2);
-    try_build(t, &lot);
-    try_check(t, &lot);
-    try_searches(t, &lot);
+    for (size_t less = 0; less < 2; less++) {
+        lot.table_length = length - less;
+        try_build(t, &lot);
+        try_check(t, &lot);
+        try_searches(t, &lot);
+    }
     free(table);
 }
 
@@ -407,6 +427,7 @@ static void listing(struct trial *t, uint32_t limit)
 
 const struct kind kinds[] = {
     { "build of tables of every style", build_any, 1 },
+    { "all calls with each end of m and l, and beyond", each_end, 4 },
     { "build with m and l at their ends, all calls on it", build_ends, 2 },
     { "equal rows, 4 to 100 and more, all calls", build_equal, 2 },
     { "check and searches on built indexes", accepted_built, 1 },

@@ -27,7 +27,6 @@ use lib.ListN.{drop, getD, length, length-append, length-map, take}
 use lib.Seq.{take-at}
 use mathlib.Core.Bool.{cond, not}
 use mathlib.Core.List.{List, [], _++_, _∷_, map}
-use mathlib.Core.Logic.{_↔_}
 use mathlib.Core.Path.{_∙_, _≡_, ap, refl, subst, sym}
 use native.Mathlib.Omega.{arith}
 

@@ -2,7 +2,7 @@
 ghost use Prim.Native.Nat.{_≤_};
 ghost use Rattle.analyst.specs.Worth.{behind, worth};
 ghost use mathlib.Core.Path.{_≡_};
-use crate::telling::say;
+use crate::say;
 use limits::is_within;
 
 // Every minute within a distance of one, the nearest to one, or nothing that can be answered.
@@ -107,7 +107,9 @@ fn sample() -> i32 {
     os::open_read(b"crates/minutes/data/season.csv")
 }
 
-fn usage() -> Question {
+fn usage() -> Question
+    ensures { λ q. ⌜ (q .row ≤ 10000000) × (q .amount ≤ 10000000) ⌝ }
+{
     say(b"usage: minutes FILE like ROW DISTANCE\n");
     say(b"       minutes FILE nearest ROW HOW_MANY\n");
     say(
@@ -122,7 +124,9 @@ fn usage() -> Question {
 }
 
 // What is asked where there are no arguments: row 1,046 of the sample is a refill.
-fn sample_question() -> Question {
+fn sample_question() -> Question
+    ensures { λ q. ⌜ (q .row ≤ 10000000) × (q .amount ≤ 10000000) ⌝ }
+{
     let file = sample();
     if file < 0 {
         say(b"can't open season.csv, nor crates/minutes/data/season.csv\n");
@@ -148,7 +152,9 @@ fn can_be_asked(way: Way, amount: u32) -> bool {
     }
 }
 
-fn asked() -> Question {
+fn asked() -> Question
+    ensures { λ q. ⌜ (q .row ≤ 10000000) × (q .amount ≤ 10000000) ⌝ }
+{
     let row = number_argument(3);
     if NO_NUMBER <= row {
         return usage();
@@ -169,7 +175,10 @@ fn asked() -> Question {
     }
 }
 
-pub fn ask() -> Question {
+// What is asked. Numbers from 10,000,000 on are not taken.
+pub fn ask() -> Question
+    ensures { λ q. ⌜ (q .row ≤ 10000000) × (q .amount ≤ 10000000) ⌝ }
+{
     let words = os::arg_count();
     if words <= 1 {
         return sample_question();

@@ -1,55 +1,112 @@
 // The analyst's program: a text of rows is read into a table, an index is built over it, and one question is answered in lines of numbers.
-pub mod answering;
-pub mod asking;
-pub mod reading;
-pub mod telling;
+// All of it goes to standard output, since a program of the kit has no exit status by which to tell a fault.
+mod answering;
+mod asking;
+mod reading;
+mod rooms;
 
 ghost use Prim.Native.Nat.{_*_, _≤_};
 ghost use Rattle.limits.specs.Limits.{maxColumns};
 ghost use lib.ListN.{length};
-ghost use mathlib.Core.Path.{_≡_};
 use asking::Question;
 use asking::Way;
+use libc::STDOUT_FILENO;
+use sheet::Reader;
 
-// 65,536 rows of 16 columns.
-const TABLE: usize = 1_048_576;
-
-const ROWS: usize = 65_536;
-
-// Room and workspace for the index of 65,536 rows.
-const ROOM: usize = 655_368;
-
-const WORK: usize = 393_216;
-
-// The buffers, with their lengths alone, which lending them as slices needs.
-fn table_room() -> [u16; TABLE]
-    ensures { λ r. ⌜ 1048576 ≡ length r ⌝ }
-{
-    [0; TABLE]
+fn say(text: &[u8]) {
+    io::write_all(STDOUT_FILENO, text);
 }
 
-fn index_room() -> [u32; ROOM]
-    ensures { λ r. ⌜ 655368 ≡ length r ⌝ }
-{
-    [0; ROOM]
+fn say_number(n: usize) {
+    io::print_decimal(STDOUT_FILENO, n as u64);
 }
 
-fn workspace() -> [u32; WORK]
-    ensures { λ r. ⌜ 393216 ≡ length r ⌝ }
-{
-    [0; WORK]
+// A number with a comma before its last three digits.
+fn say_grouped(n: usize) {
+    if n < 1_000 {
+        say_number(n);
+        return;
+    }
+    say_number(n / 1_000);
+    say(b",");
+    say_number(n % 1_000 / 100);
+    say_number(n % 100 / 10);
+    say_number(n % 10);
 }
 
-fn byte_room() -> [u8; ROWS]
-    ensures { λ r. ⌜ 65536 ≡ length r ⌝ }
-{
-    [0; ROWS]
+// A count and its noun.
+fn say_count(n: usize, one: &[u8]) {
+    say_grouped(n);
+    say(b" ");
+    say(one);
+    if n != 1 {
+        say(b"s");
+    }
 }
 
-fn answer_room() -> [u32; ROWS]
-    ensures { λ r. ⌜ 65536 ≡ length r ⌝ }
-{
-    [0; ROWS]
+// One answer: a row and its distance.
+fn say_answer(row: usize, distance: u32) {
+    say_number(row);
+    say(b" ");
+    say_number(distance as usize);
+    say(b"\n");
+}
+
+// The last line: how many rows were found, and how many distances this took.
+fn say_found(found: usize, measured: usize, rows: usize) {
+    say_count(found, b"row");
+    say(b" found, ");
+    say_grouped(measured);
+    say(b" of ");
+    say_grouped(rows);
+    say(b" measured\n");
+}
+
+fn say_refused(number: u32) {
+    say(b"refused ");
+    say_number(number as usize);
+    say(b"\n");
+}
+
+fn say_no_row(row: usize, rows: usize) {
+    say(b"no row ");
+    say_number(row);
+    say(b": the text has ");
+    say_count(rows, b"row");
+    say(b"\n");
+}
+
+// What is wrong with the line that the reader stopped at.
+fn say_line_fault(r: Reader) {
+    let fault = r.fault;
+    if fault == sheet::line::NOT_A_NUMBER {
+        say(b"not a number\n");
+    } else if fault == sheet::line::TOO_GREAT {
+        say(b"a number above 65,535\n");
+    } else if fault == sheet::line::TOO_WIDE {
+        say(b"more than 16 numbers in a row\n");
+    } else if fault == sheet::UNEVEN {
+        say_count(r.here.count, b"number");
+        say(b", where the rows above have ");
+        say_number(r.columns);
+        say(b"\n");
+    } else if fault == sheet::TOO_MANY_ROWS {
+        say(b"more than 65,536 rows\n");
+    } else {
+        say(b"too long a text\n");
+    }
+}
+
+// What is wrong with the text, with the line it is in.
+fn say_fault(r: Reader) {
+    if r.fault == sheet::NO_ROWS {
+        say(b"no rows\n");
+        return;
+    }
+    say(b"line ");
+    io::print_decimal(STDOUT_FILENO, r.line);
+    say(b": ");
+    say_line_fault(r);
 }
 
 // Answers a question on the rows that were read. Gives 0 where it is answered, and 1 where a line says why it is not.
@@ -69,7 +126,7 @@ fn answer(
 {
     let row = question.row;
     if n <= row {
-        telling::say_no_row(row, n);
+        say_no_row(row, n);
         return 1;
     }
     let way = question.way;
@@ -106,12 +163,12 @@ fn run_in(
 {
     let came = reading::read_rows(question.file, table);
     if !came.whole {
-        telling::say(b"the text can't be read\n");
+        say(b"the text can't be read\n");
         return 1;
     }
     let reader = came.reader;
     if reader.fault != 0 {
-        telling::say_fault(reader);
+        say_fault(reader);
         return 1;
     }
     let put = reader.put;
@@ -137,12 +194,12 @@ pub fn run() -> u32
     if question.file < 0 {
         return 1;
     }
-    let mut table = table_room();
-    let mut room = index_room();
-    let mut work = workspace();
-    let mut how = byte_room();
-    let mut rows = answer_room();
-    let mut distances = answer_room();
+    let mut table = rooms::table_room();
+    let mut room = rooms::index_room();
+    let mut work = rooms::workspace();
+    let mut how = rooms::byte_room();
+    let mut rows = rooms::answer_room();
+    let mut distances = rooms::answer_room();
     run_in(
         question,
         &mut table,

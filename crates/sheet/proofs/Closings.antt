@@ -6,7 +6,7 @@ use Rattle.sheet.specs.declared.Reader.{Reader}
 use Rattle.sheet.specs.declared.line.Line.{Line}
 use Rattle.sheet.specs.declared.line.Place.the-variants.{Ending, Gap, Inside, Names, Wrong}
 use Rattle.sheet.specs.declared.line.Place.{Place}
-use borrow.Author.Tests.{eqb-true, le-ltb, leb-false, lt-leb, lt-ltb, ltb-false, ltb-true, ne-eqb}
+use borrow.Author.Tests.{eqb-false, eqb-true, le-ltb, leb-false, lt-leb, lt-ltb, ltb-false, ltb-true, ne-eqb}
 use lib.Dec.{eqb, leb, ltb}
 use lib.ListN.{length}
 use lib.Seq.{paste}
@@ -70,16 +70,20 @@ module _ (room put n : ℕ) where
       go false e = sym (le-ltb room (put + n) (omega (arith, ltb-false (room - put) n e)))
 
 -- ---- nothing is wrong with the line
+-- a line that is wrong has a fault
+pub wrong-told : (k n : ℕ) → troubleAt (Wrong k) n ≡ 0 → ⊥
+wrong-told k n e = go (eqb k 0) refl e
+  where
+    go : (b : Bool) → eqb k 0 ≡ b → cond {A = ℕ} b 1 k ≡ 0 → ⊥
+    go true q e = omega arith
+    go false q e = eqb-false k 0 q e
+
 trouble-none : (p : Place) (n : ℕ) → troubleAt p n ≡ 0 → n ≡ 0
 trouble-none Gap n e = e
 trouble-none (Inside v) n e = e
 trouble-none Ending n e = e
 trouble-none Names n e = e
-trouble-none (Wrong k) n e = go (eqb k 0) refl e
-  where
-    go : (b : Bool) → eqb k 0 ≡ b → cond b n k ≡ 0 → n ≡ 0
-    go true q e = e
-    go false q e = let z : eqb k 0 ≡ true = ap (λ (x : ℕ). eqb x 0) e in let y : _≡_ {A = ℕ} 0 1 = cc in absurd (omega arith)
+trouble-none (Wrong k) n e = absurd (wrong-told k n e)
 
 -- what was wrong inside the line is told
 pub trouble-told : (p : Place) (k n : ℕ) → p ≡ Wrong k → (k ≡ 0 → ⊥) → k ≡ troubleAt p n

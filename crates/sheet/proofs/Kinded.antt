@@ -5,7 +5,7 @@ use Rattle.sheet.specs.Kinds.{kindOf, parting}
 use Rattle.sheet.specs.Says.{Parts, Strange, comma, space, tab}
 use Rattle.sheet.specs.declared.bytes.Kind.the-variants.{Digit, Other, Parting, Return}
 use Rattle.text.proofs.Within.{both-within, within-both}
-use borrow.Author.Tests.{eqb-true, ne-eqb}
+use borrow.Author.Tests.{ne-eqb}
 use lib.Dec.{eqb}
 use mathlib.Core.Bool.{Bool, false, true}
 use mathlib.Core.Path.{_≡_, ap, refl, subst, sym}

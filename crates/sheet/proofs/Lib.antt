@@ -7,3 +7,6 @@ pub mod LineEnds
 pub mod Sheets
 pub mod Tidying
 pub mod Stopping
+pub mod LineTold
+pub mod LineNames
+pub mod Heard

@@ -1,5 +1,5 @@
 -- A whole line with its end: a row is put behind the others, and a line without numbers changes nothing but the count of lines. Assumes nothing.
-use Prim.Native.Nat.{_+_, _<_, _≤_, ℕ}
+use Prim.Native.Nat.{_+_, _≤_, ℕ}
 use Rattle.sheet.proofs.Closings.{Fits, closed-skipped, closed-taken, fits-row}
 use Rattle.sheet.proofs.Kinded.{kind-return}
 use Rattle.sheet.proofs.LineRuns.{at, filled, names-kept, names-plain, numbers-kept, numbers-plain, row-taken, through}
@@ -12,13 +12,13 @@ use Rattle.sheet.specs.Says.{Ends, Names, Numbers, Plain, byte, empty, n
 use Rattle.sheet.specs.declared.Reader.{Reader}
 use Rattle.sheet.specs.declared.bytes.Kind.the-variants.{Return}
 use Rattle.sheet.specs.declared.line.Line.{Line}
-use Rattle.sheet.specs.declared.line.Place.the-variants.{Ending, Gap, Inside, Names as InNames, Wrong}
+use Rattle.sheet.specs.declared.line.Place.the-variants.{Ending, Gap, Names as InNames}
 use Rattle.sheet.specs.declared.line.Place.{Place}
 use borrow.Author.Tests.{lt-leb}
 use lib.Dec.{eqb}
 use lib.ListN.{drop, length, replicate, take}
 use lib.Seq.{paste}
-use mathlib.Core.Bool.{Bool, true}
+use mathlib.Core.Bool.{Bool}
 use mathlib.Core.List.{List, [], _++_, _∷_}
 use mathlib.Core.Path.{_∙_, _≡_, ap, refl, sym}
 use native.Mathlib.Omega.{arith}

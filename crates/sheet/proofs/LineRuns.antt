@@ -1,21 +1,21 @@
 -- One line read whole: a line of numbers leaves them in the line's row, and a line of names leaves names. Assumes nothing.
 use Prim.Native.Nat.{_*_, _+_, _<_, _≤_, ℕ}
-use Rattle.sheet.proofs.Kinded.{kind-digit, kind-parts, kind-return, kind-strange}
-use Rattle.sheet.specs.InLine.{added, along, grown, kept, moved, settled}
+use Rattle.sheet.proofs.Kinded.{kind-digit, kind-parts, kind-strange}
+use Rattle.sheet.specs.InLine.{added, along, grown, kept, settled}
 use Rattle.sheet.specs.Kinds.{kindOf}
 use Rattle.sheet.specs.Says.{Names, Numbers, Parts, Plain, Strange, byte, comma, empty, gap, here, last, later, more, nothing, space, tab}
 use Rattle.sheet.specs.declared.bytes.Kind.the-variants.{Digit, Other, Parting, Return}
 use Rattle.sheet.specs.declared.bytes.Kind.{Kind}
 use Rattle.sheet.specs.declared.line.Line.{Line}
-use Rattle.sheet.specs.declared.line.Place.the-variants.{Ending, Gap, Inside, Names as InNames, Wrong}
+use Rattle.sheet.specs.declared.line.Place.the-variants.{Gap, Inside, Names as InNames}
 use Rattle.sheet.specs.declared.line.Place.{Place}
 use Rattle.text.specs.Text.{Decimal, digit, followed}
 use borrow.Author.Tests.{le-leb, lt-leb}
-use lib.ListN.{getD, length, length-set, set, take}
+use lib.ListN.{length, length-set, set, take}
 use lib.Seq.{take-suc-set}
-use mathlib.Core.Bool.{Bool, false, true}
+use mathlib.Core.Bool.{Bool, true}
 use mathlib.Core.List.{List, [], _++_, _∷_, append-assoc, append-nil}
-use mathlib.Core.Path.{_∙_, _≡_, ap, refl, sym}
+use mathlib.Core.Path.{_∙_, _≡_, ap, refl}
 use native.Mathlib.Nat.{add-zero}
 use native.Mathlib.Numerals.{add-one}
 use native.Mathlib.Omega.{arith}
@@ -36,11 +36,11 @@ filled row k (n ∷ ns) = filled (set row k n) (k + 1) ns
 
 module _ (first : Bool) (k : ℕ) (row : List ℕ) where
   -- ---- the digits of a number
-  digit-begins : (d : ℕ) → d < 10 → along first (at Gap k row) (kindOf (48 + d)) ≡ at (Inside d) k row
+  pub digit-begins : (d : ℕ) → d < 10 → along first (at Gap k row) (kindOf (48 + d)) ≡ at (Inside d) k row
   unfolding along
   digit-begins d h = rw (kind-digit d h)
 
-  digit-follows : (v d : ℕ) → d < 10 → 1 ≤ v → 10 * v + d ≤ 65_535 → along first (at (Inside v) k row) (kindOf (48 + d)) ≡ at (Inside (10 * v + d)) k row
+  pub digit-follows : (v d : ℕ) → d < 10 → 1 ≤ v → 10 * v + d ≤ 65_535 → along first (at (Inside v) k row) (kindOf (48 + d)) ≡ at (Inside (10 * v + d)) k row
   unfolding along grown
   digit-follows v d h p q = rw (kind-digit d h, le-leb 1 v p, le-leb (10 * v + d) 65_535 q)
 
@@ -51,15 +51,15 @@ module _ (first : Bool) (k : ℕ) (row : List ℕ) where
       rw append-assoc (digits x (omega arith) ((48 + d) ∷ t) ∙ ap (λ (y : Line). through first y t) (digit-follows n d h s l))
 
   -- ---- the bytes between them
-  number-kept : (v : ℕ) → k < 16 → added (at (Inside v) k row) v ≡ at Gap (k + 1) (set row k v)
+  pub number-kept : (v : ℕ) → k < 16 → added (at (Inside v) k row) v ≡ at Gap (k + 1) (set row k v)
   unfolding added
   number-kept v h = rw (lt-leb 16 k h)
 
-  parted-inside : {b : ℕ} (v : ℕ) → Parts b → k < 16 → along first (at (Inside v) k row) (kindOf b) ≡ at Gap (k + 1) (set row k v)
+  pub parted-inside : {b : ℕ} (v : ℕ) → Parts b → k < 16 → along first (at (Inside v) k row) (kindOf b) ≡ at Gap (k + 1) (set row k v)
   unfolding along
   parted-inside v p h = rw (kind-parts p, number-kept v h)
 
-  parted-gap : {b : ℕ} → Parts b → along first (at Gap k row) (kindOf b) ≡ at Gap k row
+  pub parted-gap : {b : ℕ} → Parts b → along first (at Gap k row) (kindOf b) ≡ at Gap k row
   unfolding along
   parted-gap p = rw (kind-parts p)
 

@@ -3,8 +3,8 @@ use Prim.Native.Nat.{_+_, _<_, _≤_, ℕ}
 use Rattle.sheet.specs.Closing.{advanced, closed, failed}
 use Rattle.sheet.specs.Kinds.{kindOf}
 use Rattle.sheet.specs.Reading.{ended, finished, next, run}
-use Rattle.sheet.specs.declared.bytes.Kind.{Kind}
 use Rattle.sheet.specs.declared.Reader.{Reader}
+use Rattle.sheet.specs.declared.bytes.Kind.{Kind}
 use borrow.Author.Tests.{eq-eqb, ne-eqb}
 use lib.ListN.{drop, drop-of-length-le, getD, length}
 use lib.Seq.{drop-cons}

@@ -1,5 +1,5 @@
 -- What a text says is what is read. Assumes nothing.
-use Prim.Native.Nat.{_+_, _<_, _≤_, ℕ}
+use Prim.Native.Nat.{_+_, _≤_, ℕ}
 use Rattle.laws.proofs.Tests.{and-none}
 use Rattle.laws.specs.Lists.{joined}
 use Rattle.sheet.proofs.Closings.{Fits}
@@ -9,13 +9,13 @@ use Rattle.sheet.specs.Closing.{differs, skipped, taken}
 use Rattle.sheet.specs.InLine.{emptied}
 use Rattle.sheet.specs.Reading.{begun, finished, next, run}
 use Rattle.sheet.specs.Reads.{Reads}
-use Rattle.sheet.specs.Says.{Ends, Lines, Numbers, Says, Whole, blank, named, newline, none, return, row, rows}
+use Rattle.sheet.specs.Says.{Ends, Lines, Says, Whole, blank, named, newline, none, return, row, rows}
 use Rattle.sheet.specs.declared.Reader.{Reader}
 use borrow.Author.Tests.{eq-eqb}
 use lib.Dec.{eqb}
 use lib.ListN.{drop, length, length-append, length-drop, take, take-append-drop}
 use lib.Seq.{drop-at, drop-drop, length-take-le, take-at}
-use mathlib.Core.Bool.{_&&_, false, not, true}
+use mathlib.Core.Bool.{false, not}
 use mathlib.Core.List.{List, [], _++_, _∷_, append-assoc, append-nil}
 use mathlib.Core.Path.{_∙_, _≡_, ap, refl, sym}
 use native.Mathlib.Nat.{add-zero}
@@ -120,7 +120,7 @@ module _ (c : ℕ) (p : 1 ≤ c) (q : c ≤ 16) (table : List ℕ) where
       record { fault = i .fault; columns = i .columns; rows = i .rows; put = i .put; content = i .content })
 
 -- the last newline
-run-last : (t : List ℕ) (s : Reader × List ℕ) → run s (t ++ 10 ∷ []) ≡ next (run s t) 10
+pub run-last : (t : List ℕ) (s : Reader × List ℕ) → run s (t ++ 10 ∷ []) ≡ next (run s t) 10
 unfolding run
 run-last t s = pieces t (10 ∷ []) s
 

@@ -1,7 +1,7 @@
 -- A fault's line is the first line with a fault. Assumes nothing.
-use Prim.Native.Nat.{_+_, suc, ℕ}
+use Prim.Native.Nat.{_+_, ℕ}
 use Rattle.laws.specs.Lists.{times}
-use Rattle.sheet.proofs.Runs.{next-stays, pieces}
+use Rattle.sheet.proofs.Runs.{next-stays}
 use Rattle.sheet.specs.Closing.{accepted, advanced, closed, decided, failed, lineTrouble, rowSize, skipped, taken}
 use Rattle.sheet.specs.InLine.{settled}
 use Rattle.sheet.specs.Kinds.{kindOf}
@@ -14,13 +14,12 @@ use lib.Dec.{eqb}
 use lib.ListN.{length}
 use lib.Seq.{paste}
 use mathlib.Core.Bool.{Bool, cond, false, true}
-use mathlib.Core.List.{List, [], _++_, _∷_, append-assoc, append-nil}
+use mathlib.Core.List.{List, [], _++_, _∷_}
 use mathlib.Core.Path.{_∙_, _≡_, ap, refl, sym}
-use native.Mathlib.Numerals.{add-one}
 use native.Mathlib.Omega.{arith}
 
 -- behind a fault nothing is read
-stays : (t : List ℕ) (s : Reader × List ℕ) → (s .0 .fault ≡ 0 → ⊥) → run s t ≡ s
+pub stays : (t : List ℕ) (s : Reader × List ℕ) → (s .0 .fault ≡ 0 → ⊥) → run s t ≡ s
 unfolding run
 stays [] s z = refl
 stays (b ∷ t) s z = ap (λ (x : Reader × List ℕ). run x t) (next-stays (s .0) (s .1) b z) ∙ stays t s z

@@ -1,5 +1,5 @@
 -- From the first byte on a reader's numbers are in order, whatever the text. Assumes nothing.
-use Prim.Native.Nat.{_*_, _+_, _<_, _≤_, ℕ}
+use Prim.Native.Nat.{_*_, _+_, _≤_, ℕ}
 use Rattle.sheet.proofs.Closings.{Fits, line-fits}
 use Rattle.sheet.specs.Closing.{accepted, advanced, closed, decided, differs, failed, lineTrouble, rowSize, skipped, taken}
 use Rattle.sheet.specs.InLine.{added, along, emptied, settled, settledAt}
@@ -7,9 +7,9 @@ use Rattle.sheet.specs.Kinds.{kindOf}
 use Rattle.sheet.specs.Reading.{begun, ended, finished, next, run}
 use Rattle.sheet.specs.Tidy.{Tidy}
 use Rattle.sheet.specs.declared.Reader.{Reader}
-use Rattle.sheet.specs.declared.line.Line.{Line}
 use Rattle.sheet.specs.declared.bytes.Kind.the-variants.{Digit, Other, Parting, Return}
 use Rattle.sheet.specs.declared.bytes.Kind.{Kind}
+use Rattle.sheet.specs.declared.line.Line.{Line}
 use Rattle.sheet.specs.declared.line.Place.the-variants.{Ending, Gap, Inside, Names, Wrong}
 use Rattle.sheet.specs.declared.line.Place.{Place}
 use borrow.Author.Tests.{eqb-false, eqb-true}
@@ -62,7 +62,7 @@ begun-tidy room = record { put = refl; wide = omega arith; few = omega arith; sp
 
 -- ---- one byte more
 -- rows above have as many numbers, or there are none
-even-cases : (columns n : ℕ) → differs columns n ≡ false → (P : Type 0) → (columns ≡ 0 → P) → (columns ≡ n → P) → P
+pub even-cases : (columns n : ℕ) → differs columns n ≡ false → (P : Type 0) → (columns ≡ 0 → P) → (columns ≡ n → P) → P
 unfolding differs
 even-cases columns n e P f g = go (eqb columns 0) (eqb columns n) refl refl e
   where

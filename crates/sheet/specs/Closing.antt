@@ -41,7 +41,7 @@ troubleAt Gap n = n
 troubleAt (Inside v) n = n
 troubleAt Ending n = n
 troubleAt Names n = n
-troubleAt (Wrong k) n = cond (eqb k 0) n k
+troubleAt (Wrong k) n = cond (eqb k 0) 1 k
 
 -- too many lines (7) comes before all
 unfoldable pub lineTrouble : Reader → Line → ℕ → ℕ

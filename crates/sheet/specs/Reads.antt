@@ -1,6 +1,7 @@
 -- What the reader leaves of a text that says rows. Assumes nothing.
 use Prim.Native.Nat.{ℕ}
 use Rattle.laws.specs.Lists.{joined}
+use Rattle.sheet.specs.Says.{Says}
 use Rattle.sheet.specs.declared.Reader.{Reader}
 use lib.ListN.{drop, length}
 use mathlib.Core.List.{List, _++_}
@@ -13,3 +14,9 @@ pub record Reads (c : ℕ) (rs : List (List ℕ)) (table : List ℕ) (s : Reader
   pub rows : s .0 .rows ≡ length rs
   pub put : s .0 .put ≡ length (joined rs)
   pub content : s .1 ≡ joined rs ++ drop (length (joined rs)) table
+
+-- the text says rows, and these were read
+pub record Said (t table : List ℕ) (s : Reader × List ℕ) : Type 0 where
+  pub rs : List (List ℕ)
+  pub says : Says t (s .0 .columns) rs
+  pub reads : Reads (s .0 .columns) rs table s

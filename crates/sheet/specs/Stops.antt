@@ -2,7 +2,6 @@
 use Prim.Native.Nat.{_+_, suc, ℕ}
 use Rattle.laws.specs.Lists.{times}
 use Rattle.sheet.specs.Reading.{begun, run}
-use lib.ListN.{length}
 use mathlib.Core.List.{List, [], _++_, _∷_}
 use mathlib.Core.Path.{_≡_}
 

@@ -119,7 +119,7 @@ fn first_trouble(place: Place, other: u32) -> u32
         Place::Names => other,
         Place::Wrong(k) => {
             if k == 0 {
-                return other;
+                return line::NOT_A_NUMBER;
             }
             k
         }

@@ -1,18 +1,12 @@
 -- `analyst::run_in` meets its contract: the reader is tidy, so the rows that it counts stand in the table.
 -- Assumes nothing.
-use native.Mathlib.Omega.{arith}
-use mathlib.Core.Path.{sym}
-use lib.Seq.{length-take-le}
-use Rattle.sheet.proofs.Tidying.{part-fits}
-use borrow.Author.Needs.{needs}
 use Rattle.analyst.proofs.run_in.Statement.{statement}
 use Rattle.analyst.proofs.run_in.Tie as tie
-use Rattle.analyst.proofs.run_in.Reads as reads
-use Rattle.analyst.proofs.run_in.Lts as lts
-use Rattle.analyst.proofs.answer.Reads as answer-reads
-use Rattle.analyst.proofs.reading.read_rows.Reads as read-rows-reads
-use Rattle.analyst.proofs.telling.say.Reads as say-reads
-use Rattle.analyst.proofs.telling.say_fault.Reads as say-fault-reads
+use Rattle.sheet.proofs.Tidying.{part-fits}
+use borrow.Author.Needs.{needs}
+use lib.Seq.{length-take-le}
+use mathlib.Core.Path.{sym}
+use native.Mathlib.Omega.{arith}
 
 read-rows-requires : tie.Need-read-rows-requires
 read-rows-requires c κs = search needs

@@ -1,12 +1,9 @@
 -- `sheet::advance` meets its contract: the line goes on, and the rest stays.
 -- Assumes nothing.
-use Rattle.sheet.specs.Closing.{advanced}
-use borrow.Author.Needs.{needs}
 use Rattle.sheet.proofs.advance.Statement.{statement}
 use Rattle.sheet.proofs.advance.Tie as tie
-use Rattle.sheet.proofs.advance.Reads as reads
-use Rattle.sheet.proofs.advance.Lts as lts
-use Rattle.sheet.proofs.line.along.Reads as along-reads
+use Rattle.sheet.specs.Closing.{advanced}
+use borrow.Author.Needs.{needs}
 
 along-requires : tie.Need-along-requires
 along-requires c κs = search needs

@@ -1,20 +1,11 @@
 -- `sheet::close` meets its contract: one return for each way on from a line that ends.
 -- Assumes nothing.
-use native.Mathlib.Omega.{arith}
-use mathlib.Core.Path.{_∙_, ap, sym}
 use Rattle.sheet.proofs.Closings.{closed-failed, closed-skipped, closed-taken, line-both, line-fits}
-use borrow.Author.Needs.{needs}
 use Rattle.sheet.proofs.close.Statement.{statement}
 use Rattle.sheet.proofs.close.Tie as tie
-use Rattle.sheet.proofs.close.Reads as reads
-use Rattle.sheet.proofs.close.Lts as lts
-use Rattle.sheet.proofs.fail.Reads as fail-reads
-use Rattle.sheet.proofs.line.settle.Reads as settle-reads
-use Rattle.sheet.proofs.line_trouble.Reads as line-trouble-reads
-use Rattle.sheet.proofs.put_row.Reads as put-row-reads
-use Rattle.sheet.proofs.row_size.Reads as row-size-reads
-use Rattle.sheet.proofs.skip.Reads as skip-reads
-use Rattle.sheet.proofs.take_row.Reads as take-row-reads
+use borrow.Author.Needs.{needs}
+use mathlib.Core.Path.{_∙_, ap, sym}
+use native.Mathlib.Omega.{arith}
 
 settle-requires : tie.Need-settle-requires
 settle-requires c κs = search needs

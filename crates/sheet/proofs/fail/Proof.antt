@@ -1,11 +1,9 @@
 -- `sheet::fail` meets its contract: the record field by field.
 -- Assumes nothing.
-use Rattle.sheet.specs.Closing.{failed}
-use borrow.Author.Needs.{needs}
 use Rattle.sheet.proofs.fail.Statement.{statement}
 use Rattle.sheet.proofs.fail.Tie as tie
-use Rattle.sheet.proofs.fail.Reads as reads
-use Rattle.sheet.proofs.fail.Lts as lts
+use Rattle.sheet.specs.Closing.{failed}
+use borrow.Author.Needs.{needs}
 
 returns : tie.Need-returns
 unfolding failed

@@ -1,15 +1,12 @@
 -- `sheet::feed` meets its contract: a turn reads one byte, and what is left leads to the same end.
 -- Assumes nothing.
-use lib.ListN.{length}
 use Prim.Native.Nat.{_-_}
-use mathlib.Core.Path.{ap}
 use Rattle.sheet.proofs.Runs.{Fed, fed-end, fed-next, fed-start}
-use borrow.Author.Needs.{needs}
 use Rattle.sheet.proofs.feed.Statement.{statement}
 use Rattle.sheet.proofs.feed.Tie as tie
-use Rattle.sheet.proofs.feed.Reads as reads
-use Rattle.sheet.proofs.feed.Lts as lts
-use Rattle.sheet.proofs.step.Reads as step-reads
+use borrow.Author.Needs.{needs}
+use lib.ListN.{length}
+use mathlib.Core.Path.{ap}
 
 abbrev Inv-loop : tie.InvT-loop
 Inv-loop text table₀ r₀ i₀ table r i = Fed r₀ table₀ text r table i

@@ -1,13 +1,9 @@
 -- `sheet::finish` meets its contract: the last line ends, and a text without rows is a fault.
 -- Assumes nothing.
 use Rattle.sheet.proofs.Runs.{finish-fault, finish-none, finish-rows, finish-table}
-use borrow.Author.Needs.{needs}
 use Rattle.sheet.proofs.finish.Statement.{statement}
 use Rattle.sheet.proofs.finish.Tie as tie
-use Rattle.sheet.proofs.finish.Reads as reads
-use Rattle.sheet.proofs.finish.Lts as lts
-use Rattle.sheet.proofs.fail.Reads as fail-reads
-use Rattle.sheet.proofs.step.Reads as step-reads
+use borrow.Author.Needs.{needs}
 
 step-requires : tie.Need-step-requires
 step-requires c κs = search needs

@@ -1,11 +1,9 @@
 -- `sheet::first_trouble` meets its contract: one return for each case of the place, and two inside a wrong line.
 -- Assumes nothing.
 use Rattle.sheet.proofs.Closings.{trouble-told}
-use borrow.Author.Needs.{needs}
 use Rattle.sheet.proofs.first_trouble.Statement.{statement}
 use Rattle.sheet.proofs.first_trouble.Tie as tie
-use Rattle.sheet.proofs.first_trouble.Reads as reads
-use Rattle.sheet.proofs.first_trouble.Lts as lts
+use borrow.Author.Needs.{needs}
 
 enum-told : tie.Need-enum-told
 enum-told c = search needs

@@ -1,14 +1,8 @@
 -- `sheet::lacks` meets its contract: with no sum that could wrap.
 -- Assumes nothing.
 use Rattle.sheet.proofs.Closings.{lacks-behind, lacks-front}
-use native.Mathlib.Omega.{arith}
-use mathlib.Core.Path.{sym}
-use borrow.Author.Tests.{lt-ltb}
-use borrow.Author.Needs.{needs}
 use Rattle.sheet.proofs.lacks.Statement.{statement}
 use Rattle.sheet.proofs.lacks.Tie as tie
-use Rattle.sheet.proofs.lacks.Reads as reads
-use Rattle.sheet.proofs.lacks.Lts as lts
 
 returns : tie.Need-returns
 returns c = lacks-front _ _ _ (c .if1 .taken)

@@ -1,15 +1,10 @@
 -- `sheet::line_trouble` meets its contract: too many lines come before all.
 -- Assumes nothing.
-use borrow.Author.Tests.{le-leb, lt-leb}
-use Rattle.sheet.specs.Closing.{lineTrouble}
-use borrow.Author.Needs.{needs}
 use Rattle.sheet.proofs.line_trouble.Statement.{statement}
 use Rattle.sheet.proofs.line_trouble.Tie as tie
-use Rattle.sheet.proofs.line_trouble.Reads as reads
-use Rattle.sheet.proofs.line_trouble.Lts as lts
-use Rattle.sheet.proofs.first_trouble.Reads as first-trouble-reads
-use Rattle.sheet.proofs.row_size.Reads as row-size-reads
-use Rattle.sheet.proofs.row_trouble.Reads as row-trouble-reads
+use Rattle.sheet.specs.Closing.{lineTrouble}
+use borrow.Author.Needs.{needs}
+use borrow.Author.Tests.{le-leb, lt-leb}
 
 returns : tie.Need-returns
 unfolding lineTrouble

@@ -1,13 +1,11 @@
 -- `sheet::put_row` meets its contract: a turn puts one number, and n of them fit.
 -- Assumes nothing.
-use native.Mathlib.Omega.{arith}
 use Prim.Native.Nat.{_-_}
 use Rattle.sheet.proofs.Putting.{Put, put-all, put-long, put-next, put-start}
-use borrow.Author.Needs.{needs}
 use Rattle.sheet.proofs.put_row.Statement.{statement}
 use Rattle.sheet.proofs.put_row.Tie as tie
-use Rattle.sheet.proofs.put_row.Reads as reads
-use Rattle.sheet.proofs.put_row.Lts as lts
+use borrow.Author.Needs.{needs}
+use native.Mathlib.Omega.{arith}
 
 abbrev Inv-loop : tie.InvT-loop
 Inv-loop n table₀ at row i₀ table i = Put row table₀ at n table i

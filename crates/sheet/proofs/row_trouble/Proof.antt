@@ -1,15 +1,11 @@
 -- `sheet::row_trouble` meets its contract: each return has its test, in the order of the definition.
 -- Assumes nothing.
-use mathlib.Core.Path.{_∙_, sym}
-use borrow.Author.Tests.{eq-eqb, le-leb, le-ltb, lt-leb, lt-ltb, ne-eqb}
-use Rattle.sheet.specs.Closing.{rowTrouble}
-use borrow.Author.Needs.{needs}
 use Rattle.sheet.proofs.row_trouble.Statement.{statement}
 use Rattle.sheet.proofs.row_trouble.Tie as tie
-use Rattle.sheet.proofs.row_trouble.Reads as reads
-use Rattle.sheet.proofs.row_trouble.Lts as lts
-use Rattle.sheet.proofs.lacks.Reads as lacks-reads
-use Rattle.sheet.proofs.uneven.Reads as uneven-reads
+use Rattle.sheet.specs.Closing.{rowTrouble}
+use borrow.Author.Needs.{needs}
+use borrow.Author.Tests.{eq-eqb, le-leb, le-ltb, lt-leb, lt-ltb, ne-eqb}
+use mathlib.Core.Path.{_∙_, sym}
 
 returns : tie.Need-returns
 unfolding rowTrouble

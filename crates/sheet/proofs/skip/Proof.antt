@@ -1,12 +1,9 @@
 -- `sheet::skip` meets its contract: the record field by field.
 -- Assumes nothing.
-use Rattle.sheet.specs.Closing.{skipped}
-use borrow.Author.Needs.{needs}
 use Rattle.sheet.proofs.skip.Statement.{statement}
 use Rattle.sheet.proofs.skip.Tie as tie
-use Rattle.sheet.proofs.skip.Reads as reads
-use Rattle.sheet.proofs.skip.Lts as lts
-use Rattle.sheet.proofs.line.fresh.Reads as fresh-reads
+use Rattle.sheet.specs.Closing.{skipped}
+use borrow.Author.Needs.{needs}
 
 add-t2 : tie.Need-add-t2
 add-t2 c = search needs

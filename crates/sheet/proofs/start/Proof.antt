@@ -1,12 +1,9 @@
 -- `sheet::start` meets its contract: the record field by field.
 -- Assumes nothing.
-use Rattle.sheet.specs.Reading.{begun}
-use borrow.Author.Needs.{needs}
 use Rattle.sheet.proofs.start.Statement.{statement}
 use Rattle.sheet.proofs.start.Tie as tie
-use Rattle.sheet.proofs.start.Reads as reads
-use Rattle.sheet.proofs.start.Lts as lts
-use Rattle.sheet.proofs.line.fresh.Reads as fresh-reads
+use Rattle.sheet.specs.Reading.{begun}
+use borrow.Author.Needs.{needs}
 
 fresh-requires : tie.Need-fresh-requires
 fresh-requires c κs = search needs

@@ -1,15 +1,10 @@
 -- `sheet::step` meets its contract: behind a fault nothing changes, a newline ends the line, and any other byte goes on in it.
 -- Assumes nothing.
-use mathlib.Core.Path.{_∙_, ap, sym}
 use Rattle.sheet.proofs.Runs.{next-newline, next-other, next-stays}
-use borrow.Author.Needs.{needs}
 use Rattle.sheet.proofs.step.Statement.{statement}
 use Rattle.sheet.proofs.step.Tie as tie
-use Rattle.sheet.proofs.step.Reads as reads
-use Rattle.sheet.proofs.step.Lts as lts
-use Rattle.sheet.proofs.advance.Reads as advance-reads
-use Rattle.sheet.proofs.bytes.kind_of.Reads as kind-of-reads
-use Rattle.sheet.proofs.close.Reads as close-reads
+use borrow.Author.Needs.{needs}
+use mathlib.Core.Path.{_∙_, ap, sym}
 
 returns : tie.Need-returns
 returns c = let e = next-stays _ _ _ (c .if1 .taken) in (sym (ap (λ s. s .0) e), sym (ap (λ s. s .1) e))

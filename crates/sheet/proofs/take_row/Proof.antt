@@ -1,12 +1,9 @@
 -- `sheet::take_row` meets its contract: the record field by field.
 -- Assumes nothing.
-use Rattle.sheet.specs.Closing.{taken}
-use borrow.Author.Needs.{needs}
 use Rattle.sheet.proofs.take_row.Statement.{statement}
 use Rattle.sheet.proofs.take_row.Tie as tie
-use Rattle.sheet.proofs.take_row.Reads as reads
-use Rattle.sheet.proofs.take_row.Lts as lts
-use Rattle.sheet.proofs.line.fresh.Reads as fresh-reads
+use Rattle.sheet.specs.Closing.{taken}
+use borrow.Author.Needs.{needs}
 
 add-t4 : tie.Need-add-t4
 add-t4 c = search needs

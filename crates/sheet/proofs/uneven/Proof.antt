@@ -1,12 +1,9 @@
 -- `sheet::uneven` meets its contract: one return for no rows above, one for the test.
 -- Assumes nothing.
-use borrow.Author.Tests.{eq-eqb, ne-eqb}
-use Rattle.sheet.specs.Closing.{differs}
-use borrow.Author.Needs.{needs}
 use Rattle.sheet.proofs.uneven.Statement.{statement}
 use Rattle.sheet.proofs.uneven.Tie as tie
-use Rattle.sheet.proofs.uneven.Reads as reads
-use Rattle.sheet.proofs.uneven.Lts as lts
+use Rattle.sheet.specs.Closing.{differs}
+use borrow.Author.Tests.{eq-eqb, ne-eqb}
 
 returns : tie.Need-returns
 unfolding differs

@@ -1,16 +1,10 @@
 -- `analyst::answering::closest` meets its contract: the row asked about is one of the table, and the answers fit their rooms.
 -- Assumes nothing.
-use native.Mathlib.Omega.{arith}
-use Rattle.measure.proofs.Rows.{row-ends}
-use borrow.Author.Needs.{needs}
 use Rattle.analyst.proofs.answering.closest.Statement.{statement}
 use Rattle.analyst.proofs.answering.closest.Tie as tie
-use Rattle.analyst.proofs.answering.closest.Reads as reads
-use Rattle.analyst.proofs.answering.closest.Lts as lts
-use Rattle.analyst.proofs.answering.find_nearest.Reads as find-nearest-reads
-use Rattle.analyst.proofs.answering.say_answers.Reads as say-answers-reads
-use Rattle.analyst.proofs.telling.say_found.Reads as say-found-reads
-use Rattle.analyst.proofs.telling.say_refused.Reads as say-refused-reads
+use Rattle.measure.proofs.Rows.{row-ends}
+use borrow.Author.Needs.{needs}
+use native.Mathlib.Omega.{arith}
 
 find-nearest-requires : tie.Need-find-nearest-requires
 find-nearest-requires c κs = omega (arith, c .before .before .before .before .before .before .before .before .before .before .before .pre .0, row-ends (c .before .before .before .before .before .before .before .before .before .before .before .args .c) (c .before .before .before .before .before .before .before .before .before .before .before .args .n) (c .before .before .before .before .before .before .before .before .before .before .before .args .row) (c .before .before .before .before .before .before .before .before .before .before .before .pre .1))

@@ -1,18 +1,13 @@
 -- `analyst::answering::find_nearest` meets its contract: the index is the one just built, so the search on it is exact.
 -- Assumes nothing.
 use Prim.Native.Nat.{ℕ}
-use native.Mathlib.Omega.{arith}
-use mathlib.Core.Path.{sym}
-use lib.Seq.{length-take-le}
 use Rattle.analyst.proofs.Indexed.{nearest-given, small, words-there}
-use borrow.Author.Needs.{needs}
 use Rattle.analyst.proofs.answering.find_nearest.Statement.{statement}
 use Rattle.analyst.proofs.answering.find_nearest.Tie as tie
-use Rattle.analyst.proofs.answering.find_nearest.Reads as reads
-use Rattle.analyst.proofs.answering.find_nearest.Lts as lts
-use Rattle.build.proofs.build.Reads as build-reads
-use Rattle.measure.proofs.row_of.Reads as row-of-reads
-use Rattle.nearest.proofs.nearest.Reads as nearest-reads
+use borrow.Author.Needs.{needs}
+use lib.Seq.{length-take-le}
+use mathlib.Core.Path.{sym}
+use native.Mathlib.Omega.{arith}
 
 row-of-requires : tie.Need-row-of-requires
 row-of-requires c κs = search needs

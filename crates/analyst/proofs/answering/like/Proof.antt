@@ -1,17 +1,10 @@
 -- `analyst::answering::like` meets its contract: the row asked about is one of the table, and so is each that is written.
 -- Assumes nothing.
-use native.Mathlib.Omega.{arith}
-use Rattle.measure.proofs.Rows.{row-ends}
-use borrow.Author.Needs.{needs}
 use Rattle.analyst.proofs.answering.like.Statement.{statement}
 use Rattle.analyst.proofs.answering.like.Tie as tie
-use Rattle.analyst.proofs.answering.like.Reads as reads
-use Rattle.analyst.proofs.answering.like.Lts as lts
-use Rattle.analyst.proofs.answering.mark_like.Reads as mark-like-reads
-use Rattle.analyst.proofs.answering.say_rows.Reads as say-rows-reads
-use Rattle.analyst.proofs.telling.say_found.Reads as say-found-reads
-use Rattle.analyst.proofs.telling.say_refused.Reads as say-refused-reads
-use Rattle.measure.proofs.row_of.Reads as row-of-reads
+use Rattle.measure.proofs.Rows.{row-ends}
+use borrow.Author.Needs.{needs}
+use native.Mathlib.Omega.{arith}
 
 mark-like-requires : tie.Need-mark-like-requires
 mark-like-requires c κs = omega (arith, c .before .before .before .before .before .before .before .pre .1, row-ends (c .before .before .before .before .before .before .before .args .c) (c .before .before .before .before .before .before .before .args .n) (c .before .before .before .before .before .before .before .args .row) (c .before .before .before .before .before .before .before .pre .2))

@@ -1,18 +1,13 @@
 -- `analyst::answering::mark_like` meets its contract: the index is the one just built, so the search on it is exact.
 -- Assumes nothing.
 use Prim.Native.Nat.{ℕ}
-use native.Mathlib.Omega.{arith}
-use mathlib.Core.Path.{sym}
-use lib.Seq.{length-take-le}
 use Rattle.analyst.proofs.Indexed.{marked-exact, small, words-there}
-use borrow.Author.Needs.{needs}
 use Rattle.analyst.proofs.answering.mark_like.Statement.{statement}
 use Rattle.analyst.proofs.answering.mark_like.Tie as tie
-use Rattle.analyst.proofs.answering.mark_like.Reads as reads
-use Rattle.analyst.proofs.answering.mark_like.Lts as lts
-use Rattle.build.proofs.build.Reads as build-reads
-use Rattle.measure.proofs.row_of.Reads as row-of-reads
-use Rattle.radius.proofs.radius.Reads as radius-reads
+use borrow.Author.Needs.{needs}
+use lib.Seq.{length-take-le}
+use mathlib.Core.Path.{sym}
+use native.Mathlib.Omega.{arith}
 
 row-of-requires : tie.Need-row-of-requires
 row-of-requires c κs = search needs

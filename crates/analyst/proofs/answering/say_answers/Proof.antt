@@ -1,13 +1,9 @@
 -- `analyst::answering::say_answers` meets its contract: there are `given` of each.
 -- Assumes nothing.
 use Prim.Native.Nat.{_-_, _≤_}
-use borrow.Author.Needs.{needs}
 use Rattle.analyst.proofs.answering.say_answers.Statement.{statement}
 use Rattle.analyst.proofs.answering.say_answers.Tie as tie
-use Rattle.analyst.proofs.answering.say_answers.Reads as reads
-use Rattle.analyst.proofs.answering.say_answers.Lts as lts
-use Rattle.analyst.proofs.answering.wide.Reads as wide-reads
-use Rattle.analyst.proofs.telling.say_answer.Reads as say-answer-reads
+use borrow.Author.Needs.{needs}
 
 abbrev Inv-loop : tie.InvT-loop
 Inv-loop rows distances given i₀ i = i ≤ given

@@ -1,14 +1,11 @@
 -- `analyst::answering::say_rows` meets its contract: row i ends inside the table.
 -- Assumes nothing.
-use native.Mathlib.Omega.{arith}
-use Rattle.measure.proofs.Rows.{row-ends}
 use Prim.Native.Nat.{_-_, _≤_}
-use borrow.Author.Needs.{needs}
 use Rattle.analyst.proofs.answering.say_rows.Statement.{statement}
 use Rattle.analyst.proofs.answering.say_rows.Tie as tie
-use Rattle.analyst.proofs.answering.say_rows.Reads as reads
-use Rattle.analyst.proofs.answering.say_rows.Lts as lts
-use Rattle.analyst.proofs.answering.say_marked.Reads as say-marked-reads
+use Rattle.measure.proofs.Rows.{row-ends}
+use borrow.Author.Needs.{needs}
+use native.Mathlib.Omega.{arith}
 
 abbrev Inv-loop : tie.InvT-loop
 Inv-loop table c query n how i₀ i = i ≤ n

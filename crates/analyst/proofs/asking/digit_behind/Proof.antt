@@ -1,15 +1,12 @@
 -- `analyst::asking::digit_behind` meets its contract: each return has its test.
 -- Assumes nothing.
-use native.Mathlib.Omega.{arith}
-use Rattle.text.proofs.Within.{within-both}
-use Rattle.laws.proofs.Tests.{no, yes}
 use Rattle.analyst.proofs.Worths.{behind-digit, behind-most, behind-other}
-use borrow.Author.Needs.{needs}
 use Rattle.analyst.proofs.asking.digit_behind.Statement.{statement}
 use Rattle.analyst.proofs.asking.digit_behind.Tie as tie
-use Rattle.analyst.proofs.asking.digit_behind.Reads as reads
-use Rattle.analyst.proofs.asking.digit_behind.Lts as lts
-use Rattle.limits.proofs.is_within.Reads as is-within-reads
+use Rattle.laws.proofs.Tests.{no, yes}
+use Rattle.text.proofs.Within.{within-both}
+use borrow.Author.Needs.{needs}
+use native.Mathlib.Omega.{arith}
 
 is-within-requires : tie.Need-is-within-requires
 is-within-requires c κs = search needs

@@ -1,15 +1,12 @@
 -- `analyst::asking::number` meets its contract: a turn reads one digit.
 -- Assumes nothing.
-use lib.ListN.{length}
 use Prim.Native.Nat.{_-_}
-use native.Mathlib.Omega.{arith}
 use Rattle.analyst.proofs.Worths.{Counted, counted-end, counted-next, counted-start, none-worth}
-use borrow.Author.Needs.{needs}
 use Rattle.analyst.proofs.asking.number.Statement.{statement}
 use Rattle.analyst.proofs.asking.number.Tie as tie
-use Rattle.analyst.proofs.asking.number.Reads as reads
-use Rattle.analyst.proofs.asking.number.Lts as lts
-use Rattle.analyst.proofs.asking.digit_behind.Reads as digit-behind-reads
+use borrow.Author.Needs.{needs}
+use lib.ListN.{length}
+use native.Mathlib.Omega.{arith}
 
 abbrev Inv-loop : tie.InvT-loop
 Inv-loop word value₀ i₀ value i = Counted word value i

@@ -1,20 +1,12 @@
 -- `analyst::reading::read_rows` meets its contract: the reader is tidy from the first byte on, and the turns run out.
 -- Assumes nothing.
-use mathlib.Core.Path.{_≡_, refl}
-use lib.ListN.{length}
-use Rattle.sheet.specs.Tidy.{Tidy}
-use Rattle.sheet.proofs.Tidying.{begun-tidy, feed-tidy, finish-tidy}
-use borrow.Author.Needs.{needs}
 use Rattle.analyst.proofs.reading.read_rows.Statement.{statement}
 use Rattle.analyst.proofs.reading.read_rows.Tie as tie
-use Rattle.analyst.proofs.reading.read_rows.Reads as reads
-use Rattle.analyst.proofs.reading.read_rows.Lts as lts
-use Rattle.io.proofs.buffer.Reads as buffer-reads
-use Rattle.io.proofs.count.Reads as count-reads
-use Rattle.libc.proofs.read.Reads as read-reads
-use Rattle.sheet.proofs.feed.Reads as feed-reads
-use Rattle.sheet.proofs.finish.Reads as finish-reads
-use Rattle.sheet.proofs.start.Reads as start-reads
+use Rattle.sheet.proofs.Tidying.{begun-tidy, feed-tidy, finish-tidy}
+use Rattle.sheet.specs.Tidy.{Tidy}
+use borrow.Author.Needs.{needs}
+use lib.ListN.{length}
+use mathlib.Core.Path.{_≡_, refl}
 
 abbrev Inv-loop : tie.InvT-loop
 Inv-loop file table₀ reader₀ left₀ table reader left = Tidy (length table) reader × (length table ≡ length table₀)

@@ -1,16 +1,12 @@
 -- `sheet::bytes::kind_of` meets its contract: each return has its test, in the order of the definition.
 -- Assumes nothing.
-use mathlib.Core.Path.{_∙_, sym}
-use Rattle.text.proofs.Within.{within-both}
-use Rattle.sheet.specs.Kinds.{kindOf}
-use borrow.Author.Tests.{eq-eqb, ne-eqb}
-use borrow.Author.Needs.{needs}
 use Rattle.sheet.proofs.bytes.kind_of.Statement.{statement}
 use Rattle.sheet.proofs.bytes.kind_of.Tie as tie
-use Rattle.sheet.proofs.bytes.kind_of.Reads as reads
-use Rattle.sheet.proofs.bytes.kind_of.Lts as lts
-use Rattle.limits.proofs.is_within.Reads as is-within-reads
-use Rattle.sheet.proofs.bytes.parts.Reads as parts-reads
+use Rattle.sheet.specs.Kinds.{kindOf}
+use Rattle.text.proofs.Within.{within-both}
+use borrow.Author.Needs.{needs}
+use borrow.Author.Tests.{eq-eqb, ne-eqb}
+use mathlib.Core.Path.{_∙_, sym}
 
 is-within-requires : tie.Need-is-within-requires
 is-within-requires c κs = search needs

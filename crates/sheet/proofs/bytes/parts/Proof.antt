@@ -1,12 +1,9 @@
 -- `sheet::bytes::parts` meets its contract: a return for each byte that parts, and one for any other.
 -- Assumes nothing.
-use Rattle.sheet.specs.Kinds.{parting}
-use borrow.Author.Tests.{eq-eqb, ne-eqb}
-use borrow.Author.Needs.{needs}
 use Rattle.sheet.proofs.bytes.parts.Statement.{statement}
 use Rattle.sheet.proofs.bytes.parts.Tie as tie
-use Rattle.sheet.proofs.bytes.parts.Reads as reads
-use Rattle.sheet.proofs.bytes.parts.Lts as lts
+use Rattle.sheet.specs.Kinds.{parting}
+use borrow.Author.Tests.{eq-eqb, ne-eqb}
 
 returns : tie.Need-returns
 unfolding parting

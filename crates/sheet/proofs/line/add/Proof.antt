@@ -1,12 +1,10 @@
 -- `sheet::line::add` meets its contract: a seventeenth number is refused.
 -- Assumes nothing.
-use borrow.Author.Tests.{le-leb, lt-leb}
-use Rattle.sheet.specs.InLine.{added}
-use borrow.Author.Needs.{needs}
 use Rattle.sheet.proofs.line.add.Statement.{statement}
 use Rattle.sheet.proofs.line.add.Tie as tie
-use Rattle.sheet.proofs.line.add.Reads as reads
-use Rattle.sheet.proofs.line.add.Lts as lts
+use Rattle.sheet.specs.InLine.{added}
+use borrow.Author.Needs.{needs}
+use borrow.Author.Tests.{le-leb, lt-leb}
 
 returns : tie.Need-returns
 unfolding added

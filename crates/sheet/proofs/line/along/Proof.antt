@@ -1,13 +1,9 @@
 -- `sheet::line::along` meets its contract: what ends is kept, and then the place moves.
 -- Assumes nothing.
-use Rattle.sheet.specs.InLine.{along}
-use borrow.Author.Needs.{needs}
 use Rattle.sheet.proofs.line.along.Statement.{statement}
 use Rattle.sheet.proofs.line.along.Tie as tie
-use Rattle.sheet.proofs.line.along.Reads as reads
-use Rattle.sheet.proofs.line.along.Lts as lts
-use Rattle.sheet.proofs.line.go_on.Reads as go-on-reads
-use Rattle.sheet.proofs.line.keep.Reads as keep-reads
+use Rattle.sheet.specs.InLine.{along}
+use borrow.Author.Needs.{needs}
 
 keep-requires : tie.Need-keep-requires
 keep-requires c κs = search needs

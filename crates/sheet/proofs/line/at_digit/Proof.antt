@@ -1,11 +1,8 @@
 -- `sheet::line::at_digit` meets its contract: one return for each case of the place.
 -- Assumes nothing.
-use borrow.Author.Needs.{needs}
 use Rattle.sheet.proofs.line.at_digit.Statement.{statement}
 use Rattle.sheet.proofs.line.at_digit.Tie as tie
-use Rattle.sheet.proofs.line.at_digit.Reads as reads
-use Rattle.sheet.proofs.line.at_digit.Lts as lts
-use Rattle.sheet.proofs.line.grow.Reads as grow-reads
+use borrow.Author.Needs.{needs}
 
 enum-told : tie.Need-enum-told
 enum-told c = search needs

@@ -1,10 +1,8 @@
 -- `sheet::line::at_other` meets its contract: one return for each case of the place.
 -- Assumes nothing.
-use borrow.Author.Needs.{needs}
 use Rattle.sheet.proofs.line.at_other.Statement.{statement}
 use Rattle.sheet.proofs.line.at_other.Tie as tie
-use Rattle.sheet.proofs.line.at_other.Reads as reads
-use Rattle.sheet.proofs.line.at_other.Lts as lts
+use borrow.Author.Needs.{needs}
 
 returns : tie.Need-returns
 returns c = search needs

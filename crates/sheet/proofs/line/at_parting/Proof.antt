@@ -1,10 +1,8 @@
 -- `sheet::line::at_parting` meets its contract: one return for each case of the place.
 -- Assumes nothing.
-use borrow.Author.Needs.{needs}
 use Rattle.sheet.proofs.line.at_parting.Statement.{statement}
 use Rattle.sheet.proofs.line.at_parting.Tie as tie
-use Rattle.sheet.proofs.line.at_parting.Reads as reads
-use Rattle.sheet.proofs.line.at_parting.Lts as lts
+use borrow.Author.Needs.{needs}
 
 enum-told : tie.Need-enum-told
 enum-told c = search needs

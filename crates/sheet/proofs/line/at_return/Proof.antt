@@ -1,10 +1,8 @@
 -- `sheet::line::at_return` meets its contract: one return for each case of the place.
 -- Assumes nothing.
-use borrow.Author.Needs.{needs}
 use Rattle.sheet.proofs.line.at_return.Statement.{statement}
 use Rattle.sheet.proofs.line.at_return.Tie as tie
-use Rattle.sheet.proofs.line.at_return.Reads as reads
-use Rattle.sheet.proofs.line.at_return.Lts as lts
+use borrow.Author.Needs.{needs}
 
 enum-told : tie.Need-enum-told
 enum-told c = search needs

@@ -1,11 +1,9 @@
 -- `sheet::line::fresh` meets its contract: the record field by field.
 -- Assumes nothing.
-use Rattle.sheet.specs.InLine.{emptied}
-use borrow.Author.Needs.{needs}
 use Rattle.sheet.proofs.line.fresh.Statement.{statement}
 use Rattle.sheet.proofs.line.fresh.Tie as tie
-use Rattle.sheet.proofs.line.fresh.Reads as reads
-use Rattle.sheet.proofs.line.fresh.Lts as lts
+use Rattle.sheet.specs.InLine.{emptied}
+use borrow.Author.Needs.{needs}
 
 returns : tie.Need-returns
 unfolding emptied

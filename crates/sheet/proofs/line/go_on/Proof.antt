@@ -1,14 +1,8 @@
 -- `sheet::line::go_on` meets its contract: one return for each kind of byte.
 -- Assumes nothing.
-use borrow.Author.Needs.{needs}
 use Rattle.sheet.proofs.line.go_on.Statement.{statement}
 use Rattle.sheet.proofs.line.go_on.Tie as tie
-use Rattle.sheet.proofs.line.go_on.Reads as reads
-use Rattle.sheet.proofs.line.go_on.Lts as lts
-use Rattle.sheet.proofs.line.at_digit.Reads as at-digit-reads
-use Rattle.sheet.proofs.line.at_other.Reads as at-other-reads
-use Rattle.sheet.proofs.line.at_parting.Reads as at-parting-reads
-use Rattle.sheet.proofs.line.at_return.Reads as at-return-reads
+use borrow.Author.Needs.{needs}
 
 enum-known-kind : tie.Need-enum-known-kind
 enum-known-kind c = search needs

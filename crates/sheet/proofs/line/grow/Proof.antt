@@ -1,12 +1,10 @@
 -- `sheet::line::grow` meets its contract: each return has its test.
 -- Assumes nothing.
-use borrow.Author.Tests.{le-leb, lt-leb}
-use Rattle.sheet.specs.InLine.{grown}
-use borrow.Author.Needs.{needs}
 use Rattle.sheet.proofs.line.grow.Statement.{statement}
 use Rattle.sheet.proofs.line.grow.Tie as tie
-use Rattle.sheet.proofs.line.grow.Reads as reads
-use Rattle.sheet.proofs.line.grow.Lts as lts
+use Rattle.sheet.specs.InLine.{grown}
+use borrow.Author.Needs.{needs}
+use borrow.Author.Tests.{le-leb, lt-leb}
 
 returns : tie.Need-returns
 unfolding grown

@@ -1,11 +1,8 @@
 -- `sheet::line::keep` meets its contract: one return for each kind of byte.
 -- Assumes nothing.
-use borrow.Author.Needs.{needs}
 use Rattle.sheet.proofs.line.keep.Statement.{statement}
 use Rattle.sheet.proofs.line.keep.Tie as tie
-use Rattle.sheet.proofs.line.keep.Reads as reads
-use Rattle.sheet.proofs.line.keep.Lts as lts
-use Rattle.sheet.proofs.line.settle.Reads as settle-reads
+use borrow.Author.Needs.{needs}
 
 enum-told : tie.Need-enum-told
 enum-told c = search needs

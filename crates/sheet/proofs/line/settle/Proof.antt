@@ -1,11 +1,8 @@
 -- `sheet::line::settle` meets its contract: one return for each case of the place.
 -- Assumes nothing.
-use borrow.Author.Needs.{needs}
 use Rattle.sheet.proofs.line.settle.Statement.{statement}
 use Rattle.sheet.proofs.line.settle.Tie as tie
-use Rattle.sheet.proofs.line.settle.Reads as reads
-use Rattle.sheet.proofs.line.settle.Lts as lts
-use Rattle.sheet.proofs.line.add.Reads as add-reads
+use borrow.Author.Needs.{needs}
 
 enum-told : tie.Need-enum-told
 enum-told c = search needs
