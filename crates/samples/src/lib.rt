@@ -1,4 +1,5 @@
 // Tables and indexes that more than one program runs on, and a digit to print.
+ghost use Rattle.samples.specs.Digit.{digitOf};
 ghost use lib.ListN.{length};
 ghost use mathlib.Core.Path.{_≡_};
 
@@ -57,11 +58,15 @@ pub fn many() -> [u16; 1048577]
 }
 
 // One decimal digit; a question mark for anything greater.
-pub fn digit(x: u32) -> u8 {
+pub fn digit(x: u32) -> u8
+    ensures { λ r. ⌜ r ≡ digitOf x ⌝ }
+{
     if x < 10 { (x as u8) + 48 } else { b'?' }
 }
 
 // The same of a count.
-pub fn count(x: usize) -> u8 {
+pub fn count(x: usize) -> u8
+    ensures { λ r. ⌜ r ≡ digitOf x ⌝ }
+{
     if x < 10 { (x as u8) + 48 } else { b'?' }
 }
