@@ -1,14 +1,13 @@
 -- Queueing the rows of a leaf and the children of an inner node, one by one. Assumes nothing.
 use Prim.Native.Nat.{_*_, _+_, _-_, _<_, _≤_, max, min, suc, ℕ}
-use Rattle.laws.proofs.Outside.{outside-more, outside-same, outside-then}
-use Rattle.laws.specs.Bags.{total}
+use Rattle.laws.proofs.Outside.{outside-more, outside-same}
 use Rattle.laws.specs.Lists.{gap}
 use Rattle.nearest.proofs.Beyond.{more-none, more-one}
 use Rattle.nearest.specs.Answers.{Entered, Full}
 use Rattle.nearest.specs.Frontier.{More, Room, leastKept, noded, placed}
 use Rattle.nearest.specs.Standing.{kept}
 use Rattle.queue.specs.Entry.{entryAt, packed}
-use Rattle.queue.specs.Queue.{Popped, Pushed, Queue, entries}
+use Rattle.queue.specs.Queue.{Pushed, Replaced}
 use Rattle.tree.specs.Homes.{childBound}
 use Rattle.words.specs.InShape.{InShape}
 use Rattle.words.specs.Words.{N#, count#, dist#, first#, n#, nodeAt, pairAt, radius#, start#}
@@ -167,20 +166,14 @@ module _ (work : List ℕ) (b w k e : ℕ) (F : Full work b w k) where
     outside = outside-same work b (b + (w + w));
   }
 
-  pub enter-more : (work₁ work′ : List ℕ) (v : ℕ) → w ≤ k → entryAt work b ≤ e → Popped work work₁ b k v → Pushed work₁ work′ b (k - 1) e → Entered work work′ b w k e k
-  enter-more work₁ work′ v h c Q P =
-      let back : k - 1 + 1 ≡ k = omega (arith, F .some) in
-      record {
-        queue = subst (Queue work′ b) back (P .queue);
-        free = λ l. absurd (omega arith);
-        worse = λ l q. absurd (omega arith);
-        better = λ l q. (
-          refl,
-          λ f. omega (arith, ap (λ (z : ℕ). total f (entries work′ b z)) back, P .bag f, Q .bag f, ap f (Q .front)),
-        );
-        outside = outside-then work work₁ work′ b (b + (w + w)) b (b + (k - 1 + (k - 1)) + 2) (omega arith) (omega (arith, F .some, F .most))
-            (outside-more work work₁ b (b + (w + w)) b (b + (k + k)) (omega arith) (omega (arith, F .most)) (Q .outside)) (P .outside);
-      }
+  pub enter-more : (work′ : List ℕ) (v : ℕ) → w ≤ k → entryAt work b ≤ e → Replaced work work′ b k e v → Entered work work′ b w k e k
+  enter-more work′ v h c R = record {
+    queue = R .queue;
+    free = λ l. absurd (omega arith);
+    worse = λ l q. absurd (omega arith);
+    better = λ l q. (refl, λ f. omega (arith, R .bag f, ap f (R .front)));
+    outside = outside-more work work′ b (b + (w + w)) b (b + (k + k)) (omega arith) (omega (arith, F .most)) (R .outside);
+  }
 
 -- ---- a leaf, as the code reads it: s is its start, c its count, f its first
 module _ (w work : List ℕ) (n len k s c f : ℕ) (R : Room w work n len (count# w k)) (h : k < N# w) (es : s ≡ start# w k) (ec : c ≡ count# w k)
