@@ -4,7 +4,9 @@ use Prim.Native.Nat.{_<_, min, ℕ}
 use Rattle.answers.proofs.Records.{length-records, records-beyond, records-first, records-of}
 use Rattle.answers.specs.Records.{made, records}
 use Rattle.answers.specs.declared.Answer.{Answer}
+use Rattle.bourascul.specs.Calls.{ReadsBlock}
 use Rattle.bourascul.specs.Recorded.{Recorded}
+use Rattle.image.proofs.Only.{read-only}
 use Rattle.measure.specs.Table.{between, from, row}
 use Rattle.nearest.proofs.Contract.{same-answers}
 use Rattle.nearest.proofs.Promises.{Same, nearest-exact, nearest-only, nearest-two-tables}
@@ -90,3 +92,11 @@ module _ {t : List ℕ} {c : ℕ} {w q : List ℕ} {wanted : ℕ} {as₀ as₁ a
   answers-only t′ serves =
       let E = nearest-only (s₁ .plain) (s₂ .plain) t′ serves in
       (E .0, E .1, records-follow (E .1 .0) (E .1 .2) (E .1 .3))
+
+-- ---- reading an image, with the number of a wrong block in 32 bits
+-- NO SECOND OUTCOME FITS
+pub read-block-only : {i before a a′ : List ℕ} {n n′ p p′ k k′ : ℕ} → ReadsBlock i before a n p k → ReadsBlock i before a′ n′ p′ k′
+    → (n ≡ n′) × (p ≡ p′) × (k ≡ k′) × (a ≡ a′)
+read-block-only {i} {before} {a} {a′} {n} {n′} {p} {p′} {k} {k′} x y =
+    let e = read-only i before a a′ n n′ (x .block) (y .block) k k′ (x .reads) (y .reads) in
+    (e .0, x .named ∙ ap (λ (b : ℕ). min b 4294967295) (e .1) ∙ sym (y .named), e .2, e .3)

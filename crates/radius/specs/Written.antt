@@ -1,8 +1,8 @@
 -- How-bytes as marks that are written one after the other. Assumes nothing.
 use Prim.Native.Nat.{_-_, suc, zero, ℕ}
 use Rattle.laws.specs.Lists.{each, range}
-use lib.ListN.{drop, replicate, set}
-use mathlib.Core.List.{List, [], _++_, _∷_}
+use lib.ListN.{set}
+use mathlib.Core.List.{List, [], _∷_}
 
 -- the how-byte v for row i. 0 is not written: it stands there from the start
 unfoldable pub byte : ℕ → ℕ → List ℕ → List ℕ
