@@ -27,9 +27,11 @@ module _ (R : RattleType) (b o n : ℕ) (κ : Lft) (q : Share) (γ : GName) (κ�
   LentOn δ ys = fsep (flent κ′ (Held R (length ys) b o δ)) (Open R b o n κ q γ ys)
 
   module _ {M : Type 1} (𝓤 : URA M) (H : Heap 𝓤) (A : Atoms 𝓤) (W : Given 𝓤 H A) (ℓ ℓ′ : Lifetime) (ys : List (R .Denot)) (room : Room R n) (e : length ys ≡ n) where
+    -- the borrower's slice under the name δ, and what the holder keeps
     abbrev Lends : GName → Fml
     Lends δ = fsep (MutSlice ℓ′ κ′ R .own (at R b o n δ ys) (pointer R b o n)) (LentOn δ ys)
 
+    -- a slice, with a share of its lifetime, is lent on
     pub lends-on : ent 𝓤 (sep 𝓤 (sem 𝓤 H A (MutSlice ℓ κ R .own (at R b o n γ ys) (pointer R b o n))) (A .lft κ q))
         (H .⇛ (ex 𝓤 (λ (δ : GName). sem 𝓤 H A (Lends δ))))
     lends-on =
@@ -40,6 +42,7 @@ module _ (R : RattleType) (b o n : ℕ) (κ : Lft) (q : Share) (γ : GName) (κ�
         (lends-slice 𝓤 H A W R ℓ′ κ′ ys b o (subst (Room R) (sym e) room)) $ await ! tt $ pick ! (λ δ. split ! $ rewrite ! 0 (λ (m : ℕ). ‵ (MutSlice ℓ′ κ′ R .own (at R b o n δ ys) (sliceVal (b, o) m ∷ []))) e refl $
         at-once ! $ show ! (λ (δ : GName). sem 𝓤 H A (Lends δ)) δ $ frame ! $ fjoin ! $ done !)
 
+    -- once κ′ has ended the holder has the slice again, at what the borrower left
     pub on-back : (δ : GName) (zs : List (R .Denot)) → length zs ≡ length ys
         → ent 𝓤 (sep 𝓤 (A .dead κ′) (sep 𝓤 (sem 𝓤 H A (LentOn δ ys)) (sem 𝓤 H A (finally R δ zs))))
         (H .⇛ (sep 𝓤 (sem 𝓤 H A (MutSlice ℓ κ R .own (at R b o n γ zs) (pointer R b o n))) (A .lft κ q)))

@@ -31,9 +31,11 @@ module _ (R : RattleType) (b o n : ℕ) (κ : Lft) (q : Share) (γ : GName) (κ�
   LentOut ys = fsep (flent κ′ (Whole ys)) (Open R b o n κ q γ ys)
 
   module _ {M : Type 1} (𝓤 : URA M) (H : Heap 𝓤) (A : Atoms 𝓤) (W : Given 𝓤 H A) (ℓ ℓ′ : Lifetime) (ys : List (R .Denot)) (room : Room R n) (e : length ys ≡ n) where
+    -- the reader's slice under the name δ, and what the holder keeps
     abbrev Lends : GName → Fml
     Lends δ = fsep (ShrSlice ℓ′ κ′ R .own (at R b o n δ ys) (pointer R b o n)) (LentOut ys)
 
+    -- a slice, with a share of its lifetime, is lent out to be read
     pub lends-out : ent 𝓤 (sep 𝓤 (sem 𝓤 H A (MutSlice ℓ κ R .own (at R b o n γ ys) (pointer R b o n))) (A .lft κ q))
         (H .⇛ (ex 𝓤 (λ (δ : GName). sem 𝓤 H A (Lends δ))))
     lends-out =
@@ -44,6 +46,7 @@ module _ (R : RattleType) (b o n : ℕ) (κ : Lft) (q : Share) (γ : GName) (κ�
         (lends-shr-slice 𝓤 H A W R ℓ′ κ′ fullShare ys b o (subst (Room R) (sym e) room)) $ await ! tt $ pick ! (λ δ. split ! $ rewrite ! 0 (λ (m : ℕ). ‵ (ShrSlice ℓ′ κ′ R .own (at R b o n δ ys) (sliceVal (b, o) m ∷ []))) e refl $
         at-once ! $ show ! (λ (δ : GName). sem 𝓤 H A (Lends δ)) δ $ frame ! $ fjoin ! $ done !)
 
+    -- once κ′ has ended the holder has the slice again, as it was
     pub out-back : ent 𝓤 (sep 𝓤 (A .dead κ′) (sem 𝓤 H A (LentOut ys)))
         (H .⇛ (sep 𝓤 (sem 𝓤 H A (MutSlice ℓ κ R .own (at R b o n γ ys) (pointer R b o n))) (A .lft κ q)))
     out-back =

@@ -21,14 +21,17 @@ use types.Kit.{ !, Given, _$_, _∵_, done, fjoin, frame, fsplit, fsplit3, move,
 
 -- a slice of n elements of R at (b, o): the reference to it, by the name that follows its value, and its machine value
 module _ (R : RattleType) (b o n : ℕ) where
+  -- the reference, where the elements are ys
   abbrev pub at : GName → List (R .Denot) → RefT (List (R .Denot))
   at γ ys = record { ptr = (b, o); name = γ; now = ys }
 
+  -- its machine value: where the elements stand, and how many
   abbrev pub pointer : List Val
   pointer = sliceVal (b, o) n ∷ []
 
   -- what the holder of `&κ mut [T]` keeps while the elements ys are out: the open borrow, which has the token of κ in it, and both halves of the name
   module _ (κ : Lft) (q : Share) (γ : GName) where
+    -- the open borrow of ys
     abbrev pub Open : List (R .Denot) → Fml
     Open ys =
         fsep (fobor κ q (Held R (length ys) b o γ)) (fsep (fobs γ (codedHoleys R .code (heres R ys))) (fauth γ (codedHoleys R .code (heres R ys))))

@@ -2,8 +2,8 @@
 use Prim.Native.Nat.{_+_, _-_, _<_, _≤_, suc, zero, ℕ}
 use Rattle.answers.specs.Records.{made, records}
 use Rattle.answers.specs.declared.Answer.{Answer}
-use Rattle.laws.specs.Every.{Every}
 use Rattle.laws.proofs.Lists.{map-append}
+use Rattle.laws.proofs.Maps.{map-same}
 use Rattle.laws.proofs.Ranges.{at-every, range-append, range-length}
 use Rattle.laws.specs.Lists.{range}
 use lib.ListN.{drop, getD, length, length-append, length-drop, length-map, set, take}
@@ -16,12 +16,15 @@ use native.Mathlib.Omega.{arith}
 
 -- ---- one record more
 module _ (rs ds : List ℕ) where
+  -- the record of answer i
   abbrev at : ℕ → Answer
   at i = made (getD rs i 0) (getD ds i 0)
 
+  -- k records are k long
   pub length-records : (k : ℕ) → length (records rs ds k) ≡ k
   length-records k = length-map (range 0 k) at ∙ range-length 0 k
 
+  -- the next record stands behind those before it
   records-next : (k : ℕ) → records rs ds (suc k) ≡ records rs ds k ++ (at k ∷ [])
   records-next k =
       ap (λ (j : ℕ). records rs ds j) (sym (add-one k)) ∙ ap (map at) (range-append 0 k 1) ∙ map-append at (range 0 k) (range (0 + k) 1)
@@ -49,20 +52,16 @@ module _ (rs ds : List ℕ) where
 
   -- they are made of the first k of both lists
   pub records-first : (k : ℕ) → records rs ds k ≡ records (take k rs) (take k ds) k
-  records-first k = map-same k (range 0 k) (at-every (λ i. i < k) k (λ i h. h))
-    where
-      map-same : (k : ℕ) (is : List ℕ) → Every (λ i. i < k) is
-          → map (λ i. made (getD rs i 0) (getD ds i 0)) is ≡ map (λ i. made (getD (take k rs) i 0) (getD (take k ds) i 0)) is
-      map-same k [] h = refl
-      map-same k (i ∷ is) h =
-          ap₂ (λ (r d : ℕ). made r d ∷ map at is) (sym (getD-take k rs i 0 (h .0))) (sym (getD-take k ds i 0 (h .0)))
-          ∙ ap (λ (l : List Answer). made (getD (take k rs) i 0) (getD (take k ds) i 0) ∷ l) (map-same k is (h .1))
+  records-first k =
+      let first : ℕ → Answer = λ i. made (getD (take k rs) i 0) (getD (take k ds) i 0) in
+      map-same at first (range 0 k) (at-every (λ i. at i ≡ first i) k (λ i h. ap₂ made (sym (getD-take k rs i 0 h)) (sym (getD-take k ds i 0 h))))
 
 -- ---- the records of plain answers
 shift : {A : Type 0} (f : ℕ → A) (a k : ℕ) → map f (range (suc a) k) ≡ map (λ i. f (suc i)) (range a k)
 shift f a zero = refl
 shift f a (suc k) = ap (λ l. f (suc a) ∷ l) (shift f (suc a) k)
 
+-- the records of answers that stand in front of two slices are those answers
 both : (l : List (ℕ × ℕ)) (s z : List ℕ) → records (map (λ a. a .0) l ++ s) (map (λ a. a .1) l ++ z) (length l) ≡ map (λ a. made (a .0) (a .1)) l
 both [] s z = refl
 both (a ∷ l) s z =

@@ -17,6 +17,7 @@ module _ {Item : Type 0} (S : Space Item) (H : Homes Item) (w : ℕ) (d : ℕ �
     (agree : (r : ℕ) → r < S .rows → Due S H w d r → d′ r ≡ d r)
     (local : (i : Item) → H .bad i ≡ 0 → ((r : ℕ) → 0 < S .measures i r → d′ r ≡ d r) → S .opens d′ i ≡ S .opens d i)
     (known : (i : Item) (r : ℕ) → H .bad i ≡ 0 → 0 < S .measures i r → r < S .rows) where
+  -- no fewer and no more measured rows are closer on the other table
   found-same : (q : List Item) (m : ℕ → ℕ) (k : ℕ) → Kept S H w d q m → found S d′ m k ≡ found S d m k
   found-same q m k v =
       sum-below-same (λ (r : ℕ). min (both m (S .live) r) (k - d′ r)) (λ (r : ℕ). min (both m (S .live) r) (k - d r)) (S .rows)
@@ -26,6 +27,7 @@ module _ {Item : Type 0} (S : Space Item) (H : Homes Item) (w : ℕ) (d : ℕ �
       at r h (yes z) = omega arith
       at r h (no z) = ap (λ (x : ℕ). min (both m (S .live) r) (k - x)) (agree r h (v .due r h (omega arith)))
 
+  -- a step on the other table is one on this
   step-back : (q : List Item) (m : ℕ → ℕ) (q′ : List Item) (m′ : ℕ → ℕ) → Kept S H w d q m → Step S w d′ q m q′ m′ → Step S w d q m q′ m′
   step-back q m q′ m′ v t = record {
     item = i;

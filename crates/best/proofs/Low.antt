@@ -13,6 +13,7 @@ module _ {Item : Type 0} (S : Space Item) (H : Homes Item) (d : ℕ → ℕ) (si
     (there : (i : Item) (r : ℕ) → H .bad i ≡ 0 → 0 < S .measures i r → H .home r ≡ S .bound i)
     (rises : (i : Item) → H .bad i ≡ 0 → total (λ (k : Item). S .bound i - S .bound k) (S .opens d i) ≡ 0)
     (falls : (i : Item) → H .bad i ≡ 0 → total (λ (k : Item). suc (size k) - size i) (S .opens d i) ≡ 0) where
+  -- the same for items of a size below `fuel`
   low-within : (fuel : ℕ) (i : Item) (r : ℕ) → size i < fuel → H .bad i ≡ 0 → 0 < H .waits i r → S .bound i ≤ H .home r
   low-within zero i r s g p = absurd (omega arith)
   low-within (suc fuel) i r s g p = at (decLt (H .home r) (S .bound i)) (λ k. low-within fuel k r)

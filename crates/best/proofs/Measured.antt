@@ -14,6 +14,7 @@ use native.Mathlib.Omega.{arith}
 
 module _ {Item : Type 0} (S : Space Item) (H : Homes Item) (w : ℕ) (d : ℕ → ℕ) (L : Lawful S H d) (q : List Item) (m : ℕ → ℕ) (v : Kept S H w d q m)
     (e : Ended S w d q m) where
+  -- no more measured rows are closer than rows
   found-le : (o : ℕ → ℕ) (k : ℕ) → found S o m k ≤ closer (S .rows) (S .live) o k
   found-le o k = closer-le (S .rows) (both m (S .live)) (S .live) o k k (λ s. omega arith) (omega arith)
 
@@ -67,6 +68,7 @@ module _ {Item : Type 0} (S : Space Item) (H : Homes Item) (w : ℕ) (d : ℕ �
 
   -- ---- the answers. o is the order they are given in: by distance, and rows at one distance somehow; a row's place is how many come before it.
   module _ (o : ℕ → ℕ) (fine : (s r : ℕ) → d s < d r → o s < o r) (coarse : (s r : ℕ) → o s < o r → d s ≤ d r) where
+    -- where a row no farther than r is not measured, w measured rows come before r
     far-place : (s r : ℕ) → s < S .rows → m s ≡ 0 → d s ≤ d r → w ≤ found S o m (o r)
     far-place s r h z c = omega (arith, unmeasured-far s h z, more)
       where

@@ -50,11 +50,13 @@ build-refused {number = number} b k =
 
 -- a check: 1 to 9 are refusals; 10 and above are what it found, and clear the workspace as 0 does
 module _ {t : List ℕ} {c : ℕ} {w work work′ : List ℕ} {number place second : ℕ} (s : Checks t c w work work′ number place second) where
+  -- a refusal has no place and leaves the workspace as it was
   pub check-refused : 1 ≤ number → number ≤ 9 → (place ≡ 0) × (second ≡ 0) × (work′ ≡ work)
   check-refused some low =
       let p = check-placeless s low in
       (p .0, p .1, rw (ne-eqb number 0 (λ z. omega arith), lt-leb 10 number (omega arith)) at (s .cleared))
 
+  -- a fault that the passes find clears the workspace as a success does
   pub check-found : 10 ≤ number → work′ ≡ replicate (6 * rowsOf t c) 0 ++ drop (6 * rowsOf t c) work
   check-found h = rw (le-leb 10 number h, or-true (eqb number 0)) at (s .cleared)
 

@@ -39,6 +39,7 @@ module _ {t : List ℕ} {c : ℕ} {w work₀ work₁ : List ℕ} {place second :
       let right : columnsOk c ≡ true = rw (le-leb 1 c (passed .columns .0), le-leb c maxColumns (passed .columns .1)) in
       none-of-length (length t) c (passed .multiple) (passed .few) ∙ by-length (length t) c right
 
+  -- the index is not refused
   index-right : 0 ≡ said (indexFaults w (rowsOf t c) c) .0
   index-right = none-wrong w (rowsOf t c) c (passed .accepted .words) (passed .same-rows) (passed .same-columns) (passed .accepted .shape)
 

@@ -38,6 +38,7 @@ module _ {t : List ℕ} {c : ℕ} {w q : List ℕ} {wanted : ℕ} {as₀ as₁ :
   first-records =
       ap (take given) (s .recorded) ∙ take-at (records rs′ ds′ given) (drop given as₀) given (length-records rs′ ds′ given) ∙ records-first rs′ ds′ given
 
+  -- the records are those of the rows and distances that the plain call settles
   settled-records : (x : ℕ → ℕ) → Settled x w wanted rs rs′ ds ds′ how how′ given
       → as₁ ≡ map (λ a. made (a .0) (a .1)) (answers x (n# w) wanted) ++ drop (min wanted (n# w)) as₀
   settled-records x Z =

@@ -1,5 +1,6 @@
 pub mod Tests
 pub mod Lists
+pub mod Maps
 pub mod Every
 pub mod Ranges
 pub mod Empty

@@ -17,10 +17,12 @@ use mathlib.Core.List.{List, _++_}
 use mathlib.Core.Path.{_∙_, _≡_, ap, refl, sym}
 
 module _ (T : List ℕ) (c : ℕ) (w q : List ℕ) (r : ℕ) (h : List ℕ) {number : ℕ} (said-is : number ≡ saidRadius T c w q (length h) .0) where
+  -- a refusal that changed nothing
   pub refused-is : (number ≡ 0 → ⊥) → Searched T c w q r h h number 0 0
   refused-is n =
       record { said = said-is; refused = λ k. (refl, refl, refl); beyond = λ z. absurd (n z); counts = λ z. absurd (n z); marks = λ z. absurd (n z) }
 
+  -- a search that wrote the tree's marks on cleared how-bytes, and counted them
   pub done-is : {k i m : ℕ} (h′ : List ℕ) → number ≡ 0 → InShape w → k ≡ n# w
       → h′ ≡ write (marks (from T c q) r (treeOf w)) (wiped (n# w) h)
       → i ≡ inside (take k h′) → m ≡ measured (take k h′) → Searched T c w q r h h′ 0 i m

@@ -18,6 +18,7 @@ pub record Below (w : List ℕ) (levels k ch : ℕ) : Type 0 where
   pub deeper : 1 ≤ levels
   pub left : (j : ℕ) → Left w (levels - 1) (ch + j)
 
+-- such is every node of an index in shape whose first child's number is not 0
 pub below : {w : List ℕ} → InShape w → (levels k ch : ℕ) → Left w levels k → k < N# w → ch ≡ child# w k → (ch ≡ 0 → ⊥) → Below w levels k ch
 below {w} S levels k ch l h e z =
     let i : inner w k ≡ true = ap not (ne-eqb (child# w k) 0 (λ q. z (e ∙ q))) in

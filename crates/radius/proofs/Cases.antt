@@ -30,6 +30,7 @@ use mathlib.Core.List.{List, [], _++_, _∷_}
 use mathlib.Core.Path.{_∙_, _≡_, ap, ap₂, refl, sym}
 use native.Mathlib.Omega.{arith}
 
+-- lists that the test finds equal are equal
 same-is : (a b : List ℕ) → T (same a b) → a ≡ b
 same-is [] [] h = refl
 same-is [] (y ∷ b) h = absurd h
@@ -45,6 +46,7 @@ fit t =
     && all (λ p. not (again w p)) (range 0 (n# w))
 
 module _ (t : List ℕ) (f : T (fit t)) where
+  -- the index built over the table
   abbrev w : List ℕ
   w = build t 1 2 2
 
@@ -69,6 +71,7 @@ module _ (t : List ℕ) (f : T (fit t)) where
       )
 
   module _ (q r : ℕ) (how : List ℕ) (i k : ℕ) where
+    -- each row's distance from the query
     abbrev x : ℕ → ℕ
     x = from t 1 (q ∷ [])
 
@@ -76,10 +79,12 @@ module _ (t : List ℕ) (f : T (fit t)) where
     abbrev bytes : List ℕ
     bytes = radiusHow x r (length t) (treeOf w)
 
+    -- what the table of cases says of this one
     right-is : T (right (radius t q r how i k)) → T (same bytes how && eqb (inside bytes) i && eqb (measured bytes) k)
     unfolding right
     right-is ok = ok
 
+    -- a case that is right is what the call gives
     gives : T (right (radius t q r how i k)) → Gives t q r how i k
     gives ok before after number in# met room s =
         let ts = tests in

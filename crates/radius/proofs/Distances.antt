@@ -1,6 +1,7 @@
 -- The centres' distances, as the code gathers them, and the least of them. Assumes nothing.
 use Prim.Native.Nat.{_+_, _<_, _≤_, min, suc, zero, ℕ}
 use Rattle.laws.proofs.Lists.{map-append}
+use Rattle.laws.proofs.Maps.{map-shift}
 use Rattle.laws.proofs.Ranges.{range-append}
 use Rattle.laws.specs.Lists.{least, range}
 use Rattle.radius.specs.Descent.{Distances, firstAt, leastFrom}
@@ -17,13 +18,16 @@ use native.Mathlib.Omega.{arith}
 
 -- ---- gathered: the list holds f 0, f 1, .. f (j - 1), all at most B
 module _ (f : ℕ → ℕ) (B : ℕ) where
+  -- the first j places hold f, none above B
   abbrev pub Holds : List ℕ → ℕ → Type 0
   Holds ds j = (i : ℕ) → i < j → (getD ds i 0 ≡ f i) × (getD ds i 0 ≤ B)
 
+  -- the first stands there
   pub holds-one : (ds : List ℕ) → getD ds 0 0 ≡ f 0 → getD ds 0 0 ≤ B → Holds ds 1
   holds-one ds e b zero h = (e, b)
   holds-one ds e b (suc i) h = absurd (omega arith)
 
+  -- a turn adds the next
   pub holds-more : (ds : List ℕ) (j : ℕ) {d : ℕ} → j < length ds → d ≡ f j → d ≤ B → Holds ds j → Holds (set ds j d) (j + 1)
   holds-more ds j {d} l e b h i lt =
       ⊎-elim (λ (q : i ≡ j). subst⁻¹ (λ (i : ℕ). (getD (set ds j d) i 0 ≡ f i) × (getD (set ds j d) i 0 ≤ B)) q (rw (getD-set-same ds j d 0) at-j))
@@ -34,6 +38,7 @@ module _ (f : ℕ → ℕ) (B : ℕ) where
       at-j = (e, b)
 
 -- ---- the least of them
+-- one number more
 least-snoc : (a v : ℕ) (xs : List ℕ) → least a (xs ++ v ∷ []) ≡ min v (least a xs)
 least-snoc a v [] = refl
 least-snoc a v (x ∷ xs) = omega (arith, least-snoc a v xs)
@@ -51,10 +56,6 @@ take-map f ds (suc m) l h =
     take-suc ds m 0 l ∙ ap₂ (λ a v. a ++ v ∷ []) (take-map f ds m (omega arith) (λ j q. h j (omega arith))) (h m (omega arith))
     ∙ sym (ap (λ (n : ℕ). map f (range 0 n)) e ∙ ap (map f) (range-append 0 m 1) ∙ map-append f (range 0 m) (range (0 + m) 1)
     ∙ ap (λ (k : ℕ). map f (range 0 m) ++ f k ∷ []) (zero-add m))
-
-map-shift : {A : Type 0} (f : ℕ → A) (a b m : ℕ) → map (λ j. f (a + j)) (range b m) ≡ map f (range (a + b) m)
-map-shift f a b zero = refl
-map-shift f a b (suc m) = ap₂ (λ x l. x ∷ l) refl (map-shift f a (suc b) m ∙ ap (λ n. map f (range n m)) (omega arith))
 
 -- the least of the distances held is that of the centres
 pub least-is : (x : ℕ → ℕ) (w : List ℕ) (ch m : ℕ) (ds : List ℕ) → m ≡ m# w → 1 ≤ m → m ≤ length ds → Distances x w ch ds

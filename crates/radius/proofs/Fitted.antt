@@ -14,5 +14,6 @@ module _ {w T : List ℕ} {c : ℕ} {q h : List ℕ} (L : Lent w T c q h) where
   pub measurable : (i : ℕ) → i < n# w → (c ≤ maxColumns) × (c * i + c ≤ length T) × (length q ≡ c) × (i < length h)
   measurable i l = (L .columns, omega (arith, row-ends c (n# w) i l, L .table), L .query, omega (arith, L .how))
 
+  -- how-bytes of the same length fit
   pub lent-same : (h′ : List ℕ) → length h′ ≡ length h → Lent w T c q h′
   lent-same h′ e = record { shape = L .shape; table = L .table; columns = L .columns; query = L .query; how = omega (arith, L .how) }

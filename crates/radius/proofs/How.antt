@@ -24,22 +24,26 @@ use mathlib.Core.Path.{_∙_, _≡_, ap, refl, subst, sym}
 use native.Mathlib.Omega.{arith}
 
 -- ---- one byte
+-- the row's byte is the one written, where 0 stood
 byte-same : (i v : ℕ) (h : List ℕ) → i < length h → getD h i 0 ≡ 0 → getD (byte i v h) i 0 ≡ v
 unfolding byte
 byte-same i zero h l z = z
 byte-same i (suc v) h l z = getD-set-same h i (suc v) 0 l
 
+-- another row keeps its byte
 byte-other : (i j v : ℕ) (h : List ℕ) → (j ≡ i → ⊥) → getD (byte i v h) j 0 ≡ getD h j 0
 unfolding byte
 byte-other i j zero h ne = refl
 byte-other i j (suc v) h ne = getD-set-other h i j (suc v) 0 ne
 
+-- a row in front leaves what is behind alone
 byte-left : (i v : ℕ) (z h : List ℕ) → i < length z → byte i v (z ++ h) ≡ byte i v z ++ h
 unfolding byte
 byte-left i zero z h l = refl
 byte-left i (suc v) z h l = set-append-left z h i (suc v) l
 
 -- ---- a row that no mark names keeps its byte
+-- the rows that none of the marks names
 write-other : (ms : List (ℕ × ℕ)) (h : List ℕ) (i : ℕ) → times i (lefts ms) ≡ 0 → getD (write ms h) i 0 ≡ getD h i 0
 unfolding write
 write-other [] h i e = refl
@@ -67,6 +71,7 @@ write-look (m ∷ ms) h i o l z = go (λ h o l z. write-look ms h i o l z) (eqb 
         (byte-other (m .0) i (m .1) h (eqb-false i (m .0) q) ∙ z)
 
 -- ---- what lies beyond the marked rows stays
+-- marks of rows in front leave what is behind alone
 write-left : (ms : List (ℕ × ℕ)) (z h : List ℕ) → Every (λ m. m .0 < length z) ms → write ms (z ++ h) ≡ write ms z ++ h
 unfolding write
 write-left [] z h k = refl
@@ -83,11 +88,13 @@ every-times P (m ∷ ms) f = (f (m .0) (here (eqb (m .0) (m .0)) refl), every-ti
     here true e = omega arith
     here false e = absurd (eqb-false (m .0) (m .0) e refl)
 
+-- there is a how-byte for each row
 pub how-length : (x : ℕ → ℕ) (r : ℕ) (w : List ℕ) → length (radiusHow x r (n# w) (treeOf w)) ≡ n# w
 unfolding radiusHow
 how-length x r w = simp (length-map, range-length)
 
 module _ (x : ℕ → ℕ) (r : ℕ) (w : List ℕ) (S : InShape w) where
+  -- only rows below n are marked
   marks-low : Every (λ m. m .0 < n# w) (marks x r (treeOf w))
   marks-low =
       every-times (λ i. i < n# w) (marks x r (treeOf w))
@@ -97,6 +104,7 @@ module _ (x : ℕ → ℕ) (r : ℕ) (w : List ℕ) (S : InShape w) where
   abbrev pub bytes : List ℕ
   bytes = write (marks x r (treeOf w)) (replicate (n# w) 0)
 
+  -- they are n
   pub bytes-length : length bytes ≡ n# w
   bytes-length = write-length (marks x r (treeOf w)) (replicate (n# w) 0) ∙ length-replicate (n# w) 0
 

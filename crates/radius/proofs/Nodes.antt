@@ -1,6 +1,7 @@
 -- The marks at a node of an index in shape, by its words: swept, closed, an opened leaf's or an opened inner node's. Assumes nothing.
 use Prim.Native.Nat.{_+_, _-_, _<_, _≤_, suc, zero, ℕ}
 use Rattle.laws.proofs.Lists.{map-map, paired, rest-map}
+use Rattle.laws.proofs.Maps.{map-agree, map-each}
 use Rattle.laws.proofs.Times.{lefts}
 use Rattle.laws.specs.Lists.{each, gap, head, least, range, rest}
 use Rattle.radius.specs.Descent.{centreAt, decision, firstAt, kidMarks, leafAt, leafMark, leastFrom, nodeMarks, verdictByte}
@@ -21,19 +22,12 @@ use native.Mathlib.Nat.{not-suc-le-zero}
 use native.Mathlib.Omega.{arith}
 
 -- ---- lists
+-- all numbers but the first
 rest-range : (s n : ℕ) → rest (range s n) ≡ range (suc s) (n - 1)
 rest-range s zero = refl
 rest-range s (suc n) =
     let e : n ≡ suc n - 1 = omega arith in
     ap (range (suc s)) e
-
-pub map-each : {A B : Type 0} (f : A → B) (xs : List A) → map f xs ≡ each (λ a. f a ∷ []) xs
-map-each f [] = refl
-map-each f (x ∷ xs) = ap (λ l. f x ∷ l) (map-each f xs)
-
-map-same : {A B : Type 0} (f g : A → B) → ((a : A) → f a ≡ g a) → (xs : List A) → map f xs ≡ map g xs
-map-same f g h [] = refl
-map-same f g h (x ∷ xs) = ap₂ (λ y ys. y ∷ ys) (h x) (map-same f g h xs)
 
 -- all but the first of what stands at k numbers from s on
 rest-at : {A : Type 0} (f : ℕ → A) (s n : ℕ) → rest (map f (range s n)) ≡ map f (range (suc s) (n - 1))
@@ -77,9 +71,11 @@ module _ (x : ℕ → ℕ) (r : ℕ) (w : List ℕ) where
   abbrev pub visitAt : ℕ → ℕ → List (ℕ × ℕ) → List (ℕ × ℕ)
   visitAt k b opened = visit x r (firstAt x w k) (radius# w k) b (map (row# w) (rest# w k)) opened
 
+  -- the marks of an opened leaf
   abbrev pub leafOpened : ℕ → List (ℕ × ℕ)
   leafOpened k = each (leafAt x r w (firstAt x w k)) (rest# w k)
 
+  -- the marks of an opened inner node: its centres but the first, and then its children
   abbrev pub innerOpened : ℕ → ℕ → ℕ → List (ℕ × ℕ)
   innerOpened deep b ch = each (centreAt x r w) (range (suc ch) (m# w - 1)) ++ each (kidMarks x r w deep b ch) (range ch (m# w))
 
@@ -88,6 +84,7 @@ module _ (x : ℕ → ℕ) (r : ℕ) (w : List ℕ) (S : InShape w) where
   rows-rest : (k : ℕ) → rest (lefts (members# w k)) ≡ map (row# w) (rest# w k)
   rows-rest k = ap rest (paired (row# w) (dist# w) (range (start# w k) (count# w k))) ∙ rest-at (row# w) (start# w k) (count# w k)
 
+  -- the same by the children of an inner node
   rest-rows : (deep k : ℕ) → k < N# w → inner w k ≡ true → rest (rowsIn (kidsAt w deep k)) ≡ map (row# w) (rest# w k)
   rest-rows deep k h e = ap rest (kids-rows w S deep k h e) ∙ rows-rest k
 
@@ -100,6 +97,7 @@ module _ (x : ℕ → ℕ) (r : ℕ) (w : List ℕ) (S : InShape w) where
       ap (λ (i : ℕ). here (β (x i) (radius# w k)) ++ after) e
       ∙ ap (λ l. l ++ after) (sym (p ∙ append-nil (here (β (firstAt x w k) (radius# w k)))))
 
+  -- a node's marks come before those of the nodes after it
   marks-at : (β : ℕ → ℕ → ℕ) (deep k : ℕ) (g : Grove) → k < N# w
       → marksIn x r β (treeAt w deep k g) ≡ nodeMarks x r w deep k (β (firstAt x w k) (radius# w k)) ++ marksIn x r β g
   unfolding marksIn nodeMarks
@@ -119,6 +117,7 @@ module _ (x : ℕ → ℕ) (r : ℕ) (w : List ℕ) (S : InShape w) where
       (λ b. visit x r (x (first ks)) (radius# w k) b (rest (rowsIn ks)) (map (λ i. (i, byDistance x r i)) (rest (firsts ks)) ++ marksIn x r (childBound b (nearestOf x ks)) ks))
       (marksIn x r β g) (marksIn x r (λ x R. b) (treeAt w deep k bare)) (kids-first w S (deep - 1) k h e) (ap (marksIn x r (λ x R. b)) (t bare)))
 
+  -- the marks of nodes side by side are theirs one after the other
   kids-marks : (β : ℕ → ℕ → ℕ) (deep j m : ℕ) → j + m ≤ N# w
       → marksIn x r β (foldr (treeAt w deep) bare (range j m)) ≡ each (λ i. nodeMarks x r w deep i (β (firstAt x w i) (radius# w i))) (range j m)
   unfolding marksIn
@@ -128,6 +127,7 @@ module _ (x : ℕ → ℕ) (r : ℕ) (w : List ℕ) (S : InShape w) where
       ∙ ap (λ l. nodeMarks x r w deep j (β (firstAt x w j) (radius# w j)) ++ l) (kids-marks β deep (suc j) m (omega arith))
 
   -- ---- the marks at a node, by its words
+  -- a node that is a leaf
   leaf-by : (deep k b : ℕ) → k < N# w → ((g : Grove) → treeAt w deep k g ≡ leafNode w k g)
       → nodeMarks x r w deep k b ≡ visitAt x r w k b (leafOpened x r w k)
   unfolding marksIn nodeMarks leafMark
@@ -140,10 +140,11 @@ module _ (x : ℕ → ℕ) (r : ℕ) (w : List ℕ) (S : InShape w) where
       ∙ ap₂ (vis (first# w k)) (rows-rest k)
       (ap (map (λ e. (e .0, inLeaf x r (first# w k) e))) (rest-at (λ p. (row# w p, dist# w p)) (start# w k) (count# w k))
       ∙ sym (map-map (λ e. (e .0, inLeaf x r (first# w k) e)) (λ p. (row# w p, dist# w p)) (rest# w k))
-      ∙ map-same (λ p. (row# w p, inLeaf x r (first# w k) (row# w p, dist# w p))) (λ p. (row# w p, leafMark x r w (firstAt x w k) p))
+      ∙ map-agree (λ p. (row# w p, inLeaf x r (first# w k) (row# w p, dist# w p))) (λ p. (row# w p, leafMark x r w (firstAt x w k) p))
       (λ p. ap (λ v. (row# w p, v)) (sym (decision-mark x r (first# w k) (row# w p, dist# w p)))) (rest# w k)
       ∙ map-each (λ p. (row# w p, leafMark x r w (firstAt x w k) p)) (rest# w k))
 
+  -- a node that is inner
   inner-by : (deep k b : ℕ) → k < N# w → inner w k ≡ true → ((g : Grove) → treeAt w deep k g ≡ forkNode w (deep - 1) k g)
       → nodeMarks x r w deep k b ≡ visitAt x r w k b (innerOpened x r w (deep - 1) b (child# w k))
   unfolding marksIn nodeMarks
@@ -171,9 +172,11 @@ module _ (x : ℕ → ℕ) (r : ℕ) (w : List ℕ) (S : InShape w) where
   pub node-leaf : (deep k b : ℕ) → k < N# w → inner w k ≡ false → nodeMarks x r w deep k b ≡ visitAt x r w k b (leafOpened x r w k)
   node-leaf deep k b h e = leaf-by deep k b h (λ g. as-leaf w deep k g e)
 
+  -- the marks of an inner node with a level left
   pub node-inner : (deep k b : ℕ) → k < N# w → 1 ≤ deep → inner w k ≡ true → nodeMarks x r w deep k b ≡ visitAt x r w k b (innerOpened x r w (deep - 1) b (child# w k))
   node-inner deep k b h l e = inner-by deep k b h e (λ g. tree-fork w deep k g l e)
 
+  -- what holds of a node swept, closed and opened, however it is opened, holds of its marks
   pub node-any : (P : List (ℕ × ℕ) → Type 0) (deep k b : ℕ) → k < N# w → ((o : List (ℕ × ℕ)) → P (visitAt x r w k b o)) → P (nodeMarks x r w deep k b)
   node-any P deep k b h f =
       by-node w deep k (λ t. subst P (sym (leaf-by deep k b h t)) (f (leafOpened x r w k)))

@@ -32,6 +32,7 @@ module _ {t : List ℕ} {c : ℕ} {w q : List ℕ} {r : ℕ} {before after : Lis
   first-bytes =
       ap (take (n# w)) (s .marks done once) ∙ take-at (radiusHow (from t c q) r (n# w) (treeOf w)) (drop (n# w) before) (n# w) (how-length (from t c q) r w)
 
+  -- each of them is the definition's
   byte-at : (i : ℕ) → i < n# w → getD after i 0 ≡ getD (radiusHow (from t c q) r (n# w) (treeOf w)) i 0
   byte-at i h =
       ap (λ l. getD l i 0) (s .marks done once)
@@ -69,6 +70,7 @@ Same i m a i′ m′ a′ = (i ≡ i′) × (m ≡ m′) × (a ≡ a′)
 
 module _ {t : List ℕ} {c : ℕ} {w q : List ℕ} {r : ℕ} {before a a′ : List ℕ} {n i m n′ i′ m′ : ℕ}
     (s : Searched t c w q r before a n i m) (s′ : Searched t c w q r before a′ n′ i′ m′) where
+  -- both have the same number
   one-number : n ≡ n′
   one-number = s .said ∙ sym (s′ .said)
 

@@ -1,9 +1,10 @@
 -- What the code does at a node is what is written there: it sweeps, closes, opens a leaf or opens an inner node. Assumes nothing.
-use Prim.Native.Nat.{_+_, _-_, _<_, _≤_, suc, zero, ℕ}
+use Prim.Native.Nat.{_+_, _-_, _<_, _≤_, suc, ℕ}
 use Rattle.laws.proofs.Lists.{map-map}
+use Rattle.laws.proofs.Maps.{each-shift, map-each}
 use Rattle.laws.specs.Lists.{each, range}
 use Rattle.limits.specs.Limits.{maxDepth}
-use Rattle.radius.proofs.Nodes.{innerOpened, leafOpened, map-each, node-any, node-inner, node-leaf, rest#, visitAt}
+use Rattle.radius.proofs.Nodes.{innerOpened, leafOpened, node-any, node-inner, node-leaf, rest#, visitAt}
 use Rattle.radius.proofs.Written.{write-append, write-one}
 use Rattle.radius.specs.Descent.{centreAt, decision, firstAt, kidMarks, leafAt, leafMark, nodeMarks, sweptAt, verdictByte}
 use Rattle.radius.specs.Written.{byte, marked, write}
@@ -23,12 +24,6 @@ use mathlib.Core.Path.{_∙_, _≡_, ap, ap₂, refl, sym}
 use native.Mathlib.Nat.{add-zero}
 use native.Mathlib.Numerals.{add-one}
 use native.Mathlib.Omega.{arith}
-
-each-shift : {A : Type 0} (f : ℕ → List A) (a b n : ℕ) → each (λ j. f (a + j)) (range b n) ≡ each f (range (a + b) n)
-each-shift f a b zero = refl
-each-shift f a b (suc n) =
-    let e : a + suc b ≡ suc (a + b) = omega arith in
-    ap (λ l. f (a + b) ++ l) (each-shift f a (suc b) n ∙ ap (λ (k : ℕ). each f (range k n)) e)
 
 -- marks of 0 change nothing
 write-none : (is h : List ℕ) → h ≡ write (map (λ i. (i, 0)) is) h
