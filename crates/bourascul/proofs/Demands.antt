@@ -20,7 +20,7 @@ use Rattle.laws.specs.Lists.{last, times}
 use Rattle.measure.specs.Table.{between, from, row, rowsOf}
 use Rattle.nearest.proofs.Promises.{nearest-exact as call-exact, nearest-measured, nearest-measured-all, nearest-two-tables}
 use Rattle.nearest.specs.Calls.{Answered, Settled}
-use Rattle.nearest.specs.Fits.{homeBound}
+use Rattle.items.specs.Fits.{homeBound}
 use Rattle.radius.proofs.Promises.{radius-call-exact}
 use Rattle.radius.specs.Calls.{Searched}
 use Rattle.tree.proofs.Theorems.{one-home}

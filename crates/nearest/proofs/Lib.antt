@@ -1,17 +1,3 @@
-pub mod Opening
-pub mod Below
-pub mod Laws
-pub mod Begin
-pub mod Ranks
-pub mod Exact
-pub mod Beyond
-pub mod Holding
-pub mod Growing
-pub mod Queueing
-pub mod Rounds
-pub mod Weights
-pub mod Leaving
-pub mod Progress
 pub mod Handing
 pub mod Ordering
 pub mod Handouts

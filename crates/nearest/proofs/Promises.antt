@@ -11,7 +11,7 @@ use Rattle.measure.specs.Table.{between, from, row, rowsOf}
 use Rattle.nearest.proofs.Contract.{byte-measured, same-answers}
 use Rattle.nearest.proofs.Refused.{clear}
 use Rattle.nearest.specs.Calls.{Answered, Serves, Settled}
-use Rattle.nearest.specs.Fits.{homeBound}
+use Rattle.items.specs.Fits.{homeBound}
 use Rattle.tree.proofs.Answers.{answers-length, near-at, passes-all, passes-near}
 use Rattle.tree.proofs.Sorted.{sort-every, sort-sorted, sorted-take, under-last}
 use Rattle.tree.proofs.Theorems.{home-below}

@@ -2,7 +2,7 @@
 use Prim.Native.Nat.{_*_, _<_, _≤_, min, ℕ}
 use Rattle.limits.specs.Limits.{maxColumns}
 use Rattle.measure.specs.Table.{between, from, row, rowsOf}
-use Rattle.nearest.specs.Fits.{Fits}
+use Rattle.items.specs.Fits.{Fits}
 use Rattle.tree.specs.Calls.{saidNearest}
 use Rattle.tree.specs.Check.{Accepted}
 use Rattle.tree.specs.Grove.{treeOf}

@@ -1,9 +1,3 @@
-pub mod Items
-pub mod Fits
-pub mod Run
-pub mod Answers
-pub mod Standing
-pub mod Frontier
 pub mod Giving
 pub mod Calls
 pub mod Cases

@@ -1,8 +1,8 @@
 // The end of a search: the answers handed out.
 ghost use Rattle.nearest.specs.Giving.{Gave, Gives};
-use crate::held::distance_in;
-use crate::held::row_in;
 use queue::pop;
+use seek::held::distance_in;
+use seek::held::row_in;
 
 // Hands out the k answers that stand from word 3n on: the worst comes first, and goes to the back.
 pub fn give(

@@ -1,23 +1,16 @@
-// The nearest search: best first, over the nodes of an index and the single rows of its opened leaves.
-//
-// The workspace of 6n words holds, n being the number of rows: from word 0 the frontier, a queue of at most n entries (a node or, from 2n on, a
-// position, under its bound); from word 2n the distance of each row that is measured; from word 3n the answers, a queue of at most n entries.
+// The nearest call: its refusals, the search, and the answers handed out.
 ghost use Prim.Native.Nat.{_≤_, min};
 ghost use Rattle.nearest.specs.Calls.{Answered, Found, Lent};
 ghost use Rattle.tree.specs.Calls.{saidNearest};
 ghost use lib.ListN.{length};
 ghost use mathlib.Core.Path.{_≡_};
 use crate::giving::give;
-use crate::searching::search;
 use buffers::clear_bytes;
 use buffers::clear_words;
+use seek::searching::search;
 use tree::how::tally;
 
 mod giving;
-mod held;
-mod searching;
-mod taking;
-mod waiting;
 
 // What a call gives: 0 or why it was refused; on success how many answers, and how many rows were measured.
 pub struct Given {

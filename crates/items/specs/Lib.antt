@@ -1,0 +1,3 @@
+pub mod Items
+pub mod Fits
+pub mod Run

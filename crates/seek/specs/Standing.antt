@@ -1,0 +1,61 @@
+-- What a search knows between two steps: which rows are measured, how far they are, and the best of them. The workspace has 6n words: 2n
+-- for the frontier, n for the distances by row, 2n for the answers, and n to spare. Assumes nothing.
+use Prim.Native.Nat.{_*_, _+_, _-_, _<_, _≤_, suc, ℕ}
+use Rattle.laws.specs.Bags.{total}
+use Rattle.laws.specs.Lists.{gap}
+use Rattle.limits.specs.Limits.{maxColumns, maxDistance, maxRows}
+use Rattle.measure.specs.Table.{from}
+use Rattle.seek.specs.Answers.{Held, rowOf, turned}
+use Rattle.queue.specs.Queue.{Queue, entries}
+use Rattle.words.specs.Words.{at}
+use lib.ListN.{getD, length}
+use mathlib.Core.List.{List}
+use mathlib.Core.Path.{_≡_}
+
+-- the distance kept for row r
+abbrev pub kept : List ℕ → ℕ → ℕ → ℕ
+kept work n r = getD work (2 * n + r) 0
+
+-- 0 where e is the entry of one of n rows at x
+abbrev pub stray : (ℕ → ℕ) → ℕ → ℕ → ℕ
+stray x n e = gap e (turned (rowOf e) (x (rowOf e))) + (suc (rowOf e) - n)
+
+-- Of n rows at x, at most w are held. This holds on every index in shape, whether or not a row stands there twice.
+pub record Stands (x : ℕ → ℕ) (n w : ℕ) (how work : List ℕ) (held : ℕ) : Type 0 where
+  pub queue : Queue work (3 * n) held
+  pub most : held ≤ w
+  pub own : total (stray x n) (entries work (3 * n) held) ≡ 0
+  pub far : (r : ℕ) → r < n → 0 < at how r → (kept work n r ≡ x r) × (x r ≤ maxDistance)
+  pub bytes : n ≤ length how
+  pub room : 6 * n ≤ length work
+  pub wanted : (1 ≤ w) × (w ≤ n)
+  pub small : n ≤ maxRows
+
+-- The how-bytes from n on and the workspace's words from 6n on are as they were.
+pub record Since (n : ℕ) (how how′ work work′ : List ℕ) : Type 0 where
+  pub bytes : length how′ ≡ length how
+  pub words : length work′ ≡ length work
+  pub past : (i : ℕ) → n ≤ i → at how′ i ≡ at how i
+  pub over : (i : ℕ) → 6 * n ≤ i → getD work′ i 0 ≡ getD work i 0
+
+-- The rows of g are measured besides. The last promise is for indexes in which no row stands twice: where the best were held and the rows
+-- of g are new, the best are held again.
+pub record Grew (x : ℕ → ℕ) (n w : ℕ) (how how′ work work′ : List ℕ) (held held′ : ℕ) (g : ℕ → ℕ) : Type 0 where
+  pub stands : Stands x n w how′ work′ held′
+  pub grown : (r : ℕ) → 0 < at how r → 0 < at how′ r
+  pub seen : (r : ℕ) → 0 < g r → 0 < at how′ r
+  pub since : Since n how how′ work work′
+  pub best : Held x (at how) n work (3 * n) w held → ((r : ℕ) → r < n → at how r + g r ≤ 1)
+      → Held x (at how′) n work′ (3 * n) w held′ × ((r : ℕ) → at how′ r ≡ at how r + g r)
+
+-- and the frontier's words are as they were
+pub record Took (x : ℕ → ℕ) (n w : ℕ) (how how′ work work′ : List ℕ) (held held′ : ℕ) (g : ℕ → ℕ) : Type 0 where
+  pub grew : Grew x n w how how′ work work′ held held′ g
+  pub front : (i : ℕ) → i < 2 * n → getD work′ i 0 ≡ getD work i 0
+
+-- n rows of the table t, of c columns, can be measured from the query q
+pub record Ready (t : List ℕ) (c : ℕ) (q : List ℕ) (n w : ℕ) (how work : List ℕ) (held : ℕ) : Type 0 where
+  pub stands : Stands (from t c q) n w how work held
+  pub columns : c ≤ maxColumns
+  pub table : c * n ≤ length t
+  pub query : length q ≡ c
