@@ -52,6 +52,9 @@ archive=${BOURASCUL_ARCHIVE:-target/staticlib/libbourascul.a}
 if [ -z "${BOURASCUL_ARCHIVE:-}" ]; then
     has rt || missing "no rt: the Rattle kit proves and compiles the library"
     [ -f crates/bourascul/src/lib.rt ] || missing "no crate bourascul in this repository"
+    # rt check proves what the library stands on several crates at a time, rt staticlib one after the other.
+    # shellcheck disable=SC2046
+    rt check $(sed -n 's/^bourascul: *//p' crates.txt)
     rt staticlib bourascul
 fi
 [ -f "$archive" ] || missing "no archive $archive"
