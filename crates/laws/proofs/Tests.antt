@@ -1,8 +1,8 @@
--- Tests: what a passed or a failed one says, and the two parts of a conjunction. Assumes nothing.
+-- Tests: what a passed or a failed one says, and the two parts of a conjunction and of a disjunction. Assumes nothing.
 use Prim.Native.Nat.{ℕ}
 use borrow.Author.Tests.{not-false, not-true}
 use lib.Dec.{T, eqb, eqb-refl}
-use mathlib.Core.Bool.{Bool, _&&_, false, not, true}
+use mathlib.Core.Bool.{Bool, _&&_, _||_, false, not, or-true, true}
 use mathlib.Core.Path.{_∙_, _≡_, refl, subst, sym}
 
 -- ---- a Bool that is true, as a fact
@@ -48,6 +48,24 @@ stop b e = rw e
 
 pub go-on : {a b r : Bool} → a ≡ true → r ≡ b → r ≡ (a && b)
 go-on e q = rw e q
+
+-- ---- a disjunction and its parts
+-- it passes where the first part does
+pub or-l : (a b : Bool) → a ≡ true → (a || b) ≡ true
+or-l a b e = rw e
+
+-- or the second
+pub or-r : (a b : Bool) → b ≡ true → (a || b) ≡ true
+or-r a b e = rw e (or-true a)
+
+-- it fails where both parts do
+pub or-none : (a b : Bool) → a ≡ false → b ≡ false → (a || b) ≡ false
+or-none a b e f = rw (e, f)
+
+-- and only there
+pub or-parts : (a b : Bool) → (a || b) ≡ false → (a ≡ false) × (b ≡ false)
+or-parts true b e = absurd (subst T e tt)
+or-parts false b e = (refl, e)
 
 -- ---- a function's answer r, that is the test a, read where the code took `!r` or left it
 pub no : {r a : Bool} → r ≡ a → not r ≡ true → a ≡ false

@@ -4,16 +4,15 @@ use Rattle.laws.proofs.Every.{every-all, every-append, every-map}
 use Rattle.laws.specs.Every.{Every}
 use Rattle.laws.proofs.Lists.{tally-length}
 use Rattle.laws.proofs.Ranges.{range-every, range-length}
-use Rattle.laws.proofs.Tests.{and-r, holds}
 use Rattle.laws.proofs.Times.{every-same, range-times}
 use Rattle.laws.specs.Lists.{head, range, tally}
-use Rattle.limits.proofs.Numbers.{one}
-use Rattle.limits.specs.Limits.{columnsOk, maxColumns, maxDepth, maxDistance, maxRows, shareOk}
+use Rattle.limits.proofs.Ranges.{columns-are, shared}
+use Rattle.limits.specs.Limits.{columnsOk, maxDepth, maxDistance, maxRows, shareOk}
 use Rattle.measure.proofs.Metric.{between-most, metric}
 use Rattle.measure.specs.Space.{Space}
 use Rattle.measure.specs.Table.{between, rowsOf}
 use Rattle.tree.proofs.Full.{Full}
-use Rattle.tree.proofs.Good.{Good, empty-accepted, encode-accepted, share-is}
+use Rattle.tree.proofs.Good.{Good, empty-accepted, encode-accepted}
 use Rattle.tree.proofs.Grow.{forest-span, grown-even, grown-fine, grown-span, grown-tally, split-length, split-runs}
 use Rattle.tree.specs.Build.{Run, build, grow, leafOf, plant, radius, split}
 use Rattle.tree.proofs.Grown.{grown-sound}
@@ -21,7 +20,7 @@ use Rattle.tree.specs.Check.{Accepted}
 use Rattle.tree.specs.Encode.{encode}
 use Rattle.tree.specs.Grove.{Grove, bare, entries, fork, rowsIn}
 use borrow.Author.Tests.{leb-false}
-use lib.Dec.{T, eqb, leb, leb→le}
+use lib.Dec.{eqb, leb}
 use lib.ListN.{length, length-map}
 use mathlib.Core.Bool.{Bool, cond, false, true}
 use mathlib.Core.List.{List, [], _∷_, foldr, map}
@@ -98,12 +97,9 @@ pub build-accepted : (T : List ℕ) (c m l : ℕ) → columnsOk c ≡ true → s
 unfolding build
 build-accepted T c m l hc hs hn small = go (rowsOf T c) hn
   where
-    few : c ≤ maxColumns
-    few = leb→le c maxColumns (and-r (leb 1 c) (leb c maxColumns) (holds (columnsOk c) hc))
-
     go : (n : ℕ) → n ≤ maxRows → Accepted (between T c) (encode c m l (plant (between T c) m l n))
     go zero h = empty-accepted (between T c) c m l hc hs
     go (suc n) h =
-        let s = share-is m l hs in
-        let p = planted (between T c) (metric T c) (between-most T c few small) m l (omega arith) (s .1) n in
+        let s = shared m l hs in
+        let p = planted (between T c) (metric T c) (between-most T c (columns-are c hc .1) small) m l (omega (arith, s .two)) (s .leafy) n in
         encode-accepted (between T c) c m l (plant (between T c) m l (suc n)) hc hs (omega (arith, p .0)) (p .1)

@@ -2,9 +2,10 @@
 use Prim.Native.Nat.{_*_, _+_, _-_, _<_, _≤_, suc, zero, ℕ}
 use Rattle.laws.proofs.Every.{every-both, every-unmap}
 use Rattle.laws.specs.Every.{Every}
-use Rattle.laws.proofs.Tests.{and-l, and-of, and-r, holds, is-true}
+use Rattle.laws.proofs.Tests.{and-of, holds, is-true}
 use Rattle.laws.specs.Lists.{each, range, times}
-use Rattle.limits.specs.Limits.{columnsOk, maxDepth, maxDistance, maxRows, shareOk, within}
+use Rattle.limits.proofs.Ranges.{shared}
+use Rattle.limits.specs.Limits.{columnsOk, maxDepth, maxDistance, maxRows, shareOk}
 use Rattle.tree.proofs.Encode.{Even, Fine, below-fine, below-none, level-length, nodes-length}
 use Rattle.tree.proofs.Faultless.{no-fault}
 use Rattle.tree.proofs.Full.{Full}
@@ -18,7 +19,7 @@ use Rattle.tree.specs.Encode.{below, broods, encode, family, levelNodes,
 use Rattle.tree.specs.Grove.{Grove, bare, entries, fork, leaf, rowsIn}
 use Rattle.words.specs.Shape.{shapeOk}
 use Rattle.words.specs.Words.{N#, at, headerOk, nodesOk, row#, width, wordsOf, wordsOk}
-use lib.Dec.{T, leb, leb→le, le→leb}
+use lib.Dec.{T, leb, le→leb}
 use lib.ListN.{length, length-append}
 use mathlib.Core.Bool.{_&&_, true}
 use mathlib.Core.List.{List, [], _++_, _∷_, append-assoc, map}
@@ -83,12 +84,6 @@ pub record Good (d : ℕ → ℕ → ℕ) (m l : ℕ) (t : Grove) : Type 0 where
   pub dists : Every (λ e. e .1 ≤ maxDistance) (entries t)
 
 -- ---- the header and the words
--- centres and leaf size in range, as numbers
-pub share-is : (m l : ℕ) → shareOk m l ≡ true → (2 ≤ m) × (m ≤ l)
-share-is m l e =
-    let t : T (within 2 64 m && within m 1024 l) = holds (shareOk m l) e in
-    (leb→le 2 m (and-l (leb 2 m) (leb m 64) (and-l (within 2 64 m) (within m 1024 l) t)), leb→le m l (and-l (leb m l) (leb l 1024) (and-r (within 2 64 m) (within m 1024 l) t)))
-
 nodes-test : (n N : ℕ) → 1 ≤ N → N + 1 ≤ 2 * n → T (nodesOk n N)
 nodes-test zero N a b = absurd (omega arith)
 nodes-test (suc n) N a b = and-of (leb 1 N) (leb N (2 * suc n - 1)) (le→leb 1 N a) (le→leb N (2 * suc n - 1) (omega arith))
@@ -125,7 +120,7 @@ encode-accepted d c m l t hc hs hn G =
     let H : List ℕ = 1 ∷ n ∷ c ∷ m ∷ l ∷ length (numbered t) ∷ 1 ∷ 0 ∷ [] in
     let B : List ℕ = each nodeWords (numbered t) in
     let Z : List ℕ = each pairWords (entries t) in
-    let m2 = share-is m l hs .0 in
+    let m2 = shared m l hs .two in
     let N : length (numbered t) ≡ size t + 0 = nodes-size l maxDepth (span t) ((0, t) ∷ []) (G .fine, tt) in
     let sz = size-bound m t m2 (G .full) (G .even) in
     let held : At w 0 (entries t) = read-at (entries t) (H ++ B) w 0 (append-assoc H B Z) (omega (arith, length-append H B, each-words (numbered t))) in

@@ -23,5 +23,4 @@ pub mod Grown
 pub mod Good
 pub mod Built
 pub mod Theorems
-pub mod Refusals
 pub mod Tallies
