@@ -57,11 +57,13 @@ whole w e =
       rooted = nodes .1;
     }
 
+-- the header's words are there
 pub header-there : (w : List ℕ) → wordsOk w ≡ true → 8 ≤ length w
 header-there w e = omega (arith, whole w e .words)
 
 -- ---- the shape
 module _ (w : List ℕ) (W : Whole w) (t : T (treeFits w)) where
+  -- the root's run is everything
   root-is : 1 ≤ N# w → (start# w 0 ≡ 0) × (count# w 0 ≡ n# w)
   root-is h =
       let a = eqb (start# w 0) 0 in
@@ -101,6 +103,7 @@ module _ (w : List ℕ) (W : Whole w) (t : T (treeFits w)) where
   inner-deeper k zero h e l = omega (arith, node-at w t k h .shallow e, l .1)
   inner-deeper k (suc left) h e l = omega arith
 
+  -- what the layers above use of an inner node's children
   kids-are : (k : ℕ) → k < N# w → inner w k ≡ true → Kids w k
   kids-are k h e =
       let v = node-at w t k h in
@@ -116,6 +119,7 @@ module _ (w : List ℕ) (W : Whole w) (t : T (treeFits w)) where
             (omega (arith, l .0), omega (arith, v .next e, below left q (l .0), born-le w (level w (maxDepth - left)) k (l .1)));
       }
 
+  -- a node at depth 24 is a leaf
   bottom-leaf : (k : ℕ) → k < N# w → level w maxDepth ≤ k → inner w k ≡ false
   bottom-leaf k h l = go (inner w k) refl
     where
@@ -123,6 +127,7 @@ module _ (w : List ℕ) (W : Whole w) (t : T (treeFits w)) where
       go false e = refl
       go true e = absurd (omega (arith, node-at w t k h .shallow e))
 
+  -- what they use of a node
   node-in : (k : ℕ) → k < N# w → Node w k
   node-in k h =
       let v = node-at w t k h in
@@ -134,6 +139,7 @@ module _ (w : List ℕ) (W : Whole w) (t : T (treeFits w)) where
         bottom = λ l. bottom-leaf k h (l .1);
       }
 
+-- what they use of a position
 place-in : (w : List ℕ) → T (all (positionOk w) (range 0 (n# w))) → (p : ℕ) → p < n# w → Place w p
 place-in w t p h =
     let q = position-is w t p h in

@@ -27,6 +27,7 @@ module _ (w : List ℕ) (n c : ℕ) where
   shapeFault = fault 9 (not (shapeOk w))
 
   -- ---- 8
+  -- one of its parts fails
   eight : fits ≡ false → 8 ≡ said (indexFaults w n c) .0
   unfolding indexFaults
   eight e = ap numberOf (fault-first 8 shapeFault (ap not e))
