@@ -29,12 +29,14 @@ use native.Mathlib.Nat.{add-zero, zero-add}
 use native.Mathlib.Omega.{arith}
 
 module _ (d : ℕ → ℕ → ℕ) (S : Space d) (D : (i j : ℕ) → d i j ≤ maxDistance) (m l : ℕ) (m1 : 1 ≤ m) (ml : m ≤ l) where
+  -- no leaf is empty and no inner node is childless
   grown-full : (deep : ℕ) (run : List ℕ) (g : Grove) → Run run → Full g → Full (grow d m l deep run g)
   unfolding grow
   grown-full zero run g r h = (rw length-map (r .0), h)
   grown-full (suc deep) run g r h = go (λ q f k u. grown-full deep q f k u) (leb (length run) l) refl
     where
-      forest : ((run : List ℕ) (g : Grove) → Run run → Full g → Full (grow d m l deep run g)) → (gs : List (List ℕ)) → Every Run gs → Full (foldr (grow d m l deep) bare gs)
+      forest : ((run : List ℕ) (g : Grove) → Run run → Full g → Full (grow d m l deep run g)) → (gs : List (List ℕ)) → Every Run gs
+          → Full (foldr (grow d m l deep) bare gs)
       forest ih [] h = tt
       forest ih (q ∷ gs) h = ih q (foldr (grow d m l deep) bare gs) (h .0) (forest ih gs (h .1))
 
@@ -42,32 +44,42 @@ module _ (d : ℕ → ℕ → ℕ) (S : Space d) (D : (i j : ℕ) → d i j ≤ 
           → Full (cond b (leafOf d run g) (fork (radius d run) (foldr (grow d m l deep) bare (split d m run)) g))
       go ih true e = (rw length-map (r .0), h)
       go ih false e =
-          let k : m ≤ length run = omega (arith, leb-false (length run) l e) in
-          (omega (arith, forest-span d m l m1 ml deep (split d m run), split-length d m l m1 ml run), forest ih (split d m run) (split-runs d m l m1 ml run r k), h)
+          let k : m ≤ length run = omega (arith, leb-false (length run) l e) in (
+            omega (arith, forest-span d m l m1 ml deep (split d m run), split-length d m l m1 ml run),
+            forest ih (split d m run) (split-runs d m l m1 ml run r k),
+            h,
+          )
 
-  grown-dists : (deep : ℕ) (run : List ℕ) (g : Grove) → Every (λ e. e .1 ≤ maxDistance) (entries g) → Every (λ e. e .1 ≤ maxDistance) (entries (grow d m l deep run g))
+  -- the stored distances are in range
+  abbrev InRange : Grove → Type 0
+  InRange g = Every (λ e. e .1 ≤ maxDistance) (entries g)
+
+  -- those of a leaf are
+  leaf-dists : (run : List ℕ) (g : Grove) → InRange g → InRange (leafOf d run g)
+  leaf-dists run g h =
+      every-append (λ e. e .1 ≤ maxDistance) (map (λ i. (i, d (head run) i)) run) (entries g)
+      (every-map (λ e. e .1 ≤ maxDistance) (λ i. (i, d (head run) i)) run
+      (every-all (λ i. d (head run) i ≤ maxDistance) (λ i. D (head run) i) run)) h
+
+  -- and those of a grown node
+  grown-dists : (deep : ℕ) (run : List ℕ) (g : Grove) → InRange g → InRange (grow d m l deep run g)
   unfolding grow
-  grown-dists zero run g h = leafy run g h
-    where
-      leafy : (run : List ℕ) (g : Grove) → Every (λ e. e .1 ≤ maxDistance) (entries g) → Every (λ e. e .1 ≤ maxDistance) (entries (leafOf d run g))
-      leafy run g h =
-          every-append (λ e. e .1 ≤ maxDistance) (map (λ i. (i, d (head run) i)) run) (entries g)
-          (every-map (λ e. e .1 ≤ maxDistance) (λ i. (i, d (head run) i)) run (every-all (λ i. d (head run) i ≤ maxDistance) (λ i. D (head run) i) run)) h
+  grown-dists zero run g h = leaf-dists run g h
   grown-dists (suc deep) run g h = go (λ q f k. grown-dists deep q f k) (leb (length run) l)
     where
-      forest : ((run : List ℕ) (g : Grove) → Every (λ e. e .1 ≤ maxDistance) (entries g) → Every (λ e. e .1 ≤ maxDistance) (entries (grow d m l deep run g)))
-          → (gs : List (List ℕ)) → Every (λ e. e .1 ≤ maxDistance) (entries (foldr (grow d m l deep) bare gs))
+      forest : ((run : List ℕ) (g : Grove) → InRange g → InRange (grow d m l deep run g)) → (gs : List (List ℕ))
+          → InRange (foldr (grow d m l deep) bare gs)
       forest ih [] = tt
       forest ih (q ∷ gs) = ih q (foldr (grow d m l deep) bare gs) (forest ih gs)
 
-      go : ((run : List ℕ) (g : Grove) → Every (λ e. e .1 ≤ maxDistance) (entries g) → Every (λ e. e .1 ≤ maxDistance) (entries (grow d m l deep run g))) → (b : Bool)
-          → Every (λ e. e .1 ≤ maxDistance) (entries (cond b (leafOf d run g) (fork (radius d run) (foldr (grow d m l deep) bare (split d m run)) g)))
-      go ih true =
-          every-append (λ e. e .1 ≤ maxDistance) (map (λ i. (i, d (head run) i)) run) (entries g)
-          (every-map (λ e. e .1 ≤ maxDistance) (λ i. (i, d (head run) i)) run (every-all (λ i. d (head run) i ≤ maxDistance) (λ i. D (head run) i) run)) h
-      go ih false = every-append (λ e. e .1 ≤ maxDistance) (entries (foldr (grow d m l deep) bare (split d m run))) (entries g) (forest ih (split d m run)) h
+      go : ((run : List ℕ) (g : Grove) → InRange g → InRange (grow d m l deep run g)) → (b : Bool)
+          → InRange (cond b (leafOf d run g) (fork (radius d run) (foldr (grow d m l deep) bare (split d m run)) g))
+      go ih true = leaf-dists run g h
+      go ih false =
+          every-append (λ e. e .1 ≤ maxDistance) (entries (foldr (grow d m l deep) bare (split d m run))) (entries g) (forest ih (split d m run)) h
 
-  pub planted : (n : ℕ) → (length (entries (plant d m l (suc n))) ≡ suc n) × Good d m l (plant d m l (suc n))
+  -- THE TREE OF ONE ROW OR MORE IS WELL MADE, AND HAS ALL OF THEM
+  planted : (n : ℕ) → (length (entries (plant d m l (suc n))) ≡ suc n) × Good d m l (plant d m l (suc n))
   planted n =
       let run : List ℕ = range 0 (suc n) in
       let r : Run run = (omega (arith, range-length 0 (suc n)), λ i. range-times i 0 (suc n)) in

@@ -15,9 +15,12 @@ pub mod Fitting
 pub mod NoFaults
 pub mod Accepted
 pub mod Encode
+pub mod Shaped
 pub mod Written
+pub mod Held
 pub mod Right
 pub mod Faultless
+pub mod Centres
 pub mod Grow
 pub mod Grown
 pub mod Good
