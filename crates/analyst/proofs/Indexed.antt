@@ -3,29 +3,24 @@ use Prim.Native.Nat.{_<_, _≤_, min, suc, ℕ}
 use Rattle.analyst.specs.Answers.{Alike, Closest}
 use Rattle.build.proofs.Theorems.{build-accepted}
 use Rattle.build.specs.Calls.{Builds}
-use Rattle.laws.proofs.Every.{every-append}
 use Rattle.laws.specs.Every.{Every}
-use Rattle.limits.specs.Said.{fault, said, tableFaults}
 use Rattle.measure.specs.Table.{between, from, rowsOf}
 use Rattle.nearest.proofs.Contract.{same-answers}
 use Rattle.nearest.proofs.Promises.{nearest-exact}
-use Rattle.nearest.proofs.Refused.{clear, fits}
+use Rattle.nearest.proofs.Refusals.{clear, fits}
 use Rattle.nearest.specs.Calls.{Answered, Lent, Settled}
 use Rattle.radius.proofs.Promises.{radius-call-exact}
+use Rattle.radius.proofs.Refusals as within-radius
 use Rattle.radius.specs.Calls.{Searched}
 use Rattle.tree.proofs.Answers.{answers-length}
-use Rattle.tree.proofs.Refusals.{Numbered, fault-numbered, says-none, table-numbered}
 use Rattle.tree.specs.Build.{build}
-use Rattle.tree.specs.Calls.{saidRadius}
 use Rattle.tree.specs.Check.{Accepted}
 use Rattle.tree.specs.Nearest.{answers}
-use Rattle.words.proofs.Index.{over}
-use Rattle.words.specs.Calls.{indexFaults}
 use Rattle.words.specs.Words.{n#}
-use lib.Dec.{eqb, ltb}
+use lib.Dec.{eqb}
 use lib.ListN.{drop, getD, length, length-append, length-map, take}
 use lib.Seq.{take-at}
-use mathlib.Core.Bool.{cond, not}
+use mathlib.Core.Bool.{cond}
 use mathlib.Core.List.{List, [], _++_, _∷_, map}
 use mathlib.Core.Path.{_∙_, _≡_, ap, refl, subst, sym}
 use native.Mathlib.Omega.{arith}
@@ -46,19 +41,6 @@ module _ {t : List ℕ} {c m l : ℕ} {room work room′ work′ : List ℕ} {nu
       let there : room′ ≡ w ++ drop (length w) room = b .index ∙ ap (λ (x : ℕ). cond (eqb x 0) (w ++ drop (length w) room) room) z in
       omega (arith, simp length-append at (ap length there))
 
--- a radius search that is not refused has as many rows in its index as in its table
-radius-rows : (t : List ℕ) (c : ℕ) (w q : List ℕ) (room : ℕ) → saidRadius t c w q room .0 ≡ 0 → n# w ≡ rowsOf t c
-unfolding saidRadius
-radius-rows t c w q room z =
-    let n : ℕ = rowsOf t c in
-    let f = fault 5 (ltb room n) in
-    let g = fault 6 (not (eqb (length q) c)) in
-    let e : Numbered (tableFaults (length t) c ++ f ++ g) =
-    every-append (λ x. 1 ≤ x .0) (tableFaults (length t) c ++ f) g
-    (every-append (λ x. 1 ≤ x .0) (tableFaults (length t) c) f (table-numbered (length t) c) (fault-numbered 5 (ltb room n) (omega arith)))
-    (fault-numbered 6 (not (eqb (length q) c)) (omega arith)) in
-    over w n c (sym (says-none (tableFaults (length t) c ++ f ++ g) (indexFaults w n c) e z .1)) .rows
-
 -- ---- the two questions
 module _ {t : List ℕ} {c m l : ℕ} {room work room′ work′ : List ℕ} {number words nodes : ℕ} (b : Builds t c m l room work room′ work′ number words nodes)
     (z : number ≡ 0) (s : Every (λ v. v ≤ 65535) t) where
@@ -73,7 +55,7 @@ module _ {t : List ℕ} {c m l : ℕ} {room work room′ work′ : List ℕ} {nu
         exact =
             λ y i h.
             radius-call-exact x y accepted i
-            (subst (λ (n : ℕ). i < n) (sym (radius-rows t c (take words room′) q (length before) (sym (x .said) ∙ y))) h);
+            (subst (λ (n : ℕ). i < n) (sym (within-radius.clear t c (take words room′) q (length before) (sym (x .said) ∙ y) .index .rows)) h);
       })
 
   module _ {q rs rs′ ds ds′ how how′ work₁ work₁′ : List ℕ} {wanted number′ given met : ℕ}

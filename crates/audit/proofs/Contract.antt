@@ -1,12 +1,13 @@
 -- The contract: on a refusal, and past all of them. Assumes nothing.
 use Prim.Native.Nat.{_*_, _≤_, ℕ}
 use Rattle.audit.proofs.Faults.{Late, faults-late}
-use Rattle.audit.proofs.Refused.{Early, early-low, early-placeless, refusals-early, said-first}
+use Rattle.audit.proofs.Refusals.{refusals-early, refusals-numbered}
 use Rattle.audit.specs.Calls.{Checks}
 use Rattle.audit.specs.Refusals.{refusals}
 use Rattle.audit.specs.Workspace.{clears}
 use Rattle.buffers.specs.Wiped.{wiped}
 use Rattle.laws.specs.Every.{Every}
+use Rattle.limits.proofs.Faults.{early-low, early-placeless, numberOf, says-first, says-next}
 use Rattle.limits.specs.Said.{Said, said}
 use Rattle.measure.specs.Table.{between, rowsOf}
 use Rattle.tree.specs.Calls.{saidCheck}
@@ -25,43 +26,45 @@ pub said-check : (T : List ℕ) (c : ℕ) (w : List ℕ) (room : ℕ) → saidCh
 unfolding saidCheck refusals
 said-check T c w room = refl
 
--- the numbers of the passes clear the workspace, those of the refusals do not
+-- the numbers of the passes clear the workspace
 late-clears : (l : List Said) → Every Late l → clears (said l .0) ≡ true
 late-clears [] h = refl
 late-clears (s ∷ l) h = rw (le-leb 10 (s .0) (h .0)) (or-true (eqb (s .0) 0))
 
+-- those of the refusals do not
 early-keeps : (r : ℕ) → (r ≡ 0 → ⊥) → r ≤ 9 → clears r ≡ false
 early-keeps r h q = rw (ne-eqb r 0 h, lt-leb 10 r (omega arith))
 
 module _ (T : List ℕ) (c : ℕ) (w work : List ℕ) where
+  -- the refusals, and the faults that the passes find
   abbrev R : List Said
   R = refusals T c w (length work)
 
   abbrev F : List Said
   F = faults (between T c) w
 
-  R-early : Every Early R
-  R-early = refusals-early T c w (length work)
-
+  -- a refusal: its number, no place, and the workspace as it was
   pub refused : {r : ℕ} → r ≡ said R .0 → (r ≡ 0 → ⊥) → Checks T c w work work r 0 0
   refused {r} e h =
-      let s : said R ≡ saidCheck T c w (length work) = sym (said-check T c w (length work) ∙ said-first R F (λ z. h (e ∙ z))) in
-      let p = early-placeless R R-early in
+      let s : said R ≡ saidCheck T c w (length work) = says-first R F (λ z. h (e ∙ z)) ∙ sym (said-check T c w (length work)) in
+      let early = refusals-early T c w (length work) in
+      let p = early-placeless R early in
       record {
-        said = e ∙ ap (λ (s : Said). s .0) s;
+        said = e ∙ ap numberOf s;
         placed = (sym (p .0) ∙ ap (λ (s : Said). s .1) s, sym (p .1) ∙ ap (λ (s : Said). s .2) s);
-        cleared = sym (ap (λ b. cond b (wiped (6 * rowsOf T c) work) work) (early-keeps r h (omega (arith, early-low R R-early))));
+        cleared = sym (ap (λ b. cond b (wiped (6 * rowsOf T c) work) work) (early-keeps r h (omega (arith, early-low R early))));
       }
 
-  pub taken : {number place second : ℕ} {work′ : List ℕ} → R ≡ [] → n# w ≡ rowsOf T c → (number, place, second) ≡ said F
+  -- no refusal: what the passes find, and the workspace cleared
+  pub taken : {number place second : ℕ} {work′ : List ℕ} → said R .0 ≡ 0 → n# w ≡ rowsOf T c → (number, place, second) ≡ said F
       → work′ ≡ wiped (6 * n# w) work → Checks T c w work work′ number place second
   taken {number} {place} {second} z e says leaves =
       let s : (number, place, second) ≡ saidCheck T c w (length work) =
-      says ∙ sym (said-check T c w (length work) ∙ ap (λ l. said (l ++ F)) z) in
+      says ∙ says-next R F (refusals-numbered T c w (length work)) z ∙ sym (said-check T c w (length work)) in
       record {
-        said = ap (λ (s : Said). s .0) s;
+        said = ap numberOf s;
         placed = (ap (λ (s : Said). s .1) s, ap (λ (s : Said). s .2) s);
         cleared = leaves ∙ ap (λ (n : ℕ). wiped (6 * n) work) e
-            ∙ sym (ap (λ (k : ℕ). cond (clears k) (wiped (6 * rowsOf T c) work) work) (ap (λ (s : Said). s .0) says)
+            ∙ sym (ap (λ (k : ℕ). cond (clears k) (wiped (6 * rowsOf T c) work) work) (ap numberOf says)
             ∙ ap (λ b. cond b (wiped (6 * rowsOf T c) work) work) (late-clears F (faults-late (between T c) w)));
       }

@@ -5,6 +5,6 @@ pub mod Distances
 pub mod Farthest
 pub mod Strays
 pub mod Faults
-pub mod Refused
+pub mod Refusals
 pub mod Contract
 pub mod Theorems

@@ -2,12 +2,15 @@
 use Prim.Native.Nat.{_*_, _≤_, ℕ}
 use Rattle.audit.proofs.Contract.{said-check}
 use Rattle.audit.proofs.Faults.{Late, Small, faults-late, faults-small}
-use Rattle.audit.proofs.Refused.{Early, past, past-none, refusals-early}
+use Rattle.audit.proofs.Refusals.{clear, clear-none, refusals-early, refusals-numbered}
 use Rattle.audit.specs.Calls.{Checks, Passed}
 use Rattle.audit.specs.Refusals.{refusals}
 use Rattle.audit.specs.Workspace.{clears}
 use Rattle.buffers.specs.Wiped.{wiped}
+use Rattle.laws.proofs.Every.{every-of}
 use Rattle.laws.specs.Every.{Every}
+use Rattle.limits.proofs.Faults.{Early, Numbered, none-listed, numberOf, says-next, says-none}
+use Rattle.limits.proofs.Sized.{sized-of}
 use Rattle.limits.specs.Limits.{maxRows}
 use Rattle.limits.specs.Said.{Said, said}
 use Rattle.measure.specs.Table.{between, rowsOf}
@@ -17,7 +20,7 @@ use lib.ListN.{length}
 use mathlib.Core.Bool.{cond}
 use mathlib.Core.List.{List, [], _++_, _∷_}
 use mathlib.Core.Logic.{_↔_}
-use mathlib.Core.Path.{_∙_, _≡_, ap, ap₂, refl, subst, sym}
+use mathlib.Core.Path.{_∙_, _≡_, ap, refl, subst, sym}
 use native.Mathlib.Omega.{arith}
 
 -- CHECK-ONLY: NO SECOND OUTCOME FITS
@@ -32,14 +35,9 @@ check-only {T} {c} {w} {work} A B =
       A .cleared ∙ ap (λ (k : ℕ). cond (clears k) (wiped (6 * rowsOf T c) work) work) e ∙ sym (B .cleared),
     )
 
-late-none : (l : List Said) → Every Late l → said l .0 ≡ 0 → l ≡ []
-late-none [] h z = refl
-late-none (s ∷ l) h z = absurd (omega (arith, h .0))
-
--- two lists of faults that say 0 together are both empty
-both-none : (l m : List Said) → Every Early l → Every Late m → said (l ++ m) .0 ≡ 0 → (l ≡ []) × (m ≡ [])
-both-none [] m h k z = (refl, late-none m k z)
-both-none (s ∷ l) m h k z = absurd (omega (arith, h .0 .some))
+-- no fault of the passes has the number 0
+faults-numbered : (d : ℕ → ℕ → ℕ) (w : List ℕ) → Numbered (faults d w)
+faults-numbered d w = every-of Late (λ f. 1 ≤ f .0) (λ f h. omega arith) (faults d w) (faults-late d w)
 
 -- CHECK-EXACT: 0 IS GIVEN EXACTLY WHERE NO REFUSAL MEETS THE CALL, THE INDEX IS THE TABLE'S, AND IT IS ACCEPTED
 pub check-exact : {T : List ℕ} {c : ℕ} {w work work′ : List ℕ} {number place second : ℕ} → Checks T c w work work′ number place second
@@ -48,32 +46,33 @@ check-exact {T} {c} {w} {work} {number = number} C = (there, back)
   where
     there : number ≡ 0 → Passed T c w work
     there z =
-        let b = both-none (refusals T c w (length work)) (faults (between T c) w) (refusals-early T c w (length work)) (faults-late (between T c) w)
-        (ap (λ (s : Said). s .0) (sym (said-check T c w (length work))) ∙ sym (C .said) ∙ z) in
-        let P = past T c w (length work) (b .0) in
+        let R = refusals T c w (length work) in
+        let F = faults (between T c) w in
+        let b = says-none R F (refusals-numbered T c w (length work)) (ap numberOf (sym (said-check T c w (length work))) ∙ sym (C .said) ∙ z) in
+        let P = clear T c w (length work) (b .0) in
         record {
-          columns = P .columns;
-          multiple = P .multiple;
-          few = P .few;
-          room = P .long;
-          same-rows = P .paired .rows;
-          same-columns = P .paired .columns;
-          accepted = record { words = P .words; shape = P .shape; sound = b .1 };
+          columns = (P .table .some, P .table .few);
+          multiple = P .table .whole;
+          few = P .table .rows;
+          room = P .words;
+          same-rows = P .index .rows;
+          same-columns = P .index .columns;
+          accepted = record { words = P .there; shape = P .shape; sound = none-listed F (faults-numbered (between T c) w) (b .1) };
         }
 
     back : Passed T c w work → number ≡ 0
     back P =
         let A = P .accepted in
-        let z = past-none T c w (length work) (record {
-          columns = P .columns;
-          multiple = P .multiple;
-          few = P .few;
-          long = P .room;
-          words = A .words;
+        let R = refusals T c w (length work) in
+        let z = clear-none T c w (length work) (record {
+          table = sized-of (length T) c (P .columns) (P .multiple) (P .few);
+          index = record { shape = in-shape w (A .words) (A .shape); rows = P .same-rows; columns = P .same-columns };
+          there = A .words;
           shape = A .shape;
-          paired = record { shape = in-shape w (A .words) (A .shape); rows = P .same-rows; columns = P .same-columns };
+          words = P .room;
         }) in
-        C .said ∙ ap (λ (s : Said). s .0) (said-check T c w (length work) ∙ ap₂ (λ l m. said (l ++ m)) z (A .sound))
+        C .said ∙ ap numberOf (said-check T c w (length work) ∙ sym (says-next R (faults (between T c) w) (refusals-numbered T c w (length work)) (sym z)))
+        ∙ ap (λ l. said l .0) (A .sound)
 
 -- CHECK-PLACELESS: 0 AND THE REFUSALS 1 TO 9 NAME NO PLACE
 pub check-placeless : {T : List ℕ} {c : ℕ} {w work work′ : List ℕ} {number place second : ℕ} → Checks T c w work work′ number place second → number ≤ 9
@@ -94,7 +93,7 @@ pub check-small : {T : List ℕ} {c : ℕ} {w work work′ : List ℕ} {number p
     → (place ≤ 2 * maxRows) × (second ≤ maxRows)
 check-small {T} {c} {w} {work} C =
     let P = small (refusals T c w (length work)) (faults (between T c) w) (refusals-early T c w (length work))
-    (λ z. faults-small (between T c) w (past T c w (length work) z .paired .shape)) in
+    (λ z. faults-small (between T c) w (clear T c w (length work) (ap (λ l. said l .0) z) .index .shape)) in
     let e = said-check T c w (length work) in (
       subst (λ (p : ℕ). p ≤ 2 * maxRows) (sym (C .placed .0 ∙ ap (λ (s : Said). s .1) e)) (P .0),
       subst (λ (p : ℕ). p ≤ maxRows) (sym (C .placed .1 ∙ ap (λ (s : Said). s .2) e)) (P .1),

@@ -9,9 +9,9 @@ use Rattle.limits.specs.Limits.{columnsOk, maxColumns}
 use Rattle.limits.specs.Said.{said, tableFaults}
 use Rattle.measure.specs.Table.{rowsOf}
 use Rattle.nearest.proofs.Contract.{same-answers}
-use Rattle.nearest.proofs.Refused as near
+use Rattle.nearest.proofs.Refusals as near
 use Rattle.nearest.specs.Calls.{Answered, Settled}
-use Rattle.radius.proofs.Refused as within-radius
+use Rattle.radius.proofs.Refusals as within-radius
 use Rattle.radius.specs.Calls.{Searched}
 use Rattle.tree.proofs.Answers.{answers-length}
 use Rattle.tree.specs.Calls.{saidNearest}

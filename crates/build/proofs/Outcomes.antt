@@ -1,51 +1,42 @@
 -- The call's outcomes: a refusal, and the index. Assumes nothing.
-use Prim.Native.Nat.{_%_, _*_, _+_, _/_, _≤_, ℕ}
-use Rattle.build.proofs.Refusals.{no-lengths, said-lengths}
+use Prim.Native.Nat.{_*_, _+_, _/_, _≤_, ℕ}
+use Rattle.build.proofs.Refusals.{Clear, clear}
 use Rattle.build.proofs.Whole.{encode-long}
 use Rattle.build.specs.Calls.{Builds}
-use Rattle.build.specs.Filled.{Filled, Room, shortOf}
+use Rattle.build.specs.Filled.{Filled, Room}
 use Rattle.build.specs.Stages.{Fit}
-use Rattle.laws.proofs.Tests.{and-l, and-r, holds}
+use Rattle.limits.proofs.Ranges.{shared}
 use Rattle.limits.proofs.Told.{refused-is, taken-is}
 use Rattle.limits.specs.Chosen.{chosen, told}
-use Rattle.limits.specs.Limits.{columnsOk, maxColumns, maxRows, shareOk, within}
-use Rattle.limits.specs.Said.{fault, lengthFaults, said}
+use Rattle.limits.specs.Limits.{maxRows, shareOk}
 use Rattle.limits.specs.declared.Chosen.the-variants.{Refused, Taken}
 use Rattle.limits.specs.declared.Chosen.{Chosen}
 use Rattle.limits.specs.declared.Params.{Params}
-use Rattle.tree.proofs.Good.{share-is}
 use Rattle.tree.specs.Build.{build}
 use Rattle.tree.specs.Calls.{saidBuild}
 use Rattle.tree.specs.Encode.{encode}
 use Rattle.words.specs.Words.{nodeAt}
-use borrow.Author.Tests.{ltb-false, ne-eqb}
-use lib.Dec.{T, eqb, leb, leb→le, ltb}
+use borrow.Author.Tests.{ne-eqb}
+use lib.Dec.{eqb}
 use lib.ListN.{drop, length, take}
 use lib.Seq.{length-take-le}
-use mathlib.Core.Bool.{Bool, _&&_, _||_, false, true, true≢false}
+use mathlib.Core.Bool.{false, true}
 use mathlib.Core.List.{List, _++_}
 use mathlib.Core.Logic.{_≢_}
-use mathlib.Core.Path.{_∙_, _≡_, ap, refl, sym}
-use native.Mathlib.Nat.{mul-div-le}
+use mathlib.Core.Path.{_∙_, _≡_, ap, sym}
 
--- ---- what the tests passed say
-or-false : (a b : Bool) → (a || b) ≡ false → (a ≡ false) × (b ≡ false)
-or-false true b e = absurd (true≢false e)
-or-false false b e = (refl, e)
-
-share-most : (m l : ℕ) → shareOk m l ≡ true → (m ≤ 64) × (l ≤ 1024)
-share-most m l e =
-    let t : T (within 2 64 m && within m 1024 l) = holds (shareOk m l) e in
-    (leb→le m 64 (and-r (leb 2 m) (leb m 64) (and-l (within 2 64 m) (within m 1024 l) t)), leb→le l 1024 (and-r (leb m l) (leb l 1024) (and-r (within 2 64 m) (within m 1024 l) t)))
-
--- the constructor's answer, taken apart
+-- ---- the constructor's answer, taken apart
+-- taken: m and l are in range, and are what the parameters hold
 pub answer-taken : (r : Chosen) (p : Params) (m l : ℕ) → r ≡ Taken p → told r ≡ chosen m l → (shareOk m l ≡ true) × (p .centres ≡ m) × (p .leaf ≡ l)
 answer-taken r p m l e q = taken-is p m l (ap told (sym e) ∙ q)
 
+-- refused: they are not
 pub answer-refused : (r : Chosen) (m l : ℕ) → r ≡ Refused → told r ≡ chosen m l → shareOk m l ≡ false
 answer-refused r m l e q = refused-is m l (ap told (sym e) ∙ q)
 
+-- ---- the outcomes
 module _ (T : List ℕ) (c m l : ℕ) (room work : List ℕ) where
+  -- a refusal: its number, zero counts, and all that is lent as it was
   pub refused-builds : (k number words nodes : ℕ) → k ≡ saidBuild T c m l (length room) (length work) .0 → k ≢ 0 → (number ≡ k) × (words ≡ 0) × (nodes ≡ 0)
       → Builds T c m l room work room work number words nodes
   refused-builds k number words nodes e h r =
@@ -57,49 +48,35 @@ module _ (T : List ℕ) (c m l : ℕ) (room work : List ℕ) where
         cleared = rw f;
       }
 
-  -- every test is passed, and m′ and l′ are what the parameters hold
+  -- nothing is refused, and m′ and l′ are what the parameters hold
   pub record Passed (m′ l′ : ℕ) : Type 0 where
-    pub columns : columnsOk c ≡ true
-    pub share : shareOk m l ≡ true
+    pub none : saidBuild T c m l (length room) (length work) .0 ≡ 0
     pub centres : m′ ≡ m
     pub leaf : l′ ≡ l
-    pub none : said (lengthFaults (length T) c ++ fault 5 (shortOf (length T / c) (length room) (length work))) .0 ≡ 0
 
   module _ (m′ l′ : ℕ) (passed : Passed m′ l′) where
-    tests : (eqb (length T % c) 0 ≡ true) × (ltb maxRows (length T / c) ≡ false) × (shortOf (length T / c) (length room) (length work) ≡ false)
-    tests = no-lengths (eqb (length T % c) 0) (ltb maxRows (length T / c)) (shortOf (length T / c) (length room) (length work)) (passed .none)
+    cleared : Clear T c m l (length room) (length work)
+    cleared = clear T c m l (length room) (length work) (passed .none)
 
     pub rows-most : length T / c ≤ maxRows
-    rows-most = ltb-false maxRows (length T / c) (tests .1)
+    rows-most = cleared .table .rows
 
-    rooms : (10 * (length T / c) + 8 ≤ length room) × (6 * (length T / c) ≤ length work)
-    rooms =
-        let o = or-false (ltb (length room) (10 * (length T / c) + 8)) (ltb (length work) (6 * (length T / c))) (tests .2) in
-        (ltb-false (length room) (10 * (length T / c) + 8) (o .0), ltb-false (length work) (6 * (length T / c)) (o .1))
+    pub work-long : 6 * (length T / c) ≤ length work
+    work-long = cleared .words
 
     -- the part of the workspace that is used
     pub part-long : length (take (6 * (length T / c)) work) ≡ 6 * (length T / c)
-    part-long = length-take-le (6 * (length T / c)) work (rooms .1)
-
-    pub work-long : 6 * (length T / c) ≤ length work
-    work-long = rooms .1
+    part-long = length-take-le (6 * (length T / c)) work work-long
 
     built-fit : Fit T c m l (length T / c)
     built-fit =
-        let s = share-is m l (passed .share) in
-        let t = share-most m l (passed .share) in
-        record {
-          columns = leb→le c maxColumns (and-r (leb 1 c) (leb c maxColumns) (holds (columnsOk c) (passed .columns)));
-          rows = rows-most;
-          table = mul-div-le (length T) c;
-          two = s .0;
-          most = t .0;
-          leafy = s .1;
-          leaf = t .1;
-        }
+        let t = cleared .table in
+        let s = shared m l (cleared .share) in
+        record { columns = t .few; rows = t .rows; table = t .inside; two = s .two; most = s .most; leafy = s .leafy; leaf = s .leaf }
 
+    -- what the filling asks
     pub built-room : Room T c m′ l′ (length T / c) room (take (6 * (length T / c)) work)
-    built-room = rw (passed .centres, passed .leaf) record { fit = built-fit; space = rooms .0; halves = part-long }
+    built-room = rw (passed .centres, passed .leaf) record { fit = built-fit; space = cleared .space; halves = part-long }
 
     -- the index, and how many words and nodes it has
     pub built-builds : (room′ part′ work′ : List ℕ) (nodes words : ℕ) → Filled T c m′ l′ (length T / c) room room′ part′ nodes
@@ -109,7 +86,7 @@ module _ (T : List ℕ) (c m l : ℕ) (room work : List ℕ) where
     built-builds room′ part′ work′ nodes words filled e w =
         let got : Filled T c m l (length T / c) room room′ part′ nodes = rw (passed .centres, passed .leaf) at filled in
         record {
-          said = sym (passed .none) ∙ said-lengths T c m l (length room) (length work) (passed .columns) (passed .share);
+          said = sym (passed .none);
           counted = (w ∙ sym (encode-long T c m l (length T / c) built-fit room nodes (got .count)), got .count);
           index = got .index;
           cleared = e ∙ ap (λ (x : List ℕ). x ++ drop (6 * (length T / c)) work) (got .cleared);

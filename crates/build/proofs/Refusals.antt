@@ -1,105 +1,94 @@
--- The first fault, by the tests in their order, and what holds where there is none. Assumes nothing.
-use Prim.Native.Nat.{_%_, _/_, _≤_, ℕ}
+-- Why a build is refused: one law for each return of the code, and what holds where nothing is refused. Assumes nothing.
+use Prim.Native.Nat.{_*_, _+_, _/_, _≤_, ℕ}
 use Rattle.build.specs.Filled.{shortOf}
-use Rattle.limits.specs.Limits.{columnsOk, maxRows, shareOk}
-use Rattle.limits.specs.Said.{Said, fault, lengthFaults, said}
+use Rattle.laws.proofs.Tests.{or-parts}
+use Rattle.limits.proofs.Faults.{fault-first, fault-next, fault-none, fault-not, numberOf, says-first, says-next, says-none}
+use Rattle.limits.proofs.Ranges.{columns-are}
+use Rattle.limits.proofs.Sized.{Sized, length-numbered, length-right, sized-of}
+use Rattle.limits.specs.Limits.{columnsOk, shareOk}
+use Rattle.limits.specs.Said.{Said, columnsFault, fault, lengthFaults, said}
+use Rattle.measure.specs.Table.{rowsOf}
 use Rattle.tree.specs.Calls.{saidBuild}
-use borrow.Author.Tests.{eqb-true, ltb-false}
-use lib.Dec.{eqb, ltb}
+use borrow.Author.Tests.{ltb-false, not-false}
+use lib.Dec.{ltb}
 use lib.ListN.{length}
-use mathlib.Core.Bool.{Bool, false, not, true, true≢false}
-use mathlib.Core.List.{List, [], _++_, _∷_}
-use mathlib.Core.Logic.{_≢_}
-use mathlib.Core.Path.{_∙_, _≡_, ap, refl, sym}
+use mathlib.Core.Bool.{Bool, false, not, true}
+use mathlib.Core.List.{List, _++_, append-assoc}
+use mathlib.Core.Path.{_∙_, _≡_, ap, sym}
 use native.Mathlib.Omega.{arith}
 
 -- ---- the lengths: 3, 4, 5
--- a fault that is there is the first, whatever follows
-first-stays : (xs ys : List Said) → said xs .0 ≢ 0 → said xs .0 ≡ said (xs ++ ys) .0
-first-stays [] ys h = absurd (h refl)
-first-stays (x ∷ xs) ys h = refl
-
--- the number of three tests
-abbrev pub lengthsSaid : Bool → Bool → Bool → ℕ
-lengthsSaid a b s = said ((fault 3 (not a) ++ fault 4 b) ++ fault 5 s) .0
-
-no-length : (a b : Bool) → said (fault 3 (not a) ++ fault 4 b) .0 ≡ 0 → (a ≡ true) × (b ≡ false)
-no-length true true e = absurd (omega arith)
-no-length true false e = (refl, refl)
-no-length false b e = absurd (omega arith)
-
-pub no-lengths : (a b s : Bool) → lengthsSaid a b s ≡ 0 → (a ≡ true) × (b ≡ false) × (s ≡ false)
-no-lengths true true s e = absurd (omega arith)
-no-lengths true false true e = absurd (omega arith)
-no-lengths true false false e = (refl, refl, refl)
-no-lengths false b s e = absurd (omega arith)
-
 module _ (long c room work : ℕ) where
+  -- the room or the workspace is too short
   abbrev short : Bool
   short = shortOf (long / c) room work
 
-  pub of-length : (number : ℕ) → number ≡ said (lengthFaults long c) .0 → number ≢ 0 → number ≡ said (lengthFaults long c ++ fault 5 (shortOf (long / c) room work)) .0
-  of-length number e h = e ∙ first-stays (lengthFaults long c) (fault 5 short) (λ q. h (e ∙ q))
+  -- the table's length is refused
+  pub by-length : {v : ℕ} → v ≡ said (lengthFaults long c) .0 → (v ≡ 0 → ⊥) → v ≡ said (lengthFaults long c ++ fault 5 short) .0
+  by-length e h = e ∙ ap numberOf (says-first (lengthFaults long c) (fault 5 short) (λ z. h (e ∙ z)))
 
-  -- the length is right, so that there are few enough rows
-  pub rows-few : said (lengthFaults long c) .0 ≡ 0 → long / c ≤ maxRows
-  rows-few e = ltb-false maxRows (long / c) (no-length (eqb (long % c) 0) (ltb maxRows (long / c)) e .1)
-
-  pub of-rooms : (s : Bool) → said (lengthFaults long c) .0 ≡ 0 → s ≡ shortOf (long / c) room work → said (fault 5 s) .0 ≡ said (lengthFaults long c ++ fault 5 (shortOf (long / c) room work)) .0
-  of-rooms s e q =
-      let h = no-length (eqb (long % c) 0) (ltb maxRows (long / c)) e in
-      ap (λ (b : Bool). said (fault 5 b) .0) q ∙ go (eqb (long % c) 0) (ltb maxRows (long / c)) short (h .0) (h .1)
-    where
-      go : (a b s : Bool) → a ≡ true → b ≡ false → said (fault 5 s) .0 ≡ lengthsSaid a b s
-      go true false s p q = refl
-      go true true s p q = absurd (true≢false q)
-      go false b s p q = absurd (true≢false (sym p))
+  -- the rooms decide
+  pub by-rooms : {v : ℕ} → v ≡ said (lengthFaults long c) .0 → v ≡ 0 → {s : Bool} → s ≡ short
+      → said (fault 5 s) .0 ≡ said (lengthFaults long c ++ fault 5 short) .0
+  by-rooms e z q = ap (λ b. said (fault 5 b) .0) q ∙ ap numberOf (says-next (lengthFaults long c) (fault 5 short) (length-numbered long c) (sym e ∙ z))
 
 -- ---- all five
-buildSaid : Bool → Bool → Bool → Bool → Bool → ℕ
-buildSaid a b d e f = said (fault 1 (not a) ++ fault 2 (not b) ++ (fault 3 (not d) ++ fault 4 e) ++ fault 5 f) .0
+-- WITH 0 NOTHING IS WRONG: the table, m and l, the room and the workspace
+pub record Clear (T : List ℕ) (c m l room work : ℕ) : Type 0 where
+  pub table : Sized (length T) c
+  pub share : shareOk m l ≡ true
+  pub space : 10 * rowsOf T c + 8 ≤ room
+  pub words : 6 * rowsOf T c ≤ work
 
 module _ (T : List ℕ) (c m l room work : ℕ) where
-  abbrev tests : (Bool → Bool → Bool → Bool → Bool → ℕ) → ℕ
-  tests f = f (columnsOk c) (shareOk m l) (eqb (length T % c) 0) (ltb maxRows (length T / c)) (shortOf (length T / c) room work)
+  abbrev n : ℕ
+  n = rowsOf T c
 
-  said-is : tests buildSaid ≡ saidBuild T c m l room work .0
-  unfolding saidBuild buildSaid
-  said-is = refl
+  -- what is said
+  abbrev says : Said
+  says = saidBuild T c m l room work
 
-  pub said-1 : columnsOk c ≡ false → 1 ≡ saidBuild T c m l room work .0
-  unfolding buildSaid
-  said-1 e = go (columnsOk c) e ∙ said-is
-    where
-      go : (a : Bool) → a ≡ false → 1 ≡ buildSaid a (shareOk m l) (eqb (length T % c) 0) (ltb maxRows (length T / c)) (shortOf (length T / c) room work)
-      go a e = rw e
+  -- the faults after the columns, and after m and l
+  abbrev last : List Said
+  last = lengthFaults (length T) c ++ fault 5 (shortOf n room work)
 
-  pub said-2 : columnsOk c ≡ true → shareOk m l ≡ false → 2 ≡ saidBuild T c m l room work .0
-  unfolding buildSaid
-  said-2 e f = go (columnsOk c) (shareOk m l) e f ∙ said-is
-    where
-      go : (a b : Bool) → a ≡ true → b ≡ false → 2 ≡ buildSaid a b (eqb (length T % c) 0) (ltb maxRows (length T / c)) (shortOf (length T / c) room work)
-      go a b e f = rw (e, f)
+  abbrev next : List Said
+  next = fault 2 (not (shareOk m l)) ++ last
 
-  pub said-lengths : columnsOk c ≡ true → shareOk m l ≡ true → said (lengthFaults (length T) c ++ fault 5 (shortOf (length T / c) room work)) .0 ≡ saidBuild T c m l room work .0
-  unfolding buildSaid
-  said-lengths e f = go (columnsOk c) (shareOk m l) e f ∙ said-is
-    where
-      go : (a b : Bool) → a ≡ true → b ≡ true
-          → lengthsSaid (eqb (length T % c) 0) (ltb maxRows (length T / c)) (shortOf (length T / c) room work)
-          ≡ buildSaid a b (eqb (length T % c) 0) (ltb maxRows (length T / c)) (shortOf (length T / c) room work)
-      go a b e f = rw (e, f)
+  in-turn : said (columnsFault c ++ next) ≡ says
+  unfolding saidBuild
+  in-turn = simp append-assoc
 
-  -- number 0: every test is passed
-  pub none-said : saidBuild T c m l room work .0 ≡ 0 → (columnsOk c ≡ true) × (shareOk m l ≡ true) × (length T / c ≤ maxRows) × (length T % c ≡ 0)
-  unfolding buildSaid
-  none-said e =
-      let h = none (columnsOk c) (shareOk m l) (eqb (length T % c) 0) (ltb maxRows (length T / c)) (shortOf (length T / c) room work) (said-is ∙ e) in
-      (h .0, h .1, ltb-false maxRows (length T / c) (h .2), eqb-true (length T % c) 0 (h .3))
-    where
-      none : (a b d e f : Bool) → buildSaid a b d e f ≡ 0 → (a ≡ true) × (b ≡ true) × (e ≡ false) × (d ≡ true)
-      none true true true true f q = absurd (omega arith)
-      none true true true false f q = (refl, refl, refl, refl)
-      none true true false e f q = absurd (omega arith)
-      none true false d e f q = absurd (omega arith)
-      none false b d e f q = absurd (omega arith)
+  -- ---- the returns in the code's order
+  -- the columns are wrong
+  pub one : columnsOk c ≡ false → 1 ≡ says .0
+  one e = ap numberOf (fault-first 1 next (ap not e) ∙ in-turn)
+
+  module _ (e : columnsOk c ≡ true) where
+    after-columns : said next ≡ says
+    after-columns = fault-next 1 next (ap not e) ∙ in-turn
+
+    -- m or l is out of range
+    pub two : shareOk m l ≡ false → 2 ≡ says .0
+    two s = ap numberOf (fault-first 2 last (ap not s) ∙ after-columns)
+
+    -- the lengths decide
+    pub by-lengths : {v : ℕ} → shareOk m l ≡ true → v ≡ said last .0 → v ≡ says .0
+    by-lengths s k = k ∙ ap numberOf (fault-next 2 last (ap not s) ∙ after-columns)
+
+  -- ---- none
+  pub clear : says .0 ≡ 0 → Clear T c m l room work
+  clear z =
+      let a = ltb room (10 * n + 8) in
+      let b = ltb work (6 * n) in
+      let f = fault-none 1 (not (columnsOk c)) next (omega arith) (ap numberOf in-turn ∙ z) in
+      let g = fault-none 2 (not (shareOk m l)) last (omega arith) (f .1) in
+      let h = says-none (lengthFaults (length T) c) (fault 5 (shortOf n room work)) (length-numbered (length T) c) (g .1) in
+      let right = length-right (length T) c (h .0) in
+      let o = or-parts a b (fault-not 5 (shortOf n room work) (omega arith) (h .1)) in
+      record {
+        table = sized-of (length T) c (columns-are c (not-false (columnsOk c) (f .0))) (right .0) (right .1);
+        share = not-false (shareOk m l) (g .0);
+        space = ltb-false room (10 * n + 8) (o .0);
+        words = ltb-false work (6 * n) (o .1);
+      }

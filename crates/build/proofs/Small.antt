@@ -2,7 +2,6 @@
 use Prim.Native.Nat.{_*_, _+_, _/_, _≤_, suc, zero, ℕ}
 use Rattle.build.proofs.Numbering.{numbered-levels, out-long, placed-long}
 use Rattle.build.proofs.Outcomes.{Passed, built-room}
-use Rattle.build.proofs.Refusals.{none-said, said-lengths}
 use Rattle.build.proofs.Rooting.{root-run}
 use Rattle.build.proofs.Tiles.{split-joined}
 use Rattle.build.proofs.Whole.{encode-long}
@@ -124,9 +123,7 @@ module _ (d : ℕ → ℕ → ℕ) (m l : ℕ) (m2 : 2 ≤ m) (ml : m ≤ l) whe
 module _ (T : List ℕ) (c m l : ℕ) (room work : List ℕ) where
   fit : saidBuild T c m l (length room) (length work) .0 ≡ 0 → Fit T c m l (length T / c)
   fit z =
-      let t = none-said T c m l (length room) (length work) z in
-      let passed : Passed T c m l room work m l =
-      record { columns = t .0; share = t .1; centres = refl; leaf = refl; none = said-lengths T c m l (length room) (length work) (t .0) (t .1) ∙ z } in
+      let passed : Passed T c m l room work m l = record { none = z; centres = refl; leaf = refl } in
       built-room T c m l room work m l passed .fit
 
   built-small : saidBuild T c m l (length room) (length work) .0 ≡ 0 → (length (build T c m l) ≤ 10 * maxRows + 8) × (N# (build T c m l) ≤ 2 * maxRows)

@@ -1,16 +1,15 @@
 -- The theorems on the call: what it wrote is the table's and accepted, and no second outcome fits. Assumes nothing.
 use Prim.Native.Nat.{_*_, _≤_, ℕ}
-use Rattle.build.proofs.Refusals.{none-said}
+use Rattle.build.proofs.Refusals.{clear}
 use Rattle.build.proofs.Whole.{pairs-long, positions}
 use Rattle.build.specs.Calls.{Builds}
 use Rattle.laws.specs.Every.{Every}
 use Rattle.laws.specs.Lists.{each}
-use Rattle.limits.proofs.Numbers.{by-length, none-of-length}
+use Rattle.limits.proofs.Ranges.{shared}
+use Rattle.limits.proofs.Sized.{Sized, sized-columns}
 use Rattle.limits.specs.Limits.{shareOk}
 use Rattle.measure.specs.Table.{between, rowsOf}
 use Rattle.tree.proofs.Built.{build-accepted as words-accepted}
-use Rattle.tree.proofs.Good.{share-is}
-use Rattle.tree.proofs.Refusals.{Sized, sized}
 use Rattle.tree.proofs.Written.{each-words}
 use Rattle.tree.specs.Build.{build, plant}
 use Rattle.tree.specs.Check.{Accepted}
@@ -32,8 +31,8 @@ module _ (T : List ℕ) (c m l : ℕ) where
   headed : shareOk m l ≡ true → (n# (build T c m l) ≡ rowsOf T c) × (c# (build T c m l) ≡ c)
   unfolding build encode
   headed e =
-      let s = share-is m l e in
-      (positions (between T c) m l (omega (arith, s .0)) (s .1) (rowsOf T c), refl)
+      let s = shared m l e in
+      (positions (between T c) m l (omega (arith, s .two)) (s .leafy) (rowsOf T c), refl)
 
   -- and asks for just the words that there are
   just-words : length (build T c m l) ≡ wordsOf (build T c m l)
@@ -54,17 +53,17 @@ module _ (T : List ℕ) (c m l : ℕ) (room work : List ℕ) where
   pub build-accepted : (room′ work′ : List ℕ) (number words nodes : ℕ) → Builds T c m l room work room′ work′ number words nodes → number ≡ 0 → Every (λ v. v ≤ 65535) T
       → Accepted (between T c) (take words room′)
   build-accepted room′ work′ number words nodes b z small =
-      let t = none-said T c m l (length room) (length work) (sym (b .said) ∙ z) in
-      subst (Accepted (between T c)) (sym (index-there b z)) (words-accepted T c m l (t .0) (t .1) (t .2) small)
+      let C = clear T c m l (length room) (length work) (sym (b .said) ∙ z) in
+      subst (Accepted (between T c)) (sym (index-there b z))
+      (words-accepted T c m l (sized-columns (length T) c (C .table)) (C .share) (C .table .rows) small)
 
   -- WHAT THE CALL WROTE IS THE TABLE'S INDEX: NO CALL REFUSES SUCH A TABLE, THE HEADER HAS ITS ROWS AND COLUMNS, AND ASKS FOR JUST THESE WORDS
   pub build-headed : {room′ work′ : List ℕ} {number words nodes : ℕ} → Builds T c m l room work room′ work′ number words nodes → number ≡ 0
       → Sized (length T) c × (n# (take words room′) ≡ rowsOf T c) × (c# (take words room′) ≡ c) × (length (take words room′) ≡ wordsOf (take words room′))
   build-headed b z =
-      let t = none-said T c m l (length room) (length work) (sym (b .said) ∙ z) in
-      let h = headed T c m l (t .1) in
-      rw (index-there b z)
-      (sized (length T) c (sym (none-of-length (length T) c (t .3) (t .2) ∙ by-length (length T) c (t .0))), h .0, h .1, just-words T c m l)
+      let C = clear T c m l (length room) (length work) (sym (b .said) ∙ z) in
+      let h = headed T c m l (C .share) in
+      rw (index-there b z) (C .table, h .0, h .1, just-words T c m l)
 
   -- NO SECOND OUTCOME FITS
   pub build-only : (room₁ work₁ room₂ work₂ : List ℕ) (number₁ words₁ nodes₁ number₂ words₂ nodes₂ : ℕ)

@@ -1,9 +1,10 @@
 -- The two calls' ends: what each return of the code meets of its contract. Assumes nothing.
 use Prim.Native.Nat.{_*_, _/_, _<_, _≤_, ℕ}
-use Rattle.image.proofs.Numbers.{count-is, no-faults}
+use Rattle.image.proofs.Refusals.{count-is, no-faults}
 use Rattle.image.proofs.Places.{blocks-hold}
 use Rattle.image.specs.Calls.{Reads, Writes}
 use Rattle.image.specs.Sound.{Sound}
+use Rattle.limits.proofs.Faults.{says-first}
 use Rattle.limits.specs.Said.{Said, fault, said}
 use Rattle.words.specs.Image.{blocksFor, image, imageFaults, imageTotal, imageWords, saidRead, saidWrite}
 use Rattle.words.specs.Words.{wordsOf, wordsOk}
@@ -11,7 +12,7 @@ use borrow.Author.Tests.{eq-eqb, le-ltb, lt-ltb, ne-eqb}
 use lib.Dec.{eqb, ltb}
 use lib.ListN.{drop, length}
 use mathlib.Core.Bool.{Bool, cond, false, not, true}
-use mathlib.Core.List.{List, [], _++_, _∷_}
+use mathlib.Core.List.{List, [], _++_}
 use mathlib.Core.Path.{_∙_, _≡_, ap, ap₂, refl, sym}
 
 -- ---- writing
@@ -40,13 +41,9 @@ module _ (w before : List ℕ) where
 
 -- ---- reading
 -- a fault of the image comes before the room
-said-append : (fs gs : List Said) → (said fs .0 ≡ 0 → ⊥) → said (fs ++ gs) ≡ said fs
-said-append [] gs h = absurd (h refl)
-said-append (f ∷ fs) gs h = refl
-
 pub read-fault : (i : List ℕ) (room : ℕ) → (said (imageFaults i) .0 ≡ 0 → ⊥) → saidRead i room ≡ said (imageFaults i)
 unfolding saidRead
-read-fault i room h = said-append (imageFaults i) (fault 5 (ltb room (imageTotal i))) h
+read-fault i room h = sym (says-first (imageFaults i) (fault 5 (ltb room (imageTotal i))) h)
 
 -- with none the room decides
 pub by-room : (i : List ℕ) (room : ℕ) → imageFaults i ≡ [] → (t : Bool) → ltb room (imageTotal i) ≡ t → saidRead i room ≡ said (fault 5 t)

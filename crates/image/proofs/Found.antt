@@ -2,7 +2,7 @@
 use Prim.Native.Nat.{_%_, _*_, _+_, _/_, _<_, _^_, _≤_, suc, zero, ℕ}
 use Rattle.image.proofs.Calls.{read-fault, reads-none}
 use Rattle.image.proofs.Checks.{check-append, check-place, from-lt, step-state, step-word}
-use Rattle.image.proofs.Numbers.{fifteen}
+use Rattle.image.proofs.Refusals.{fifteen}
 use Rattle.image.proofs.Wrong.{lowest-is, lowest-le}
 use Rattle.image.specs.Below.{Below}
 use Rattle.image.specs.Calls.{Reads}

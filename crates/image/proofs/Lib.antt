@@ -2,7 +2,7 @@ pub mod Checks
 pub mod Blocks
 pub mod Places
 pub mod Wrong
-pub mod Numbers
+pub mod Refusals
 pub mod Calls
 pub mod Found
 pub mod OneByte

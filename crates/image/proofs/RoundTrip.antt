@@ -2,7 +2,7 @@
 use Prim.Native.Nat.{_*_, _-_, _/_, _<_, _^_, _≤_, ℕ}
 use Rattle.image.proofs.Blocks.{blocks-length}
 use Rattle.image.proofs.Calls.{by-room, reads-all}
-use Rattle.image.proofs.Numbers.{by-held, none-held}
+use Rattle.image.proofs.Refusals.{by-held, none-held}
 use Rattle.image.proofs.Places.{blocks-hold}
 use Rattle.image.proofs.Standing.{none-wrong, words-back, zero-back}
 use Rattle.image.specs.Below.{Below}

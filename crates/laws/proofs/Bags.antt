@@ -13,6 +13,7 @@ use native.Mathlib.Decide.{decLt}
 use native.Mathlib.Omega.{arith}
 
 module _ {A : Type 0} where
+  -- the total over two lists, one after the other, is the sum of the two
   pub total-append : (f : A → ℕ) (xs ys : List A) → total f (xs ++ ys) ≡ total f xs + total f ys
   total-append f [] ys = omega arith
   total-append f (x ∷ xs) ys = omega (arith, total-append f xs ys)
@@ -35,16 +36,19 @@ module _ {A : Type 0} where
   total-neither f g [] e d = refl
   total-neither f g (x ∷ xs) e d = omega (arith, total-neither f g xs (omega arith) (omega arith))
 
+  -- the total over f 0 .. f (k - 1) as a sum
   pub total-upto : (f : A → ℕ) (g : ℕ → A) (k : ℕ) → total f (upto g k) ≡ sumTo (λ (j : ℕ). f (g j)) k
   unfolding sumTo
   total-upto f g zero = refl
   total-upto f g (suc k) = omega (arith, total-upto f g k)
 
+  -- functions that agree below k list the same
   pub upto-same : (f g : ℕ → A) (k : ℕ) → ((j : ℕ) → j < k → f j ≡ g j) → upto f k ≡ upto g k
   upto-same f g zero h = refl
   upto-same f g (suc k) h = ap₂ (λ (x : A) (xs : List A). x ∷ xs) (h k (omega arith)) (upto-same f g k (λ j l. h j (omega arith)))
 
 module _ {A B : Type 0} where
+  -- the total over a mapped list is that of the weight after the function
   pub total-map : (f : B → ℕ) (g : A → B) (xs : List A) → total f (map g xs) ≡ total (λ (a : A). f (g a)) xs
   total-map f g [] = refl
   total-map f g (x ∷ xs) = omega (arith, total-map f g xs)
@@ -53,6 +57,7 @@ module _ {A B : Type 0} where
   pub same-map : (g : A → B) (xs ys : List A) → SameBag xs ys → SameBag (map g xs) (map g ys)
   same-map g xs ys s f = total-map f g xs ∙ s (λ (a : A). f (g a)) ∙ sym (total-map f g ys)
 
+-- the total over a range as a sum
 pub total-range : (f : ℕ → ℕ) (a k : ℕ) → total f (range a k) ≡ sumTo (λ (j : ℕ). f (a + j)) k
 unfolding sumTo
 total-range f a zero = refl

@@ -7,10 +7,12 @@ use mathlib.Core.List.{List, [], _++_, _∷_, cons≢nil, map}
 use mathlib.Core.Path.{_∙_, _≡_, ap, refl, subst}
 
 module _ {A : Type 0} where
+  -- two lists that are empty together: the first one is
   pub append-nil-l : (xs ys : List A) → xs ++ ys ≡ [] → xs ≡ []
   append-nil-l [] ys e = refl
   append-nil-l (x ∷ xs) ys e = absurd (cons≢nil e)
 
+  -- and the second
   pub append-nil-r : (xs ys : List A) → xs ++ ys ≡ [] → ys ≡ []
   append-nil-r [] ys e = e
   append-nil-r (x ∷ xs) ys e = absurd (cons≢nil e)
@@ -25,6 +27,7 @@ module _ {A : Type 0} where
       go ih true p e = absurd (cons≢nil e)
       go ih false p e = (p, ih e)
 
+  -- and the other way
   pub keep-none : (f : A → Bool) (xs : List A) → Every (λ a. f a ≡ false) xs → keep f xs ≡ []
   keep-none f [] h = refl
   keep-none f (x ∷ xs) h = rw (h .0) (keep-none f xs (h .1))
@@ -39,11 +42,13 @@ module _ {A : Type 0} where
       go ih true p e = absurd (subst T e tt)
       go ih false p e = (p, ih e)
 
+  -- and the other way
   pub any-none : (f : A → Bool) (xs : List A) → Every (λ a. f a ≡ false) xs → any f xs ≡ false
   any-none f [] h = refl
   any-none f (x ∷ xs) h = rw (h .0) (any-none f xs (h .1))
 
 module _ {A B : Type 0} where
+  -- a list is empty where it is when mapped
   pub map-nil : (f : A → B) (xs : List A) → map f xs ≡ [] → xs ≡ []
   map-nil f [] e = refl
   map-nil f (x ∷ xs) e = absurd (cons≢nil e)
@@ -53,6 +58,7 @@ module _ {A B : Type 0} where
   each-nil f [] e = tt
   each-nil f (x ∷ xs) e = (append-nil-l (f x) (each f xs) e, each-nil f xs (append-nil-r (f x) (each f xs) e))
 
+  -- and the other way
   pub each-none : (f : A → List B) (xs : List A) → Every (λ a. f a ≡ []) xs → each f xs ≡ []
   each-none f [] h = refl
   each-none f (x ∷ xs) h = ap (λ l. l ++ each f xs) (h .0) ∙ each-none f xs (h .1)

@@ -8,37 +8,44 @@ use lib.Dec.{T, eqb}
 use lib.ListN.{drop, length, take}
 use mathlib.Core.Bool.{Bool, _||_, cond, false, true}
 use mathlib.Core.List.{List, [], _++_, _∷_, map}
-use mathlib.Core.Path.{_≡_, refl, subst, sym}
+use mathlib.Core.Path.{_≡_, ap₂, refl, subst, sym}
 use native.Mathlib.Nat.{not-suc-le-zero}
 use native.Mathlib.Omega.{arith}
 
 module _ {A : Type 0} where
+  -- a fact of every element of two lists is one of both together
   pub every-append : (P : A → Type 0) (xs ys : List A) → Every P xs → Every P ys → Every P (xs ++ ys)
   every-append P [] ys h k = k
   every-append P (x ∷ xs) ys h k = (h .0, every-append P xs ys (h .1) k)
 
+  -- and one of both together is one of the first
   pub every-left : (P : A → Type 0) (xs ys : List A) → Every P (xs ++ ys) → Every P xs
   every-left P [] ys h = tt
   every-left P (x ∷ xs) ys h = (h .0, every-left P xs ys (h .1))
 
+  -- and of the second
   pub every-right : (P : A → Type 0) (xs ys : List A) → Every P (xs ++ ys) → Every P ys
   every-right P [] ys h = h
   every-right P (x ∷ xs) ys h = every-right P xs ys (h .1)
 
+  -- a fact of every element is one of all but the first
   pub every-rest : (P : A → Type 0) (xs : List A) → Every P xs → Every P (rest xs)
   every-rest P [] h = tt
   every-rest P (x ∷ xs) h = h .1
 
+  -- of the first k
   pub every-take : (P : A → Type 0) (k : ℕ) (xs : List A) → Every P xs → Every P (take k xs)
   every-take P zero xs h = tt
   every-take P (suc k) [] h = tt
   every-take P (suc k) (x ∷ xs) h = (h .0, every-take P k xs (h .1))
 
+  -- of all but the first k
   pub every-drop : (P : A → Type 0) (k : ℕ) (xs : List A) → Every P xs → Every P (drop k xs)
   every-drop P zero xs h = h
   every-drop P (suc k) [] h = tt
   every-drop P (suc k) (x ∷ xs) h = every-drop P k xs (h .1)
 
+  -- of those that are kept
   pub every-keep : (P : A → Type 0) (p : A → Bool) (xs : List A) → Every P xs → Every P (keep p xs)
   every-keep P p [] h = tt
   every-keep P p (a ∷ xs) h = go (p a) (every-keep P p xs (h .1))
@@ -47,14 +54,17 @@ module _ {A : Type 0} where
       go true k = (h .0, k)
       go false k = k
 
+  -- a fact that follows from another, at every element
   pub every-of : (P Q : A → Type 0) → ((a : A) → P a → Q a) → (xs : List A) → Every P xs → Every Q xs
   every-of P Q f [] h = tt
   every-of P Q f (x ∷ xs) h = (f x (h .0), every-of P Q f xs (h .1))
 
+  -- a fact that follows from two others, at every element
   pub every-both : (P Q R : A → Type 0) → ((a : A) → P a → Q a → R a) → (xs : List A) → Every P xs → Every Q xs → Every R xs
   every-both P Q R f [] h k = tt
   every-both P Q R f (x ∷ xs) h k = (f x (h .0) (k .0), every-both P Q R f xs (h .1) (k .1))
 
+  -- a fact of everything, at every element
   pub every-all : (P : A → Type 0) → ((a : A) → P a) → (xs : List A) → Every P xs
   every-all P f [] = tt
   every-all P f (x ∷ xs) = (f x, every-all P f xs)
@@ -64,19 +74,28 @@ module _ {A : Type 0} where
   all-every f [] t = tt
   all-every f (x ∷ xs) t = (and-l (f x) (all f xs) t, all-every f xs (and-r (f x) (all f xs) t))
 
+  -- and the other way
   pub all-of : (f : A → Bool) (xs : List A) → Every (λ a. T (f a)) xs → T (all f xs)
   all-of f [] h = tt
   all-of f (x ∷ xs) h = and-of (f x) (all f xs) (h .0) (all-of f xs (h .1))
 
 module _ {A B : Type 0} where
+  -- a fact of f x at every element x is one of every element mapped
   pub every-map : (P : B → Type 0) (f : A → B) (xs : List A) → Every (λ a. P (f a)) xs → Every P (map f xs)
   every-map P f [] h = tt
   every-map P f (x ∷ xs) h = (h .0, every-map P f xs (h .1))
 
+  -- and the other way
   pub every-unmap : (P : B → Type 0) (f : A → B) (xs : List A) → Every P (map f xs) → Every (λ a. P (f a)) xs
   every-unmap P f [] h = tt
   every-unmap P f (x ∷ xs) h = (h .0, every-unmap P f xs (h .1))
 
+-- functions that agree at every element map alike
+pub map-same : {A B : Type 0} (f g : A → B) (xs : List A) → Every (λ a. f a ≡ g a) xs → map f xs ≡ map g xs
+map-same f g [] h = refl
+map-same f g (x ∷ xs) h = ap₂ (λ y ys. y ∷ ys) (h .0) (map-same f g xs (h .1))
+
+-- a fact of every element is one of the head, where there is one
 pub every-head : (P : ℕ → Type 0) (xs : List ℕ) → 1 ≤ length xs → Every P xs → P (head xs)
 every-head P [] w h = absurd (not-suc-le-zero w)
 every-head P (x ∷ xs) w h = h .0
@@ -85,6 +104,11 @@ every-head P (x ∷ xs) w h = h .0
 pub greatest-le : (xs : List ℕ) → Every (λ a. a ≤ greatest xs) xs
 greatest-le [] = tt
 greatest-le (x ∷ xs) = (omega arith, every-of (λ a. a ≤ greatest xs) (λ a. a ≤ greatest (x ∷ xs)) (λ a h. omega arith) xs (greatest-le xs))
+
+-- and it is at most what every number is
+pub greatest-under : (b : ℕ) (xs : List ℕ) → Every (λ a. a ≤ b) xs → greatest xs ≤ b
+greatest-under b [] h = omega arith
+greatest-under b (x ∷ xs) h = omega (arith, greatest-under b xs (h .1), h .0)
 
 -- a fact of every element is one of each that the list has
 pub has-every : (P : ℕ → Type 0) (i : ℕ) (xs : List ℕ) → Every P xs → has i xs ≡ true → P i

@@ -9,18 +9,22 @@ use native.Mathlib.Omega.{arith}
 
 -- ---- map
 module _ {A B : Type 0} (f : A → B) where
+  -- two lists mapped, one after the other
   pub map-append : (xs ys : List A) → map f (xs ++ ys) ≡ map f xs ++ map f ys
   map-append [] ys = refl
   map-append (x ∷ xs) ys = ap (λ zs. f x ∷ zs) (map-append xs ys)
 
+-- all but the first, mapped before or after
 pub rest-map : {A B : Type 0} (f : A → B) (xs : List A) → rest (map f xs) ≡ map f (rest xs)
 rest-map f [] = refl
 rest-map f (x ∷ xs) = refl
 
+-- one function after another, in one pass or in two
 pub map-map : {A B C : Type 0} (f : B → C) (g : A → B) (xs : List A) → map (λ a. f (g a)) xs ≡ map f (map g xs)
 map-map f g [] = refl
 map-map f g (x ∷ xs) = ap (λ l. f (g x) ∷ l) (map-map f g xs)
 
+-- a list mapped by nothing is the list
 pub map-id : (xs : List ℕ) → map (λ i. i) xs ≡ xs
 map-id [] = refl
 map-id (x ∷ xs) = ap (λ zs. x ∷ zs) (map-id xs)
@@ -31,10 +35,12 @@ paired f v [] = refl
 paired f v (x ∷ xs) = ap (λ zs. f x ∷ zs) (paired f v xs)
 
 -- ---- tally
+-- how many of two lists pass
 pub tally-append : {A : Type 0} (f : A → Bool) (xs ys : List A) → tally f (xs ++ ys) ≡ tally f xs + tally f ys
 tally-append f [] ys = omega arith
 tally-append f (x ∷ xs) ys = omega (arith, tally-append f xs ys)
 
+-- everything passes the test that is always true
 pub tally-length : {A : Type 0} (xs : List A) → tally (λ a. true) xs ≡ length xs
 tally-length [] = refl
 tally-length (x ∷ xs) = omega (arith, tally-length xs)

@@ -7,9 +7,11 @@ use mathlib.Core.List.{List}
 use mathlib.Core.Path.{_∙_, refl}
 use native.Mathlib.Omega.{arith}
 
+-- a list that is left as it was
 pub outside-same : (l : List ℕ) (lo hi : ℕ) → Outside l l lo hi
 outside-same l lo hi = record { under = λ k h. refl; over = λ k h. refl; same = refl }
 
+-- a store between lo and hi
 pub outside-set : (l : List ℕ) (lo hi i v : ℕ) → lo ≤ i → i < hi → Outside l (set l i v) lo hi
 outside-set l lo hi i v a b = record {
   under = λ k h. getD-set-other l i k v 0 (omega arith);

@@ -13,6 +13,7 @@ use mathlib.Core.Path.{_∙_, _≡_, ap, ap₂, refl, sym}
 use native.Mathlib.Nat.{not-suc-le-zero}
 use native.Mathlib.Omega.{arith}
 
+-- 1 for a test that passes, else 0
 abbrev pub bit : Bool → ℕ
 bit b = cond b 1 0
 
@@ -49,7 +50,9 @@ share-cons f κ i is (c ∷ cs) =
     go false true e A n n′ h = rw e (omega (arith, rw e at h))
     go false false e A n n′ h = rw e (omega (arith, rw e at h))
 
-pub share : (f : ℕ → Bool) (κ : ℕ → ℕ) (is cs : List ℕ) → ((i : ℕ) → times (κ i) cs ≡ 1) → tally f (each (λ a. keep (λ j. eqb (κ j) a) is) cs) ≡ tally f is
+-- WHAT IS SHARED OUT BY A KEY IS WHAT THERE WAS, where each key is once among the keys
+pub share : (f : ℕ → Bool) (κ : ℕ → ℕ) (is cs : List ℕ) → ((i : ℕ) → times (κ i) cs ≡ 1)
+    → tally f (each (λ a. keep (λ j. eqb (κ j) a) is) cs) ≡ tally f is
 share f κ [] cs h = none cs
   where
     none : (cs : List ℕ) → tally f (each (λ a. keep (λ j. eqb (κ j) a) []) cs) ≡ 0
@@ -57,22 +60,27 @@ share f κ [] cs h = none cs
     none (c ∷ cs) = none cs
 share f κ (i ∷ is) cs h = share-cons f κ i is cs ∙ ap₂ (λ a b. cond (f i) a 0 + b) (h i) (share f κ is cs h)
 
+-- the head and the rest make the list
 pub tally-split : (f : ℕ → Bool) (xs : List ℕ) → 1 ≤ length xs → tally f (head xs ∷ []) + tally f (rest xs) ≡ tally f xs
 tally-split f [] h = absurd (not-suc-le-zero h)
 tally-split f (x ∷ xs) h = omega arith
 
+-- lists with heads: the heads, and the lists without them
 pub heads-tally : (f : ℕ → Bool) (K : ℕ → List ℕ) (cs : List ℕ) → tally f (joined (map (λ a. a ∷ K a) cs)) ≡ tally f cs + tally f (each K cs)
 heads-tally f K [] = refl
 heads-tally f K (c ∷ cs) =
     omega (arith, heads-tally f K cs, tally-append f (c ∷ K c) (joined (map (λ a. a ∷ K a) cs)), tally-append f (K c) (each K cs))
 
+-- no part has a number more often than all parts together
 pub part-times : (i : ℕ) (gs : List (List ℕ)) → Every (λ r. times i r ≤ times i (joined gs)) gs
 part-times i [] = tt
 part-times i (r ∷ gs) = (
   omega (arith, tally-append (eqb i) r (joined gs)),
-  every-of (λ q. times i q ≤ times i (joined gs)) (λ q. times i q ≤ times i (joined (r ∷ gs))) (λ q h. omega (arith, tally-append (eqb i) r (joined gs))) gs (part-times i gs),
+  every-of (λ q. times i q ≤ times i (joined gs)) (λ q. times i q ≤ times i (joined (r ∷ gs)))
+      (λ q h. omega (arith, tally-append (eqb i) r (joined gs))) gs (part-times i gs),
 )
 
+-- facts of every part for each i are, of every part, a fact for each i
 pub every-∀ : (P : List ℕ → ℕ → Type 0) (gs : List (List ℕ)) → ((i : ℕ) → Every (λ r. P r i) gs) → Every (λ r. (i : ℕ) → P r i) gs
 every-∀ P [] f = tt
 every-∀ P (r ∷ gs) f = ((λ i. (f i) .0), every-∀ P gs (λ i. (f i) .1))

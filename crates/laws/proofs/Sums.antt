@@ -9,36 +9,43 @@ use native.Mathlib.Numerals.{add-one}
 use native.Mathlib.Omega.{arith}
 
 -- ---- none, and one more
+-- the sum of nothing
 pub sum-none : (f : ℕ → ℕ) → sumTo f 0 ≡ 0
 unfolding sumTo
 sum-none f = refl
 
+-- the sum with one more part
 pub sum-next : (f : ℕ → ℕ) (k : ℕ) → sumTo f (k + 1) ≡ sumTo f k + f k
 unfolding sumTo
 sum-next f k = rw add-one
 
 -- ---- sums compare as their parts do
+-- parts that are no more: the sum is no more
 pub sum-below-le : (f g : ℕ → ℕ) (k : ℕ) → ((j : ℕ) → j < k → f j ≤ g j) → sumTo f k ≤ sumTo g k
 unfolding sumTo
 sum-below-le f g zero h = omega arith
 sum-below-le f g (suc k) h = omega (arith, sum-below-le f g k (λ j l. h j (omega arith)), h k (omega arith))
 
+-- parts that are equal: the sum is equal
 pub sum-below-same : (f g : ℕ → ℕ) (k : ℕ) → ((j : ℕ) → j < k → f j ≡ g j) → sumTo f k ≡ sumTo g k
 unfolding sumTo
 sum-below-same f g zero h = refl
 sum-below-same f g (suc k) h = omega (arith, sum-below-same f g k (λ j l. h j (omega arith)), h k (omega arith))
 
+-- parts that are no more than two others' together: the sum is no more than theirs
 pub sum-triangle : (f g e : ℕ → ℕ) → ((j : ℕ) → f j ≤ g j + e j) → (k : ℕ) → sumTo f k ≤ sumTo g k + sumTo e k
 unfolding sumTo
 sum-triangle f g e h zero = omega arith
 sum-triangle f g e h (suc k) = omega (arith, sum-triangle f g e h k, h k)
 
+-- k parts of at most m: the sum is at most m * k
 pub sum-most : (f : ℕ → ℕ) (m : ℕ) → ((j : ℕ) → f j ≤ m) → (k : ℕ) → sumTo f k ≤ m * k
 unfolding sumTo
 sum-most f m h zero = omega arith
 sum-most f m h (suc k) = rw mul-suc (omega (arith, sum-most f m h k, h k))
 
 -- ---- a sum is 0 exactly if each part is
+-- parts that are 0: the sum is 0
 pub sum-below-zero : (f : ℕ → ℕ) (k : ℕ) → ((j : ℕ) → j < k → f j ≡ 0) → sumTo f k ≡ 0
 unfolding sumTo
 sum-below-zero f zero h = refl
@@ -68,16 +75,19 @@ sum-some f (suc k) h = at (decLt 0 (f k)) (λ l. sum-some f k l)
     at (no q) ih = more (ih (omega arith))
 
 -- ---- sums taken apart
+-- k ones make k
 pub sum-ones : (k : ℕ) → sumTo (λ (j : ℕ). 1) k ≡ k
 unfolding sumTo
 sum-ones zero = refl
 sum-ones (suc k) = omega (arith, sum-ones k)
 
+-- a sum of sums, part by part or one after the other
 pub sum-add : (f g : ℕ → ℕ) (k : ℕ) → sumTo (λ (j : ℕ). f j + g j) k ≡ sumTo f k + sumTo g k
 unfolding sumTo
 sum-add f g zero = refl
 sum-add f g (suc k) = omega (arith, sum-add f g k)
 
+-- the sum of a + b parts: the first a, and b more
 pub sum-split : (f : ℕ → ℕ) (a b : ℕ) → sumTo f (a + b) ≡ sumTo f a + sumTo (λ (j : ℕ). f (a + j)) b
 unfolding sumTo
 sum-split f a zero =
@@ -110,6 +120,7 @@ sum-from f a k =
     next a j = omega arith
 
 -- ---- one part that is another, and two that are exchanged
+-- where one part alone is changed, the sum changes as it does
 pub sum-change : (f g : ℕ → ℕ) (k i : ℕ) → i < k → ((j : ℕ) → j < k → j ≢ i → g j ≡ f j) → sumTo g k + f i ≡ sumTo f k + g i
 unfolding sumTo
 sum-change f g zero i h o = absurd (omega arith)

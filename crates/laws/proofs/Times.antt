@@ -16,10 +16,12 @@ use native.Mathlib.Omega.{arith}
 abbrev pub lefts : {B : Type 0} → List (ℕ × B) → List ℕ
 lefts ps = map (λ p. p .0) ps
 
+-- a list's head and its rest
 pub times-split : (i : ℕ) (xs : List ℕ) → 1 ≤ length xs → times i xs ≡ times i (head xs ∷ []) + times i (rest xs)
 times-split i [] h = absurd (not-suc-le-zero h)
 times-split i (x ∷ xs) h = omega arith
 
+-- how many rows of two lists of pairs pass
 pub tally-lefts : {B : Type 0} (f : ℕ → Bool) (xs ys : List (ℕ × B)) → tally f (lefts (xs ++ ys)) ≡ tally f (lefts xs) + tally f (lefts ys)
 tally-lefts f xs ys = rw (map-append, tally-append)
 
@@ -32,6 +34,7 @@ not-any i (x ∷ xs) e = go (λ q. not-any i xs q) (eqb i x) e
     go f true e = absurd (subst T e tt)
     go f false e = omega (arith, f e)
 
+-- and the other way
 pub zero-any : (i : ℕ) (xs : List ℕ) → times i xs ≡ 0 → any (eqb i) xs ≡ false
 zero-any i [] h = refl
 zero-any i (x ∷ xs) h = go (λ q. zero-any i xs q) (eqb i x) h
@@ -54,6 +57,7 @@ range-times i a n = (go i a n) .0
         step false e h = (omega arith, λ k. omega (arith, h .1 (omega arith)))
 
 -- ---- a fact of every element, at a number that stands there
+-- it holds there
 pub times-every : (P : ℕ → Type 0) (xs : List ℕ) → Every P xs → (i : ℕ) → 1 ≤ times i xs → P i
 times-every P [] h i k = absurd (not-suc-le-zero k)
 times-every P (x ∷ xs) h i k = go (λ q. times-every P xs (h .1) i q) (eqb i x) refl k
@@ -62,7 +66,8 @@ times-every P (x ∷ xs) h i k = go (λ q. times-every P xs (h .1) i q) (eqb i x
     go f true e k = subst P (sym (eqb-true i x e)) (h .0)
     go f false e k = f (omega arith)
 
-pub every-times : (P : ℕ → Type 0) (xs : List ℕ) → ((i : ℕ) → 1 ≤ times i xs → P i) → Every P xs
+-- and one of each that stands there is one of every element
+every-times : (P : ℕ → Type 0) (xs : List ℕ) → ((i : ℕ) → 1 ≤ times i xs → P i) → Every P xs
 every-times P [] f = tt
 every-times P (x ∷ xs) f = (f x (rw (eq-eqb x x refl) (omega arith)), every-times P xs (λ i k. f i (omega arith)))
 

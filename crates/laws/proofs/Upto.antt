@@ -8,14 +8,17 @@ use native.Mathlib.Nat.{not-suc-le-zero}
 use native.Mathlib.Numerals.{add-one}
 use native.Mathlib.Omega.{arith}
 
+-- the greatest of nothing
 pub most-none : (f : ℕ → ℕ) → mostTo f 0 ≡ 0
 unfolding mostTo
 most-none f = refl
 
+-- the greatest with one more
 pub most-next : (f : ℕ → ℕ) (k : ℕ) → mostTo f (k + 1) ≡ max (mostTo f k) (f k)
 unfolding mostTo
 most-next f k = rw add-one
 
+-- no number is above the greatest
 pub most-above : (f : ℕ → ℕ) (k i : ℕ) → i < k → f i ≤ mostTo f k
 unfolding mostTo
 most-above f zero i h = absurd (not-suc-le-zero h)
@@ -25,6 +28,7 @@ most-above f (suc k) i h =
     let e : k ≡ i = omega arith in
     omega (arith, ap f e))
 
+-- and it is at most what all are
 pub most-least : (f : ℕ → ℕ) (k b : ℕ) → ((i : ℕ) → i < k → f i ≤ b) → mostTo f k ≤ b
 unfolding mostTo
 most-least f zero b h = omega arith

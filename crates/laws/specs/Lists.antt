@@ -62,15 +62,18 @@ abbrev pub without : ℕ → List ℕ → List ℕ
 without i [] = []
 without i (x ∷ xs) = cond (eqb i x) xs (x ∷ without i xs)
 
+-- the first number, 0 where there is none
 abbrev pub head : List ℕ → ℕ
 head [] = 0
 head (x ∷ xs) = x
 
+-- the last number, 0 where there is none
 abbrev pub last : List ℕ → ℕ
 last [] = 0
 last (x ∷ []) = x
 last (x ∷ y ∷ xs) = last (y ∷ xs)
 
+-- the greatest number, 0 where there is none
 abbrev pub greatest : List ℕ → ℕ
 greatest xs = foldr max 0 xs
 

@@ -3,13 +3,15 @@ use Prim.Native.Nat.{ℕ}
 use lib.Dec.{leb}
 use mathlib.Core.Bool.{Bool, _&&_}
 
--- 01, What the library holds: at most this many columns, rows and levels below the root
+-- 01, What the library holds: at most this many columns
 abbrev pub maxColumns : ℕ
 maxColumns = 16
 
+-- 01, the same: rows
 abbrev pub maxRows : ℕ
 maxRows = 1_048_576
 
+-- 01, the same: levels below the root
 abbrev pub maxDepth : ℕ
 maxDepth = 24
 

@@ -14,19 +14,23 @@ use native.Mathlib.Nat.{mul-le-mul-left}
 use native.Mathlib.Omega.{arith}
 
 -- ---- one column
+-- two numbers are no farther apart than by way of a third
 apart-triangle : (x y z : ℕ) → apart x z ≤ apart x y + apart y z
 apart-triangle x y z = omega arith
 
 -- ---- a row
 module _ (c : ℕ) where
+  -- a row is at 0 from itself
   l1-self : (a : List ℕ) → l1 c a a ≡ 0
   unfolding l1
   l1-self a = sum-below-zero (λ j. apart (getD a j 0) (getD a j 0)) c (λ j h. omega arith)
 
+  -- two rows are as far apart either way
   l1-swap : (a b : List ℕ) → l1 c a b ≡ l1 c b a
   unfolding l1
   l1-swap a b = sum-below-same (λ j. apart (getD a j 0) (getD b j 0)) (λ j. apart (getD b j 0) (getD a j 0)) c (λ j h. omega arith)
 
+  -- and no farther apart than by way of a third
   l1-triangle : (a b e : List ℕ) → l1 c a e ≤ l1 c a b + l1 c b e
   unfolding l1
   l1-triangle a b e =
@@ -60,6 +64,7 @@ getD-small m [] j h = omega arith
 getD-small m (v ∷ a) zero h = h .0
 getD-small m (v ∷ a) (suc j) h = getD-small m a j (h .1)
 
+-- two rows of 16-bit numbers are at most 1,048,560 apart
 l1-most : (c : ℕ) (a b : List ℕ) → c ≤ maxColumns → Every (λ v. v ≤ 65535) a → Every (λ v. v ≤ 65535) b → l1 c a b ≤ maxDistance
 unfolding l1
 l1-most c a b h ha hb =
@@ -69,6 +74,7 @@ l1-most c a b h ha hb =
       mul-le-mul-left 65535 h,
     )
 
+-- NO TWO ROWS OF A TABLE ARE FARTHER APART THAN THAT
 pub between-most : (T : List ℕ) (c : ℕ) → c ≤ maxColumns → Every (λ v. v ≤ 65535) T → (i j : ℕ) → between T c i j ≤ maxDistance
 unfolding between
 between-most T c h s i j = l1-most c (row T c i) (row T c j) h (small i) (small j)

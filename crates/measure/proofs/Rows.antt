@@ -13,6 +13,7 @@ use native.Mathlib.Omega.{arith}
 pub row-part : (T : List ℕ) (c i : ℕ) → take (c * i + c - c * i) (drop (c * i) T) ≡ row T c i
 row-part T c i = rw add-sub-cancel-left
 
+-- a row that lies in the table has c numbers
 pub row-length : (T : List ℕ) (c i : ℕ) → c * i + c ≤ length T → length (row T c i) ≡ c
 row-length T c i h = simp (length-take, length-drop) (omega arith)
 
@@ -22,10 +23,12 @@ row-ends c n i h = subst (λ (k : ℕ). k ≤ c * n) (mul-suc c i) (mul-le-mul-l
 
 -- ---- a distance, column by column
 module _ (a b : List ℕ) where
+  -- over no column
   pub l1-none : l1 0 a b ≡ 0
   unfolding l1
   l1-none = sum-none (λ j. apart (getD a j 0) (getD b j 0))
 
+  -- over one more
   pub l1-next : (i : ℕ) → l1 (i + 1) a b ≡ l1 i a b + apart (getD a i 0) (getD b i 0)
   unfolding l1
   l1-next i = sum-next (λ j. apart (getD a j 0) (getD b j 0)) i

@@ -7,7 +7,7 @@ use Rattle.limits.specs.Said.{said, tableFaults}
 use Rattle.measure.specs.Distance.{l1}
 use Rattle.measure.specs.Table.{between, from}
 use Rattle.nearest.proofs.Promises.{count-is, nearest-exact}
-use Rattle.nearest.proofs.Refused.{by-index}
+use Rattle.nearest.proofs.Refusals.{by-index}
 use Rattle.nearest.specs.Cases.{Case, Gets, asked}
 use Rattle.tree.proofs.Built.{build-accepted}
 use Rattle.tree.specs.Build.{build, choose, grow, split}

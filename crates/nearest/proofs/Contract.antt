@@ -7,7 +7,7 @@ use Rattle.laws.specs.Lists.{has, look, range, times}
 use Rattle.measure.proofs.Metric.{query-point}
 use Rattle.measure.specs.Table.{between, from}
 use Rattle.items.proofs.Ranks.{all-pass}
-use Rattle.nearest.proofs.Refused.{fits}
+use Rattle.nearest.proofs.Refusals.{fits}
 use Rattle.nearest.specs.Calls.{Answered, Found, Lent, Serves, Settled}
 use Rattle.items.specs.Fits.{Fits, homeBound}
 use Rattle.tree.proofs.Accepted.{each-once, shape-of}

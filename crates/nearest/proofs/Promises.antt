@@ -9,7 +9,7 @@ use Rattle.limits.specs.Limits.{maxRows}
 use Rattle.measure.proofs.Metric.{query-point}
 use Rattle.measure.specs.Table.{between, from, row, rowsOf}
 use Rattle.nearest.proofs.Contract.{byte-measured, same-answers}
-use Rattle.nearest.proofs.Refused.{clear}
+use Rattle.nearest.proofs.Refusals.{clear}
 use Rattle.nearest.specs.Calls.{Answered, Serves, Settled}
 use Rattle.items.specs.Fits.{homeBound}
 use Rattle.tree.proofs.Answers.{answers-length, near-at, passes-all, passes-near}

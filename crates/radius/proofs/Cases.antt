@@ -9,7 +9,7 @@ use Rattle.limits.specs.Said.{said, tableFaults}
 use Rattle.measure.specs.Distance.{l1}
 use Rattle.measure.specs.Table.{between, from, rowsOf}
 use Rattle.radius.proofs.Promises.{first-bytes}
-use Rattle.radius.proofs.Refused.{by-index}
+use Rattle.radius.proofs.Refusals.{by-index}
 use Rattle.radius.specs.Calls.{Once}
 use Rattle.radius.specs.Cases.{Gives}
 use Rattle.tree.specs.Build.{build, choose, grow, split}

@@ -4,7 +4,7 @@ pub mod Distances
 pub mod Below
 pub mod Nodes
 pub mod Ways
-pub mod Refused
+pub mod Refusals
 pub mod How
 pub mod Answered
 pub mod Promises

@@ -6,7 +6,7 @@ use Rattle.limits.specs.Limits.{maxRows}
 use Rattle.measure.proofs.Metric.{query-point}
 use Rattle.measure.specs.Table.{between, from, row}
 use Rattle.radius.proofs.How.{how-length}
-use Rattle.radius.proofs.Refused.{fits}
+use Rattle.radius.proofs.Refusals.{fits}
 use Rattle.radius.specs.Calls.{Once, Searched}
 use Rattle.tree.proofs.Accepted.{once-of}
 use Rattle.tree.proofs.Theorems.{radius-exact, radius-two-tables, same-row}

@@ -1,10 +1,10 @@
 -- The kinds of bytes, and the bytes of each kind. Assumes nothing.
 use Prim.Native.Nat.{_+_, _-_, _<_, ℕ}
+use Rattle.limits.proofs.Ranges.{both-within, within-both}
 use Rattle.limits.specs.Limits.{within}
 use Rattle.sheet.specs.Kinds.{kindOf, parting}
 use Rattle.sheet.specs.Says.{Parts, Strange, comma, space, tab}
 use Rattle.sheet.specs.declared.bytes.Kind.the-variants.{Digit, Other, Parting, Return}
-use Rattle.text.proofs.Within.{both-within, within-both}
 use borrow.Author.Tests.{ne-eqb}
 use lib.Dec.{eqb}
 use mathlib.Core.Bool.{Bool, false, true}

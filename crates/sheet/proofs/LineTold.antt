@@ -1,5 +1,6 @@
 -- The way back for one line: a line that ends well is numbers, and perhaps a carriage return. Assumes nothing.
 use Prim.Native.Nat.{_*_, _+_, _-_, _<_, _≤_, ℕ}
+use Rattle.limits.proofs.Ranges.{both-within, within-both}
 use Rattle.limits.specs.Limits.{within}
 use Rattle.sheet.proofs.Kinded.{kind-digit, kind-parts, kind-return, kind-strange}
 use Rattle.sheet.proofs.LineRuns.{at, digit-begins, digit-follows, number-kept, parted-gap, parted-inside, through}
@@ -11,7 +12,6 @@ use Rattle.sheet.specs.declared.bytes.Kind.{Kind}
 use Rattle.sheet.specs.declared.line.Line.{Line}
 use Rattle.sheet.specs.declared.line.Place.the-variants.{Ending, Gap, Inside, Names as InNames, Wrong}
 use Rattle.sheet.specs.declared.line.Place.{Place}
-use Rattle.text.proofs.Within.{both-within, within-both}
 use Rattle.text.specs.Text.{Decimal, digit, followed}
 use borrow.Author.Tests.{eqb-false, eqb-true, le-leb, leb-false, leb-true}
 use lib.Dec.{eqb, leb}

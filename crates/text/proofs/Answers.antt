@@ -1,9 +1,9 @@
 -- What the reading answers, one law for each return of the code. Assumes nothing.
 use Prim.Native.Nat.{_<_, _≤_, ℕ}
 use Rattle.laws.proofs.Tests.{and-l, and-r, holds, is-true}
+use Rattle.limits.proofs.Ranges.{within-both}
 use Rattle.limits.specs.Limits.{within}
 use Rattle.limits.specs.Said.{said}
-use Rattle.text.proofs.Within.{within-both}
 use Rattle.text.specs.Calls.{Reads, saidRead}
 use Rattle.text.specs.Reading.{behind, ends, howMany, numbers, readable}
 use Rattle.text.specs.declared.Place.the-variants.{Start}

@@ -1,7 +1,7 @@
 -- What one byte does to the reader's place: a space, a newline, a digit, or any other. Assumes nothing.
 use Prim.Native.Nat.{_*_, _+_, _-_, _<_, _≤_, ℕ}
+use Rattle.limits.proofs.Ranges.{both-within, within-both}
 use Rattle.limits.specs.Limits.{within}
-use Rattle.text.proofs.Within.{both-within, within-both}
 use Rattle.text.specs.Reading.{begun, ended, endedBy, grown, onward, parting, stepped}
 use Rattle.text.specs.Text.{Parts, newline, space}
 use Rattle.text.specs.declared.Place.the-variants.{Inside, Line, Lost, Start}

@@ -1,4 +1,3 @@
-pub mod Within
 pub mod Bytes
 pub mod Putting
 pub mod Passes

@@ -1,10 +1,10 @@
 -- A readable text is read as the numbers it says, and no other text is read. Assumes nothing.
 use Prim.Native.Nat.{_*_, _+_, _≤_, ℕ}
+use Rattle.limits.proofs.Ranges.{both-within}
 use Rattle.limits.specs.Limits.{within}
 use Rattle.text.proofs.Answers.{ends-well, read-some}
 use Rattle.text.proofs.Bytes.{Byte, Opens, at-start, begun-digit, begun-other, begun-parted, digit-ends-none, grown-fits, grown-or-lost, is-digit, is-newline, is-other, is-space, kind, onward-digit, onward-newline, onward-other, onward-parted, open-step, parted-ends}
 use Rattle.text.proofs.Putting.{parted}
-use Rattle.text.proofs.Within.{both-within}
 use Rattle.text.specs.Reading.{behind, endedBy, ends, found, numbers, onward, readable, stepped}
 use Rattle.text.specs.Text.{Decimal, Parts, Readable, Says, digit, followed, last, last-line, more, newline, space}
 use Rattle.text.specs.declared.Place.the-variants.{Inside, Line, Lost, Start}

@@ -21,9 +21,11 @@ use mathlib.Core.Path.{_≡_}
 use native.Mathlib.Omega.{arith}
 
 module _ (d : ℕ → ℕ → ℕ) (w : List ℕ) (A : Accepted d w) where
+  -- it is in shape
   pub shape-of : InShape w
   shape-of = in-shape w (A .words) (A .shape)
 
+  -- no position holds a row number that stands before it
   pub once-of : (p : ℕ) → p < n# w → again w p ≡ false
   once-of p h = every-at (λ p. again w p ≡ false) (n# w) p (no-faults d w (A .sound) .once) h
 

@@ -1,8 +1,10 @@
 -- The nearest search's answers and how-bytes, by row. Assumes nothing.
 use Prim.Native.Nat.{_<_, _≤_, min, suc, ℕ}
-use Rattle.laws.specs.Every.{Every}
+use Rattle.laws.proofs.Every.{every-of, map-same}
 use Rattle.laws.proofs.Ranges.{getD-range, range-length}
+use Rattle.laws.proofs.Tests.{or-l, or-r}
 use Rattle.laws.proofs.Times.{lefts}
+use Rattle.laws.specs.Every.{Every}
 use Rattle.laws.specs.Lists.{has, look, range}
 use Rattle.tree.specs.Grove.{Grove}
 use Rattle.tree.specs.Homes.{homes}
@@ -10,9 +12,9 @@ use Rattle.tree.specs.Nearest.{answers, before, candidates, insert, last
 use borrow.Author.Tests.{le-leb, lt-ltb}
 use lib.Dec.{leb, ltb}
 use lib.ListN.{getD, length, length-map, length-take, take}
-use mathlib.Core.Bool.{Bool, _||_, cond, false, true}
-use mathlib.Core.List.{List, [], _∷_, map}
-use mathlib.Core.Path.{_∙_, _≡_, ap, ap₂, refl}
+use mathlib.Core.Bool.{Bool, cond, false, true}
+use mathlib.Core.List.{List, [], _∷_}
+use mathlib.Core.Path.{_∙_, _≡_, ap, refl}
 use native.Mathlib.Omega.{arith}
 
 module _ (x : ℕ → ℕ) (n : ℕ) where
@@ -27,17 +29,15 @@ module _ (x : ℕ → ℕ) (n : ℕ) where
   -- which home bounds pass
   pub passes-near : (k b : ℕ) → b ≤ lastDistance (answers x n k) → passes x n k b ≡ true
   unfolding passes
-  passes-near k b h = go (ltb n k)
-    where
-      go : (a : Bool) → (a || leb b (lastDistance (answers x n k))) ≡ true
-      go true = refl
-      go false = le-leb b (lastDistance (answers x n k)) h
+  passes-near k b h = or-r (ltb n k) (leb b (lastDistance (answers x n k))) (le-leb b (lastDistance (answers x n k)) h)
 
+  -- with more wanted than there are rows, all do
   pub passes-all : (k b : ℕ) → n < k → passes x n k b ≡ true
   unfolding passes
-  passes-all k b h = ap (λ a. a || leb b (lastDistance (answers x n k))) (lt-ltb n k h)
+  passes-all k b h = or-l (ltb n k) (leb b (lastDistance (answers x n k))) (lt-ltb n k h)
 
 -- ---- how many answers there are
+-- one more
 insert-length : (a : ℕ × ℕ) (s : List (ℕ × ℕ)) → length (insert a s) ≡ suc (length s)
 insert-length a [] = refl
 insert-length a (b ∷ s) = go (before a b) (insert-length a s)
@@ -46,10 +46,12 @@ insert-length a (b ∷ s) = go (before a b) (insert-length a s)
     go true e = refl
     go false e = ap suc e
 
+-- sorting keeps the number
 sort-length : (l : List (ℕ × ℕ)) → length (sort l) ≡ length l
 sort-length [] = refl
 sort-length (a ∷ l) = insert-length a (sort l) ∙ ap suc (sort-length l)
 
+-- k ANSWERS, WHERE THERE ARE SO MANY ROWS
 pub answers-length : (x : ℕ → ℕ) (n k : ℕ) → k ≤ n → length (answers x n k) ≡ k
 unfolding answers
 answers-length x n k h =
@@ -57,10 +59,9 @@ answers-length x n k h =
     rw length-take (omega (arith, sort-length (candidates x n)))
 
 -- equal distances give equal answers
-candidates-same : (x y : ℕ → ℕ) (is : List ℕ) → Every (λ i. x i ≡ y i) is → map {B = ℕ × ℕ} (λ i. (i, x i)) is ≡ map (λ i. (i, y i)) is
-candidates-same x y [] h = refl
-candidates-same x y (i ∷ is) h = ap₂ {C = List (ℕ × ℕ)} (λ v l. (i, v) ∷ l) (h .0) (candidates-same x y is (h .1))
-
 pub answers-same : (x y : ℕ → ℕ) (n k : ℕ) → Every (λ i. x i ≡ y i) (range 0 n) → answers x n k ≡ answers y n k
 unfolding answers
-answers-same x y n k h = ap (λ l. take (min k n) (sort l)) (candidates-same x y (range 0 n) h)
+answers-same x y n k h =
+    ap (λ l. take (min k n) (sort l))
+    (map-same (λ i. (i, x i)) (λ i. (i, y i)) (range 0 n)
+    (every-of (λ i. x i ≡ y i) (λ i. _≡_ {A = ℕ × ℕ} (i, x i) (i, y i)) (λ i e. ap (λ v. (i, v)) e) (range 0 n) h))

@@ -4,16 +4,15 @@ use Rattle.laws.proofs.Every.{every-all, every-append, every-map}
 use Rattle.laws.specs.Every.{Every}
 use Rattle.laws.proofs.Lists.{tally-length}
 use Rattle.laws.proofs.Ranges.{range-every, range-length}
-use Rattle.laws.proofs.Tests.{and-r, holds}
 use Rattle.laws.proofs.Times.{every-same, range-times}
 use Rattle.laws.specs.Lists.{head, range, tally}
-use Rattle.limits.proofs.Numbers.{one}
-use Rattle.limits.specs.Limits.{columnsOk, maxColumns, maxDepth, maxDistance, maxRows, shareOk}
+use Rattle.limits.proofs.Ranges.{columns-are, shared}
+use Rattle.limits.specs.Limits.{columnsOk, maxDepth, maxDistance, maxRows, shareOk}
 use Rattle.measure.proofs.Metric.{between-most, metric}
 use Rattle.measure.specs.Space.{Space}
 use Rattle.measure.specs.Table.{between, rowsOf}
 use Rattle.tree.proofs.Full.{Full}
-use Rattle.tree.proofs.Good.{Good, empty-accepted, encode-accepted, share-is}
+use Rattle.tree.proofs.Good.{Good, empty-accepted, encode-accepted}
 use Rattle.tree.proofs.Grow.{forest-span, grown-even, grown-fine, grown-span, grown-tally, split-length, split-runs}
 use Rattle.tree.specs.Build.{Run, build, grow, leafOf, plant, radius, split}
 use Rattle.tree.proofs.Grown.{grown-sound}
@@ -21,7 +20,7 @@ use Rattle.tree.specs.Check.{Accepted}
 use Rattle.tree.specs.Encode.{encode}
 use Rattle.tree.specs.Grove.{Grove, bare, entries, fork, rowsIn}
 use borrow.Author.Tests.{leb-false}
-use lib.Dec.{T, eqb, leb, leb→le}
+use lib.Dec.{eqb, leb}
 use lib.ListN.{length, length-map}
 use mathlib.Core.Bool.{Bool, cond, false, true}
 use mathlib.Core.List.{List, [], _∷_, foldr, map}
@@ -30,12 +29,14 @@ use native.Mathlib.Nat.{add-zero, zero-add}
 use native.Mathlib.Omega.{arith}
 
 module _ (d : ℕ → ℕ → ℕ) (S : Space d) (D : (i j : ℕ) → d i j ≤ maxDistance) (m l : ℕ) (m1 : 1 ≤ m) (ml : m ≤ l) where
+  -- no leaf is empty and no inner node is childless
   grown-full : (deep : ℕ) (run : List ℕ) (g : Grove) → Run run → Full g → Full (grow d m l deep run g)
   unfolding grow
   grown-full zero run g r h = (rw length-map (r .0), h)
   grown-full (suc deep) run g r h = go (λ q f k u. grown-full deep q f k u) (leb (length run) l) refl
     where
-      forest : ((run : List ℕ) (g : Grove) → Run run → Full g → Full (grow d m l deep run g)) → (gs : List (List ℕ)) → Every Run gs → Full (foldr (grow d m l deep) bare gs)
+      forest : ((run : List ℕ) (g : Grove) → Run run → Full g → Full (grow d m l deep run g)) → (gs : List (List ℕ)) → Every Run gs
+          → Full (foldr (grow d m l deep) bare gs)
       forest ih [] h = tt
       forest ih (q ∷ gs) h = ih q (foldr (grow d m l deep) bare gs) (h .0) (forest ih gs (h .1))
 
@@ -43,32 +44,42 @@ module _ (d : ℕ → ℕ → ℕ) (S : Space d) (D : (i j : ℕ) → d i j ≤ 
           → Full (cond b (leafOf d run g) (fork (radius d run) (foldr (grow d m l deep) bare (split d m run)) g))
       go ih true e = (rw length-map (r .0), h)
       go ih false e =
-          let k : m ≤ length run = omega (arith, leb-false (length run) l e) in
-          (omega (arith, forest-span d m l m1 ml deep (split d m run), split-length d m l m1 ml run), forest ih (split d m run) (split-runs d m l m1 ml run r k), h)
+          let k : m ≤ length run = omega (arith, leb-false (length run) l e) in (
+            omega (arith, forest-span d m l m1 ml deep (split d m run), split-length d m l m1 ml run),
+            forest ih (split d m run) (split-runs d m l m1 ml run r k),
+            h,
+          )
 
-  grown-dists : (deep : ℕ) (run : List ℕ) (g : Grove) → Every (λ e. e .1 ≤ maxDistance) (entries g) → Every (λ e. e .1 ≤ maxDistance) (entries (grow d m l deep run g))
+  -- the stored distances are in range
+  abbrev InRange : Grove → Type 0
+  InRange g = Every (λ e. e .1 ≤ maxDistance) (entries g)
+
+  -- those of a leaf are
+  leaf-dists : (run : List ℕ) (g : Grove) → InRange g → InRange (leafOf d run g)
+  leaf-dists run g h =
+      every-append (λ e. e .1 ≤ maxDistance) (map (λ i. (i, d (head run) i)) run) (entries g)
+      (every-map (λ e. e .1 ≤ maxDistance) (λ i. (i, d (head run) i)) run
+      (every-all (λ i. d (head run) i ≤ maxDistance) (λ i. D (head run) i) run)) h
+
+  -- and those of a grown node
+  grown-dists : (deep : ℕ) (run : List ℕ) (g : Grove) → InRange g → InRange (grow d m l deep run g)
   unfolding grow
-  grown-dists zero run g h = leafy run g h
-    where
-      leafy : (run : List ℕ) (g : Grove) → Every (λ e. e .1 ≤ maxDistance) (entries g) → Every (λ e. e .1 ≤ maxDistance) (entries (leafOf d run g))
-      leafy run g h =
-          every-append (λ e. e .1 ≤ maxDistance) (map (λ i. (i, d (head run) i)) run) (entries g)
-          (every-map (λ e. e .1 ≤ maxDistance) (λ i. (i, d (head run) i)) run (every-all (λ i. d (head run) i ≤ maxDistance) (λ i. D (head run) i) run)) h
+  grown-dists zero run g h = leaf-dists run g h
   grown-dists (suc deep) run g h = go (λ q f k. grown-dists deep q f k) (leb (length run) l)
     where
-      forest : ((run : List ℕ) (g : Grove) → Every (λ e. e .1 ≤ maxDistance) (entries g) → Every (λ e. e .1 ≤ maxDistance) (entries (grow d m l deep run g)))
-          → (gs : List (List ℕ)) → Every (λ e. e .1 ≤ maxDistance) (entries (foldr (grow d m l deep) bare gs))
+      forest : ((run : List ℕ) (g : Grove) → InRange g → InRange (grow d m l deep run g)) → (gs : List (List ℕ))
+          → InRange (foldr (grow d m l deep) bare gs)
       forest ih [] = tt
       forest ih (q ∷ gs) = ih q (foldr (grow d m l deep) bare gs) (forest ih gs)
 
-      go : ((run : List ℕ) (g : Grove) → Every (λ e. e .1 ≤ maxDistance) (entries g) → Every (λ e. e .1 ≤ maxDistance) (entries (grow d m l deep run g))) → (b : Bool)
-          → Every (λ e. e .1 ≤ maxDistance) (entries (cond b (leafOf d run g) (fork (radius d run) (foldr (grow d m l deep) bare (split d m run)) g)))
-      go ih true =
-          every-append (λ e. e .1 ≤ maxDistance) (map (λ i. (i, d (head run) i)) run) (entries g)
-          (every-map (λ e. e .1 ≤ maxDistance) (λ i. (i, d (head run) i)) run (every-all (λ i. d (head run) i ≤ maxDistance) (λ i. D (head run) i) run)) h
-      go ih false = every-append (λ e. e .1 ≤ maxDistance) (entries (foldr (grow d m l deep) bare (split d m run))) (entries g) (forest ih (split d m run)) h
+      go : ((run : List ℕ) (g : Grove) → InRange g → InRange (grow d m l deep run g)) → (b : Bool)
+          → InRange (cond b (leafOf d run g) (fork (radius d run) (foldr (grow d m l deep) bare (split d m run)) g))
+      go ih true = leaf-dists run g h
+      go ih false =
+          every-append (λ e. e .1 ≤ maxDistance) (entries (foldr (grow d m l deep) bare (split d m run))) (entries g) (forest ih (split d m run)) h
 
-  pub planted : (n : ℕ) → (length (entries (plant d m l (suc n))) ≡ suc n) × Good d m l (plant d m l (suc n))
+  -- THE TREE OF ONE ROW OR MORE IS WELL MADE, AND HAS ALL OF THEM
+  planted : (n : ℕ) → (length (entries (plant d m l (suc n))) ≡ suc n) × Good d m l (plant d m l (suc n))
   planted n =
       let run : List ℕ = range 0 (suc n) in
       let r : Run run = (omega (arith, range-length 0 (suc n)), λ i. range-times i 0 (suc n)) in
@@ -98,12 +109,9 @@ pub build-accepted : (T : List ℕ) (c m l : ℕ) → columnsOk c ≡ true → s
 unfolding build
 build-accepted T c m l hc hs hn small = go (rowsOf T c) hn
   where
-    few : c ≤ maxColumns
-    few = leb→le c maxColumns (and-r (leb 1 c) (leb c maxColumns) (holds (columnsOk c) hc))
-
     go : (n : ℕ) → n ≤ maxRows → Accepted (between T c) (encode c m l (plant (between T c) m l n))
     go zero h = empty-accepted (between T c) c m l hc hs
     go (suc n) h =
-        let s = share-is m l hs in
-        let p = planted (between T c) (metric T c) (between-most T c few small) m l (omega arith) (s .1) n in
+        let s = shared m l hs in
+        let p = planted (between T c) (metric T c) (between-most T c (columns-are c hc .1) small) m l (omega (arith, s .two)) (s .leafy) n in
         encode-accepted (between T c) c m l (plant (between T c) m l (suc n)) hc hs (omega (arith, p .0)) (p .1)

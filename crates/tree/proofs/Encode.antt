@@ -1,21 +1,18 @@
--- A well-made tree, numbered and written, is in shape. Assumes nothing.
-use Prim.Native.Nat.{_+_, _<_, _≤_, suc, zero, ℕ}
-use Rattle.laws.proofs.Every.{every-append, every-left, every-right}
+-- The nodes of a numbered tree as the words hold them: families, levels, and the numbers that children get. Assumes nothing.
+use Prim.Native.Nat.{_+_, _≤_, suc, zero, ℕ}
+use Rattle.laws.proofs.Every.{every-append}
 use Rattle.laws.specs.Every.{Every}
-use Rattle.laws.proofs.Ranges.{every-range-append, range-append, range-every}
-use Rattle.laws.specs.Lists.{range}
-use Rattle.limits.specs.Limits.{maxDepth, maxDistance}
 use Rattle.tree.specs.Encode.{Node, below, broods, family, levelNodes, members, nodes, span}
 use Rattle.tree.specs.Grove.{Grove, bare, entries, fork, leaf}
 use Rattle.words.proofs.Levels.{born-inner, born-leaf, inner-is}
-use Rattle.words.specs.Shape.{born, inner, level, nodeOk, tile}
-use Rattle.words.specs.Words.{child#, count#, l#, m#, radius#, start#}
-use borrow.Author.Tests.{eq-eqb, le-leb, lt-leb, ne-eqb}
-use lib.Dec.{T, eqb, eqb-refl, leb}
+use Rattle.words.specs.Shape.{born, inner, tile}
+use Rattle.words.specs.Words.{child#, count#, m#, radius#, start#}
+use borrow.Author.Tests.{eq-eqb}
+use lib.Dec.{T, eqb, eqb-refl}
 use lib.ListN.{length, length-append}
-use mathlib.Core.Bool.{Bool, _&&_, _||_, cond, false, true}
+use mathlib.Core.Bool.{true}
 use mathlib.Core.List.{List, [], _++_, _∷_}
-use mathlib.Core.Path.{_∙_, _≡_, ap, ap₂, refl, subst, sym}
+use mathlib.Core.Path.{_∙_, _≡_, ap, refl, subst, sym}
 use native.Mathlib.Nat.{add-assoc, add-suc, add-zero, suc-add}
 use native.Mathlib.Omega.{arith}
 
@@ -24,10 +21,12 @@ abbrev pub Holds : List ℕ → ℕ → List Node → Type 0
 Holds w j [] = Unit {0}
 Holds w j (v ∷ vs) = (start# w j ≡ v .0) × (count# w j ≡ v .1) × (child# w j ≡ v .2) × (radius# w j ≡ v .3) × Holds w (suc j) vs
 
+-- words that hold two lists of nodes hold the first
 pub holds-left : (w : List ℕ) (j : ℕ) (us vs : List Node) → Holds w j (us ++ vs) → Holds w j us
 holds-left w j [] vs h = tt
 holds-left w j (u ∷ us) vs h = (h .0, h .1, h .2, h .3, holds-left w (suc j) us vs (h .4))
 
+-- and behind it the second
 holds-right : (w : List ℕ) (j : ℕ) (us vs : List Node) → Holds w j (us ++ vs) → Holds w (j + length us) vs
 holds-right w j [] vs h = rw (add-zero j) h
 holds-right w j (u ∷ us) vs h = rw (add-suc j (length us), ← suc-add j (length us)) (holds-right w (suc j) us vs (h .4))
@@ -38,6 +37,7 @@ Even m bare = Unit {0}
 Even m (leaf R es g) = Even m g
 Even m (fork R ks g) = (span ks ≡ m) × Even m ks × Even m g
 
+-- a family has as many nodes as stand side by side
 family-length : (nx s : ℕ) (g : Grove) → length (family nx s g) ≡ span g
 unfolding family
 family-length nx s bare = refl
@@ -64,9 +64,11 @@ family-tile w j nx s (fork R ks g) h =
     (subst (λ e. T (tile w (suc j) (span g) (s + n) e)) q (family-tile w (suc j) (nx + span ks) (s + n) g (h .4)))
 
 -- ---- the numbers that children get
+-- a node with a first child is inner
 pub fork-inner : (w : List ℕ) (j nx : ℕ) → child# w j ≡ nx → 1 ≤ nx → inner w j ≡ true
 fork-inner w j nx e h = inner-is w j (λ q. omega arith)
 
+-- after a family, the next number is behind its children's
 pub family-born : (w : List ℕ) (j nx s : ℕ) (g : Grove) → Holds w j (family nx s g) → Even (m# w) g → 1 ≤ nx → born w j ≡ nx
     → born w (j + span g) ≡ nx + members (broods s g)
 unfolding family broods
@@ -80,10 +82,12 @@ family-born w j nx s (fork R ks g) h ev n b =
     ∙ add-assoc nx (span ks) (members (broods (s + length (entries ks)) g)))
 
 -- ---- a level
+-- how many nodes two lists of families have
 members-append : (xs ys : List (ℕ × Grove)) → members (xs ++ ys) ≡ members xs + members ys
 members-append [] ys = omega arith
 members-append (x ∷ xs) ys = omega (arith, members-append xs ys)
 
+-- a level has as many nodes as its families
 pub level-length : (nx : ℕ) (fs : List (ℕ × Grove)) → length (levelNodes nx fs) ≡ members fs
 unfolding levelNodes
 level-length nx [] = refl
@@ -96,10 +100,12 @@ level-length nx (f ∷ fs) =
     )
 
 -- the first family and the others
-pub level-first : (w : List ℕ) (j nx : ℕ) (f : ℕ × Grove) (fs : List (ℕ × Grove)) → Holds w j (levelNodes nx (f ∷ fs)) → Holds w j (family nx (f .0) (f .1))
+pub level-first : (w : List ℕ) (j nx : ℕ) (f : ℕ × Grove) (fs : List (ℕ × Grove)) → Holds w j (levelNodes nx (f ∷ fs))
+    → Holds w j (family nx (f .0) (f .1))
 unfolding levelNodes
 level-first w j nx f fs h = holds-left w j (family nx (f .0) (f .1)) (levelNodes (nx + members (broods (f .0) (f .1))) fs) h
 
+-- and the others behind it
 pub level-others : (w : List ℕ) (j nx : ℕ) (f : ℕ × Grove) (fs : List (ℕ × Grove)) → Holds w j (levelNodes nx (f ∷ fs))
     → Holds w (j + span (f .1)) (levelNodes (nx + members (broods (f .0) (f .1))) fs)
 unfolding levelNodes
@@ -107,7 +113,9 @@ level-others w j nx f fs h =
     subst (λ k. Holds w (j + k) (levelNodes (nx + members (broods (f .0) (f .1))) fs)) (family-length nx (f .0) (f .1))
     (holds-right w j (family nx (f .0) (f .1)) (levelNodes (nx + members (broods (f .0) (f .1))) fs) h)
 
-pub level-born : (w : List ℕ) (j nx : ℕ) (fs : List (ℕ × Grove)) → Holds w j (levelNodes nx fs) → Every (λ f. Even (m# w) (f .1)) fs → 1 ≤ nx → born w j ≡ nx
+-- after a level, the next number is behind all its children's
+pub level-born : (w : List ℕ) (j nx : ℕ) (fs : List (ℕ × Grove)) → Holds w j (levelNodes nx fs) → Every (λ f. Even (m# w) (f .1)) fs → 1 ≤ nx
+    → born w j ≡ nx
     → born w (j + members fs) ≡ nx + members (below fs)
 level-born w j nx [] h ev n b = rw (add-zero j) (omega arith)
 level-born w j nx (f ∷ fs) h ev n b =
@@ -122,119 +130,46 @@ abbrev pub Fams : List ℕ → ℕ → List (ℕ × Grove) → Type 0
 Fams w j [] = Unit {0}
 Fams w j (f ∷ fs) = T (tile w j (span (f .1)) (f .0) (f .0 + length (entries (f .1)))) × Fams w (j + span (f .1)) fs
 
-level-fams : (w : List ℕ) (j nx : ℕ) (fs : List (ℕ × Grove)) → Holds w j (levelNodes nx fs) → Fams w j fs
+-- a level's families each tile their part
+pub level-fams : (w : List ℕ) (j nx : ℕ) (fs : List (ℕ × Grove)) → Holds w j (levelNodes nx fs) → Fams w j fs
 level-fams w j nx [] h = tt
-level-fams w j nx (f ∷ fs) h =
-    (family-tile w j nx (f .0) (f .1) (level-first w j nx f fs h), level-fams w (j + span (f .1)) (nx + members (broods (f .0) (f .1))) fs (level-others w j nx f fs h))
+level-fams w j nx (f ∷ fs) h = (
+  family-tile w j nx (f .0) (f .1) (level-first w j nx f fs h),
+  level-fams w (j + span (f .1)) (nx + members (broods (f .0) (f .1))) fs (level-others w j nx f fs h),
+)
 
-fams-left : (w : List ℕ) (j : ℕ) (fs hs : List (ℕ × Grove)) → Fams w j (fs ++ hs) → Fams w j fs
+-- of two lists of families the first
+pub fams-left : (w : List ℕ) (j : ℕ) (fs hs : List (ℕ × Grove)) → Fams w j (fs ++ hs) → Fams w j fs
 fams-left w j [] hs u = tt
 fams-left w j (f ∷ fs) hs u = (u .0, fams-left w (j + span (f .1)) fs hs (u .1))
 
-fams-right : (w : List ℕ) (j : ℕ) (fs hs : List (ℕ × Grove)) → Fams w j (fs ++ hs) → Fams w (j + members fs) hs
+-- and behind it the second
+pub fams-right : (w : List ℕ) (j : ℕ) (fs hs : List (ℕ × Grove)) → Fams w j (fs ++ hs) → Fams w (j + members fs) hs
 fams-right w j [] hs u = rw (add-zero j) u
 fams-right w j (f ∷ fs) hs u = rw (← add-assoc j (span (f .1)) (members fs)) (fams-right w (j + span (f .1)) fs hs (u .1))
 
--- ---- one node
--- leaves by the rule of count and depth, radii in range; `deep` levels are left below
-abbrev pub Fine : ℕ → ℕ → Grove → Type 0
-Fine l deep bare = Unit {0}
-Fine l deep (leaf R es g) = (1 ≤ length es) × (R ≤ maxDistance) × T (leb (length es) l || eqb deep 0) × Fine l deep g
-Fine l zero (fork R ks g) = ⊥
-Fine l (suc deep) (fork R ks g) = (l < length (entries ks)) × (R ≤ maxDistance) × Fine l deep ks × Fine l (suc deep) g
-
-leaf-ok : (w : List ℕ) (j c R deep : ℕ) → count# w j ≡ c → child# w j ≡ 0 → radius# w j ≡ R → 1 ≤ c → R ≤ maxDistance
-    → leb (level w maxDepth) j ≡ eqb deep 0 → T (leb c (l# w) || eqb deep 0) → T (nodeOk w j)
-unfolding nodeOk
-leaf-ok w j c R deep ec eh er hc hR hd ht =
-    rw (ec, eh, er, hd, le-leb 1 c hc, le-leb R maxDistance hR) (go (leb c (l# w) || eqb deep 0) ht)
-  where
-    go : (b : Bool) → T b → T (cond b true (eqb 0 (born w j) && tile w 0 (m# w) (start# w j) (start# w j + c)))
-    go true t = tt
-    go false t = absurd t
-
-fork-ok : (w : List ℕ) (j c R : ℕ) → count# w j ≡ c → child# w j ≡ born w j → radius# w j ≡ R → l# w < c → R ≤ maxDistance
-    → leb (level w maxDepth) j ≡ false → T (tile w (child# w j) (m# w) (start# w j) (start# w j + c)) → T (nodeOk w j)
-unfolding nodeOk
-fork-ok w j c R ec eh er hc hR hd ht =
-    rw (ec, er, hd, le-leb 1 c (omega arith), le-leb R maxDistance hR, lt-leb c (l# w) hc, eq-eqb (child# w j) (born w j) eh) ht
-
--- ---- the nodes of a family, of a level, of all levels
--- every node from number j on, k of them, is as it should be
-abbrev pub Ok : List ℕ → ℕ → ℕ → Type 0
-Ok w j k = Every (λ i. T (nodeOk w i)) (range j k)
-
--- at each of them, depth 24 is reached exactly if no level is left
-abbrev pub Depth : List ℕ → ℕ → ℕ → ℕ → Type 0
-Depth w deep j k = Every (λ i. leb (level w maxDepth) i ≡ eqb deep 0) (range j k)
-
-pub family-ok : (w : List ℕ) (deep j nx s : ℕ) (g : Grove) → Holds w j (family nx s g) → Even (m# w) g → Fine (l# w) deep g → 1 ≤ nx → born w j ≡ nx
-    → Fams w nx (broods s g) → Depth w deep j (span g) → Ok w j (span g)
-unfolding family broods
-family-ok w deep j nx s bare h ev fi n b u d = tt
-family-ok w deep j nx s (leaf R es g) h ev fi n b u d = (
-  leaf-ok w j (length es) R deep (h .1) (h .2) (h .3) (fi .0) (fi .1) (d .0) (fi .2),
-  family-ok w deep (suc j) nx (s + length es) g (h .4) ev (fi .3) n (born-leaf w j (h .2) ∙ b) u (d .1),
-)
-family-ok w zero j nx s (fork R ks g) h ev fi n b u d = absurd fi
-family-ok w (suc deep) j nx s (fork R ks g) h ev fi n b u d =
-    let not-end : leb (level w maxDepth) j ≡ false = d .0 ∙ ne-eqb (suc deep) 0 (λ q. omega arith) in (
-      fork-ok w j (length (entries ks)) R (h .1) (h .2 ∙ sym b) (h .3) (fi .0) (fi .1) not-end (rw (h .2, ← ev .0, h .0) (u .0)),
-      family-ok w (suc deep) (suc j) (nx + span ks) (s + length (entries ks)) g (h .4) (ev .2) (fi .3) (omega arith)
-          (omega (arith, born-inner w j (fork-inner w j nx (h .2) n), ev .0)) (u .1) (d .1),
-    )
-
-pub level-ok : (w : List ℕ) (deep j nx : ℕ) (fs : List (ℕ × Grove)) → Holds w j (levelNodes nx fs) → Every (λ f. Even (m# w) (f .1)) fs
-    → Every (λ f. Fine (l# w) deep (f .1)) fs → 1 ≤ nx → born w j ≡ nx → Fams w nx (below fs) → Depth w deep j (members fs) → Ok w j (members fs)
-level-ok w deep j nx [] h ev fi n b u d = tt
-level-ok w deep j nx (f ∷ fs) h ev fi n b u d =
-    let P : ℕ → Type 0 = λ i. leb (level w maxDepth) i ≡ eqb deep 0 in
-    let k : ℕ = span (f .1) in
-    let d′ : Every P (range j k ++ range (j + k) (members fs)) = rw (range-append j k (members fs)) at d in
-    let bs = broods (f .0) (f .1) in
-    every-range-append (λ i. T (nodeOk w i)) j k (members fs)
-    (family-ok w deep j nx (f .0) (f .1) (level-first w j nx f fs h) (ev .0) (fi .0) n b (fams-left w nx bs (below fs) u) (every-left P (range j k) (range (j + k) (members fs)) d′))
-    (level-ok w deep (j + k) (nx + members bs) fs (level-others w j nx f fs h) (ev .1) (fi .1) (omega arith)
-    (family-born w j nx (f .0) (f .1) (level-first w j nx f fs h) (ev .0) n b) (fams-right w nx bs (below fs) u)
-    (every-right P (range j k) (range (j + k) (members fs)) d′))
-
--- what holds of a level's trees holds of the next one's
+-- ---- the next level
+-- its families have m children below each inner node too
 broods-even : (m s : ℕ) (g : Grove) → Even m g → Every (λ f. Even m (f .1)) (broods s g)
 unfolding broods
 broods-even m s bare h = tt
 broods-even m s (leaf R es g) h = broods-even m (s + length es) g h
 broods-even m s (fork R ks g) h = (h .1, broods-even m (s + length (entries ks)) g (h .2))
 
-below-even : (m : ℕ) (fs : List (ℕ × Grove)) → Every (λ f. Even m (f .1)) fs → Every (λ f. Even m (f .1)) (below fs)
+-- so has a level's next one
+pub below-even : (m : ℕ) (fs : List (ℕ × Grove)) → Every (λ f. Even m (f .1)) fs → Every (λ f. Even m (f .1)) (below fs)
 below-even m [] h = tt
-below-even m (f ∷ fs) h = every-append (λ f. Even m (f .1)) (broods (f .0) (f .1)) (below fs) (broods-even m (f .0) (f .1) (h .0)) (below-even m fs (h .1))
+below-even m (f ∷ fs) h =
+    every-append (λ f. Even m (f .1)) (broods (f .0) (f .1)) (below fs) (broods-even m (f .0) (f .1) (h .0)) (below-even m fs (h .1))
 
-broods-fine : (l deep s : ℕ) (g : Grove) → Fine l (suc deep) g → Every (λ f. Fine l deep (f .1)) (broods s g)
-unfolding broods
-broods-fine l deep s bare h = tt
-broods-fine l deep s (leaf R es g) h = broods-fine l deep (s + length es) g (h .3)
-broods-fine l deep s (fork R ks g) h = (h .2, broods-fine l deep (s + length (entries ks)) g (h .3))
-
-pub below-fine : (l deep : ℕ) (fs : List (ℕ × Grove)) → Every (λ f. Fine l (suc deep) (f .1)) fs → Every (λ f. Fine l deep (f .1)) (below fs)
-below-fine l deep [] h = tt
-below-fine l deep (f ∷ fs) h =
-    every-append (λ f. Fine l deep (f .1)) (broods (f .0) (f .1)) (below fs) (broods-fine l deep (f .0) (f .1) (h .0)) (below-fine l deep fs (h .1))
-
-broods-none : (l s : ℕ) (g : Grove) → Fine l 0 g → broods s g ≡ []
-unfolding broods
-broods-none l s bare h = refl
-broods-none l s (leaf R es g) h = broods-none l (s + length es) g (h .3)
-broods-none l s (fork R ks g) h = absurd h
-
-pub below-none : (l : ℕ) (fs : List (ℕ × Grove)) → Every (λ f. Fine l 0 (f .1)) fs → below fs ≡ []
-below-none l [] h = refl
-below-none l (f ∷ fs) h = ap₂ {C = List (ℕ × Grove)} (λ a b. a ++ b) (broods-none l (f .0) (f .1) (h .0)) (below-none l fs (h .1))
-
+-- ---- all levels
+-- the first level's nodes stand first
 pub nodes-head : (w : List ℕ) (deep j nx : ℕ) (fs : List (ℕ × Grove)) → Holds w j (nodes deep nx fs) → Holds w j (levelNodes nx fs)
 unfolding nodes
 nodes-head w zero j nx fs h = h
 nodes-head w (suc deep) j nx fs h = holds-left w j (levelNodes nx fs) (nodes deep (nx + members (below fs)) (below fs)) h
 
+-- and the others behind them
 pub nodes-rest : (w : List ℕ) (deep j nx : ℕ) (fs : List (ℕ × Grove)) → Holds w j (nodes (suc deep) nx fs)
     → Holds w (j + members fs) (nodes deep (nx + members (below fs)) (below fs))
 unfolding nodes
@@ -242,57 +177,8 @@ nodes-rest w deep j nx fs h =
     subst (λ k. Holds w (j + k) (nodes deep (nx + members (below fs)) (below fs))) (level-length nx fs)
     (holds-right w j (levelNodes nx fs) (nodes deep (nx + members (below fs)) (below fs)) h)
 
-level-next : (w : List ℕ) (dep a nx : ℕ) → level w dep ≡ a → born w a ≡ nx → level w (suc dep) ≡ nx
-unfolding level
-level-next w dep a nx p q = ap (born w) p ∙ q
-
--- the level that starts at number a, at depth dep, is not below depth 24
-nodes-deep : (w : List ℕ) (deep dep a nx : ℕ) (fs : List (ℕ × Grove)) → Holds w a (nodes deep nx fs) → Every (λ f. Even (m# w) (f .1)) fs
-    → nx ≡ a + members fs → 1 ≤ nx → level w dep ≡ a → born w a ≡ nx → dep + deep ≡ maxDepth → a ≤ level w maxDepth
-nodes-deep w zero dep a nx fs h ev e n p b q = let r : level w maxDepth ≡ a = ap (level w) (sym q ∙ add-zero dep) ∙ p in omega arith
-nodes-deep w (suc deep) dep a nx fs h ev e n p b q =
-    let k : ℕ = nx + members (below fs) in
-    let b′ : born w nx ≡ k = ap (born w) e ∙ level-born w a nx fs (nodes-head w (suc deep) a nx fs h) ev n b in
-    let r = nodes-deep w deep (suc dep) nx k (below fs)
-    (subst (λ i. Holds w i (nodes deep k (below fs))) (sym e) (nodes-rest w deep a nx fs h)) (below-even (m# w) fs ev) refl (omega arith)
-    (level-next w dep a nx p b) b′ (suc-add dep deep ∙ sym (add-suc dep deep) ∙ q) in
-    omega arith
-
-pub nodes-length : (deep nx : ℕ) (fs : List (ℕ × Grove)) → length (nodes (suc deep) nx fs) ≡ members fs + length (nodes deep (nx + members (below fs)) (below fs))
+-- how many nodes a level and those below it have
+pub nodes-length : (deep nx : ℕ) (fs : List (ℕ × Grove))
+    → length (nodes (suc deep) nx fs) ≡ members fs + length (nodes deep (nx + members (below fs)) (below fs))
 unfolding nodes
 nodes-length deep nx fs = omega (arith, length-append (levelNodes nx fs) (nodes deep (nx + members (below fs)) (below fs)), level-length nx fs)
-
--- ALL NODES ARE AS THEY SHOULD BE, AND EACH BUT THOSE OF THE FIRST LEVEL IS A CHILD
-pub nodes-ok : (w : List ℕ) (deep dep a nx : ℕ) (fs : List (ℕ × Grove)) → Holds w a (nodes deep nx fs) → Every (λ f. Even (m# w) (f .1)) fs
-    → Every (λ f. Fine (l# w) deep (f .1)) fs → nx ≡ a + members fs → 1 ≤ nx → level w dep ≡ a → born w a ≡ nx → dep + deep ≡ maxDepth
-    → Ok w a (length (nodes deep nx fs)) × (born w (a + length (nodes deep nx fs)) ≡ a + length (nodes deep nx fs))
-unfolding nodes
-nodes-ok w zero dep a nx fs h ev fi e n p b q =
-    let r : level w maxDepth ≡ a = ap (level w) (sym q ∙ add-zero dep) ∙ p in
-    let no-kids : below fs ≡ [] = below-none (l# w) fs fi in
-    let len = level-length nx fs in
-    let done : born w (a + members fs) ≡ a + members fs =
-    level-born w a nx fs h ev n b ∙ ap (λ l. nx + members l) no-kids ∙ add-zero nx ∙ e in (
-      subst (Ok w a) (sym len)
-          (level-ok w 0 a nx fs h ev fi n b (subst (Fams w nx) (sym no-kids) tt)
-          (range-every (λ i. leb (level w maxDepth) i ≡ eqb 0 0) a (members fs) (λ i k. le-leb (level w maxDepth) (a + i) (omega arith)))),
-      subst (λ k. born w (a + k) ≡ a + k) (sym len) done,
-    )
-nodes-ok w (suc deep) dep a nx fs h ev fi e n p b q =
-    let k : ℕ = nx + members (below fs) in
-    let L : List Node = nodes deep k (below fs) in
-    let hd = nodes-head w (suc deep) a nx fs h in
-    let rs : Holds w nx L = subst (λ i. Holds w i L) (sym e) (nodes-rest w deep a nx fs h) in
-    let b′ : born w nx ≡ k = ap (born w) e ∙ level-born w a nx fs hd ev n b in
-    let p′ = level-next w dep a nx p b in
-    let q′ = suc-add dep deep ∙ sym (add-suc dep deep) ∙ q in
-    let top = nodes-deep w deep (suc dep) nx k (below fs) rs (below-even (m# w) fs ev) refl (omega arith) p′ b′ q′ in
-    let ih = nodes-ok w deep (suc dep) nx k (below fs) rs (below-even (m# w) fs ev) (below-fine (l# w) deep fs fi) refl (omega arith) p′ b′ q′ in
-    let here = level-ok w (suc deep) a nx fs hd ev fi n b (level-fams w nx k (below fs) (nodes-head w deep nx k (below fs) rs))
-    (range-every (λ i. leb (level w maxDepth) i ≡ eqb (suc deep) 0) a (members fs)
-    (λ i u. lt-leb (level w maxDepth) (a + i) (omega arith) ∙ sym (ne-eqb (suc deep) 0 (λ z. omega arith)))) in
-    let len = nodes-length deep nx fs in
-    let sum : nx + length L ≡ a + (members fs + length L) = omega arith in (
-      subst (Ok w a) (sym len) (every-range-append (λ i. T (nodeOk w i)) a (members fs) (length L) here (subst (λ i. Ok w i (length L)) e (ih .0))),
-      subst (λ z. born w (a + z) ≡ a + z) (sym len) (ap (born w) (sym sum) ∙ ih .1 ∙ sum),
-    )

@@ -6,7 +6,6 @@ use Rattle.laws.specs.Every.{Every}
 use Rattle.laws.proofs.Times.{lefts}
 use Rattle.laws.specs.Lists.{gap, head, rest}
 use Rattle.measure.specs.Space.{Point}
-use Rattle.tree.proofs.Full.{Full}
 use Rattle.tree.proofs.Sound.{Sound, Valid, valid-under, valid-zero}
 use Rattle.tree.specs.Grove.{Grove, bare, first, firsts, fork, leaf, rowsIn}
 use Rattle.tree.specs.Homes.{childBound, nearestOf}
@@ -19,10 +18,12 @@ use mathlib.Core.Path.{_≡_, refl}
 use native.Mathlib.Omega.{arith}
 
 module _ (x : ℕ → ℕ) (r : ℕ) where
+  -- a mark is right: in exactly if the row's distance is at most r
   abbrev pub Exact : ℕ × ℕ → Type 0
   Exact m = (2 ≤ m .1 → x (m .0) ≤ r) × (x (m .0) ≤ r → 2 ≤ m .1)
 
-  pub distance-exact : (i : ℕ) → Exact (i, byDistance x r i)
+  -- of a measured row
+  distance-exact : (i : ℕ) → Exact (i, byDistance x r i)
   distance-exact i = go (leb (x i) r) refl
     where
       go : (b : Bool) → leb (x i) r ≡ b → Exact (i, cond b 3 1)
@@ -30,7 +31,7 @@ module _ (x : ℕ → ℕ) (r : ℕ) where
       go false e = omega (arith, leb-false (x i) r e)
 
   -- swept, closed or opened
-  pub visit-exact : (xf R b : ℕ) (others : List ℕ) (opened : List (ℕ × ℕ))
+  visit-exact : (xf R b : ℕ) (others : List ℕ) (opened : List (ℕ × ℕ))
       → Every (λ i. x i ≤ xf + R) others → Every (λ i. b ≤ x i) others → Every Exact opened → Every Exact (visit x r xf R b others opened)
   visit-exact xf R b others opened hu hb ho = go (leb (xf + R) r) (ltb r b) refl refl
     where
@@ -45,6 +46,7 @@ module _ (x : ℕ → ℕ) (r : ℕ) where
       go false false e k = ho
 
 module _ (d : ℕ → ℕ → ℕ) (x : ℕ → ℕ) (r : ℕ) (M : Point d x) where
+  -- of a row in an opened leaf
   leaf-exact : (f : ℕ) (e : ℕ × ℕ) → d f (e .0) ≡ e .1 → Exact x r (e .0, inLeaf x r f e)
   leaf-exact f e h = go (ltb r (gap (x f) (e .1))) (leb (x f + e .1) r) refl refl
     where
@@ -54,13 +56,15 @@ module _ (d : ℕ → ℕ → ℕ) (x : ℕ → ℕ) (r : ℕ) (M : Point d x) w
       go false true k q = omega (arith, leb-true (x f + e .1) r q, M .up f (e .0))
       go false false k q = distance-exact x r (e .0)
 
+  -- no row of a node is farther than its first and its radius together
   reach-up : (f R : ℕ) (is : List ℕ) → Every (λ i. d f i ≤ R) is → Every (λ i. x i ≤ x f + R) is
   reach-up f R is h = every-of (λ i. d f i ≤ R) (λ i. x i ≤ x f + R) (λ i k. omega (arith, M .up f i)) is h
 
-  pub marksIn-exact : (β : ℕ → ℕ → ℕ) (g : Grove) → Full g → Sound d g → Valid x β g → Every (Exact x r) (marksIn x r β g)
+  -- every mark below a node is right, where no row is closer than the node's bound
+  marksIn-exact : (β : ℕ → ℕ → ℕ) (g : Grove) → Sound d g → Valid x β g → Every (Exact x r) (marksIn x r β g)
   unfolding marksIn
-  marksIn-exact β bare w hs hv = tt
-  marksIn-exact β (leaf R es g) w hs hv =
+  marksIn-exact β bare hs hv = tt
+  marksIn-exact β (leaf R es g) hs hv =
       let f : ℕ = head (lefts es) in
       every-append (Exact x r) (visit x r (x f) R (β (x f) R) (rest (lefts es)) (map (λ e. (e .0, inLeaf x r f e)) (rest es))) (marksIn x r β g)
       (visit-exact x r (x f) R (β (x f) R) (rest (lefts es)) (map (λ e. (e .0, inLeaf x r f e)) (rest es))
@@ -69,8 +73,8 @@ module _ (d : ℕ → ℕ → ℕ) (x : ℕ → ℕ) (r : ℕ) (M : Point d x) w
       (every-map (Exact x r) (λ e. (e .0, inLeaf x r f e)) (rest es)
       (every-rest (λ e. Exact x r (e .0, inLeaf x r f e)) es
       (every-of (λ e. d f (e .0) ≡ e .1) (λ e. Exact x r (e .0, inLeaf x r f e)) (λ e h. leaf-exact f e h) es (hs .0)))))
-      (marksIn-exact β g (w .1) (hs .2) (hv .1))
-  marksIn-exact β (fork R ks g) w hs hv =
+      (marksIn-exact β g (hs .2) (hv .1))
+  marksIn-exact β (fork R ks g) hs hv =
       let f : ℕ = first ks in
       let opened : List (ℕ × ℕ) = map (λ i. (i, byDistance x r i)) (rest (firsts ks)) ++ marksIn x r (childBound (β (x f) R) (nearestOf x ks)) ks in
       every-append (Exact x r) (visit x r (x f) R (β (x f) R) (rest (rowsIn ks)) opened) (marksIn x r β g)
@@ -78,14 +82,16 @@ module _ (d : ℕ → ℕ → ℕ) (x : ℕ → ℕ) (r : ℕ) (M : Point d x) w
       (every-rest (λ i. x i ≤ x f + R) (rowsIn ks) (reach-up f R (rowsIn ks) (hs .1)))
       (every-rest (λ i. β (x f) R ≤ x i) (rowsIn ks) (hv .0))
       (every-append (Exact x r) (map (λ i. (i, byDistance x r i)) (rest (firsts ks))) (marksIn x r (childBound (β (x f) R) (nearestOf x ks)) ks)
-      (every-map (Exact x r) (λ i. (i, byDistance x r i)) (rest (firsts ks)) (every-all (λ i. Exact x r (i, byDistance x r i)) (distance-exact x r) (rest (firsts ks))))
-      (marksIn-exact (childBound (β (x f) R) (nearestOf x ks)) ks (w .1) (hs .2) (valid-under d x M (β (x f) R) ks (hv .0) (hs .0) (hs .2)))))
-      (marksIn-exact β g (w .2) (hs .3) (hv .1))
+      (every-map (Exact x r) (λ i. (i, byDistance x r i)) (rest (firsts ks))
+      (every-all (λ i. Exact x r (i, byDistance x r i)) (distance-exact x r) (rest (firsts ks))))
+      (marksIn-exact (childBound (β (x f) R) (nearestOf x ks)) ks (hs .2) (valid-under d x M (β (x f) R) ks (hv .0) (hs .0) (hs .2)))))
+      (marksIn-exact β g (hs .3) (hv .1))
 
   -- every mark that the search makes is right
-  pub marks-exact : (t : Grove) → Full t → Sound d t → Every (Exact x r) (marks x r t)
+  pub marks-exact : (t : Grove) → Sound d t → Every (Exact x r) (marks x r t)
   unfolding marks
-  marks-exact t w hs =
+  marks-exact t hs =
       every-append (Exact x r) (map (λ f. (f, byDistance x r f)) (firsts t)) (marksIn x r (λ x R. 0) t)
-      (every-map (Exact x r) (λ i. (i, byDistance x r i)) (firsts t) (every-all (λ i. Exact x r (i, byDistance x r i)) (distance-exact x r) (firsts t)))
-      (marksIn-exact (λ x R. 0) t w hs (valid-zero x t))
+      (every-map (Exact x r) (λ i. (i, byDistance x r i)) (firsts t) (every-all (λ i. Exact x r (i, byDistance x r i)) (distance-exact x r)
+      (firsts t)))
+      (marksIn-exact (λ x R. 0) t hs (valid-zero x t))

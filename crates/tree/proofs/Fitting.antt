@@ -8,7 +8,7 @@ use Rattle.laws.specs.Lists.{range}
 use Rattle.tree.proofs.Forks.{kids-first, kids-rows}
 use Rattle.tree.proofs.Members.{held, kids-firsts, run-first}
 use Rattle.tree.proofs.Sound.{Close, Sound}
-use Rattle.tree.specs.Grove.{Grove, bare, first, fork, leaf, members#, rowsIn, treeAt}
+use Rattle.tree.specs.Grove.{Grove, bare, fork, leaf, members#, rowsIn, treeAt}
 use Rattle.words.specs.InShape.{InShape, Left}
 use Rattle.words.specs.Shape.{inner}
 use Rattle.words.specs.Words.{N#, child#, count#, dist#, first#, m#, n#, radius#, row#, start#}
@@ -28,9 +28,11 @@ pub record Fits (d : ℕ → ℕ → ℕ) (w : List ℕ) : Type 0 where
       → d (first# w (child# w k + a)) (row# w (start# w (child# w k + a) + i)) ≤ d (first# w (child# w k + b)) (row# w (start# w (child# w k + a) + i))
 
 module _ (d : ℕ → ℕ → ℕ) (w : List ℕ) (S : InShape w) (F : Fits d w) where
+  -- a fact of n positions from s on is one of every pair that they hold
   held-every : (P : ℕ × ℕ → Type 0) (s n : ℕ) → ((i : ℕ) → i < n → P (row# w (s + i), dist# w (s + i))) → Every P (held w s n)
   held-every P s n f = every-map P (λ p. (row# w p, dist# w p)) (range s n) (range-every (λ p. P (row# w p, dist# w p)) s n f)
 
+  -- and of every row
   rows-every : (P : ℕ → Type 0) (s n : ℕ) → ((i : ℕ) → i < n → P (row# w (s + i))) → Every P (lefts (held w s n))
   rows-every P s n f = every-map P (λ e. e .0) (held w s n) (held-every (λ e. P (e .0)) s n f)
 
@@ -38,24 +40,33 @@ module _ (d : ℕ → ℕ → ℕ) (w : List ℕ) (S : InShape w) (F : Fits d w)
   abbrev AsClose : List ℕ → ℕ → Type 0
   AsClose cs k = Every (λ i. Every (λ c. d (first# w k) i ≤ d c i) cs) (lefts (members# w k))
 
+  -- the rows of node k's tree are so
   close-at : (cs : List ℕ) (deep k : ℕ) (g : Grove) → k < N# w → AsClose cs k → Close d cs g → Close d cs (treeAt w deep k g)
   unfolding treeAt
-  close-at cs zero k g h a c =
-      (subst (λ f. Every (λ i. Every (λ c. d f i ≤ d c i) cs) (lefts (members# w k))) (sym (run-first w S (start# w k) (count# w k) (S .node k h .some))) a, c)
+  close-at cs zero k g h a c = (
+    subst (λ f. Every (λ i. Every (λ c. d f i ≤ d c i) cs) (lefts (members# w k)))
+        (sym (run-first w S (start# w k) (count# w k) (S .node k h .some))) a,
+    c,
+  )
   close-at cs (suc deep) k g h a c = go (inner w k) refl
     where
       go : (b : Bool) → inner w k ≡ b
           → Close d cs (cond b (fork (radius# w k) (foldr (treeAt w deep) bare (range (child# w k) (m# w))) g) (leaf (radius# w k) (members# w k) g))
       go true e = (
-        subst (λ f. Every (λ i. Every (λ c. d f i ≤ d c i) cs) (rowsIn (foldr (treeAt w deep) bare (range (child# w k) (m# w))))) (sym (kids-first w S deep k h e))
+        subst (λ f. Every (λ i. Every (λ c. d f i ≤ d c i) cs) (rowsIn (foldr (treeAt w deep) bare (range (child# w k) (m# w)))))
+            (sym (kids-first w S deep k h e))
             (subst (λ l. Every (λ i. Every (λ c. d (first# w k) i ≤ d c i) cs) l) (sym (kids-rows w S deep k h e)) a),
         c,
       )
-      go false e =
-          (subst (λ f. Every (λ i. Every (λ c. d f i ≤ d c i) cs) (lefts (members# w k))) (sym (run-first w S (start# w k) (count# w k) (S .node k h .some))) a, c)
+      go false e = (
+        subst (λ f. Every (λ i. Every (λ c. d f i ≤ d c i) cs) (lefts (members# w k)))
+            (sym (run-first w S (start# w k) (count# w k) (S .node k h .some))) a,
+        c,
+      )
 
   -- the children j, j + 1, .. of an inner node, tiling s .. e
-  close-kids : (cs : List ℕ) (deep j m : ℕ) → j + m ≤ N# w → ((a : ℕ) → a < m → AsClose cs (j + a)) → Close d cs (foldr (treeAt w deep) bare (range j m))
+  close-kids : (cs : List ℕ) (deep j m : ℕ) → j + m ≤ N# w → ((a : ℕ) → a < m → AsClose cs (j + a))
+      → Close d cs (foldr (treeAt w deep) bare (range j m))
   close-kids cs deep j zero h f = tt
   close-kids cs deep j (suc m) h f =
       close-at cs deep j (foldr (treeAt w deep) bare (range (suc j) m)) (omega arith) (subst (AsClose cs) (omega arith) (f 0 (omega arith)))

@@ -34,6 +34,7 @@ first-row (fork R ks g) w h = go (entries ks) (first-row ks (w .1) (w .0))
 pub rows-left : (P : ℕ → Type 0) (es fs : List (ℕ × ℕ)) → Every P (lefts (es ++ fs)) → Every P (lefts es)
 rows-left P es fs h = every-left P (lefts es) (lefts fs) (rw map-append at h)
 
+-- and of the second's
 pub rows-right : (P : ℕ → Type 0) (es fs : List (ℕ × ℕ)) → Every P (lefts (es ++ fs)) → Every P (lefts fs)
 rows-right P es fs h = every-right P (lefts es) (lefts fs) (rw map-append at h)
 
@@ -42,5 +43,7 @@ pub firsts-rows : (P : ℕ → Type 0) (g : Grove) → Full g → Every P (rowsI
 firsts-rows P bare w h = tt
 firsts-rows P (leaf R [] g) w h = absurd (not-suc-le-zero (w .0))
 firsts-rows P (leaf R (e ∷ es) g) w h = (h .0, firsts-rows P g (w .1) (rows-right P (e ∷ es) (entries g) h))
-firsts-rows P (fork R ks g) w h =
-    (every-head P (firsts ks) (w .0) (firsts-rows P ks (w .1) (rows-left P (entries ks) (entries g) h)), firsts-rows P g (w .2) (rows-right P (entries ks) (entries g) h))
+firsts-rows P (fork R ks g) w h = (
+  every-head P (firsts ks) (w .0) (firsts-rows P ks (w .1) (rows-left P (entries ks) (entries g) h)),
+  firsts-rows P g (w .2) (rows-right P (entries ks) (entries g) h),
+)

@@ -2,73 +2,74 @@
 use Prim.Native.Nat.{_*_, _+_, _-_, _<_, _≤_, suc, zero, ℕ}
 use Rattle.laws.proofs.Every.{every-both, every-unmap}
 use Rattle.laws.specs.Every.{Every}
-use Rattle.laws.proofs.Tests.{and-l, and-of, and-r, holds, is-true}
+use Rattle.laws.proofs.Tests.{and-of, holds, is-true}
 use Rattle.laws.specs.Lists.{each, range, times}
-use Rattle.limits.specs.Limits.{columnsOk, maxDepth, maxDistance, maxRows, shareOk, within}
-use Rattle.tree.proofs.Encode.{Even, Fine, below-fine, below-none, level-length, nodes-length}
+use Rattle.limits.proofs.Ranges.{shared}
+use Rattle.limits.specs.Limits.{columnsOk, maxDepth, maxDistance, maxRows, shareOk}
+use Rattle.tree.proofs.Encode.{Even, level-length, nodes-length}
 use Rattle.tree.proofs.Faultless.{no-fault}
 use Rattle.tree.proofs.Full.{Full}
 use Rattle.tree.proofs.Grown.{Tight}
-use Rattle.tree.proofs.Right.{At, Made, at-rows, nodes-right}
+use Rattle.tree.proofs.Held.{At, at-rows, read-at}
+use Rattle.tree.proofs.Right.{Made, nodes-right}
+use Rattle.tree.proofs.Shaped.{Fine, below-fine, below-none}
 use Rattle.tree.proofs.Sound.{Sound}
-use Rattle.tree.proofs.Written.{at-behind, each-words, encode-shape, read-nodes}
+use Rattle.tree.proofs.Written.{each-words, encode-shape, read-nodes}
 use Rattle.tree.specs.Cases.{words}
 use Rattle.tree.specs.Check.{Accepted, faults}
 use Rattle.tree.specs.Encode.{below, broods, encode, family, levelNodes, members, nodeWords, nodes, numbered, pairWords, span}
 use Rattle.tree.specs.Grove.{Grove, bare, entries, fork, leaf, rowsIn}
 use Rattle.words.specs.Shape.{shapeOk}
-use Rattle.words.specs.Words.{N#, at, headerOk, nodesOk, row#, width, wordsOf, wordsOk}
-use lib.Dec.{T, leb, leb→le, le→leb}
+use Rattle.words.specs.Words.{headerOk, nodesOk, row#, wordsOf, wordsOk}
+use lib.Dec.{T, leb, le→leb}
 use lib.ListN.{length, length-append}
 use mathlib.Core.Bool.{_&&_, true}
 use mathlib.Core.List.{List, [], _++_, _∷_, append-assoc, map}
-use mathlib.Core.Path.{_∙_, _≡_, ap, refl, subst, sym}
+use mathlib.Core.Path.{_≡_, ap, refl, subst, sym}
 use native.Mathlib.Omega.{arith}
 
 -- ---- how many nodes: at most 2n - 1
-abbrev pub size : Grove → ℕ
+-- how many nodes a tree has, all levels together
+abbrev size : Grove → ℕ
 size bare = 0
 size (leaf R es g) = 1 + size g
 size (fork R ks g) = 1 + size ks + size g
 
-abbrev pub sizes : List (ℕ × Grove) → ℕ
+-- how many some families have
+abbrev sizes : List (ℕ × Grove) → ℕ
 sizes [] = 0
 sizes (f ∷ fs) = size (f .1) + sizes fs
 
+-- of two lists of families
 sizes-append : (xs ys : List (ℕ × Grove)) → sizes (xs ++ ys) ≡ sizes xs + sizes ys
 sizes-append [] ys = omega arith
 sizes-append (x ∷ xs) ys = omega (arith, sizes-append xs ys)
 
+-- the nodes side by side, and those below them
 broods-sizes : (s : ℕ) (g : Grove) → size g ≡ span g + sizes (broods s g)
 unfolding broods
 broods-sizes s bare = refl
 broods-sizes s (leaf R es g) = omega (arith, broods-sizes (s + length es) g)
 broods-sizes s (fork R ks g) = omega (arith, broods-sizes (s + length (entries ks)) g)
 
+-- a level's nodes, and those below it
 below-sizes : (fs : List (ℕ × Grove)) → sizes fs ≡ members fs + sizes (below fs)
 below-sizes [] = refl
 below-sizes (f ∷ fs) = omega (arith, below-sizes fs, broods-sizes (f .0) (f .1), sizes-append (broods (f .0) (f .1)) (below fs))
 
+-- the numbering has every node once
 nodes-size : (l deep nx : ℕ) (fs : List (ℕ × Grove)) → Every (λ f. Fine l deep (f .1)) fs → length (nodes deep nx fs) ≡ sizes fs
 unfolding nodes
 nodes-size l zero nx fs h = let e = ap sizes (below-none l fs h) in omega (arith, level-length nx fs, below-sizes fs, e)
 nodes-size l (suc deep) nx fs h =
     omega (arith, nodes-length deep nx fs, nodes-size l deep (nx + members (below fs)) (below fs) (below-fine l deep fs h), below-sizes fs)
 
+-- with two children or more below each inner node there are fewer nodes than twice the rows
 size-bound : (m : ℕ) (g : Grove) → 2 ≤ m → Full g → Even m g → size g + span g ≤ 2 * length (entries g)
 size-bound m bare h f e = omega arith
 size-bound m (leaf R es g) h f e = omega (arith, size-bound m g h (f .1) e, length-append es (entries g))
-size-bound m (fork R ks g) h f e = omega (arith, size-bound m ks h (f .1) (e .1), size-bound m g h (f .2) (e .2), length-append (entries ks) (entries g))
-
--- ---- the pairs stand at their positions
-read-at : (es : List (ℕ × ℕ)) (pre w : List ℕ) (p : ℕ) → pre ++ each pairWords es ≡ w → length pre ≡ 8 + width * N# w + 2 * p → At w p es
-read-at [] pre w p e l = tt
-read-at (x ∷ es) pre w p e l =
-    let ys : List ℕ = each pairWords (x ∷ es) in (
-      ap (λ l. at l (8 + width * N# w + 2 * p)) (sym e) ∙ at-behind pre ys (8 + width * N# w + 2 * p) 0 (omega arith),
-      ap (λ l. at l (8 + width * N# w + 2 * p + 1)) (sym e) ∙ at-behind pre ys (8 + width * N# w + 2 * p + 1) 1 (omega arith),
-      read-at es (pre ++ pairWords x) w (suc p) (append-assoc pre (pairWords x) (each pairWords es) ∙ e) (omega (arith, length-append pre (pairWords x))),
-    )
+size-bound m (fork R ks g) h f e =
+    omega (arith, size-bound m ks h (f .1) (e .1), size-bound m g h (f .2) (e .2), length-append (entries ks) (entries g))
 
 -- ---- a tree that is well made
 pub record Good (d : ℕ → ℕ → ℕ) (m l : ℕ) (t : Grove) : Type 0 where
@@ -83,28 +84,28 @@ pub record Good (d : ℕ → ℕ → ℕ) (m l : ℕ) (t : Grove) : Type 0 where
   pub dists : Every (λ e. e .1 ≤ maxDistance) (entries t)
 
 -- ---- the header and the words
--- centres and leaf size in range, as numbers
-pub share-is : (m l : ℕ) → shareOk m l ≡ true → (2 ≤ m) × (m ≤ l)
-share-is m l e =
-    let t : T (within 2 64 m && within m 1024 l) = holds (shareOk m l) e in
-    (leb→le 2 m (and-l (leb 2 m) (leb m 64) (and-l (within 2 64 m) (within m 1024 l) t)), leb→le m l (and-l (leb m l) (leb l 1024) (and-r (within 2 64 m) (within m 1024 l) t)))
-
+-- a node count that the header's test takes
 nodes-test : (n N : ℕ) → 1 ≤ N → N + 1 ≤ 2 * n → T (nodesOk n N)
 nodes-test zero N a b = absurd (omega arith)
 nodes-test (suc n) N a b = and-of (leb 1 N) (leb N (2 * suc n - 1)) (le→leb 1 N a) (le→leb N (2 * suc n - 1) (omega arith))
 
+-- the header that is written is possible
 header-ok : (n c m l N : ℕ) → n ≤ maxRows → T (columnsOk c) → T (shareOk m l) → 1 ≤ N → N + 1 ≤ 2 * n
     → T (true && leb n maxRows && columnsOk c && shareOk m l && nodesOk n N && true && true)
 header-ok n c m l N hn hc hs a b =
     let q1 = leb n maxRows && columnsOk c in
     let q2 = q1 && shareOk m l in
     let q3 = q2 && nodesOk n N in
-    and-of (q3 && true) true (and-of q3 true (and-of q2 (nodesOk n N) (and-of q1 (shareOk m l) (and-of (leb n maxRows) (columnsOk c) (le→leb n maxRows hn) hc) hs) (nodes-test n N a b)) tt) tt
+    and-of (q3 && true) true (and-of q3 true
+    (and-of q2 (nodesOk n N) (and-of q1 (shareOk m l) (and-of (leb n maxRows) (columnsOk c) (le→leb n maxRows hn) hc) hs)
+    (nodes-test n N a b)) tt) tt
 
+-- two words for each position
 pairs-length : (es : List (ℕ × ℕ)) → length (each pairWords es) ≡ 2 * length es
 pairs-length [] = refl
 pairs-length (e ∷ es) = omega (arith, pairs-length es)
 
+-- the words that the header asks for are there
 encode-words : (c m l : ℕ) (t : Grove) → T (headerOk (encode c m l t)) → wordsOk (encode c m l t) ≡ true
 unfolding encode wordsOk
 encode-words c m l t h =
@@ -117,7 +118,8 @@ encode-words c m l t h =
     (and-of (leb 8 (length w)) (headerOk w) (le→leb 8 (length w) (omega arith)) h) (le→leb (wordsOf w) (length w) (omega arith)))
 
 -- A WELL-MADE TREE, NUMBERED AND WRITTEN, IS ACCEPTED
-pub encode-accepted : (d : ℕ → ℕ → ℕ) (c m l : ℕ) (t : Grove) → columnsOk c ≡ true → shareOk m l ≡ true → length (entries t) ≤ maxRows → Good d m l t → Accepted d (encode c m l t)
+pub encode-accepted : (d : ℕ → ℕ → ℕ) (c m l : ℕ) (t : Grove) → columnsOk c ≡ true → shareOk m l ≡ true → length (entries t) ≤ maxRows
+    → Good d m l t → Accepted d (encode c m l t)
 unfolding encode numbered headerOk
 encode-accepted d c m l t hc hs hn G =
     let w : List ℕ = encode c m l t in
@@ -125,19 +127,23 @@ encode-accepted d c m l t hc hs hn G =
     let H : List ℕ = 1 ∷ n ∷ c ∷ m ∷ l ∷ length (numbered t) ∷ 1 ∷ 0 ∷ [] in
     let B : List ℕ = each nodeWords (numbered t) in
     let Z : List ℕ = each pairWords (entries t) in
-    let m2 = share-is m l hs .0 in
+    let m2 = shared m l hs .two in
     let N : length (numbered t) ≡ size t + 0 = nodes-size l maxDepth (span t) ((0, t) ∷ []) (G .fine, tt) in
     let sz = size-bound m t m2 (G .full) (G .even) in
-    let held : At w 0 (entries t) = read-at (entries t) (H ++ B) w 0 (append-assoc H B Z) (omega (arith, length-append H B, each-words (numbered t))) in
+    let held : At w 0 (entries t) =
+    read-at (entries t) (H ++ B) w 0 (append-assoc H B Z) (omega (arith, length-append H B, each-words (numbered t))) in
     let made : Made d w 0 t = record { full = G .full; held = held; sound = G .sound; tight = G .tight; even = G .even } in
     let rows : map (row# w) (range 0 n) ≡ rowsIn t = at-rows w 0 (entries t) held in
     record {
-      words = encode-words c m l t (header-ok n c m l (length (numbered t)) hn (holds (columnsOk c) hc) (holds (shareOk m l) hs) (omega (arith, broods-sizes 0 t, G .one)) (omega (arith, G .one)));
+      words =
+          encode-words c m l t (header-ok n c m l (length (numbered t)) hn (holds (columnsOk c) hc) (holds (shareOk m l) hs)
+          (omega (arith, broods-sizes 0 t, G .one)) (omega (arith, G .one)));
       shape = is-true (shapeOk w) (encode-shape m l t (G .one) (G .even) (G .fine) c
           (every-both (λ e. e .0 < n) (λ e. e .1 ≤ maxDistance) (λ e. (e .0 < n) × (e .1 ≤ maxDistance)) (λ e a b. (a, b)) (entries t)
           (every-unmap (λ i. i < n) (λ e. e .0) (entries t) (G .rows)) (G .dists)));
       sound = no-fault d w (λ i. subst (λ is. times i is ≤ 1) (sym rows) (G .once i))
-          (nodes-right d w l maxDepth 0 (span t) ((0, t) ∷ []) (read-nodes (numbered t) H Z 0 refl) (made, tt) (G .fine, tt) (omega arith) (omega (arith, G .one)));
+          (nodes-right d w l maxDepth 0 (span t) ((0, t) ∷ []) (read-nodes (numbered t) H Z 0 refl) (made, tt) (G .fine, tt) (omega arith)
+          (omega (arith, G .one)));
     }
 
 -- the tree of no rows
@@ -148,7 +154,8 @@ empty-accepted d c m l hc hs =
     let s = shareOk m l in
     record {
       words = encode-words c m l bare
-          (and-of (C && s && true && true) true (and-of (C && s && true) true (and-of (C && s) true (and-of C s (holds C hc) (holds s hs)) tt) tt) tt);
+          (and-of (C && s && true && true) true (and-of (C && s && true) true
+          (and-of (C && s) true (and-of C s (holds C hc) (holds s hs)) tt) tt) tt);
       shape = refl;
       sound = refl;
     }

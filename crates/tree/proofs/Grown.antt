@@ -1,11 +1,12 @@
 -- The tree that the build grows fits its table. Assumes nothing.
 use Prim.Native.Nat.{_-_, _≤_, suc, zero, ℕ}
-use Rattle.laws.proofs.Every.{every-all, every-map, every-unmap, greatest-le}
+use Rattle.laws.proofs.Every.{every-all, every-map, every-unmap, greatest-le, greatest-under}
 use Rattle.laws.specs.Every.{Every}
 use Rattle.laws.proofs.Lists.{map-id, paired}
 use Rattle.laws.proofs.Times.{every-same, lefts}
 use Rattle.laws.specs.Lists.{greatest, head, keep, rest, times, without}
-use Rattle.tree.proofs.Grow.{chosen, closest-least, forest-tally, greatest-under, left, split-runs, split-tally}
+use Rattle.tree.proofs.Centres.{chosen, closest-least, groupOf, left, split-is}
+use Rattle.tree.proofs.Grow.{forest-tally, split-runs, split-tally}
 use Rattle.tree.specs.Build.{Run, choose, closest, farthest, grow, leafOf, radius, split}
 use Rattle.tree.proofs.Sound.{Close, Sound}
 use Rattle.tree.specs.Grove.{Grove, bare, first, firsts, fork, leaf, rowsIn}
@@ -23,24 +24,29 @@ Tight d bare = Unit {0}
 Tight d (leaf R es g) = (R ≡ greatest (map (d (head (lefts es))) (lefts es))) × Tight d g
 Tight d (fork R ks g) = (R ≡ greatest (map (d (first ks)) (rowsIn ks))) × Tight d ks × Tight d g
 
+-- the greatest is the same in any order
 greatest-same : (f : ℕ → ℕ) (xs ys : List ℕ) → ((i : ℕ) → times i ys ≡ times i xs) → greatest (map f xs) ≡ greatest (map f ys)
 greatest-same f xs ys e =
     let a = greatest-under (greatest (map f ys)) (map f xs) (every-map (λ v. v ≤ greatest (map f ys)) f xs
-    (every-same (λ i. f i ≤ greatest (map f ys)) ys xs (λ i. sym (e i)) (every-unmap (λ v. v ≤ greatest (map f ys)) f ys (greatest-le (map f ys))))) in
+    (every-same (λ i. f i ≤ greatest (map f ys)) ys xs (λ i. sym (e i))
+    (every-unmap (λ v. v ≤ greatest (map f ys)) f ys (greatest-le (map f ys))))) in
     let b = greatest-under (greatest (map f xs)) (map f ys) (every-map (λ v. v ≤ greatest (map f xs)) f ys
     (every-same (λ i. f i ≤ greatest (map f xs)) xs ys e (every-unmap (λ v. v ≤ greatest (map f xs)) f xs (greatest-le (map f xs))))) in
     omega arith
 
+-- the rows of a leaf's pairs are its run
 rows-paired : (d : ℕ → ℕ → ℕ) (run : List ℕ) → lefts (map (λ i. (i, d (head run) i)) run) ≡ run
 rows-paired d run = paired (λ i. i) (d (head run)) run ∙ map-id run
 
+-- the first centre stays the first
 choose-head : (d : ℕ → ℕ → ℕ) (k c : ℕ) (cs is : List ℕ) → head ((choose d k (c ∷ cs) is) .0) ≡ c
 unfolding choose
 choose-head d zero c cs is = refl
 choose-head d (suc k) c cs is = choose-head d k c (cs ++ farthest d (c ∷ cs) is ∷ []) (without (farthest d (c ∷ cs) is) is)
 
 -- the rows of centre a's group have a for their closest centre
-keep-closest : (d : ℕ → ℕ → ℕ) (cs : List ℕ) (a : ℕ) (is : List ℕ) → Every (λ i. Every (λ c. d a i ≤ d c i) cs) (keep (λ i. eqb (closest d cs i) a) is)
+keep-closest : (d : ℕ → ℕ → ℕ) (cs : List ℕ) (a : ℕ) (is : List ℕ)
+    → Every (λ i. Every (λ c. d a i ≤ d c i) cs) (keep (λ i. eqb (closest d cs i) a) is)
 keep-closest d cs a [] = tt
 keep-closest d cs a (i ∷ is) = go (eqb (closest d cs i) a) refl (keep-closest d cs a is)
   where
@@ -50,27 +56,29 @@ keep-closest d cs a (i ∷ is) = go (eqb (closest d cs i) a) refl (keep-closest 
     go false e h = h
 
 module _ (d : ℕ → ℕ → ℕ) (self : (i : ℕ) → d i i ≡ 0) (m l : ℕ) (m1 : 1 ≤ m) (ml : m ≤ l) where
-  -- each row of a run of the split is as close to its own centre as to any
+  -- each row of run r is as close to its head as to any of the centres cs
   abbrev Near : List ℕ → List ℕ → Type 0
   Near cs r = Every (λ i. Every (λ c. d (head r) i ≤ d c i) cs) r
 
-  split-near : (run : List ℕ) → Every (Near (chosen d m l m1 ml run)) (split d m run)
-  unfolding split chosen left
+  -- so it is in each run of the split, for the run's centres
+  split-near : (run : List ℕ) → Every (Near (chosen d m run)) (split d m run)
   split-near run =
-      let cs : List ℕ = chosen d m l m1 ml run in
-      every-map (Near cs) (λ a. a ∷ keep (λ i. eqb (closest d cs i) a) (left d m l m1 ml run)) cs
-      (every-all (λ a. Near cs (a ∷ keep (λ i. eqb (closest d cs i) a) (left d m l m1 ml run)))
-      (λ a. (every-all (λ c. d a a ≤ d c a) (λ c. omega (arith, self a)) cs, keep-closest d cs a (left d m l m1 ml run))) cs)
+      let cs : List ℕ = chosen d m run in
+      subst (Every (Near cs)) (sym (split-is d m run))
+      (every-map (Near cs) (groupOf d m run) cs
+      (every-all (λ a. Near cs (groupOf d m run a))
+      (λ a. (every-all (λ c. d a a ≤ d c a) (λ c. omega (arith, self a)) cs, keep-closest d cs a (left d m run))) cs))
 
-  split-heads : (run : List ℕ) → map head (split d m run) ≡ chosen d m l m1 ml run
-  unfolding split chosen left
-  split-heads run = go (chosen d m l m1 ml run)
+  -- the runs' heads are the centres
+  split-heads : (run : List ℕ) → map head (split d m run) ≡ chosen d m run
+  split-heads run = ap (map head) (split-is d m run) ∙ go (chosen d m run)
     where
-      go : (cs : List ℕ) → map head (map (λ a. a ∷ keep (λ i. eqb (closest d (chosen d m l m1 ml run) i) a) (left d m l m1 ml run)) cs) ≡ cs
+      go : (cs : List ℕ) → map head (map (groupOf d m run) cs) ≡ cs
       go [] = refl
       go (c ∷ cs) = ap (λ k. c ∷ k) (go cs)
 
-  chosen-head : (run : List ℕ) → head (chosen d m l m1 ml run) ≡ head run
+  -- a run's first centre is its first
+  chosen-head : (run : List ℕ) → head (chosen d m run) ≡ head run
   unfolding chosen
   chosen-head run = choose-head d (m - 1) (head run) [] (rest run)
 
@@ -90,23 +98,29 @@ module _ (d : ℕ → ℕ → ℕ) (self : (i : ℕ) → d i i ≡ 0) (m l : ℕ
       go ih true = ap (λ is. head is ∷ firsts g) (rows-paired d run)
       go ih false = ap (λ i. i ∷ firsts g) (ap head (forest ih (split d m run) ∙ split-heads run) ∙ chosen-head run)
 
+  -- the firsts of nodes side by side are their runs' heads
   forest-firsts : (deep : ℕ) (gs : List (List ℕ)) → firsts (foldr (grow d m l deep) bare gs) ≡ map head gs
   forest-firsts deep [] = refl
   forest-firsts deep (q ∷ gs) = grown-firsts deep q (foldr (grow d m l deep) bare gs) ∙ ap (λ k. head q ∷ k) (forest-firsts deep gs)
 
   -- the children of a run: their rows are the run's, their first is its first
-  kids-same : (deep : ℕ) (run : List ℕ) → Run run → m ≤ length run → (i : ℕ) → times i (rowsIn (foldr (grow d m l deep) bare (split d m run))) ≡ times i run
-  kids-same deep run r k i = forest-tally d m l m1 ml deep (eqb i) (split d m run) (split-runs d m l m1 ml run r k) ∙ split-tally d m l m1 ml (eqb i) run r k
+  kids-same : (deep : ℕ) (run : List ℕ) → Run run → m ≤ length run → (i : ℕ)
+      → times i (rowsIn (foldr (grow d m l deep) bare (split d m run))) ≡ times i run
+  kids-same deep run r k i =
+      forest-tally d m l m1 ml deep (eqb i) (split d m run) (split-runs d m l m1 ml run r k) ∙ split-tally d m l m1 ml (eqb i) run r k
 
+  -- their first is the run's first
   kids-head : (deep : ℕ) (run : List ℕ) → first (foldr (grow d m l deep) bare (split d m run)) ≡ head run
   kids-head deep run = ap head (forest-firsts deep (split d m run) ∙ split-heads run) ∙ chosen-head run
 
+  -- a grown node's rows are as close to its first as its run's were
   grown-close : (cs : List ℕ) (deep : ℕ) (run : List ℕ) (g : Grove) → Run run → Near cs run → Close d cs g → Close d cs (grow d m l deep run g)
   unfolding grow
   grown-close cs zero run g r h c = (subst (λ is. Near cs is) (sym (rows-paired d run)) h, c)
   grown-close cs (suc deep) run g r h c = go (leb (length run) l) refl
     where
-      go : (b : Bool) → leb (length run) l ≡ b → Close d cs (cond b (leafOf d run g) (fork (radius d run) (foldr (grow d m l deep) bare (split d m run)) g))
+      go : (b : Bool) → leb (length run) l ≡ b
+          → Close d cs (cond b (leafOf d run g) (fork (radius d run) (foldr (grow d m l deep) bare (split d m run)) g))
       go true e = (subst (λ is. Near cs is) (sym (rows-paired d run)) h, c)
       go false e =
           let k : m ≤ length run = omega (arith, leb-false (length run) l e) in
@@ -116,22 +130,26 @@ module _ (d : ℕ → ℕ → ℕ) (self : (i : ℕ) → d i i ≡ 0) (m l : ℕ
             c,
           )
 
+  -- so are those of nodes side by side
   forest-close : (cs : List ℕ) (deep : ℕ) (gs : List (List ℕ)) → Every Run gs → Every (Near cs) gs → Close d cs (foldr (grow d m l deep) bare gs)
   forest-close cs deep [] r h = tt
   forest-close cs deep (q ∷ gs) r h = grown-close cs deep q (foldr (grow d m l deep) bare gs) (r .0) (h .0) (forest-close cs deep gs (r .1) (h .1))
 
+  -- a leaf's stored distances are right, and none is above its radius
   leaf-sound : (run : List ℕ) (g : Grove) → Sound d g → Sound d (leafOf d run g)
   leaf-sound run g h =
       let e = sym (rows-paired d run) in (
         subst (λ is. Every (λ (e : ℕ × ℕ). d (head is) (e .0) ≡ e .1) (map (λ i. (i, d (head run) i)) run)) e
-            (every-map (λ e. d (head run) (e .0) ≡ e .1) (λ i. (i, d (head run) i)) run (every-all (λ i. d (head run) i ≡ d (head run) i) (λ i. refl) run)),
+            (every-map (λ e. d (head run) (e .0) ≡ e .1) (λ i. (i, d (head run) i)) run
+            (every-all (λ i. d (head run) i ≡ d (head run) i) (λ i. refl) run)),
         subst (λ is. Every (λ i. d (head is) i ≤ radius d run) is) e
             (every-unmap (λ v. v ≤ radius d run) (d (head run)) run (greatest-le (map (d (head run)) run))),
         h,
       )
 
   -- THE GROWN TREE FITS ITS TABLE, AND ITS RADII ARE EXACT
-  pub grown-sound : (deep : ℕ) (run : List ℕ) (g : Grove) → Run run → Sound d g × Tight d g → Sound d (grow d m l deep run g) × Tight d (grow d m l deep run g)
+  pub grown-sound : (deep : ℕ) (run : List ℕ) (g : Grove) → Run run → Sound d g × Tight d g
+      → Sound d (grow d m l deep run g) × Tight d (grow d m l deep run g)
   unfolding grow
   grown-sound zero run g r h = (leaf-sound run g (h .0), (ap (λ is. greatest (map (d (head is)) is)) (sym (rows-paired d run)), h .1))
   grown-sound (suc deep) run g r h = go (λ q f k u. grown-sound deep q f k u) (leb (length run) l) refl
@@ -154,7 +172,7 @@ module _ (d : ℕ → ℕ → ℕ) (self : (i : ℕ) → d i i ≡ 0) (m l : ℕ
           let same = kids-same deep run r k in (
             (
               subst (λ cs. Close d cs ks) (sym (forest-firsts deep (split d m run) ∙ split-heads run))
-                  (forest-close (chosen d m l m1 ml run) deep (split d m run) rs (split-near run)),
+                  (forest-close (chosen d m run) deep (split d m run) rs (split-near run)),
               subst (λ f. Every (λ i. d f i ≤ radius d run) (rowsIn ks)) (sym (kids-head deep run))
                   (every-same (λ i. d (head run) i ≤ radius d run) run (rowsIn ks) same
                   (every-unmap (λ v. v ≤ radius d run) (d (head run)) run (greatest-le (map (d (head run)) run)))),

@@ -13,7 +13,8 @@ use native.Mathlib.Nat.{not-suc-le-zero}
 use native.Mathlib.Omega.{arith}
 
 module _ (x : ℕ → ℕ) where
-  pub homesIn-rows : (i : ℕ) (β : ℕ → ℕ → ℕ) (g : Grove) → Full g
+  -- below the nodes of a grove, every row but their firsts is at home once
+  homesIn-rows : (i : ℕ) (β : ℕ → ℕ → ℕ) (g : Grove) → Full g
       → times i (map (λ p. p .0) (homesIn x β g)) + times i (firsts g) ≡ times i (rowsIn g)
   unfolding homesIn
   homesIn-rows i β bare w = refl
@@ -22,8 +23,15 @@ module _ (x : ℕ → ℕ) where
       simp (map-append, tally-append, paired) (omega (arith, homesIn-rows i β g (w .1), tally-lefts (eqb i) es (entries g)))
   homesIn-rows i β (fork R ks g) w =
       simp (map-append, tally-append, paired, map-id)
-      (omega (arith, times-split i (firsts ks) (w .0), homesIn-rows i (childBound (β (x (first ks)) R) (nearestOf x ks)) ks (w .1), homesIn-rows i β g (w .2), tally-lefts (eqb i) (entries ks) (entries g)))
+      (omega (
+        arith,
+        times-split i (firsts ks) (w .0),
+        homesIn-rows i (childBound (β (x (first ks)) R) (nearestOf x ks)) ks (w .1),
+        homesIn-rows i β g (w .2),
+        tally-lefts (eqb i) (entries ks) (entries g),
+      ))
 
+  -- THE HOMES' ROWS ARE THE TREE'S ROWS
   pub homes-rows : (i : ℕ) (t : Grove) → Full t → times i (map (λ p. p .0) (homes x t)) ≡ times i (rowsIn t)
   unfolding homes
   homes-rows i t w = simp (map-append, tally-append, paired, map-id) (omega (arith, homesIn-rows i (λ x R. 0) t w))

@@ -15,13 +15,15 @@ pub mod Fitting
 pub mod NoFaults
 pub mod Accepted
 pub mod Encode
+pub mod Shaped
 pub mod Written
+pub mod Held
 pub mod Right
 pub mod Faultless
+pub mod Centres
 pub mod Grow
 pub mod Grown
 pub mod Good
 pub mod Built
 pub mod Theorems
-pub mod Refusals
 pub mod Tallies

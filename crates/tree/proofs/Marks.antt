@@ -17,6 +17,7 @@ use native.Mathlib.Nat.{not-suc-le-zero}
 use native.Mathlib.Omega.{arith}
 
 module _ (x : ℕ → ℕ) (r : ℕ) where
+  -- swept, closed or opened, a node's other rows are each marked once
   visit-rows : (i xf R b : ℕ) (others : List ℕ) (opened : List (ℕ × ℕ)) → times i (map (λ p. p .0) opened) ≡ times i others
       → times i (map (λ p. p .0) (visit x r xf R b others opened)) ≡ times i others
   visit-rows i xf R b others opened h = go (leb (xf + R) r) (ltb r b)
@@ -26,7 +27,8 @@ module _ (x : ℕ → ℕ) (r : ℕ) where
       go false true = simp (paired, map-id)
       go false false = h
 
-  pub marksIn-rows : (i : ℕ) (β : ℕ → ℕ → ℕ) (g : Grove) → Full g
+  -- below the nodes of a grove, every row but their firsts is marked once
+  marksIn-rows : (i : ℕ) (β : ℕ → ℕ → ℕ) (g : Grove) → Full g
       → times i (map (λ p. p .0) (marksIn x r β g)) + times i (firsts g) ≡ times i (rowsIn g)
   unfolding marksIn
   marksIn-rows i β bare w = refl
@@ -67,6 +69,7 @@ module _ (x : ℕ → ℕ) (r : ℕ) where
         ap (λ k. times i (k ∷ [])) (s .1),
       )
 
+  -- THE MARKED ROWS ARE THE TREE'S ROWS
   pub marks-rows : (i : ℕ) (t : Grove) → Full t → times i (map (λ p. p .0) (marks x r t)) ≡ times i (rowsIn t)
   unfolding marks
   marks-rows i t w = simp (map-append, tally-append, paired, map-id) (omega (arith, marksIn-rows i (λ x R. 0) t w))

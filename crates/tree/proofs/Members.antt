@@ -17,16 +17,19 @@ use mathlib.Core.Path.{_∙_, _≡_, ap, ap₂, refl, subst, sym}
 use native.Mathlib.Nat.{not-suc-le-zero}
 use native.Mathlib.Omega.{arith}
 
--- the held at n positions from s on
+-- what n positions from s on hold: each a row number with its stored distance
 abbrev pub held : List ℕ → ℕ → ℕ → List (ℕ × ℕ)
 held w s n = map (λ p. (row# w p, dist# w p)) (range s n)
 
+-- a + b positions: the first a, and b more
 held-append : (w : List ℕ) (s a b : ℕ) → held w s (a + b) ≡ held w s a ++ held w (s + a) b
-held-append w s a b = ap (map (λ p. (row# w p, dist# w p))) (range-append s a b) ∙ map-append (λ p. (row# w p, dist# w p)) (range s a) (range (s + a) b)
+held-append w s a b =
+    ap (map (λ p. (row# w p, dist# w p))) (range-append s a b) ∙ map-append (λ p. (row# w p, dist# w p)) (range s a) (range (s + a) b)
 
 module _ (w : List ℕ) (S : InShape w) where
-  split : 1 ≤ m# w
-  split = omega (arith, S .whole .fan .0)
+  -- an inner node has children
+  some-kids : 1 ≤ m# w
+  some-kids = omega (arith, S .whole .fan .0)
 
   -- the members of nodes that tile s .. s + c are the positions from s
   pub kids-entries : (t : ℕ → Grove → Grove) → ((k : ℕ) (g : Grove) → k < N# w → entries (t k g) ≡ members# w k ++ entries g)
@@ -81,23 +84,22 @@ module _ (w : List ℕ) (S : InShape w) where
           → firsts (cond b (fork (radius# w k) (foldr (treeAt w deep) bare (range (child# w k) (m# w))) g) (leaf (radius# w k) (members# w k) g))
           ≡ first# w k ∷ firsts g
       go ih true e =
-          let q : child# w k < N# w = omega (arith, S .node k h .kids e .inside, split) in
-          ap (λ i. i ∷ firsts g) (kid ih (m# w) split q ∙ ap (row# w) (tile-first w (child# w k) (m# w) (start# w k) (start# w k + count# w k) split (S .node k h .kids e .tiled)))
+          let q : child# w k < N# w = omega (arith, S .node k h .kids e .inside, some-kids) in
+          ap (λ i. i ∷ firsts g) (kid ih (m# w) some-kids q
+          ∙ ap (row# w) (tile-first w (child# w k) (m# w) (start# w k) (start# w k + count# w k) some-kids (S .node k h .kids e .tiled)))
       go ih false e = ap (λ i. i ∷ firsts g) (run-first (start# w k) (count# w k) (S .node k h .some))
 
   -- the firsts of k nodes from j
   pub kids-firsts : (deep j k : ℕ) → j + k ≤ N# w → firsts (foldr (treeAt w deep) bare (range j k)) ≡ map (first# w) (range j k)
   kids-firsts deep j zero h = refl
   kids-firsts deep j (suc k) h =
-      firsts-at deep j (foldr (treeAt w deep) bare (range (suc j) k)) (omega arith) ∙ ap (λ l. first# w j ∷ l) (kids-firsts deep (suc j) k (omega arith))
+      firsts-at deep j (foldr (treeAt w deep) bare (range (suc j) k)) (omega arith)
+      ∙ ap (λ l. first# w j ∷ l) (kids-firsts deep (suc j) k (omega arith))
 
   -- NO LEAF IS EMPTY AND NO INNER NODE IS CHILDLESS
   pub full-at : (deep k : ℕ) (g : Grove) → k < N# w → Full g → Full (treeAt w deep k g)
   unfolding treeAt
-  full-at zero k g h f = (leafy k h, f)
-    where
-      leafy : (k : ℕ) → k < N# w → 1 ≤ length (members# w k)
-      leafy k h = simp (length-map, range-length) (S .node k h .some)
+  full-at zero k g h f = (simp (length-map, range-length) (S .node k h .some), f)
   full-at (suc deep) k g h f = go (λ j f q u. full-at deep j f q u) (inner w k) refl
     where
       kids : ((k : ℕ) (g : Grove) → k < N# w → Full g → Full (treeAt w deep k g))
@@ -108,7 +110,8 @@ module _ (w : List ℕ) (S : InShape w) where
       go : ((k : ℕ) (g : Grove) → k < N# w → Full g → Full (treeAt w deep k g)) → (b : Bool) → inner w k ≡ b
           → Full (cond b (fork (radius# w k) (foldr (treeAt w deep) bare (range (child# w k) (m# w))) g) (leaf (radius# w k) (members# w k) g))
       go ih true e = (
-        subst (λ l. 1 ≤ length l) (sym (kids-firsts deep (child# w k) (m# w) (S .node k h .kids e .inside))) (simp (length-map, range-length) split),
+        subst (λ l. 1 ≤ length l) (sym (kids-firsts deep (child# w k) (m# w) (S .node k h .kids e .inside)))
+            (simp (length-map, range-length) some-kids),
         kids ih (child# w k) (m# w) (S .node k h .kids e .inside),
         f,
       )

@@ -25,6 +25,7 @@ pub record NoFaults (d : ℕ → ℕ → ℕ) (w : List ℕ) : Type 0 where
   pub radii : Every (λ k. wrongRadius d w k ≡ false) (range 0 (N# w))
   pub near : Every (λ k. Every (λ p. strays d w k p ≡ false) (run# w k)) (range 0 (N# w))
 
+-- no fault at all is none of each kind
 pub no-faults : (d : ℕ → ℕ → ℕ) (w : List ℕ) → faults d w ≡ [] → NoFaults d w
 unfolding faults
 no-faults d w e =
@@ -37,16 +38,22 @@ no-faults d w e =
     let e2 = append-nil-l (a ++ b) c e3 in
     record {
       once = keep-nil (again w) (range 0 (n# w)) (map-nil {B = Said} (λ p. (10, p, 0)) (keep (again w) (range 0 (n# w))) (append-nil-l a b e2));
-      dists = keep-nil (wrongDist d w) (range 0 (n# w)) (map-nil {B = Said} (λ p. (11, p, 0)) (keep (wrongDist d w) (range 0 (n# w))) (append-nil-r a b e2));
-      radii = keep-nil (wrongRadius d w) (range 0 (N# w)) (map-nil {B = Said} (λ k. (12, k, 0)) (keep (wrongRadius d w) (range 0 (N# w))) (append-nil-r (a ++ b) c e3));
+      dists =
+          keep-nil (wrongDist d w) (range 0 (n# w)) (map-nil {B = Said} (λ p. (11, p, 0)) (keep (wrongDist d w) (range 0 (n# w)))
+          (append-nil-r a b e2));
+      radii =
+          keep-nil (wrongRadius d w) (range 0 (N# w)) (map-nil {B = Said} (λ k. (12, k, 0)) (keep (wrongRadius d w) (range 0 (N# w)))
+          (append-nil-r (a ++ b) c e3));
       near = every-of (λ k. f k ≡ []) (λ k. Every (λ p. strays d w k p ≡ false) (run# w k))
           (λ k q. keep-nil (strays d w k) (run# w k) (map-nil {B = Said} (λ p. (13, k, p)) (keep (strays d w k) (run# w k)) q))
           (range 0 (N# w)) (each-nil f (range 0 (N# w)) (append-nil-r (a ++ b ++ c) g e));
     }
 
+-- a position between a run's ends lies in it
 in-run : (w : List ℕ) (p k : ℕ) → start# w k ≤ p → p < start# w k + count# w k → inRun w p k ≡ true
 in-run w p k h h′ = rw (le-leb (start# w k) p h, lt-ltb p (start# w k + count# w k) h′)
 
+-- WITH NO FAULT, DISTANCES, RADII AND CENTRES ARE RIGHT
 pub fits : (d : ℕ → ℕ → ℕ) (w : List ℕ) → NoFaults d w → Fits d w
 unfolding wrongDist wrongRadius strays
 fits d w O =
@@ -75,7 +82,8 @@ fits d w O =
           (every-at (λ k. Every (λ p. strays d w k p ≡ false) (run# w k)) (N# w) k (O .near) h) (omega arith)) in
           let ks : kids w k ≡ range (child# w k) (m# w) = ap (λ b. cond b (range (child# w k) (m# w)) []) e in
           let t : (inRun w p j && any g (kids w k)) ≡ false =
-          every-range (λ j. (inRun w p j && any (λ i. ltb (d (first# w i) (row# w p)) (d (first# w j) (row# w p))) (kids w k)) ≡ false) (child# w k) (m# w) a
+          every-range (λ j. (inRun w p j && any (λ i. ltb (d (first# w i) (row# w p)) (d (first# w j) (row# w p))) (kids w k)) ≡ false)
+          (child# w k) (m# w) a
           (subst (λ l. Every (λ j. (inRun w p j && any (λ i. ltb (d (first# w i) (row# w p)) (d (first# w j) (row# w p))) (kids w k)) ≡ false) l) ks
           (any-false (λ j. inRun w p j && any (λ i. ltb (d (first# w i) (row# w p)) (d (first# w j) (row# w p))) (kids w k)) (kids w k) s)) qa in
           let v : any g (kids w k) ≡ false = and-second (inRun w p j) (any g (kids w k)) t (in-run w p j (omega arith) (omega arith)) in

@@ -24,10 +24,12 @@ use native.Mathlib.Nat.{zero-add}
 use native.Mathlib.Omega.{arith}
 
 -- ---- the tree, if there is a root, and if there is none
+-- with a root it is the root's
 tree-one : (w : List ℕ) → 1 ≤ N# w → treeOf w ≡ treeAt w maxDepth 0 bare
 unfolding treeOf
 tree-one w h = let q : min (N# w) 1 ≡ 1 = omega arith in ap (λ k. foldr (treeAt w maxDepth) bare (range 0 k)) q
 
+-- with none it is bare
 tree-none : (w : List ℕ) → N# w ≡ 0 → treeOf w ≡ bare
 unfolding treeOf
 tree-none w e = let q : min (N# w) 1 ≡ 0 = omega arith in ap (λ k. foldr (treeAt w maxDepth) bare (range 0 k)) q
@@ -40,17 +42,20 @@ by-root P w f z =
     let e : N# w ≡ 0 = omega arith in
     subst P (sym (tree-none w e)) (z e))
 
+-- the rows that positions hold
 rows-held : (w : List ℕ) (s n : ℕ) → lefts (held w s n) ≡ map (row# w) (range s n)
 rows-held w s zero = refl
 rows-held w s (suc n) = ap (λ l. row# w s ∷ l) (rows-held w (suc s) n)
 
 -- ---- no row again, no row twice
+-- among the first k positions no row stands twice
 pub once-to : (w : List ℕ) → ((p : ℕ) → p < n# w → again w p ≡ false) → (k : ℕ) → k ≤ n# w → (i : ℕ) → times i (map (row# w) (range 0 k)) ≤ 1
 unfolding again
 once-to w f zero h i = omega arith
 once-to w f (suc k) h i =
     let e : map (row# w) (range 0 (suc k)) ≡ map (row# w) (range 0 k) ++ row# w k ∷ [] =
-    ap (map (row# w)) (ap (range 0) one-more ∙ range-append 0 k 1 ∙ ap (λ j. range 0 k ++ j ∷ []) (zero-add k)) ∙ map-append (row# w) (range 0 k) (k ∷ []) in
+    ap (map (row# w)) (ap (range 0) one-more ∙ range-append 0 k 1 ∙ ap (λ j. range 0 k ++ j ∷ []) (zero-add k))
+    ∙ map-append (row# w) (range 0 k) (k ∷ []) in
     subst (λ l. times i l ≤ 1) (sym e) (rw tally-append (go (eqb i (row# w k)) refl (once-to w f k (omega arith) i)))
   where
     one-more : suc k ≡ k + 1
@@ -58,10 +63,15 @@ once-to w f (suc k) h i =
 
     go : (b : Bool) → eqb i (row# w k) ≡ b → times i (map (row# w) (range 0 k)) ≤ 1 → times i (map (row# w) (range 0 k)) + (cond b 1 0 + 0) ≤ 1
     go true q h′ =
-        omega (arith, not-any i (map (row# w) (range 0 k)) (subst (λ j. any (eqb j) (map (row# w) (range 0 k)) ≡ false) (sym (eqb-true i (row# w k) q)) (f k h)))
+        omega (
+          arith,
+          not-any i (map (row# w) (range 0 k)) (subst (λ j. any (eqb j) (map (row# w) (range 0 k)) ≡ false)
+              (sym (eqb-true i (row# w k) q)) (f k h)),
+        )
     go false q h′ = omega arith
 
 module _ (w : List ℕ) (S : InShape w) where
+  -- no leaf is empty and no inner node is childless
   pub full-tree : Full (treeOf w)
   full-tree = by-root Full w (λ h. full-at w S maxDepth 0 bare h tt) (λ e. tt)
 
@@ -79,10 +89,12 @@ module _ (w : List ℕ) (S : InShape w) where
       empty zero f = refl
       empty (suc n) f = absurd (f (omega arith))
 
+  -- its rows are below n
   pub rows-low : Every (λ i. i < n# w) (rowsIn (treeOf w))
   rows-low =
       subst (Every (λ i. i < n# w)) (sym rows-tree)
       (every-map (λ i. i < n# w) (row# w) (range 0 (n# w)) (at-every (λ p. row# w p < n# w) (n# w) (λ p q. S .place p q .row)))
 
+  -- and none stands twice, where no position holds one again
   pub rows-once : ((p : ℕ) → p < n# w → again w p ≡ false) → (i : ℕ) → times i (rowsIn (treeOf w)) ≤ 1
   rows-once f i = subst (λ l. times i l ≤ 1) (sym rows-tree) (once-to w f (n# w) (omega arith) i)

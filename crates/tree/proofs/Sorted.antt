@@ -16,6 +16,7 @@ use native.Mathlib.Omega.{arith}
 abbrev pub Le : ℕ × ℕ → ℕ × ℕ → Type 0
 Le a b = (a .1 ≤ b .1) × (a .1 ≡ b .1 → a .0 ≤ b .0)
 
+-- the test passes: a comes first
 before-le : (a b : ℕ × ℕ) → before a b ≡ true → Le a b
 before-le a b e = go (ltb (a .1) (b .1)) (eqb (a .1) (b .1)) (leb (a .0) (b .0)) refl refl refl e
   where
@@ -25,6 +26,7 @@ before-le a b e = go (ltb (a .1) (b .1)) (eqb (a .1) (b .1)) (leb (a .0) (b .0))
     go false true false ep eq er e = absurd (subst T (sym e) tt)
     go false false r ep eq er e = absurd (subst T (sym e) tt)
 
+-- it fails: b does
 before-not : (a b : ℕ × ℕ) → before a b ≡ false → Le b a
 before-not a b e = go (ltb (a .1) (b .1)) (eqb (a .1) (b .1)) (leb (a .0) (b .0)) refl refl refl e
   where
@@ -34,6 +36,7 @@ before-not a b e = go (ltb (a .1) (b .1)) (eqb (a .1) (b .1)) (leb (a .0) (b .0)
     go false true false ep eq er e = (omega (arith, eqb-true (a .1) (b .1) eq), λ h. omega (arith, leb-false (a .0) (b .0) er))
     go false false r ep eq er e = (omega (arith, ltb-false (a .1) (b .1) ep), λ h. absurd (eqb-false (a .1) (b .1) eq (sym h)))
 
+-- where a comes first it passes
 le-before : (a b : ℕ × ℕ) → Le a b → before a b ≡ true
 le-before a b h = go (ltb (a .1) (b .1)) refl
   where
@@ -43,9 +46,11 @@ le-before a b h = go (ltb (a .1) (b .1)) refl
         let q : a .1 ≡ b .1 = omega (arith, h .0, ltb-false (a .1) (b .1) e) in
         ap₂ (λ u v. u && v) (eq-eqb (a .1) (b .1) q) (le-leb (a .0) (b .0) (h .1 q))
 
+-- the order goes on from one to the next
 le-trans : (a b c : ℕ × ℕ) → Le a b → Le b c → Le a c
 le-trans a b c h k = (omega arith, λ e. let p = h .1 (omega arith) in let q = k .1 (omega arith) in omega arith)
 
+-- each comes before all behind it
 abbrev pub Sorted : List (ℕ × ℕ) → Type 0
 Sorted [] = Unit {0}
 Sorted (a ∷ s) = Every (Le a) s × Sorted s
@@ -59,10 +64,12 @@ insert-every Q a (b ∷ s) h k = go (before a b) (insert-every Q a s h (k .1))
     go true i = (h, k)
     go false i = (k .0, i)
 
+-- and where all are sorted
 pub sort-every : (Q : ℕ × ℕ → Type 0) (l : List (ℕ × ℕ)) → Every Q l → Every Q (sort l)
 sort-every Q [] h = tt
 sort-every Q (a ∷ l) h = insert-every Q a (sort l) (h .0) (sort-every Q l (h .1))
 
+-- one more, in its place
 insert-sorted : (a : ℕ × ℕ) (s : List (ℕ × ℕ)) → Sorted s → Sorted (insert a s)
 insert-sorted a [] h = (tt, tt)
 insert-sorted a (b ∷ s) h = go (before a b) refl (insert-sorted a s (h .1))
@@ -71,6 +78,7 @@ insert-sorted a (b ∷ s) h = go (before a b) refl (insert-sorted a s (h .1))
     go true e i = let l = before-le a b e in ((l, every-of (Le b) (Le a) (λ c k. le-trans a b c l k) s (h .0)), h)
     go false e i = (insert-every (Le b) a s (before-not a b e) (h .0), i)
 
+-- SORTING SORTS
 pub sort-sorted : (l : List (ℕ × ℕ)) → Sorted (sort l)
 sort-sorted [] = tt
 sort-sorted (a ∷ l) = insert-sorted a (sort l) (sort-sorted l)
@@ -100,6 +108,7 @@ insert-kept p a (b ∷ s) e h = go (before a b) refl (insert-kept p a s e (h .1)
         ∙ sym (insert-front a K (every-keep (Le a) p (b ∷ s) (l, every-of (Le b) (Le a) (λ c k. le-trans a b c l k) s (h .0))))
     go false eu ih = under (p b) eu ih
 
+-- one that is left out changes nothing
 insert-dropped : (p : ℕ × ℕ → Bool) (a : ℕ × ℕ) (s : List (ℕ × ℕ)) → p a ≡ false → keep p (insert a s) ≡ keep p s
 insert-dropped p a [] e = ap (λ b. cond {A = List (ℕ × ℕ)} b (a ∷ []) []) e
 insert-dropped p a (b ∷ s) e = go (before a b) (insert-dropped p a s e)
@@ -108,6 +117,7 @@ insert-dropped p a (b ∷ s) e = go (before a b) (insert-dropped p a s e)
     go true ih = ap (λ v. cond {A = List (ℕ × ℕ)} v (a ∷ keep p (b ∷ s)) (keep p (b ∷ s))) e
     go false ih = ap (λ l. cond {A = List (ℕ × ℕ)} (p b) (b ∷ l) l) ih
 
+-- what is left out may be left out before the sorting
 pub sort-keep : (p : ℕ × ℕ → Bool) (l : List (ℕ × ℕ)) → sort (keep p l) ≡ keep p (sort l)
 sort-keep p [] = refl
 sort-keep p (a ∷ l) = go (p a) refl (sort-keep p l)
@@ -116,17 +126,19 @@ sort-keep p (a ∷ l) = go (p a) refl (sort-keep p l)
     go true e ih = ap (insert a) ih ∙ sym (insert-kept p a (sort l) e (sort-sorted l))
     go false e ih = ih ∙ sym (insert-dropped p a (sort l) e)
 
+-- of a list whose first w are kept, the first w are the same
 take-keep : (p : ℕ × ℕ → Bool) (w : ℕ) (s : List (ℕ × ℕ)) → Every (λ a. p a ≡ true) (take w s) → take w (keep p s) ≡ take w s
 take-keep p zero s h = refl
 take-keep p (suc w) [] h = refl
 take-keep p (suc w) (a ∷ s) h = rw (h .0) (ap (λ l. a ∷ l) (take-keep p w s (h .1)))
 
--- no answer is farther than the last
+-- the first w of a sorted list are sorted
 pub sorted-take : (w : ℕ) (s : List (ℕ × ℕ)) → Sorted s → Sorted (take w s)
 sorted-take zero s h = tt
 sorted-take (suc w) [] h = tt
 sorted-take (suc w) (a ∷ s) h = (every-take (Le a) w s (h .0), sorted-take w s (h .1))
 
+-- no answer is farther than the last
 pub under-last : (s : List (ℕ × ℕ)) → Sorted s → Every (λ a. a .1 ≤ lastDistance s) s
 under-last [] h = tt
 under-last (a ∷ []) h = (omega arith, tt)
@@ -141,5 +153,6 @@ best-of p w l f =
     let D : ℕ = lastDistance (take w (sort l)) in
     let Q : ℕ × ℕ → Type 0 = λ a. a .1 ≤ D → p a ≡ true in
     ap (take w) (sort-keep p l)
-    ∙ take-keep p w (sort l) (every-both (λ a. a .1 ≤ D) Q (λ a. p a ≡ true) (λ a h k. k h) (take w (sort l)) (under-last (take w (sort l)) (sorted-take w (sort l) (sort-sorted l)))
+    ∙ take-keep p w (sort l) (every-both (λ a. a .1 ≤ D) Q (λ a. p a ≡ true) (λ a h k. k h) (take w (sort l))
+    (under-last (take w (sort l)) (sorted-take w (sort l) (sort-sorted l)))
     (every-take Q w (sort l) (sort-every Q l f)))

@@ -40,15 +40,15 @@ module _ (x : ℕ → ℕ) where
   valid-zero (fork R ks g) = (every-all (λ i. 0 ≤ x i) (λ i. omega arith) (rowsIn ks), valid-zero g)
 
   -- what is at most a more than each distance is at most a more than the least
-  pub under-least : (k a v : ℕ) (cs : List ℕ) → k ≤ a + v → Every (λ c. k ≤ a + x c) cs → k ≤ a + least v (map x cs)
+  under-least : (k a v : ℕ) (cs : List ℕ) → k ≤ a + v → Every (λ c. k ≤ a + x c) cs → k ≤ a + least v (map x cs)
   under-least k a v [] h hs = h
   under-least k a v (c ∷ cs) h hs = omega (arith, under-least k a v cs h (hs .1))
 
 module _ (d : ℕ → ℕ → ℕ) (x : ℕ → ℕ) (M : Point d x) where
   -- one row of a child: the three parts of its bound
-  row-bound : (b y R f i : ℕ) (c : ℕ) (cs : List ℕ) → b ≤ x i → d f i ≤ R → Every (λ c. d f i ≤ d c i) (c ∷ cs)
+  row-bound : (b R f i c : ℕ) (cs : List ℕ) → b ≤ x i → d f i ≤ R → Every (λ c. d f i ≤ d c i) (c ∷ cs)
       → childBound b (least (x c) (map x (c ∷ cs))) (x f) R ≤ x i
-  row-bound b y R f i c cs hb hR hc =
+  row-bound b R f i c cs hb hR hc =
       let near : x f ≤ 2 * x i + least (x c) (map x (c ∷ cs)) =
       under-least x (x f) (2 * x i) (x c) (c ∷ cs)
       (omega (arith, M .down f i, M .across c i, hc .0))
@@ -59,10 +59,10 @@ module _ (d : ℕ → ℕ → ℕ) (x : ℕ → ℕ) (M : Point d x) where
   kid : (b R f c : ℕ) (cs is : List ℕ) → Every (λ i. b ≤ x i) is → Every (λ i. d f i ≤ R) is → Every (λ i. Every (λ c. d f i ≤ d c i) (c ∷ cs)) is
       → Every (λ i. childBound b (least (x c) (map x (c ∷ cs))) (x f) R ≤ x i) is
   kid b R f c cs [] hb hR hc = tt
-  kid b R f c cs (i ∷ is) hb hR hc = (row-bound b 0 R f i c cs (hb .0) (hR .0) (hc .0), kid b R f c cs is (hb .1) (hR .1) (hc .1))
+  kid b R f c cs (i ∷ is) hb hR hc = (row-bound b R f i c cs (hb .0) (hR .0) (hc .0), kid b R f c cs is (hb .1) (hR .1) (hc .1))
 
   -- a child's bound is at most the distance of each of its members
-  pub valid-kids : (b c : ℕ) (cs : List ℕ) (g : Grove) → Every (λ i. b ≤ x i) (rowsIn g) → Close d (c ∷ cs) g → Sound d g
+  valid-kids : (b c : ℕ) (cs : List ℕ) (g : Grove) → Every (λ i. b ≤ x i) (rowsIn g) → Close d (c ∷ cs) g → Sound d g
       → Valid x (childBound b (least (x c) (map x (c ∷ cs)))) g
   valid-kids b c cs bare hb hc hs = tt
   valid-kids b c cs (leaf R es g) hb hc hs = (
@@ -82,7 +82,7 @@ module _ (d : ℕ → ℕ → ℕ) (x : ℕ → ℕ) (M : Point d x) where
   valid-under b (fork R ks g) hb hc hs = valid-kids b (first ks) (firsts g) (fork R ks g) hb hc hs
 
   -- no row is closer than its home bound
-  pub homesIn-below : (β : ℕ → ℕ → ℕ) (g : Grove) → Full g → Sound d g → Valid x β g → Every (λ h. h .1 ≤ x (h .0)) (homesIn x β g)
+  homesIn-below : (β : ℕ → ℕ → ℕ) (g : Grove) → Full g → Sound d g → Valid x β g → Every (λ h. h .1 ≤ x (h .0)) (homesIn x β g)
   unfolding homesIn
   homesIn-below β bare w hs hv = tt
   homesIn-below β (leaf R es g) w hs hv =
@@ -103,6 +103,7 @@ module _ (d : ℕ → ℕ → ℕ) (x : ℕ → ℕ) (M : Point d x) where
       (homesIn-below (childBound b (nearestOf x ks)) ks (w .1) (hs .2) (valid-under b ks (hv .0) (hs .0) (hs .2))))
       (homesIn-below β g (w .2) (hs .3) (hv .1))
 
+  -- NO ROW OF THE TREE IS CLOSER THAN ITS HOME BOUND
   pub homes-below : (t : Grove) → Full t → Sound d t → Every (λ h. h .1 ≤ x (h .0)) (homes x t)
   unfolding homes
   homes-below t w hs =

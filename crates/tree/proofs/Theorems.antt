@@ -41,9 +41,11 @@ module _ (d : ℕ → ℕ → ℕ) (w : List ℕ) (A : Accepted d w) where
   marks-once : (x : ℕ → ℕ) (r i : ℕ) → times i (lefts (marks x r (treeOf w))) ≤ 1
   marks-once x r i = omega (arith, marks-rows x r i (treeOf w) (full-tree w (shape-of d w A)), rows-once w (shape-of d w A) (once-of d w A) i)
 
+  -- no row has two homes
   homes-once : (x : ℕ → ℕ) (i : ℕ) → times i (lefts (homes x (treeOf w))) ≤ 1
   homes-once x i = omega (arith, homes-rows x i (treeOf w) (full-tree w (shape-of d w A)), rows-once w (shape-of d w A) (once-of d w A) i)
 
+  -- a row of the tree is one of the table
   row-low : (i : ℕ) → 1 ≤ times i (rowsIn (treeOf w)) → i < n# w
   row-low i k = times-every (λ i. i < n# w) (rowsIn (treeOf w)) (rows-low w (shape-of d w A)) i k
 
@@ -60,7 +62,7 @@ module _ (d : ℕ → ℕ → ℕ) (w : List ℕ) (A : Accepted d w) where
     radius-exact r i h =
         let F = full-tree w (shape-of d w A) in
         rw (how-at x r (n# w) (treeOf w) i h)
-        (look-fact (Exact x r) i (marks x r (treeOf w)) (marks-exact d x r P (treeOf w) F (sound-tree d w A))
+        (look-fact (Exact x r) i (marks x r (treeOf w)) (marks-exact d x r P (treeOf w) (sound-tree d w A))
         (omega (arith, marks-rows x r i (treeOf w) F, each-once d w A i h)))
 
     -- THE FIRST k OF THE ROWS WITH HOME BOUND AT MOST D ARE THE FIRST k OF ALL, D the distance of the last of these
@@ -126,7 +128,8 @@ module _ (d : ℕ → ℕ → ℕ) (w : List ℕ) (A : Accepted d w) where
         → ((i : ℕ) → i < n# w → T (isMeasured (getD (nearHow x (n# w) (treeOf w) k) i 0)) → x i ≡ y i)
         → answers x (n# w) k ≡ answers y (n# w) k
     nearest-two-tables-all k h agree =
-        answers-same x y (n# w) k (at-every (λ i. x i ≡ y i) (n# w) (λ i low. agree i low (near-measured k i low (passes-all x (n# w) k (look i (homes x (treeOf w))) h))))
+        answers-same x y (n# w) k (at-every (λ i. x i ≡ y i) (n# w)
+        (λ i low. agree i low (near-measured k i low (passes-all x (n# w) k (look i (homes x (treeOf w))) h))))
 
 -- ---- in words of tables
 -- rows that are equal are equally far from a query

@@ -1,10 +1,12 @@
 -- The statement on two tables, for the nearest search: the rows whose home bound is at most D, with their bounds, follow from the
 -- distances of those rows alone. Nothing is asked of the tree. Assumes nothing.
 use Prim.Native.Nat.{_+_, _<_, _≤_, max, ℕ}
-use Rattle.laws.proofs.Every.{every-all, every-append, every-left, every-map, every-of, every-right, has-every}
+use Rattle.laws.proofs.Empty.{keep-none}
+use Rattle.laws.proofs.Every.{every-all, every-append, every-left, every-map, every-of, every-right, has-every, map-same}
+use Rattle.laws.proofs.Joins.{keep-append}
 use Rattle.laws.specs.Every.{Every}
 use Rattle.laws.specs.Lists.{gap, has, head, keep, least, look, range, rest, times}
-use Rattle.tree.proofs.TwoRadius.{all-firsts, same-map}
+use Rattle.tree.proofs.TwoRadius.{all-firsts}
 use Rattle.tree.specs.Grove.{Grove, bare, first, firsts, fork, leaf}
 use Rattle.tree.specs.Homes.{childBound, homes, homesIn, nearestOf, rowBound}
 use Rattle.tree.specs.Nearest.{Own, best, lastDistance, rowsUpTo, sort, upTo}
@@ -17,18 +19,13 @@ use mathlib.Core.Path.{_∙_, _≡_, ap, ap₂, refl, sym}
 use native.Mathlib.Nat.{not-suc-le-zero}
 use native.Mathlib.Omega.{arith}
 
+-- the homes up to D of two lists, one after the other
 up-append : (D : ℕ) (hs bs : List (ℕ × ℕ)) → upTo D (hs ++ bs) ≡ upTo D hs ++ upTo D bs
-up-append D [] bs = refl
-up-append D (a ∷ hs) bs = go (leb (a .1) D) (up-append D hs bs)
-  where
-    go : (b : Bool) → upTo D (hs ++ bs) ≡ upTo D hs ++ upTo D bs
-        → cond b (a ∷ upTo D (hs ++ bs)) (upTo D (hs ++ bs)) ≡ cond b (a ∷ upTo D hs) (upTo D hs) ++ upTo D bs
-    go true e = ap (λ l. a ∷ l) e
-    go false e = e
+up-append D hs bs = keep-append (λ h. leb (h .1) D) hs bs
 
+-- there are none where every bound is above D
 up-none : (D : ℕ) (hs : List (ℕ × ℕ)) → Every (λ h. D < h .1) hs → upTo D hs ≡ []
-up-none D [] k = refl
-up-none D (h ∷ hs) k = rw (lt-leb (h .1) D (k .0)) (up-none D hs (k .1))
+up-none D hs k = keep-none (λ h. leb (h .1) D) hs (every-of (λ h. D < h .1) (λ h. leb (h .1) D ≡ false) (λ h q. lt-leb (h .1) D q) hs k)
 
 -- no bound below a node is less than the node's
 bounds-up : (x : ℕ → ℕ) (b : ℕ) (β : ℕ → ℕ → ℕ) (g : Grove) → ((u R : ℕ) → b ≤ β u R) → Every (λ h. b ≤ h .1) (homesIn x β g)
@@ -50,6 +47,7 @@ bounds-up x b β (fork R ks g) k =
     (bounds-up x b β g k)
 
 module _ (x y : ℕ → ℕ) (D : ℕ) where
+  -- the two agree in the row, if its home bound is at most D
   abbrev pub AgreeUpTo : ℕ × ℕ → Type 0
   AgreeUpTo h = h .1 ≤ D → x (h .0) ≡ y (h .0)
 
@@ -67,15 +65,17 @@ module _ (x y : ℕ → ℕ) (D : ℕ) where
       none : (z : ℕ → ℕ) (l : ℕ) → D < b → upTo D (homesIn z (childBound b l) ks) ≡ []
       none z l q =
           up-none D (homesIn z (childBound b l) ks)
-          (every-of (λ h. b ≤ h .1) (λ h. D < h .1) (λ h k. omega arith) (homesIn z (childBound b l) ks) (bounds-up z b (childBound b l) ks (λ u R. omega arith)))
+          (every-of (λ h. b ≤ h .1) (λ h. D < h .1) (λ h k. omega arith) (homesIn z (childBound b l) ks)
+          (bounds-up z b (childBound b l) ks (λ u R. omega arith)))
 
       go : (s : Bool) → leb b D ≡ s → upTo D (homesIn x (childBound b (nearestOf x ks)) ks) ≡ upTo D (homesIn y (childBound b (nearestOf y ks)) ks)
       go true e =
-          let q = all-firsts x y 0 (firsts ks) p (known b (rest (firsts ks)) (leb-true b D e) h) in
-          ih q ∙ ap (λ l. upTo D (homesIn y (childBound b l) ks)) (ap₂ least p (same-map x y 0 (firsts ks) q))
+          let q = all-firsts x y (firsts ks) p (known b (rest (firsts ks)) (leb-true b D e) h) in
+          ih q ∙ ap (λ l. upTo D (homesIn y (childBound b l) ks)) (ap₂ least p (map-same x y (firsts ks) q))
       go false e = none x (nearestOf x ks) (leb-false b D e) ∙ sym (none y (nearestOf y ks) (leb-false b D e))
 
-  pub same-homesIn : (β : ℕ → ℕ → ℕ) (g : Grove) → Every (λ i. x i ≡ y i) (firsts g) → Every AgreeUpTo (homesIn x β g)
+  -- below the nodes of a grove whose firsts agree, the homes up to D are the same
+  same-homesIn : (β : ℕ → ℕ → ℕ) (g : Grove) → Every (λ i. x i ≡ y i) (firsts g) → Every AgreeUpTo (homesIn x β g)
       → upTo D (homesIn x β g) ≡ upTo D (homesIn y β g)
   unfolding homesIn
   same-homesIn β bare p h = refl
@@ -83,7 +83,8 @@ module _ (x y : ℕ → ℕ) (D : ℕ) where
       let f : ℕ = head (map (λ e. e .0) es) in
       let row : ℕ → List (ℕ × ℕ) = λ k. map (λ e. (e .0, max (β k R) (gap k (e .1)))) (rest es) in
       up-append D (row (x f)) (homesIn x β g)
-      ∙ ap₂ {C = List (ℕ × ℕ)} (λ a b. a ++ b) (ap (λ k. upTo D (row k)) (p .0)) (same-homesIn β g (p .1) (every-right AgreeUpTo (row (x f)) (homesIn x β g) h))
+      ∙ ap₂ {C = List (ℕ × ℕ)} (λ a b. a ++ b) (ap (λ k. upTo D (row k)) (p .0))
+      (same-homesIn β g (p .1) (every-right AgreeUpTo (row (x f)) (homesIn x β g) h))
       ∙ sym (up-append D (row (y f)) (homesIn y β g))
   same-homesIn β (fork R ks g) p h =
       let f : ℕ = first ks in
@@ -114,14 +115,17 @@ module _ (x y : ℕ → ℕ) (D : ℕ) where
 
 -- ---- the first w of these rows, and their D
 module _ (x y : ℕ → ℕ) (D : ℕ) where
+  -- the two agree in every row up to D
   rows-agree : (hs : List (ℕ × ℕ)) → Every (AgreeUpTo x y D) hs → Every (λ i. x i ≡ y i) (map (λ h. h .0) (upTo D hs))
   rows-agree [] k = tt
   rows-agree (h ∷ hs) k = go (leb (h .1) D) refl (rows-agree hs (k .1))
     where
-      go : (b : Bool) → leb (h .1) D ≡ b → Every (λ i. x i ≡ y i) (map (λ h. h .0) (upTo D hs)) → Every (λ i. x i ≡ y i) (map (λ h. h .0) (cond b (h ∷ upTo D hs) (upTo D hs)))
+      go : (b : Bool) → leb (h .1) D ≡ b → Every (λ i. x i ≡ y i) (map (λ h. h .0) (upTo D hs))
+          → Every (λ i. x i ≡ y i) (map (λ h. h .0) (cond b (h ∷ upTo D hs) (upTo D hs)))
       go true e q = (k .0 (leb-true (h .1) D e), q)
       go false e q = q
 
+  -- so they keep the same of these rows
   same-kept : (R is : List ℕ) → Every (λ i. x i ≡ y i) R
       → keep (λ (a : ℕ × ℕ). has (a .0) R) (map (λ i. (i, x i)) is) ≡ keep (λ a. has (a .0) R) (map (λ i. (i, y i)) is)
   same-kept R [] k = refl
@@ -140,6 +144,7 @@ module _ (x y : ℕ → ℕ) (D : ℕ) where
       ap (λ l. take w (sort l)) (same-kept (rowsUpTo x t D) (range 0 n) (rows-agree (homes x t) h)
       ∙ ap (λ hs. keep (λ (a : ℕ × ℕ). has (a .0) (map (λ h. h .0) hs)) (map (λ i. (i, y i)) (range 0 n))) (same-homes x y D t h))
 
+  -- and D is its own for the second, if it is for the first
   pub same-own : (n : ℕ) (t : Grove) (w : ℕ) → Every (AgreeUpTo x y D) (homes x t) → Own x n t w D → Own y n t w D
   same-own n t w h O =
       record { enough = ap length (sym (same-best n t w h)) ∙ O .enough; reached = ap (λ l. lastDistance l) (sym (same-best n t w h)) ∙ O .reached }

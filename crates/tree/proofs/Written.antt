@@ -5,7 +5,8 @@ use Rattle.laws.specs.Every.{Every}
 use Rattle.laws.proofs.Tests.{and-l, and-of, and-r, eq-test}
 use Rattle.laws.specs.Lists.{all, each, range}
 use Rattle.limits.specs.Limits.{maxDepth, maxDistance}
-use Rattle.tree.proofs.Encode.{Even, Fine, Holds, Ok, family-tile, holds-left, nodes-head, nodes-ok}
+use Rattle.tree.proofs.Encode.{Even, Holds, family-tile, holds-left, nodes-head}
+use Rattle.tree.proofs.Shaped.{Fine, Ok, nodes-ok}
 use Rattle.tree.specs.Encode.{Node, encode, family, levelNodes, nodeWords, nodes, numbered, pairWords, span}
 use Rattle.tree.specs.Grove.{Grove, entries}
 use Rattle.words.specs.Shape.{born, level, nodeOk, positionOk, rootOk, shapeOk, tile}
@@ -38,20 +39,24 @@ read-nodes (v ∷ vs) pre z j e =
       subst (λ l. Holds l (suc j) vs) q (read-nodes vs pre′ z (suc j) (omega (arith, length-append pre (nodeWords v)))),
     )
 
+-- four words for each node
 pub each-words : (vs : List Node) → length (each nodeWords vs) ≡ width * length vs
 each-words [] = refl
 each-words (v ∷ vs) = omega (arith, each-words vs)
 
 -- POSITION WORDS ARE READ BACK: a fact of each pair is one of each position
-pub read-pairs : (P : ℕ → ℕ → Type 0) (es : List (ℕ × ℕ)) (pre : List ℕ) (w : List ℕ) (p : ℕ) → pre ++ each pairWords es ≡ w → length pre ≡ 8 + width * N# w + 2 * p
+read-pairs : (P : ℕ → ℕ → Type 0) (es : List (ℕ × ℕ)) (pre : List ℕ) (w : List ℕ) (p : ℕ) → pre ++ each pairWords es ≡ w
+    → length pre ≡ 8 + width * N# w + 2 * p
     → Every (λ e. P (e .0) (e .1)) es → Every (λ p. P (row# w p) (dist# w p)) (range p (length es))
 read-pairs P [] pre w p e l h = tt
 read-pairs P (x ∷ es) pre w p e l h =
     let ys : List ℕ = each pairWords (x ∷ es) in
     let a : row# w p ≡ x .0 = ap (λ l. at l (8 + width * N# w + 2 * p)) (sym e) ∙ at-behind pre ys (8 + width * N# w + 2 * p) 0 (omega arith) in
-    let b : dist# w p ≡ x .1 = ap (λ l. at l (8 + width * N# w + 2 * p + 1)) (sym e) ∙ at-behind pre ys (8 + width * N# w + 2 * p + 1) 1 (omega arith) in (
+    let b : dist# w p ≡ x .1 =
+    ap (λ l. at l (8 + width * N# w + 2 * p + 1)) (sym e) ∙ at-behind pre ys (8 + width * N# w + 2 * p + 1) 1 (omega arith) in (
       subst (λ s. P s (dist# w p)) (sym a) (subst (P (x .0)) (sym b) (h .0)),
-      read-pairs P es (pre ++ pairWords x) w (suc p) (append-assoc pre (pairWords x) (each pairWords es) ∙ e) (omega (arith, length-append pre (pairWords x))) (h .1),
+      read-pairs P es (pre ++ pairWords x) w (suc p) (append-assoc pre (pairWords x) (each pairWords es) ∙ e)
+          (omega (arith, length-append pre (pairWords x))) (h .1),
     )
 
 -- the root's words
@@ -67,7 +72,7 @@ root-ok w (suc N) e t q b =
 
 module _ (m l : ℕ) (t : Grove) (one : span t ≡ 1) (ev : Even m t) (fi : Fine l maxDepth t) where
   -- words that hold the numbered tree
-  pub written : (w : List ℕ) → m# w ≡ m → l# w ≡ l → N# w ≡ length (numbered t) → n# w ≡ length (entries t) → Holds w 0 (numbered t)
+  written : (w : List ℕ) → m# w ≡ m → l# w ≡ l → N# w ≡ length (numbered t) → n# w ≡ length (entries t) → Holds w 0 (numbered t)
       → Every (λ p. T (positionOk w p)) (range 0 (length (entries t))) → T (shapeOk w)
   unfolding numbered shapeOk levelNodes level born
   written w em el eN en h ps =
@@ -76,7 +81,8 @@ module _ (m l : ℕ) (t : Grove) (one : span t ≡ 1) (ev : Even m t) (fi : Fine
       (omega arith) (omega arith) refl (sym one) refl in
       let hd = nodes-head w maxDepth 0 (span t) fs h in
       let tl = family-tile w 0 (span t) 0 t (holds-left w 0 (family (span t) 0 t) [] hd) in
-      let tl′ : T (tile w 0 1 0 (length (entries t))) = subst (λ k. T (tile w 0 k 0 (length (entries t)))) one (subst (λ e. T (tile w 0 (span t) 0 e)) (zero-add (length (entries t))) tl) in
+      let tl′ : T (tile w 0 1 0 (length (entries t))) =
+      subst (λ k. T (tile w 0 k 0 (length (entries t)))) one (subst (λ e. T (tile w 0 (span t) 0 e)) (zero-add (length (entries t))) tl) in
       let b : born w (N# w) ≡ N# w = subst (λ k. born w k ≡ k) (zero-add (length (nodes maxDepth (span t) fs)) ∙ sym eN) (r .1) in
       and-of (rootOk w (N# w) && all (nodeOk w) (range 0 (N# w))) (all (positionOk w) (range 0 (n# w)))
       (and-of (rootOk w (N# w)) (all (nodeOk w) (range 0 (N# w))) (root-ok w (N# w) (length (entries t)) tl′ en b)
@@ -95,4 +101,5 @@ module _ (m l : ℕ) (t : Grove) (one : span t ≡ 1) (ev : Even m t) (fi : Fine
       (read-pairs (λ r s. T (ltb r (length (entries t)) && leb s maxDistance)) (entries t) (H ++ B) w 0 (append-assoc H B Z)
       (omega (arith, length-append H B, each-words (numbered t)))
       (every-of (λ e. (e .0 < length (entries t)) × (e .1 ≤ maxDistance)) (λ e. T (ltb (e .0) (length (entries t)) && leb (e .1) maxDistance))
-      (λ e h. and-of (ltb (e .0) (length (entries t))) (leb (e .1) maxDistance) (lt→ltb (e .0) (length (entries t)) (h .0)) (le→leb (e .1) maxDistance (h .1))) (entries t) ok))
+      (λ e h. and-of (ltb (e .0) (length (entries t))) (leb (e .1) maxDistance) (lt→ltb (e .0) (length (entries t)) (h .0))
+      (le→leb (e .1) maxDistance (h .1))) (entries t) ok))

@@ -57,6 +57,7 @@ module _ (d : ℕ → ℕ → ℕ) where
   abbrev pub radius : List ℕ → ℕ
   radius run = greatest (map (d (head run)) run)
 
+  -- a run's leaf, before the nodes g: each row with its distance from the first
   abbrev pub leafOf : List ℕ → Grove → Grove
   leafOf run g = leaf (radius run) (map (λ i. (i, d (head run) i)) run) g
 

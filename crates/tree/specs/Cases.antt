@@ -22,10 +22,11 @@ use lib.ListN.{length, set, take}
 use mathlib.Core.Bool.{Bool, _&&_}
 use mathlib.Core.List.{List, [], _∷_, map}
 
--- every case has one column, m = 2 and l = 2
+-- the five rows. Every case has one column, m = 2 and l = 2
 abbrev pub five : List ℕ
 five = 0 ∷ 1 ∷ 10 ∷ 11 ∷ 20 ∷ []
 
+-- the index of the five rows
 abbrev pub fiveWords : List ℕ
 fiveWords =
     1 ∷ 5 ∷ 1 ∷ 2 ∷ 2 ∷ 5 ∷ 1 ∷ 0
@@ -64,10 +65,12 @@ pub data Case : Type 0 where
   check : List ℕ → ℕ → ℕ → ℕ → Case
   -- for the five-row table: the number of a build with c, m, l, room and workspace
   buildSays : ℕ → ℕ → ℕ → ℕ → ℕ → ℕ → Case
-  -- of a radius search with these words and query, and of a nearest search that wants so many, by what they are lent
+  -- of a radius search with these words and query, by the how-bytes that it is lent
   radiusSays : List ℕ → List ℕ → ℕ → ℕ → Case
+  -- and of a nearest search that wants so many, by what it is lent
   nearestSays : List ℕ → List ℕ → ℕ → ℕ → ℕ → ℕ → ℕ → Case
 
+-- a case comes out as it says
 unfoldable pub right : Case → Bool
 unfolding sumTo tableFaults l1 between from headerOk wordsOk born level tile nodeOk shapeOk indexFaults again wrongDist wrongRadius strays faults treeAt treeOf family broods levelNodes nodes numbered encode choose split grow build homesIn homes answers passes nearHow marksIn marks radiusHow rotate step checkFrom checkWord window saidBuild saidCheck saidRadius saidNearest
 right (words T w) = same (build T 1 2 2) w && eqb (saidCheck T 1 w 30 .0) 0

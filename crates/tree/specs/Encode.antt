@@ -10,6 +10,7 @@ use mathlib.Core.List.{List, [], _++_, _∷_}
 abbrev pub Node : Type 0
 Node = ℕ × ℕ × ℕ × ℕ
 
+-- as words
 abbrev pub nodeWords : Node → List ℕ
 nodeWords v = v .0 ∷ v .1 ∷ v .2 ∷ v .3 ∷ []
 

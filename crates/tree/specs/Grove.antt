@@ -30,6 +30,7 @@ firsts bare = []
 firsts (leaf R es g) = head (map (λ e. e .0) es) ∷ firsts g
 firsts (fork R ks g) = head (firsts ks) ∷ firsts g
 
+-- the first of the first node
 abbrev pub first : Grove → ℕ
 first g = head (firsts g)
 

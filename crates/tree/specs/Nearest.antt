@@ -13,10 +13,12 @@ use mathlib.Core.Path.{_≡_}
 abbrev pub before : ℕ × ℕ → ℕ × ℕ → Bool
 before a b = ltb (a .1) (b .1) || (eqb (a .1) (b .1) && leb (a .0) (b .0))
 
+-- one more answer, in its place
 abbrev pub insert : ℕ × ℕ → List (ℕ × ℕ) → List (ℕ × ℕ)
 insert a [] = a ∷ []
 insert a (b ∷ bs) = cond (before a b) (a ∷ b ∷ bs) (b ∷ insert a bs)
 
+-- all in their places
 abbrev pub sort : List (ℕ × ℕ) → List (ℕ × ℕ)
 sort xs = foldr insert [] xs
 
@@ -24,10 +26,11 @@ sort xs = foldr insert [] xs
 abbrev pub lastDistance : List (ℕ × ℕ) → ℕ
 lastDistance as′ = last (map (λ a. a .1) as′)
 
--- a how-byte of a measured row, and how many there are
+-- a how-byte of a measured row
 abbrev pub isMeasured : ℕ → Bool
 isMeasured h = eqb h 1 || eqb h 3
 
+-- how many rows were measured
 abbrev pub measured : List ℕ → ℕ
 measured how = tally isMeasured how
 
@@ -49,10 +52,11 @@ module _ (x : ℕ → ℕ) (n : ℕ) where
   nearHow t w = map (λ i. cond (has i (map (λ a. a .0) (answers w))) 3 (cond (passes w (look i (homes x t))) 1 0)) (range 0 n)
 
 -- ---- the same, told by D alone: what a search can know that has measured the rows with home bound at most D and no other
--- the homes with a bound of at most D, and their rows
+-- the homes with a bound of at most D
 abbrev pub upTo : ℕ → List (ℕ × ℕ) → List (ℕ × ℕ)
 upTo D hs = keep (λ h. leb (h .1) D) hs
 
+-- the rows of these homes
 abbrev pub rowsUpTo : (ℕ → ℕ) → Grove → ℕ → List ℕ
 rowsUpTo x t D = map (λ h. h .0) (upTo D (homes x t))
 

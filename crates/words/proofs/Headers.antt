@@ -10,53 +10,65 @@ use mathlib.Core.List.{List}
 use mathlib.Core.Path.{_≡_, refl}
 
 -- ---- the node count
+-- no rows have no nodes
 pub nodes-none : (n N : ℕ) → n ≡ 0 → eqb N 0 ≡ nodesOk n N
 nodes-none n N e = rw e
 
+-- n rows have 1 to 2n - 1
 pub nodes-some : (n N : ℕ) → (n ≡ 0 → ⊥) → within 1 (2 * n - 1) N ≡ nodesOk n N
 nodes-some zero N h = absurd (h refl)
 nodes-some (suc n) N h = refl
 
 -- ---- the header
 module _ (w : List ℕ) where
+  -- the edition is not 1
   pub bad-edition : (edition# w ≡ 1 → ⊥) → false ≡ headerOk w
   unfolding headerOk
   bad-edition h = simp (ne-eqb (edition# w) 1 h)
 
+  -- there are too many rows
   pub bad-rows : maxRows < n# w → false ≡ headerOk w
   unfolding headerOk
   bad-rows h = simp (lt-leb (n# w) maxRows h, and-false)
 
+  -- the columns are out of range
   pub bad-columns : columnsOk (c# w) ≡ false → false ≡ headerOk w
   unfolding headerOk
   bad-columns e = simp (e, and-false)
 
+  -- m or l is out of range
   pub bad-share : shareOk (m# w) (l# w) ≡ false → false ≡ headerOk w
   unfolding headerOk
   bad-share e = simp (e, and-false)
 
+  -- the rows cannot have so many nodes
   pub bad-nodes : nodesOk (n# w) (N# w) ≡ false → false ≡ headerOk w
   unfolding headerOk
   bad-nodes e = simp (e, and-false)
 
+  -- the distance kind is not 1
   pub bad-kind : (kind# w ≡ 1 → ⊥) → false ≡ headerOk w
   unfolding headerOk
   bad-kind h = simp (ne-eqb (kind# w) 1 h, and-false)
 
+  -- all these are right: the last word decides
   pub good-header : edition# w ≡ 1 → n# w ≤ maxRows → columnsOk (c# w) ≡ true → shareOk (m# w) (l# w) ≡ true → nodesOk (n# w) (N# w) ≡ true
       → kind# w ≡ 1 → eqb (last# w) 0 ≡ headerOk w
   unfolding headerOk
   good-header e h c s k d = simp (eq-eqb (edition# w) 1 e, le-leb (n# w) maxRows h, c, s, k, eq-eqb (kind# w) 1 d)
 
   -- ---- the words
+  -- there are fewer than 8
   pub few-words : length w < 8 → false ≡ wordsOk w
   unfolding wordsOk
   few-words h = simp (lt-leb 8 (length w) h)
 
+  -- the header is impossible
   pub bad-header : headerOk w ≡ false → false ≡ wordsOk w
   unfolding wordsOk
   bad-header e = simp (e, and-false)
 
+  -- it is possible: how many words there are decides
   pub good-words : 8 ≤ length w → headerOk w ≡ true → leb (wordsOf w) (length w) ≡ wordsOk w
   unfolding wordsOk
   good-words h e = simp (le-leb 8 (length w) h, e)

@@ -1,8 +1,9 @@
 -- The words and the shape, read: what the two tests say, as the records that the layers above need. Assumes nothing.
 use Prim.Native.Nat.{_*_, _+_, _-_, _<_, _≤_, suc, zero, ℕ}
-use Rattle.laws.proofs.Tests.{and-l, and-r, holds}
-use Rattle.laws.specs.Lists.{all, range, same}
-use Rattle.limits.specs.Limits.{columnsOk, maxColumns, maxDepth, maxRows, shareOk, within}
+use Rattle.laws.proofs.Tests.{and-l, and-r, holds, is-true}
+use Rattle.laws.specs.Lists.{all, range}
+use Rattle.limits.proofs.Ranges.{columns-are, shared, within-both}
+use Rattle.limits.specs.Limits.{columnsOk, maxDepth, maxRows, shareOk}
 use Rattle.words.proofs.Levels.{born-le}
 use Rattle.words.proofs.Nodes.{closed, node-at, not-orphan, room-for, root-ok, root-some}
 use Rattle.words.proofs.Positions.{position-is}
@@ -19,16 +20,13 @@ use mathlib.Core.Path.{_≡_, ap, refl, subst}
 use native.Mathlib.Decide.{decLt}
 use native.Mathlib.Nat.{not-suc-le-zero}
 use native.Mathlib.Omega.{arith}
-use types.Kit.{later, some}
 
 -- ---- the header
-within-is : (a b x : ℕ) → T (within a b x) → (a ≤ x) × (x ≤ b)
-within-is a b x t = (leb→le a x (and-l (leb a x) (leb x b) t), leb→le x b (and-r (leb a x) (leb x b) t))
-
+-- a possible node count
 pub nodes-are : (n N : ℕ) → T (nodesOk n N) → (N ≤ 2 * n) × (1 ≤ n → 1 ≤ N)
 nodes-are zero N t = (omega (arith, eqb→eq N 0 t), λ h. absurd (not-suc-le-zero h))
 nodes-are (suc n) N t =
-    let q = within-is 1 (2 * suc n - 1) N t in
+    let q = within-both 1 (2 * suc n - 1) N (is-true (nodesOk (suc n) N) t) in
     (omega arith, λ h. q .0)
 
 -- WHAT THE WORDS' TEST SAYS
@@ -47,24 +45,25 @@ whole w e =
     (and-r (leb 8 (length w)) h (and-l (leb 8 (length w) && h) (leb (wordsOf w) (length w)) g))) in
     let t4 = and-l (a && b && d && s) k t in
     let t3 = and-l (a && b && d) s t4 in
-    let share : T (within 2 64 (m# w) && within (m# w) 1024 (l# w)) = and-r (a && b && d) s t4 in
-    let m = within-is 2 64 (m# w) (and-l (within 2 64 (m# w)) (within (m# w) 1024 (l# w)) share) in
+    let share = shared (m# w) (l# w) (is-true s (and-r (a && b && d) s t4)) in
     let nodes = nodes-are (n# w) (N# w) (and-r (a && b && d && s) k t) in
     record {
       words = leb→le (wordsOf w) (length w) (and-r (leb 8 (length w) && h) (leb (wordsOf w) (length w)) g);
       rows = leb→le (n# w) maxRows (and-r a b (and-l (a && b) d t3));
-      columns = within-is 1 maxColumns (c# w) (and-r (a && b) d t3);
-      fan = m;
-      leaf = within-is (m# w) 1024 (l# w) (and-r (within 2 64 (m# w)) (within (m# w) 1024 (l# w)) share);
+      columns = columns-are (c# w) (is-true d (and-r (a && b) d t3));
+      fan = (share .two, share .most);
+      leaf = (share .leafy, share .leaf);
       nodes = nodes .0;
       rooted = nodes .1;
     }
 
+-- the header's words are there
 pub header-there : (w : List ℕ) → wordsOk w ≡ true → 8 ≤ length w
 header-there w e = omega (arith, whole w e .words)
 
 -- ---- the shape
 module _ (w : List ℕ) (W : Whole w) (t : T (treeFits w)) where
+  -- the root's run is everything
   root-is : 1 ≤ N# w → (start# w 0 ≡ 0) × (count# w 0 ≡ n# w)
   root-is h =
       let a = eqb (start# w 0) 0 in
@@ -104,6 +103,7 @@ module _ (w : List ℕ) (W : Whole w) (t : T (treeFits w)) where
   inner-deeper k zero h e l = omega (arith, node-at w t k h .shallow e, l .1)
   inner-deeper k (suc left) h e l = omega arith
 
+  -- what the layers above use of an inner node's children
   kids-are : (k : ℕ) → k < N# w → inner w k ≡ true → Kids w k
   kids-are k h e =
       let v = node-at w t k h in
@@ -119,6 +119,7 @@ module _ (w : List ℕ) (W : Whole w) (t : T (treeFits w)) where
             (omega (arith, l .0), omega (arith, v .next e, below left q (l .0), born-le w (level w (maxDepth - left)) k (l .1)));
       }
 
+  -- a node at depth 24 is a leaf
   bottom-leaf : (k : ℕ) → k < N# w → level w maxDepth ≤ k → inner w k ≡ false
   bottom-leaf k h l = go (inner w k) refl
     where
@@ -126,6 +127,7 @@ module _ (w : List ℕ) (W : Whole w) (t : T (treeFits w)) where
       go false e = refl
       go true e = absurd (omega (arith, node-at w t k h .shallow e))
 
+  -- what they use of a node
   node-in : (k : ℕ) → k < N# w → Node w k
   node-in k h =
       let v = node-at w t k h in
@@ -137,6 +139,7 @@ module _ (w : List ℕ) (W : Whole w) (t : T (treeFits w)) where
         bottom = λ l. bottom-leaf k h (l .1);
       }
 
+-- what they use of a position
 place-in : (w : List ℕ) → T (all (positionOk w) (range 0 (n# w))) → (p : ℕ) → p < n# w → Place w p
 place-in w t p h =
     let q = position-is w t p h in

@@ -9,7 +9,7 @@ use Rattle.words.specs.Shape.{shapeOk}
 use Rattle.words.specs.Words.{N#, count#, headerOk, pairAt, start#, wordsOf, wordsOk}
 use borrow.Author.Tests.{le-ltb, leb-false, lt-leb, lt-ltb, ltb-false, ltb-true}
 use lib.Dec.{T, leb, ltb}
-use lib.ListN.{drop, length, length-drop, length-take, take}
+use lib.ListN.{length, length-drop, length-take}
 use mathlib.Core.Bool.{Bool, _&&_, and-false, cond, false, true}
 use mathlib.Core.List.{List, []}
 use mathlib.Core.Logic.{_↔_}
@@ -18,18 +18,22 @@ use native.Mathlib.Omega.{arith}
 
 module _ (w : List ℕ) (k : ℕ) where
   -- ---- the test
+  -- words are missing, or the header is impossible
   pub no-words : wordsOk w ≡ false → lists w k ≡ false
   unfolding lists
   no-words e = rw e
 
+  -- the shape is wrong
   pub no-shape : shapeOk w ≡ false → lists w k ≡ false
   unfolding lists
   no-shape e = rw (e, and-false (wordsOk w))
 
+  -- k is no node's number
   pub no-node : N# w ≤ k → lists w k ≡ false
   unfolding lists
   no-node h = rw (le-ltb k (N# w) h, and-false (wordsOk w && shapeOk w))
 
+  -- none of these
   pub all-right : wordsOk w ≡ true → shapeOk w ≡ true → k < N# w → lists w k ≡ true
   unfolding lists
   all-right e s h = rw (e, s, lt-ltb k (N# w) h)
@@ -45,17 +49,21 @@ module _ (w : List ℕ) (k : ℕ) where
       )
 
   -- ---- the part
+  -- where the test fails nothing is listed
   listed-none : lists w k ≡ false → listed w k ≡ []
   unfolding listed
   listed-none e = rw e
 
+  -- where it passes the node's pairs are
   listed-pairs : lists w k ≡ true → listed w k ≡ pairs w k
   unfolding listed
   listed-pairs e = rw e
 
+  -- the pairs of a node stand within the index's words
   pub part-there : InShape w → k < N# w → pairAt w (start# w k) + 2 * count# w k ≤ wordsOf w
   part-there S h = omega (arith, S .node k h .run)
 
+  -- there are two words for each of its rows
   pairs-long : InShape w → k < N# w → length (pairs w k) ≡ 2 * count# w k
   pairs-long S h = simp (length-take, length-drop) (omega (arith, part-there S h, S .whole .words))
 
@@ -84,6 +92,7 @@ module _ (w : List ℕ) (k : ℕ) where
         }
 
   -- ---- EMPTY EXACTLY IN THE FOUR CASES
+  -- words that fail: some are missing, or the header is impossible
   words-unlisted : wordsOk w ≡ false → Unlisted w k
   unfolding wordsOk
   words-unlisted e = go (leb 8 (length w)) (headerOk w) (leb (wordsOf w) (length w)) refl refl refl e
@@ -94,6 +103,7 @@ module _ (w : List ℕ) (k : ℕ) where
       go true true false p q r e = missing (leb-false (wordsOf w) (length w) r)
       go true true true p q r e = absurd (subst T e tt)
 
+  -- an empty part is one of the four cases
   empty-unlisted : listed w k ≡ [] → Unlisted w k
   empty-unlisted e = go (wordsOk w) (shapeOk w) (ltb k (N# w)) refl refl refl
     where
@@ -106,20 +116,24 @@ module _ (w : List ℕ) (k : ℕ) where
           let S = in-shape w p q in
           absurd (omega (arith, ap length e, ap length (listed-pairs (all-right p q h)), pairs-long S h, S .node k h .some))
 
+  -- where words are missing the test of the words fails
   words-short : length w < wordsOf w → wordsOk w ≡ false
   unfolding wordsOk
   words-short h = rw (lt-leb (wordsOf w) (length w) h, and-false (leb 8 (length w) && headerOk w))
 
+  -- and where the header is impossible
   words-bad : headerOk w ≡ false → wordsOk w ≡ false
   unfolding wordsOk
   words-bad e = rw (e, and-false (leb 8 (length w)))
 
+  -- in each of the four cases the part is empty
   unlisted-empty : Unlisted w k → listed w k ≡ []
   unlisted-empty (missing h) = listed-none (no-words (words-short h))
   unlisted-empty (impossible e) = listed-none (no-words (words-bad e))
   unlisted-empty (wrong e) = listed-none (no-shape e)
   unlisted-empty (beyond h) = listed-none (no-node h)
 
+  -- THE PART IS EMPTY EXACTLY WHERE WORDS ARE MISSING, THE HEADER IS IMPOSSIBLE, THE SHAPE IS WRONG OR k IS NOT BELOW N
   pub listed-empty : (listed w k ≡ []) ↔ Unlisted w k
   listed-empty = (empty-unlisted, unlisted-empty)
 

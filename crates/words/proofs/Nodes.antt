@@ -25,6 +25,7 @@ pub record NodeIs (w : List ℕ) (k : ℕ) : Type 0 where
   pub tiled : inner w k ≡ true → T (tile w (child# w k) (m# w) (start# w k) (start# w k + count# w k))
 
 module _ (w : List ℕ) (k : ℕ) where
+  -- node k's children's runs tile its own
   abbrev tiles : Bool
   tiles = tile w (child# w k) (m# w) (start# w k) (start# w k + count# w k)
 
@@ -38,10 +39,14 @@ module _ (w : List ℕ) (k : ℕ) where
       → inner w k ≡ true → (k < level w maxDepth) × (child# w k ≡ born w k) × T tiles
   by-case true deep h t e = absurd (leaf-not t e)
   by-case false true h t e = absurd (leaf-not t e)
-  by-case false false h t e =
-      (leb-false (level w maxDepth) k h, eqb→eq (child# w k) (born w k) (and-l (eqb (child# w k) (born w k)) tiles t), and-r (eqb (child# w k) (born w k)) tiles t)
+  by-case false false h t e = (
+    leb-false (level w maxDepth) k h,
+    eqb→eq (child# w k) (born w k) (and-l (eqb (child# w k) (born w k)) tiles t),
+    and-r (eqb (child# w k) (born w k)) tiles t,
+  )
 
-  pub node-is : T (nodeOk w k) → NodeIs w k
+  -- the test of node k, read
+  node-is : T (nodeOk w k) → NodeIs w k
   unfolding nodeOk
   node-is t =
       let a = leb 1 (count# w k) in
@@ -58,18 +63,22 @@ module _ (w : List ℕ) (k : ℕ) where
         tiled = λ e. (p e) .2;
       }
 
+-- where there is a root, its part of the shape
 pub root-some : (w : List ℕ) (N : ℕ) → 1 ≤ N → rootOk w N ≡ (rootFits w && eqb (born w N) N)
 root-some w zero h = absurd (not-suc-le-zero h)
 root-some w (suc N) h = refl
 
 module _ (w : List ℕ) (t : T (treeFits w)) where
+  -- the root's part of the shape holds
   pub root-ok : T (rootOk w (N# w))
   root-ok = and-l (rootOk w (N# w)) (all (nodeOk w) (range 0 (N# w))) t
 
+  -- each node passes its test
   pub node-ok : (k : ℕ) → k < N# w → T (nodeOk w k)
   node-ok k h =
       every-at (λ k. T (nodeOk w k)) (N# w) k (all-every (nodeOk w) (range 0 (N# w)) (and-r (rootOk w (N# w)) (all (nodeOk w) (range 0 (N# w))) t)) h
 
+  -- so that it is what the test says
   pub node-at : (k : ℕ) → k < N# w → NodeIs w k
   node-at k h = node-is w k (node-ok k h)
 

@@ -26,18 +26,22 @@ module _ (w : List ℕ) where
       (ltb→lt (row# w p) (n# w) (and-l a b q), leb→le (dist# w p) maxDistance (and-r a b q))
 
   -- ---- the words of position p, from the first position on
+  -- the first is its row
   pub row-word : (base p : ℕ) → base ≡ pairAt w 0 → at w (base + 2 * p) ≡ row# w p
   row-word base p e = ap (at w) (omega arith)
 
+  -- the second its distance
   pub dist-word : (base p : ℕ) → base ≡ pairAt w 0 → at w (base + 2 * p + 1) ≡ dist# w p
   dist-word base p e = ap (at w) (omega arith)
 
   -- ---- the pass's two ends
+  -- the greatest row number is not below n
   pub rows-high : {row : ℕ} → 1 ≤ n# w → row ≡ mostTo (row# w) (n# w) → n# w ≤ row → false ≡ all (positionOk w) (range 0 (n# w))
   rows-high {row} s e h =
       refute (all (positionOk w) (range 0 (n# w)))
       (λ t. omega (arith, most-least (row# w) (n# w) (n# w - 1) (λ p q. omega (arith, position-is t p q .0))))
 
+  -- it is: the greatest distance decides
   pub rows-low : {row far : ℕ} → row ≡ mostTo (row# w) (n# w) → far ≡ mostTo (dist# w) (n# w) → row < n# w
       → leb far maxDistance ≡ all (positionOk w) (range 0 (n# w))
   rows-low {row} {far} e d h = go (leb far maxDistance) refl

@@ -21,6 +21,7 @@ pairs w k = take (2 * count# w k) (drop (pairAt w (start# w k)) w)
 unfoldable pub lists : List ℕ → ℕ → Bool
 lists w k = wordsOk w && shapeOk w && ltb k (N# w)
 
+-- the part that is listed: a node's pairs, or nothing
 unfoldable pub listed : List ℕ → ℕ → List ℕ
 listed w k = cond (lists w k) (pairs w k) []
 

@@ -53,6 +53,7 @@ pub record Root (w : List ℕ) : Type 0 where
   pub start : start# w 0 ≡ 0
   pub count : count# w 0 ≡ n# w
 
+-- an index in shape
 pub record InShape (w : List ℕ) : Type 0 where
   pub whole : Whole w
   pub root : 1 ≤ n# w → Root w

@@ -38,6 +38,7 @@ nodeFits w k next deep =
     && cond (leb (count# w k) (l# w) || deep) (eqb (child# w k) 0)
     (eqb (child# w k) next && tile w (child# w k) (m# w) (start# w k) (start# w k + count# w k))
 
+-- node k fits where the numbering puts it
 unfoldable pub nodeOk : List ℕ → ℕ → Bool
 nodeOk w k = nodeFits w k (born w k) (leb (level w maxDepth) k)
 
@@ -58,5 +59,6 @@ rootOk w (suc N) = rootFits w && eqb (born w (suc N)) (suc N)
 abbrev pub treeFits : List ℕ → Bool
 treeFits w = rootOk w (N# w) && all (nodeOk w) (range 0 (N# w))
 
+-- the whole shape: the nodes, and every position
 unfoldable pub shapeOk : List ℕ → Bool
 shapeOk w = treeFits w && all (positionOk w) (range 0 (n# w))

@@ -12,27 +12,35 @@ abbrev pub at : List ℕ → ℕ → ℕ
 at w i = getD w i 0
 
 -- ---- the header's eight words: edition, n, c, m, l, node count N, distance kind, and a last one
+-- the edition, 1
 abbrev pub edition# : List ℕ → ℕ
 edition# w = at w 0
 
+-- how many rows
 abbrev pub n# : List ℕ → ℕ
 n# w = at w 1
 
+-- how many columns
 abbrev pub c# : List ℕ → ℕ
 c# w = at w 2
 
+-- how many centres an inner node has
 abbrev pub m# : List ℕ → ℕ
 m# w = at w 3
 
+-- the leaf size
 abbrev pub l# : List ℕ → ℕ
 l# w = at w 4
 
+-- how many nodes
 abbrev pub N# : List ℕ → ℕ
 N# w = at w 5
 
+-- the distance kind, 1
 abbrev pub kind# : List ℕ → ℕ
 kind# w = at w 6
 
+-- the last word, 0
 abbrev pub last# : List ℕ → ℕ
 last# w = at w 7
 
@@ -48,6 +56,7 @@ headerOk w =
     && nodesOk (n# w) (N# w) && eqb (kind# w) 1 && eqb (last# w) 0
 
 -- ---- the nodes, `width` words each after the header: start, count, first child's number (0 for a leaf), radius
+-- how many words a node has
 abbrev pub width : ℕ
 width = 4
 
@@ -55,15 +64,19 @@ width = 4
 abbrev pub nodeAt : ℕ → ℕ
 nodeAt k = 8 + width * k
 
+-- where node k's run starts
 abbrev pub start# : List ℕ → ℕ → ℕ
 start# w k = at w (nodeAt k)
 
+-- how many rows it has
 abbrev pub count# : List ℕ → ℕ → ℕ
 count# w k = at w (nodeAt k + 1)
 
+-- its first child's number, 0 for a leaf
 abbrev pub child# : List ℕ → ℕ → ℕ
 child# w k = at w (nodeAt k + 2)
 
+-- its radius
 abbrev pub radius# : List ℕ → ℕ → ℕ
 radius# w k = at w (nodeAt k + 3)
 
@@ -72,9 +85,11 @@ radius# w k = at w (nodeAt k + 3)
 abbrev pub pairAt : List ℕ → ℕ → ℕ
 pairAt w p = nodeAt (N# w) + 2 * p
 
+-- the row number at position p
 abbrev pub row# : List ℕ → ℕ → ℕ
 row# w p = at w (pairAt w p)
 
+-- the stored distance at position p
 abbrev pub dist# : List ℕ → ℕ → ℕ
 dist# w p = at w (pairAt w p + 1)
 
@@ -86,9 +101,11 @@ wordsOf w = pairAt w (n# w)
 unfoldable pub wordsOk : List ℕ → Bool
 wordsOk w = leb 8 (length w) && headerOk w && leb (wordsOf w) (length w)
 
--- ---- a node's positions, and its first: the row at its run's start
+-- ---- a node's positions, and its first
+-- the positions of node k's run
 abbrev pub run# : List ℕ → ℕ → List ℕ
 run# w k = range (start# w k) (count# w k)
 
+-- node k's first: the row at its run's start
 abbrev pub first# : List ℕ → ℕ → ℕ
 first# w k = row# w (start# w k)

@@ -1,7 +1,7 @@
 -- `radius::radius` meets its contract: a refusal leaves the how-bytes alone; else the search writes them and the counts are taken from them.
 -- Assumes nothing.
 use Rattle.radius.proofs.Answered.{done-is, refused-is}
-use Rattle.radius.proofs.Refused.{fits}
+use Rattle.radius.proofs.Refusals.{fits}
 use Rattle.radius.proofs.radius.Statement.{statement}
 use Rattle.radius.proofs.radius.Tie as tie
 use borrow.Author.Needs.{needs}

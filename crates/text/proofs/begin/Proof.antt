@@ -1,6 +1,6 @@
 -- `text::begin` meets its contract: one return for a digit, one for any other byte.
 -- Assumes nothing.
-use Rattle.text.proofs.Within.{within-both}
+use Rattle.limits.proofs.Ranges.{within-both}
 use Rattle.text.proofs.begin.Statement.{statement}
 use Rattle.text.proofs.begin.Tie as tie
 use Rattle.text.specs.Reading.{begun}

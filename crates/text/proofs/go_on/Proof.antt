@@ -1,6 +1,6 @@
 -- `text::go_on` meets its contract: each return has its test, in the order of the definition.
 -- Assumes nothing.
-use Rattle.text.proofs.Within.{within-both}
+use Rattle.limits.proofs.Ranges.{within-both}
 use Rattle.text.proofs.go_on.Statement.{statement}
 use Rattle.text.proofs.go_on.Tie as tie
 use Rattle.text.specs.Reading.{onward}

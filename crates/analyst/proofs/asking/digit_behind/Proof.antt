@@ -4,7 +4,7 @@ use Rattle.analyst.proofs.Worths.{behind-digit, behind-most, behind-oth
 use Rattle.analyst.proofs.asking.digit_behind.Statement.{statement}
 use Rattle.analyst.proofs.asking.digit_behind.Tie as tie
 use Rattle.laws.proofs.Tests.{no, yes}
-use Rattle.text.proofs.Within.{within-both}
+use Rattle.limits.proofs.Ranges.{within-both}
 use borrow.Author.Needs.{needs}
 use native.Mathlib.Omega.{arith}
 

@@ -1,7 +1,7 @@
 -- `image::reading::check_held` meets its contract: each return is one end of the tests, in their order.
 -- Assumes nothing.
 use Prim.Native.Nat.{_/_, ℕ}
-use Rattle.image.proofs.Numbers.{none-held, seventeen, sixteen-count, sixteen-header, sound-found, sound-refused}
+use Rattle.image.proofs.Refusals.{none-held, seventeen, sixteen-count, sixteen-header, sound-found, sound-refused}
 use Rattle.image.proofs.reading.check_held.Statement.{statement}
 use Rattle.image.proofs.reading.check_held.Tie as tie
 use Rattle.image.specs.Sound.{restZero}

@@ -1,9 +1,9 @@
 -- `sheet::bytes::kind_of` meets its contract: each return has its test, in the order of the definition.
 -- Assumes nothing.
+use Rattle.limits.proofs.Ranges.{within-both}
 use Rattle.sheet.proofs.bytes.kind_of.Statement.{statement}
 use Rattle.sheet.proofs.bytes.kind_of.Tie as tie
 use Rattle.sheet.specs.Kinds.{kindOf}
-use Rattle.text.proofs.Within.{within-both}
 use borrow.Author.Needs.{needs}
 use borrow.Author.Tests.{eq-eqb, ne-eqb}
 use mathlib.Core.Path.{_∙_, sym}

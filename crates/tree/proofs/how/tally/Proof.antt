@@ -1,7 +1,7 @@
 -- `tree::how::tally` meets its contract: after i turns the counters hold the tallies of the first i bytes.
 -- Assumes nothing.
 use Prim.Native.Nat.{_-_, _≤_}
-use Rattle.tree.proofs.Tallies.{one-most, tally-next}
+use Rattle.tree.proofs.Tallies.{bit-most, tally-next}
 use Rattle.tree.proofs.how.tally.Statement.{statement}
 use Rattle.tree.proofs.how.tally.Tie as tie
 use Rattle.tree.specs.Nearest.{isMeasured, measured}
@@ -31,7 +31,11 @@ one-in-requires c κs = search needs
 
 add-inside : tie.Need-add-inside Inv-loop μ-loop
 add-inside c =
-    omega (arith, c .one-in .ensures, one-most (leb 2 (getD (c .before .before .before .before .before .args .how .now) (c .before .before .before .loop .i) 0)))
+    omega (
+      arith,
+      c .one-in .ensures,
+      bit-most (leb 2 (getD (c .before .before .before .before .before .args .how .now) (c .before .before .before .loop .i) 0)),
+    )
 
 shared-slice-read-one-measured : tie.Need-shared-slice-read-one-measured Inv-loop μ-loop
 shared-slice-read-one-measured c = search needs
@@ -41,7 +45,12 @@ one-measured-requires c κs = search needs
 
 add-measured : tie.Need-add-measured Inv-loop μ-loop
 add-measured c =
-    omega (arith, c .one-measured .ensures, one-most (isMeasured (getD (c .before .before .before .before .before .before .before .args .how .now) (c .before .before .before .before .before .loop .i) 0)))
+    omega (
+      arith,
+      c .one-measured .ensures,
+      bit-most (isMeasured
+          (getD (c .before .before .before .before .before .before .before .args .how .now) (c .before .before .before .before .before .loop .i) 0)),
+    )
 
 add-i : tie.Need-add-i Inv-loop μ-loop
 add-i c = search needs
@@ -55,8 +64,8 @@ loop-again c =
     let how = c .before .before .before .before .before .before .before .args .how .now in (
       omega arith,
       l .inv .1,
-      omega (arith, c .before .before .one-in .ensures, one-most (leb 2 (getD how (l .i) 0))),
-      omega (arith, c .one-measured .ensures, one-most (isMeasured (getD how (l .i) 0))),
+      omega (arith, c .before .before .one-in .ensures, bit-most (leb 2 (getD how (l .i) 0))),
+      omega (arith, c .one-measured .ensures, bit-most (isMeasured (getD how (l .i) 0))),
       tally-next (leb 2) how (l .i) (omega arith) (l .inv .4) (c .before .before .one-in .ensures),
       tally-next isMeasured how (l .i) (omega arith) (l .inv .5) (c .one-measured .ensures),
     )

@@ -41,7 +41,9 @@ share-ok-requires : tie.Need-share-ok-requires
 share-ok-requires c κs = search needs
 
 returns-4 : tie.Need-returns-4
-returns-4 c = bad-share _ (no-at shareOk (c .before .share-ok .ensures) (c .before .before .before .word4 .ensures .0) (c .before .before .word5 .ensures .0) (c .if4 .taken))
+returns-4 c =
+    bad-share _ (no-at shareOk (c .before .share-ok .ensures) (c .before .before .before .word4 .ensures .0)
+    (c .before .before .word5 .ensures .0) (c .if4 .taken))
 
 word-requires-6 : tie.Need-word-requires-6
 word-requires-6 c κs = search needs
@@ -75,7 +77,8 @@ returns-7 c =
     rw (c .word8 .ensures .0)
     (good-header _ (sym (at1 .before .word .ensures .0) ∙ at1 .if1 .left) (omega (arith, n, at2 .if2 .left))
     (yes (at3 .before .columns-ok .ensures ∙ ap columnsOk (at3 .before .before .word3 .ensures .0)) (at3 .if3 .left))
-    (yes-at shareOk (at4 .before .share-ok .ensures) (at4 .before .before .before .word4 .ensures .0) (at4 .before .before .word5 .ensures .0) (at4 .if4 .left))
+    (yes-at shareOk (at4 .before .share-ok .ensures) (at4 .before .before .before .word4 .ensures .0) (at4 .before .before .word5 .ensures .0)
+    (at4 .if4 .left))
     (yes-at nodesOk (at5 .before .nodes-ok .ensures) n (at5 .before .before .word6 .ensures .0) (at5 .if5 .left))
     (sym (at6 .before .word7 .ensures .0) ∙ at6 .if6 .left))
 

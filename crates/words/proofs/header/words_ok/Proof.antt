@@ -34,7 +34,9 @@ add-result-2 : tie.Need-add-result-2
 add-result-2 c = search needs
 
 returns-3 : tie.Need-returns-3
-returns-3 c = rw (c .before .nodes .ensures .0, c .rows .ensures .0) (good-words _ (c .before .before .before .before .if1 .left) (yes (c .before .before .before .header-ok .ensures) (c .before .before .if2 .left)))
+returns-3 c =
+    rw (c .before .nodes .ensures .0, c .rows .ensures .0) (good-words _ (c .before .before .before .before .if1 .left)
+    (yes (c .before .before .before .header-ok .ensures) (c .before .before .if2 .left)))
 
 pub words-ok-spec : {M : Type 1} → statement M
 words-ok-spec =

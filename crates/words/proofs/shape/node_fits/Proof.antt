@@ -49,7 +49,8 @@ returns-4 c =
     let at1 = at-child .before .before .before in
     let a = at1 .before .before .before .args in
     rw (at-child .node-child .ensures .0)
-    (fit-few (a .index .now) (a .k) (a .next) (a .depth) (yes (at1 .before .has-room .ensures) (at1 .if1 .left)) (omega arith) (omega arith) (omega arith))
+    (fit-few (a .index .now) (a .k) (a .next) (a .depth) (yes (at1 .before .has-room .ensures) (at1 .if1 .left)) (omega arith) (omega arith)
+    (omega arith))
 
 returns-5 : tie.Need-returns-5
 returns-5 c =

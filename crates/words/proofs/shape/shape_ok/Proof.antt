@@ -17,7 +17,9 @@ positions-fit-requires : tie.Need-positions-fit-requires
 positions-fit-requires c κs = whole (c .before .before .before .args .index .now) (c .before .before .before .pre)
 
 returns-2 : tie.Need-returns-2
-returns-2 c = c .positions-fit .ensures ∙ shape-go-on (c .before .before .before .before .args .index .now) (yes (c .before .before .tree-fits .ensures) (c .before .if1 .left))
+returns-2 c =
+    c .positions-fit .ensures
+    ∙ shape-go-on (c .before .before .before .before .args .index .now) (yes (c .before .before .tree-fits .ensures) (c .before .if1 .left))
 
 pub shape-ok-spec : {M : Type 1} → statement M
 shape-ok-spec = tie.close (tie.spec tree-fits-requires returns positions-fit-requires returns-2)

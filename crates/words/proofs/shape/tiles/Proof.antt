@@ -58,7 +58,8 @@ loop-again c =
       at-loop .loop .inv .2
           ∙ tile-step (a .index .now) (a .j) (at-loop .loop .i) (a .m) (at-loop .loop .at) (a .e) (at1 .before .before .loop-test .taken)
           (sym (at1 .before .node-start .ensures .0) ∙ at1 .if1 .left)
-          ∙ ap (λ k. tile (a .index .now) (a .j + (at-loop .loop .i + 1)) (a .m - (at-loop .loop .i + 1)) (at-loop .loop .at + k) (a .e)) (sym (c .node-count .ensures .0)),
+          ∙ ap (λ k. tile (a .index .now) (a .j + (at-loop .loop .i + 1)) (a .m - (at-loop .loop .i + 1)) (at-loop .loop .at + k) (a .e))
+          (sym (c .node-count .ensures .0)),
     )
 
 returns-2 : tie.Need-returns-2 Inv-loop μ-loop

@@ -1,4 +1,5 @@
--- `words::shape::tree_fits` meets its contract: at node k the counters are the definition's, and the nodes before it fit. The measure is what is left of the nodes.
+-- `words::shape::tree_fits` meets its contract: at node k the counters are the definition's, and the nodes before it fit.
+-- The measure is what is left of the nodes.
 -- Assumes nothing.
 use Prim.Native.Nat.{_-_}
 use Rattle.laws.proofs.Tests.{no, yes}
