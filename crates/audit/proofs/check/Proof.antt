@@ -10,10 +10,11 @@ use lib.ListN.{length}
 use mathlib.Core.Path.{_∙_, sym}
 use native.Mathlib.Omega.{arith}
 
--- past the refusals: the start, and what holds there
+-- the start, seen from the branch past the refusals
 abbrev start : tie.Else1 → tie.Start
 start c = c .before .before .before .before .before
 
+-- in that branch table, workspace and index are what the passes need
 going : (c : tie.Else1) → Past (start c .args .table .now) (start c .args .c) (start c .args .index .now) (length (start c .args .work .now))
 going c =
     let a = start c .args in
