@@ -16,25 +16,31 @@ use mathlib.Core.Path.{_∙_, _≡_, ap, ap₂, refl, sym}
 use native.Mathlib.Omega.{arith}
 
 -- a block whose 128 words are the same is as good
-block-same : (i i′ : List ℕ) (b : ℕ) → ((j : ℕ) → j < 128 → blockWord i b j ≡ blockWord i′ b j) → blockGood i b ≡ blockGood i′ b
+block-same : (i i′ : List ℕ) (b : ℕ) → ((j : ℕ) → j < 128 → blockWord i b j ≡ blockWord i′ b j)
+    → blockGood i b ≡ blockGood i′ b
 unfolding blockGood
 block-same i i′ b f =
     ap₂ eqb (ap (checkWord b) (same-words i i′ (512 * b) (512 * b) 127 (λ j h. f j (omega arith)))) (f 127 (omega arith))
 
+-- byte p is changed to v
 module _ (i : List ℕ) (p v : ℕ) (there : p < length i) where
+  -- the image after the change
   abbrev i′ : List ℕ
   i′ = set i p v
 
+  -- every other byte is as it was
   other : (q : ℕ) → (q ≡ p → ⊥) → at i′ q ≡ at i q
   other q h = getD-set-other i p q v 0 h
 
+  -- byte p is v
   new : (q : ℕ) → q ≡ p → at i′ q ≡ v
   new q e = ap (at i′) e ∙ getD-set-same i p v 0 there
 
+  -- and was what it was, by any name of its place
   old : (q : ℕ) → q ≡ p → at i q ≡ at i p
   old q e = ap (at i) e
 
-  -- the word that it is in, as its byte r
+  -- a word that has it as its byte r, and is as it was: the byte is too
   word-differs : (r q : ℕ) → q + r ≡ p → r < 4 → wordAt i q ≡ wordAt i′ q → at i p ≡ v
   unfolding wordAt
   word-differs zero q e h s =
@@ -51,10 +57,11 @@ module _ (i : List ℕ) (p v : ℕ) (there : p < length i) where
       omega (arith, other q (λ n. omega arith), other (q + 1) (λ n. omega arith), other (q + 2) (λ n. omega arith), new (q + 3) m, old (q + 3) m)
   word-differs (suc (suc (suc (suc r)))) q e h s = absurd (omega arith)
 
-  -- every word but the byte's own is the same
+  -- every word but the byte's own is as it was
   words-same : (b j : ℕ) → (512 * b + 4 * j ≡ p / 4 * 4 → ⊥) → blockWord i b j ≡ blockWord i′ b j
   words-same b j h = word-cong i i′ (512 * b + 4 * j) (512 * b + 4 * j) (λ d l. sym (other (512 * b + 4 * j + d) (λ e. h (omega arith))))
 
+  -- so just the byte's own word differs in its block
   changed : (at i p ≡ v → ⊥) → Changed i i′ (p / 512) (p % 512 / 4)
   changed differs =
       record {
@@ -63,6 +70,7 @@ module _ (i : List ℕ) (p v : ℕ) (there : p < length i) where
         differs = λ e. differs (word-differs (p % 4) (512 * (p / 512) + 4 * (p % 512 / 4)) (omega arith) (omega arith) e);
       }
 
+  -- bytes stay bytes
   bytes-still : v < 256 → Below 256 i → Below 256 i′
   bytes-still small h q = go (eqb q p) refl
     where

@@ -1,4 +1,5 @@
--- `image::writing::put_block` meets its contract: after i turns the bytes of i words stand at the part's front, and the check has gone over them.
+-- `image::writing::put_block` meets its contract: after i turns the bytes of i words stand at the part's front, and the check has gone over
+-- them.
 -- Assumes nothing.
 use Prim.Native.Nat.{_%_, _*_, _+_, _-_, _^_, _≤_, ℕ}
 use Rattle.image.proofs.Blocks.{window-bytes, window-bytes-length, window-check}
@@ -37,6 +38,7 @@ block-done index part₀ part last b s₀ s i inv done start long e =
     ∙ ap₂ (λ (x : ℕ) (t : List ℕ). (each bytes ws ++ bytes x) ++ t) sum (drop-of-length-le part₀ {i = 512} (omega arith))
     ∙ append-nil (each bytes ws ++ bytes (checkWord b ws))
 
+-- a word has four bytes
 four-more : (i : ℕ) → 4 * (i + 1) ≡ 4 * i + 4
 four-more i = omega arith
 
@@ -128,7 +130,8 @@ returns c =
     let at-loop = c .before .before .before .before .before in
     let start = at-loop .before .before .before .before in
     block-done (start .args .index .now) (start .args .part .now) (at-loop .loop .part) _ (start .args .b) _ _ _ (at-loop .loop .inv)
-    (c .before .before .before .before .loop-test .left) (at-loop .before .check-start .ensures) (start .pre .1) (c .before .before .put-word2 .ensures)
+    (c .before .before .before .before .loop-test .left) (at-loop .before .check-start .ensures) (start .pre .1)
+    (c .before .before .put-word2 .ensures)
 
 pub put-block-spec : {M : Type 1} → statement M
 put-block-spec =

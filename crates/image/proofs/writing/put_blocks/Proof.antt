@@ -13,15 +13,17 @@ use mathlib.Core.List.{List, _++_}
 use mathlib.Core.Path.{_∙_, _≡_, ap}
 use native.Mathlib.Omega.{arith}
 
--- b blocks are written
+-- the first b blocks are written, and the rest is as it was
 record Filled (index : List ℕ) (count : ℕ) (image₀ image : List ℕ) (b : ℕ) : Type 0 where
   bound : b ≤ count
   long : length image ≡ length image₀
   wrote : image ≡ blocks index b ++ drop (512 * b) image₀
 
+-- the part that is lent has a block's length
 block-long : (b : ℕ) → 512 * b + 512 - 512 * b ≡ 512
 block-long b = omega arith
 
+-- one block more
 block-more : (b : ℕ) → 512 * (b + 1) ≡ 512 * b + 512
 block-more b = omega arith
 
