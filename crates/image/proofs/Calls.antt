@@ -61,10 +61,10 @@ unfolding saidRead
 by-room i room e t q = ap₂ (λ fs b. said (fs ++ fault 5 b)) e q
 
 -- the image's faults were looked at, and gave number, place and words
-module _ (i before : List ℕ) (number place words : ℕ) (s : Sound i (imageFaults i) number place words) where
+module _ (i : List ℕ) (number place words : ℕ) (s : Sound i (imageFaults i) number place words) where
   -- there is one: it is given, and nothing is read
-  pub reads-refused : (number ≡ 0 → ⊥) → Reads i before before number place words
-  reads-refused h =
+  pub reads-refused : (before : List ℕ) → (number ≡ 0 → ⊥) → Reads i before before number place words
+  reads-refused before h =
       let q = read-fault i (length before) (λ e. h (s .found ∙ e)) in
       record {
         said = s .found ∙ sym (ap (λ (t : Said). t .0) q);
@@ -87,15 +87,15 @@ module _ (i before : List ℕ) (number place words : ℕ) (s : Sound i (imageFau
     words-fit = rw words-are (blocks-hold (imageTotal i) (length i / 512) (sym (count-is i (sym (s .found) ∙ e))))
 
     -- the room is short: 5, and nothing is read
-    pub reads-short : length before < words → Reads i before before 5 0 0
-    reads-short h =
+    pub reads-short : (before : List ℕ) → length before < words → Reads i before before 5 0 0
+    reads-short before h =
         let q = by-room i (length before) none true (lt-ltb (length before) (imageTotal i) (rw (← words-are) h)) in
         record { said = sym (ap (λ (t : Said). t .0) q); placed = sym (ap (λ (t : Said). t .1) q); counted = refl; lent = refl }
 
     -- else 0, and the words are read to the room's front
-    pub reads-done : (after : List ℕ) → words ≤ length before → after ≡ imageWords i words ++ drop words before
+    pub reads-done : (before after : List ℕ) → words ≤ length before → after ≡ imageWords i words ++ drop words before
         → Reads i before after number place words
-    reads-done after h a =
+    reads-done before after h a =
         let q = by-room i (length before) none false (le-ltb (length before) (imageTotal i) (rw (← words-are) h)) in
         record {
           said = e ∙ sym (ap (λ (t : Said). t .0) q);

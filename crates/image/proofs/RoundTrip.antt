@@ -9,8 +9,6 @@ use Rattle.image.specs.Below.{Below}
 use Rattle.image.specs.Calls.{Reads, Writes}
 use Rattle.image.specs.Lowest.{wrongBlocks}
 use Rattle.image.specs.Sound.{restZero}
-use Rattle.laws.proofs.Every.{all-of}
-use Rattle.laws.proofs.Ranges.{range-every}
 use Rattle.laws.proofs.Tests.{and-l, and-r, holds, is-true}
 use Rattle.laws.specs.Lists.{all, range}
 use Rattle.limits.specs.Said.{Said, fault, said}
@@ -18,7 +16,7 @@ use Rattle.words.proofs.InShape.{whole}
 use Rattle.words.specs.Image.{blocks, blocksFor, image, imageFaults, imageTotal, imageWord, imageWords, saidWrite}
 use Rattle.words.specs.Words.{at, headerOk, wordsOf, wordsOk}
 use borrow.Author.Tests.{le-ltb, leb-false, leb-true}
-use lib.Dec.{T, eqb, leb, lit<, ltb}
+use lib.Dec.{eqb, leb, lit<, ltb}
 use lib.ListN.{List·getD-eq-default, drop, length, length-take, take}
 use lib.Seq.{getD-take, length-take-le, take-all, take-at, take-take}
 use mathlib.Core.Bool.{Bool, _&&_, false, not, true}
@@ -111,12 +109,8 @@ module _ (w : List ℕ) (ok : wordsOk w ≡ true) (small : Below (2 ^ 32) w) whe
   -- the words after the last are zero
   rest-is : restZero (image w) (imageTotal (image w)) ≡ true
   rest-is =
-      let n : ℕ = 127 * k - length ws in
       ap₂ (λ a b. all (λ j. eqb (imageWord (image w) j) 0) (range a (127 * b - a))) (total-is ∙ sym long) size-blocks
-      ∙ ap (λ i. all (λ j. eqb (imageWord i j) 0) (range (length ws) n)) image-is
-      ∙ is-true (all (λ j. eqb (imageWord (blocks ws k) j) 0) (range (length ws) n))
-      (all-of (λ j. eqb (imageWord (blocks ws k) j) 0) (range (length ws) n)
-      (range-every (λ j. T (eqb (imageWord (blocks ws k) j) 0)) (length ws) n (zero-back ws k low n refl)))
+      ∙ ap (λ i. all (λ j. eqb (imageWord i j) 0) (range (length ws) (127 * k - length ws))) image-is ∙ zero-back ws k low
 
   -- THE IMAGE OF AN INDEX HAS NO FAULT
   pub image-sound : imageFaults (image w) ≡ []

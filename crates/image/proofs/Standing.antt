@@ -6,9 +6,10 @@ use Rattle.image.proofs.Places.{word-cong}
 use Rattle.image.specs.Below.{Below}
 use Rattle.image.specs.Lowest.{wrongBlocks}
 use Rattle.laws.proofs.Empty.{keep-none}
-use Rattle.laws.proofs.Ranges.{at-every}
-use Rattle.laws.proofs.Tests.{eq-test}
-use Rattle.laws.specs.Lists.{each, range}
+use Rattle.laws.proofs.Every.{all-of}
+use Rattle.laws.proofs.Ranges.{at-every, range-every}
+use Rattle.laws.proofs.Tests.{eq-test, is-true}
+use Rattle.laws.specs.Lists.{all, each, range}
 use Rattle.words.specs.Image.{block, blockGood, blocks, bytes, checkWord, imageWord, imageWords, window, wordAt, wordsAt}
 use Rattle.words.specs.Words.{at}
 use borrow.Author.Tests.{eq-eqb, leb-false, leb-true}
@@ -170,5 +171,9 @@ module _ (ws : List ℕ) (k : ℕ) (small : Below (2 ^ 32) ws) where
       ap₂ (λ (l : List ℕ) (x : ℕ). l ++ (x ∷ [])) (words-back n (omega arith) (omega arith)) (word-back n g) ∙ sym (take-suc ws n 0 h)
 
   -- the index words after the last are zero
-  pub zero-back : (n : ℕ) → n ≡ 127 * k - length ws → (j : ℕ) → j < n → T (eqb (imageWord (blocks ws k) (length ws + j)) 0)
-  zero-back n e j h = eq-test _ _ (word-back (length ws + j) (omega arith) ∙ List·getD-eq-default ws 0 (omega arith))
+  pub zero-back : all (λ j. eqb (imageWord (blocks ws k) j) 0) (range (length ws) (127 * k - length ws)) ≡ true
+  zero-back =
+      let zero : ℕ → Bool = λ j. eqb (imageWord (blocks ws k) j) 0 in
+      let rest : List ℕ = range (length ws) (127 * k - length ws) in
+      is-true (all zero rest) (all-of zero rest (range-every (λ j. T (zero j)) (length ws) (127 * k - length ws)
+      (λ j h. eq-test _ _ (word-back (length ws + j) (omega arith) ∙ List·getD-eq-default ws 0 (omega arith)))))

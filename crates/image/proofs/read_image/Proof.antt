@@ -24,21 +24,20 @@ returns : tie.Need-returns
 returns c =
     let ci = c .before .before in
     let a = start ci .args in
-    reads-refused (a .image .now) (a .room .now) _ _ _ (ci .check-image .ensures) (c .if1 .taken)
+    reads-refused (a .image .now) _ _ _ (ci .check-image .ensures) (a .room .now) (c .if1 .taken)
 
 returns-2 : tie.Need-returns-2
 returns-2 c =
     let e1 = c .before .before in
     let ci = checked e1 in
     let a = start ci .args in
-    reads-short (a .image .now) (a .room .now) _ _ _ (ci .check-image .ensures) (e1 .if1 .left) (c .if2 .taken)
+    reads-short (a .image .now) _ _ _ (ci .check-image .ensures) (e1 .if1 .left) (a .room .now) (c .if2 .taken)
 
 get-words-requires : tie.Need-get-words-requires
 get-words-requires c κs =
     let e1 = sound (c .before) in
     let ci = checked e1 in
-    let a = start ci .args in
-    (words-fit (a .image .now) (a .room .now) _ _ _ (ci .check-image .ensures) (e1 .if1 .left), c .before .if2 .left)
+    (words-fit (start ci .args .image .now) _ _ _ (ci .check-image .ensures) (e1 .if1 .left), c .before .if2 .left)
 
 same-length : tie.Need-same-length
 same-length c = search needs
@@ -50,7 +49,7 @@ returns-3 c =
     let e1 = sound e2 in
     let ci = checked e1 in
     let a = start ci .args in
-    reads-done (a .image .now) (a .room .now) _ _ _ (ci .check-image .ensures) (e1 .if1 .left) _ (e2 .if2 .left) (gw .get-words .ensures)
+    reads-done (a .image .now) _ _ _ (ci .check-image .ensures) (e1 .if1 .left) (a .room .now) _ (e2 .if2 .left) (gw .get-words .ensures)
 
 pub read-image-spec : {M : Type 1} → statement M
 read-image-spec =
