@@ -17,7 +17,7 @@ use lib.ListN.{length}
 use mathlib.Core.Bool.{cond}
 use mathlib.Core.List.{List, [], _++_, _∷_}
 use mathlib.Core.Logic.{_↔_}
-use mathlib.Core.Path.{_∙_, _≡_, ap, ap₂, refl, subst, sym}
+use mathlib.Core.Path.{_∙_, _≡_, ap, ap₂, refl, sym}
 use native.Mathlib.Omega.{arith}
 
 -- CHECK-ONLY: NO SECOND OUTCOME FITS
@@ -32,85 +32,96 @@ check-only {T} {c} {w} {work} A B =
       A .cleared ∙ ap (λ (k : ℕ). cond (clears k) (wiped (6 * rowsOf T c) work) work) e ∙ sym (B .cleared),
     )
 
--- a list of the passes' faults that says 0 is empty
+-- ---- refusals, and then faults of the passes
+-- faults that say 0: there is none
 late-none : (l : List Said) → Every Late l → said l .0 ≡ 0 → l ≡ []
 late-none [] h z = refl
 late-none (s ∷ l) h z = absurd (omega (arith, h .0))
 
--- refusals and faults that say 0 together: there is none of either
+-- both together say 0: there is none of either
 both-none : (l m : List Said) → Every Early l → Every Late m → said (l ++ m) .0 ≡ 0 → (l ≡ []) × (m ≡ [])
 both-none [] m h k z = (refl, late-none m k z)
 both-none (s ∷ l) m h k z = absurd (omega (arith, h .0 .some))
 
--- CHECK-EXACT: 0 IS GIVEN EXACTLY WHERE NO REFUSAL MEETS THE CALL, THE INDEX IS THE TABLE'S, AND IT IS ACCEPTED
-pub check-exact : {T : List ℕ} {c : ℕ} {w work work′ : List ℕ} {number place second : ℕ} → Checks T c w work work′ number place second
-    → (number ≡ 0) ↔ Passed T c w work
-check-exact {T} {c} {w} {work} {number = number} C = (there, back)
-  where
-    -- 0 is given: there is no refusal and no fault
-    there : number ≡ 0 → Passed T c w work
-    there z =
-        let b =
-        both-none (refusals T c w (length work)) (faults (between T c) w) (refusals-early T c w (length work)) (faults-late (between T c) w)
-        (ap (λ (s : Said). s .0) (sym (said-check T c w (length work))) ∙ sym (C .said) ∙ z) in
-        let P = past T c w (length work) (b .0) in
-        record {
-          columns = P .columns;
-          multiple = P .multiple;
-          few = P .few;
-          room = P .long;
-          same-rows = P .paired .rows;
-          same-columns = P .paired .columns;
-          accepted = record { words = P .words; shape = P .shape; sound = b .1 };
-        }
+-- a number up to 9 names no place: it is a refusal's, or 0
+low-placeless : (l m : List Said) → Every Early l → Every Late m → said (l ++ m) .0 ≤ 9 → (said (l ++ m) .1 ≡ 0) × (said (l ++ m) .2 ≡ 0)
+low-placeless [] [] h k q = (refl, refl)
+low-placeless [] (s ∷ m) h k q = absurd (omega (arith, k .0))
+low-placeless (s ∷ l) m h k q = h .0 .placeless
 
-    -- the index is accepted: there is no refusal and no fault
-    back : Passed T c w work → number ≡ 0
-    back P =
-        let A = P .accepted in
-        let z = past-none T c w (length work) (record {
-          columns = P .columns;
-          multiple = P .multiple;
-          few = P .few;
-          long = P .room;
-          words = A .words;
-          shape = A .shape;
-          paired = record { shape = in-shape w (A .words) (A .shape); rows = P .same-rows; columns = P .same-columns };
-        }) in
-        C .said ∙ ap (λ (s : Said). s .0) (said-check T c w (length work) ∙ ap₂ (λ l m. said (l ++ m)) z (A .sound))
+-- the first of faults with small places has small places, and so has 0
+first-small : (m : List Said) → Every Small m → Small (said m)
+first-small [] h = (omega arith, omega arith)
+first-small (s ∷ m) h = h .0
 
--- CHECK-PLACELESS: 0 AND THE REFUSALS 1 TO 9 NAME NO PLACE
-pub check-placeless : {T : List ℕ} {c : ℕ} {w work work′ : List ℕ} {number place second : ℕ} → Checks T c w work work′ number place second
-    → number ≤ 9 → (place ≡ 0) × (second ≡ 0)
-check-placeless {T} {c} {w} {work} C low =
-    let e = said-check T c w (length work) in
-    let p = none (refusals T c w (length work)) (faults (between T c) w) (refusals-early T c w (length work)) (faults-late (between T c) w)
-    (omega (arith, C .said, ap (λ (s : Said). s .0) e)) in
-    (C .placed .0 ∙ ap (λ (s : Said). s .1) e ∙ p .0, C .placed .1 ∙ ap (λ (s : Said). s .2) e ∙ p .1)
-  where
-    -- of refusals and then faults, the first with a number up to 9 is a refusal
-    none : (l m : List Said) → Every Early l → Every Late m → said (l ++ m) .0 ≤ 9 → (said (l ++ m) .1 ≡ 0) × (said (l ++ m) .2 ≡ 0)
-    none [] [] h k q = (refl, refl)
-    none [] (s ∷ m) h k q = absurd (omega (arith, k .0))
-    none (s ∷ l) m h k q = h .0 .placeless
+-- a refusal names no place, and with none the first fault's places are small
+said-small : (l m : List Said) → Every Early l → (l ≡ [] → Every Small m) → Small (said (l ++ m))
+said-small [] m h k = first-small m (k refl)
+said-small (s ∷ l) m h k = (omega (arith, h .0 .placeless .0), omega (arith, h .0 .placeless .1))
 
--- CHECK-SMALL: THE FIRST PLACE IS AT MOST TWICE THE MOST ROWS, THE SECOND AT MOST THE MOST ROWS, so that 32 bits hold them
-pub check-small : {T : List ℕ} {c : ℕ} {w work work′ : List ℕ} {number place second : ℕ} → Checks T c w work work′ number place second
-    → (place ≤ 2 * maxRows) × (second ≤ maxRows)
-check-small {T} {c} {w} {work} C =
-    let P = small (refusals T c w (length work)) (faults (between T c) w) (refusals-early T c w (length work))
-    (λ z. faults-small (between T c) w (past T c w (length work) z .paired .shape)) in
-    let e = said-check T c w (length work) in (
-      subst (λ (p : ℕ). p ≤ 2 * maxRows) (sym (C .placed .0 ∙ ap (λ (s : Said). s .1) e)) (P .0),
-      subst (λ (p : ℕ). p ≤ maxRows) (sym (C .placed .1 ∙ ap (λ (s : Said). s .2) e)) (P .1),
-    )
-  where
-    -- with no fault both places are 0
-    first : (m : List Said) → Every Small m → Small (said m)
-    first [] h = (omega arith, omega arith)
-    first (s ∷ m) h = h .0
+-- ---- an outcome of the call
+module _ {T : List ℕ} {c : ℕ} {w work work′ : List ℕ} {number place second : ℕ} (C : Checks T c w work work′ number place second) where
+  -- the call's refusals
+  abbrev early : List Said
+  early = refusals T c w (length work)
 
-    -- a refusal names no place, and a fault's places are small
-    small : (l m : List Said) → Every Early l → (l ≡ [] → Every Small m) → Small (said (l ++ m))
-    small [] m h k = first m (k refl)
-    small (s ∷ l) m h k = (omega (arith, h .0 .placeless .0), omega (arith, h .0 .placeless .1))
+  -- the faults of its index
+  abbrev late : List Said
+  late = faults (between T c) w
+
+  -- the number and the two places are those of the first refusal, else of the first fault
+  number-is : number ≡ said (early ++ late) .0
+  number-is = C .said ∙ ap (λ (s : Said). s .0) (said-check T c w (length work))
+
+  place-is : place ≡ said (early ++ late) .1
+  place-is = C .placed .0 ∙ ap (λ (s : Said). s .1) (said-check T c w (length work))
+
+  second-is : second ≡ said (early ++ late) .2
+  second-is = C .placed .1 ∙ ap (λ (s : Said). s .2) (said-check T c w (length work))
+
+  -- 0 is given: no refusal meets the call, and the index is accepted
+  zero-passed : number ≡ 0 → Passed T c w work
+  zero-passed z =
+      let b = both-none early late (refusals-early T c w (length work)) (faults-late (between T c) w) (sym number-is ∙ z) in
+      let P = past T c w (length work) (b .0) in
+      record {
+        columns = P .columns;
+        multiple = P .multiple;
+        few = P .few;
+        room = P .long;
+        same-rows = P .paired .rows;
+        same-columns = P .paired .columns;
+        accepted = record { words = P .words; shape = P .shape; sound = b .1 };
+      }
+
+  -- no refusal meets the call, and the index is accepted: 0 is given
+  passed-zero : Passed T c w work → number ≡ 0
+  passed-zero P =
+      let A = P .accepted in
+      let none = past-none T c w (length work) (record {
+        columns = P .columns;
+        multiple = P .multiple;
+        few = P .few;
+        long = P .room;
+        words = A .words;
+        shape = A .shape;
+        paired = record { shape = in-shape w (A .words) (A .shape); rows = P .same-rows; columns = P .same-columns };
+      }) in
+      number-is ∙ ap₂ (λ l m. said (l ++ m) .0) none (A .sound)
+
+  -- CHECK-EXACT: 0 IS GIVEN EXACTLY WHERE NO REFUSAL MEETS THE CALL, THE INDEX IS THE TABLE'S, AND IT IS ACCEPTED
+  pub check-exact : (number ≡ 0) ↔ Passed T c w work
+  check-exact = (zero-passed, passed-zero)
+
+  -- CHECK-PLACELESS: 0 AND THE REFUSALS 1 TO 9 NAME NO PLACE
+  pub check-placeless : number ≤ 9 → (place ≡ 0) × (second ≡ 0)
+  check-placeless low =
+      let p = low-placeless early late (refusals-early T c w (length work)) (faults-late (between T c) w) (omega (arith, number-is)) in
+      (place-is ∙ p .0, second-is ∙ p .1)
+
+  -- CHECK-SMALL: THE FIRST PLACE IS AT MOST TWICE THE MOST ROWS, THE SECOND AT MOST THE MOST ROWS, so that 32 bits hold them
+  pub check-small : (place ≤ 2 * maxRows) × (second ≤ maxRows)
+  check-small =
+      let P = said-small early late (refusals-early T c w (length work))
+      (λ z. faults-small (between T c) w (past T c w (length work) z .paired .shape)) in
+      (rw place-is (P .0), rw second-is (P .1))
