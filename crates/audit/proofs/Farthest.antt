@@ -24,7 +24,7 @@ far-on f s n p far h F =
 
 module _ (d : ℕ → ℕ → ℕ) (w : List ℕ) (k : ℕ) where
   -- ---- how far node k reaches
-  -- the greatest distance from its first that was found up to position p of its run
+  -- far is the greatest distance from its first that was found up to position p of its run, and the rest of the run is to come
   abbrev pub FarTo : ℕ → ℕ → Type 0
   FarTo p far = Far (λ q. d (first# w k) (row# w q)) (start# w k) (count# w k) p far
 

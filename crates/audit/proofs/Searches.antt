@@ -11,7 +11,7 @@ use mathlib.Core.List.{List}
 use mathlib.Core.Path.{_≡_, sym}
 use native.Mathlib.Omega.{arith}
 
--- a test f that fails outside node j's run: the search of the run up to p met none that passes
+-- ---- a test f that fails outside node j's run: the search of the run up to p met none that passes
 module _ (w : List ℕ) (j : ℕ) (f : ℕ → Bool) (outside : (q : ℕ) → inRun w q j ≡ false → f q ≡ false) (p : ℕ) (F : First f (start# w j) p p) where
   -- it passes at p: p is the first of all positions that passes
   pub run-stop : (lo hi : ℕ) → lo ≤ start# w j → start# w j + count# w j ≤ hi → p < start# w j + count# w j → f p ≡ true → First f lo hi p
@@ -24,8 +24,8 @@ module _ (w : List ℕ) (j : ℕ) (f : ℕ → Bool) (outside : (q : ℕ) → in
   run-end lo hi h e =
       first-lost f lo (start# w j) p hi (λ q l. outside q (not-yet w q j l)) h (λ q l. outside q (no-more w q j (omega arith))) F
 
--- THE LEAST OF THE FIRSTS: where x is the first that a node among k passes, and y the first that the next one does, their lesser is the
--- first that a node among k + 1 passes
+-- ---- many tests, one for each number from a on
+-- THE LEAST OF THE FIRSTS: where x is the first that passes one of k tests, and y the first that passes the next, their lesser is that of k + 1
 pub least-more : (f : ℕ → ℕ → Bool) (a k lo hi x y : ℕ) → First (λ p. any (λ j. f j p) (range a k)) lo hi x → First (f (a + k)) lo hi y
     → First (λ p. any (λ j. f j p) (range a (k + 1))) lo hi (min x y)
 least-more f a k lo hi x y F G =

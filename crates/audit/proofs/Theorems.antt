@@ -69,13 +69,15 @@ module _ {T : List ℕ} {c : ℕ} {w work work′ : List ℕ} {number place seco
   abbrev late : List Said
   late = faults (between T c) w
 
-  -- the number and the two places are those of the first refusal, else of the first fault
+  -- its number is that of the first refusal, else of the first fault
   number-is : number ≡ said (early ++ late) .0
   number-is = C .said ∙ ap (λ (s : Said). s .0) (said-check T c w (length work))
 
+  -- so is its first place
   place-is : place ≡ said (early ++ late) .1
   place-is = C .placed .0 ∙ ap (λ (s : Said). s .1) (said-check T c w (length work))
 
+  -- and its second
   second-is : second ≡ said (early ++ late) .2
   second-is = C .placed .1 ∙ ap (λ (s : Said). s .2) (said-check T c w (length work))
 

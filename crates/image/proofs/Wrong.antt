@@ -13,9 +13,9 @@ use native.Mathlib.Decide.{decLt}
 use native.Mathlib.Nat.{zero-add}
 use native.Mathlib.Omega.{arith}
 
--- ---- any test: of the numbers below n that pass, the lowest is the first
+-- ---- any test: the lowest of the numbers that pass it is the first that a search meets
 module _ (f : ℕ → Bool) (n : ℕ) where
-  -- over the k numbers from a on
+  -- of the k numbers from a on up to n
   lowest-from : (k a : ℕ) → a + k ≡ n → First f a n (lowest n (keep f (range a k)))
   lowest-from zero a e =
       let z : a ≡ n = omega arith in
@@ -37,7 +37,7 @@ module _ (f : ℕ → Bool) (n : ℕ) where
             here = F .here;
           }
 
-  -- over all of them
+  -- of all numbers below n
   lowest-first : First f 0 n (lowest n (keep f (range 0 n)))
   lowest-first = lowest-from n 0 (zero-add n)
 
