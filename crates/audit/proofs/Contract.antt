@@ -26,45 +26,48 @@ pub said-check : (T : List ℕ) (c : ℕ) (w : List ℕ) (room : ℕ) → saidCh
 unfolding saidCheck refusals
 said-check T c w room = refl
 
--- the numbers of the passes clear the workspace
+-- ---- the workspace
+-- 0 and the numbers of the passes clear it
 late-clears : (l : List Said) → Every Late l → clears (said l .0) ≡ true
 late-clears [] h = refl
 late-clears (s ∷ l) h = rw (le-leb 10 (s .0) (h .0)) (or-true (eqb (s .0) 0))
 
--- those of the refusals do not
+-- the numbers of the refusals leave it
 early-keeps : (r : ℕ) → (r ≡ 0 → ⊥) → r ≤ 9 → clears r ≡ false
 early-keeps r h q = rw (ne-eqb r 0 h, lt-leb 10 r (omega arith))
 
+-- ---- the call's two ends
 module _ (T : List ℕ) (c : ℕ) (w work : List ℕ) where
-  -- the refusals, and the faults that the passes find
-  abbrev R : List Said
-  R = refusals T c w (length work)
+  -- its refusals
+  abbrev early : List Said
+  early = refusals T c w (length work)
 
-  abbrev F : List Said
-  F = faults (between T c) w
+  -- its faults
+  abbrev late : List Said
+  late = faults (between T c) w
 
-  -- a refusal: its number, no place, and the workspace as it was
-  pub refused : {r : ℕ} → r ≡ said R .0 → (r ≡ 0 → ⊥) → Checks T c w work work r 0 0
+  -- a refusal with number r ends it: no place, and the workspace as it was
+  pub refused : {r : ℕ} → r ≡ said early .0 → (r ≡ 0 → ⊥) → Checks T c w work work r 0 0
   refused {r} e h =
-      let s : said R ≡ saidCheck T c w (length work) = says-first R F (λ z. h (e ∙ z)) ∙ sym (said-check T c w (length work)) in
-      let early = refusals-early T c w (length work) in
-      let p = early-placeless R early in
+      let s : said early ≡ saidCheck T c w (length work) = says-first early late (λ z. h (e ∙ z)) ∙ sym (said-check T c w (length work)) in
+      let all : Every Early early = refusals-early T c w (length work) in
+      let p = early-placeless early all in
       record {
         said = e ∙ ap numberOf s;
         placed = (sym (p .0) ∙ ap (λ (s : Said). s .1) s, sym (p .1) ∙ ap (λ (s : Said). s .2) s);
-        cleared = sym (ap (λ b. cond b (wiped (6 * rowsOf T c) work) work) (early-keeps r h (omega (arith, early-low R early))));
+        cleared = sym (ap (λ b. cond b (wiped (6 * rowsOf T c) work) work) (early-keeps r h (omega (arith, early-low early all))));
       }
 
-  -- no refusal: what the passes find, and the workspace cleared
-  pub taken : {number place second : ℕ} {work′ : List ℕ} → said R .0 ≡ 0 → n# w ≡ rowsOf T c → (number, place, second) ≡ said F
+  -- with no refusal it says its first fault, and the first 6n words of the workspace are zero
+  pub taken : {number place second : ℕ} {work′ : List ℕ} → said early .0 ≡ 0 → n# w ≡ rowsOf T c → (number, place, second) ≡ said late
       → work′ ≡ wiped (6 * n# w) work → Checks T c w work work′ number place second
   taken {number} {place} {second} z e says leaves =
       let s : (number, place, second) ≡ saidCheck T c w (length work) =
-      says ∙ says-next R F (refusals-numbered T c w (length work)) z ∙ sym (said-check T c w (length work)) in
+      says ∙ says-next early late (refusals-numbered T c w (length work)) z ∙ sym (said-check T c w (length work)) in
       record {
         said = ap numberOf s;
         placed = (ap (λ (s : Said). s .1) s, ap (λ (s : Said). s .2) s);
         cleared = leaves ∙ ap (λ (n : ℕ). wiped (6 * n) work) e
             ∙ sym (ap (λ (k : ℕ). cond (clears k) (wiped (6 * rowsOf T c) work) work) (ap numberOf says)
-            ∙ ap (λ b. cond b (wiped (6 * rowsOf T c) work) work) (late-clears F (faults-late (between T c) w)));
+            ∙ ap (λ b. cond b (wiped (6 * rowsOf T c) work) work) (late-clears late (faults-late (between T c) w)));
       }

@@ -1,4 +1,5 @@
 pub mod Pairing
+pub mod Searches
 pub mod Wiping
 pub mod Marks
 pub mod Distances

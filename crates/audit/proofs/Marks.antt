@@ -25,7 +25,7 @@ marked work i = not (eqb (getD work i 0) 0)
 abbrev rowsTo : List ℕ → ℕ → List ℕ
 rowsTo w p = map (row# w) (range 0 p)
 
--- at position p: marked are just the rows below p, none of them again, and the words past the first n are as they were
+-- at position p: marked are just the rows at the positions below it, none of them again, and the words past the first n are as they were
 pub record Marks (w work₀ work : List ℕ) (p : ℕ) : Type 0 where
   pub to : p ≤ n# w
   pub long : n# w ≤ length work
@@ -34,16 +34,19 @@ pub record Marks (w work₀ work : List ℕ) (p : ℕ) : Type 0 where
   pub marks : (i : ℕ) → i < n# w → marked work i ≡ has i (rowsTo w p)
   pub once : First (again w) 0 p p
 
+-- a test of a mapped list is one of the list itself
 any-map : (f : ℕ → Bool) (g : ℕ → ℕ) (xs : List ℕ) → any f (map g xs) ≡ any (λ x. f (g x)) xs
 any-map f g [] = refl
 any-map f g (x ∷ xs) = ap (λ b. f (g x) || b) (any-map f g xs)
 
+-- one position more: the rows below p + 1 are those below p and the one at p
 has-more : (w : List ℕ) (i p : ℕ) → has i (rowsTo w (p + 1)) ≡ (has i (rowsTo w p) || eqb i (row# w p))
 has-more w i p =
     any-map (eqb i) (row# w) (range 0 (p + 1)) ∙ any-more (λ q. eqb i (row# w q)) 0 p
     ∙ ap (λ b. b || eqb i (row# w (0 + p))) (sym (any-map (eqb i) (row# w) (range 0 p)))
     ∙ ap (λ q. has i (rowsTo w p) || eqb i (row# w q)) (zero-add p)
 
+-- with the mark of the row at p set, marked are just the rows below p + 1
 mark-more : (w work : List ℕ) (p : ℕ) → row# w p < length work → (i : ℕ) → marked work i ≡ has i (rowsTo w p)
     → marked (set work (row# w p) 1) i ≡ has i (rowsTo w (p + 1))
 mark-more w work p h i e = rw (has-more w i p) (go (eqb i (row# w p)) refl)
@@ -52,6 +55,7 @@ mark-more w work p h i e = rw (has-more w i p) (go (eqb i (row# w p)) refl)
     go true q = rw (eqb-true i (row# w p) q, getD-set-same work (row# w p) 1 0 h) (sym (or-true (has (row# w p) (rowsTo w p))))
     go false q = rw (getD-set-other work (row# w p) i 1 0 (eqb-false i (row# w p) q)) (e ∙ sym (or-false (has i (rowsTo w p))))
 
+-- a clear workspace has no marks, and no position was passed
 pub marks-start : (w work : List ℕ) → Clear (n# w) work → Marks w work work 0
 marks-start w work C =
     record {
@@ -63,15 +67,18 @@ marks-start w work C =
       once = search-start (again w) 0;
     }
 
+-- the row at position p, read as r
 module _ {w work₀ work : List ℕ} {p : ℕ} (S : InShape w) (M : Marks w work₀ work p) (h : p < n# w) {r : ℕ} (e : r ≡ row# w p) where
-  -- THE MARK SAYS WHETHER THE ROW STOOD BEFORE: r is the row at p
+  -- THE MARK SAYS WHETHER THE ROW STOOD BEFORE
   again-is : again w p ≡ marked work r
   unfolding again
   again-is = sym (M .marks (row# w p) (S .place p h .row)) ∙ ap (λ (i : ℕ). marked work i) (sym e)
 
+  -- it has a mark's place in the workspace
   pub row-marked : r < length work
   row-marked = omega (arith, M .long, S .place p h .row)
 
+  -- it has no mark: it gets one, and the search goes on
   pub marks-more : getD work r 0 ≡ 0 → Marks w work₀ (set work r 1) (p + 1)
   marks-more z =
       let l : length (set work r 1) ≡ length work = simp length-set in
@@ -84,5 +91,6 @@ module _ {w work₀ work : List ℕ} {p : ℕ} (S : InShape w) (M : Marks w work
         once = search-on (again w) 0 p (M .once) (again-is ∙ ap (λ (v : ℕ). not (eqb v 0)) z);
       }
 
+  -- it has a mark: p is the lowest position with a row number again
   pub marks-found : (getD work r 0 ≡ 0 → ⊥) → First (again w) 0 (n# w) p
   marks-found z = search-stop (again w) 0 (n# w) p (M .once) h (again-is ∙ ap not (ne-eqb (getD work r 0) 0 z))

@@ -17,7 +17,9 @@ use mathlib.Core.Path.{_∙_, _≡_, ap, sym}
 use native.Mathlib.Nat.{le-trans, mul-div-le}
 use native.Mathlib.Omega.{arith}
 
+-- ---- the table
 module _ (T : List ℕ) (c : ℕ) (w : List ℕ) (P : Paired T c w) where
+  -- the table has no more columns than there may be: the header says as many
   pub columns-low : c ≤ maxColumns
   columns-low = omega (arith, P .columns, P .shape .whole .columns .1)
 
@@ -25,31 +27,38 @@ module _ (T : List ℕ) (c : ℕ) (w : List ℕ) (P : Paired T c w) where
   pub in-table : (i : ℕ) → i < n# w → c * i + c ≤ length T
   in-table i h = le-trans (row-ends c (rowsOf T c) i (omega (arith, P .rows))) (mul-div-le (length T) c)
 
--- ---- what a node's third word tells, read as r
+-- ---- a node's kind, by its third word, read as r
+-- one that is not 0 is a child's number: the node is inner
 pub inner-yes : (w : List ℕ) (k : ℕ) {r : ℕ} → r ≡ child# w k → (r ≡ 0 → ⊥) → inner w k ≡ true
 inner-yes w k {r} e h = ap (λ (i : ℕ). not (eqb i 0)) (sym e) ∙ ap not (ne-eqb r 0 h)
 
+-- 0 is a leaf's
 pub inner-no : (w : List ℕ) (k : ℕ) {r : ℕ} → r ≡ child# w k → r ≡ 0 → inner w k ≡ false
 inner-no w k {r} e h = ap (λ (i : ℕ). not (eqb i 0)) (sym e ∙ h)
 
--- ---- a position before, after or in a node's run
+-- ---- a position and a node's run
 module _ (w : List ℕ) (p k : ℕ) where
+  -- it stands before the run
   pub not-yet : p < start# w k → inRun w p k ≡ false
   not-yet h = rw (lt-leb (start# w k) p h)
 
+  -- it stands after the run
   pub no-more : start# w k + count# w k ≤ p → inRun w p k ≡ false
   no-more h = rw (le-ltb p (start# w k + count# w k) h) (and-false (leb (start# w k) p))
 
+  -- it stands in the run
   pub in-here : start# w k ≤ p → p < start# w k + count# w k → inRun w p k ≡ true
   in-here h q = rw (le-leb (start# w k) p h, lt-ltb p (start# w k + count# w k) q)
 
--- ---- child a of inner node k, whose first child is read as ch: all the children are nodes, and its run lies in node k's
+-- ---- a child
+-- child a of inner node k, whose first child is read as ch: all m children are nodes, and its run lies in node k's
 pub record Kid (w : List ℕ) (k a ch : ℕ) : Type 0 where
   pub all : ch + m# w ≤ N# w
   pub node : ch + a < N# w
   pub low : start# w k ≤ start# w (ch + a)
   pub high : start# w (ch + a) + count# w (ch + a) ≤ start# w k + count# w k
 
+-- each of an inner node's m children is such a one
 pub kid-of : (w : List ℕ) → InShape w → (k a : ℕ) {ch : ℕ} → ch ≡ child# w k → k < N# w → inner w k ≡ true → a < m# w → Kid w k a ch
 kid-of w S k a e h i q =
     let K = S .node k h .kids i in

@@ -20,7 +20,7 @@ use lib.ListN.{length}
 use mathlib.Core.Bool.{cond}
 use mathlib.Core.List.{List, [], _++_, _∷_}
 use mathlib.Core.Logic.{_↔_}
-use mathlib.Core.Path.{_∙_, _≡_, ap, refl, subst, sym}
+use mathlib.Core.Path.{_∙_, _≡_, ap, refl, sym}
 use native.Mathlib.Omega.{arith}
 
 -- CHECK-ONLY: NO SECOND OUTCOME FITS
@@ -35,75 +35,90 @@ check-only {T} {c} {w} {work} A B =
       A .cleared ∙ ap (λ (k : ℕ). cond (clears k) (wiped (6 * rowsOf T c) work) work) e ∙ sym (B .cleared),
     )
 
+-- ---- refusals, and then faults of the passes
 -- no fault of the passes has the number 0
 faults-numbered : (d : ℕ → ℕ → ℕ) (w : List ℕ) → Numbered (faults d w)
 faults-numbered d w = every-of Late (λ f. 1 ≤ f .0) (λ f h. omega arith) (faults d w) (faults-late d w)
 
--- CHECK-EXACT: 0 IS GIVEN EXACTLY WHERE NO REFUSAL MEETS THE CALL, THE INDEX IS THE TABLE'S, AND IT IS ACCEPTED
-pub check-exact : {T : List ℕ} {c : ℕ} {w work work′ : List ℕ} {number place second : ℕ} → Checks T c w work work′ number place second
-    → (number ≡ 0) ↔ Passed T c w work
-check-exact {T} {c} {w} {work} {number = number} C = (there, back)
-  where
-    there : number ≡ 0 → Passed T c w work
-    there z =
-        let R = refusals T c w (length work) in
-        let F = faults (between T c) w in
-        let b = says-none R F (refusals-numbered T c w (length work)) (ap numberOf (sym (said-check T c w (length work))) ∙ sym (C .said) ∙ z) in
-        let P = clear T c w (length work) (b .0) in
-        record {
-          columns = (P .table .some, P .table .few);
-          multiple = P .table .whole;
-          few = P .table .rows;
-          room = P .words;
-          same-rows = P .index .rows;
-          same-columns = P .index .columns;
-          accepted = record { words = P .there; shape = P .shape; sound = none-listed F (faults-numbered (between T c) w) (b .1) };
-        }
+-- a number up to 9 names no place: it is a refusal's, or 0
+low-placeless : (l m : List Said) → Every Early l → Every Late m → said (l ++ m) .0 ≤ 9 → (said (l ++ m) .1 ≡ 0) × (said (l ++ m) .2 ≡ 0)
+low-placeless [] [] h k q = (refl, refl)
+low-placeless [] (s ∷ m) h k q = absurd (omega (arith, k .0))
+low-placeless (s ∷ l) m h k q = h .0 .placeless
 
-    back : Passed T c w work → number ≡ 0
-    back P =
-        let A = P .accepted in
-        let R = refusals T c w (length work) in
-        let z = clear-none T c w (length work) (record {
-          table = sized-of (length T) c (P .columns) (P .multiple) (P .few);
-          index = record { shape = in-shape w (A .words) (A .shape); rows = P .same-rows; columns = P .same-columns };
-          there = A .words;
-          shape = A .shape;
-          words = P .room;
-        }) in
-        C .said ∙ ap numberOf (said-check T c w (length work) ∙ sym (says-next R (faults (between T c) w) (refusals-numbered T c w (length work)) (sym z)))
-        ∙ ap (λ l. said l .0) (A .sound)
+-- the first of faults with small places has small places, and so has 0
+first-small : (m : List Said) → Every Small m → Small (said m)
+first-small [] h = (omega arith, omega arith)
+first-small (s ∷ m) h = h .0
 
--- CHECK-PLACELESS: 0 AND THE REFUSALS 1 TO 9 NAME NO PLACE
-pub check-placeless : {T : List ℕ} {c : ℕ} {w work work′ : List ℕ} {number place second : ℕ} → Checks T c w work work′ number place second → number ≤ 9
-    → (place ≡ 0) × (second ≡ 0)
-check-placeless {T} {c} {w} {work} C low =
-    let e = said-check T c w (length work) in
-    let p = none (refusals T c w (length work)) (faults (between T c) w) (refusals-early T c w (length work)) (faults-late (between T c) w)
-    (omega (arith, C .said, ap (λ (s : Said). s .0) e)) in
-    (C .placed .0 ∙ ap (λ (s : Said). s .1) e ∙ p .0, C .placed .1 ∙ ap (λ (s : Said). s .2) e ∙ p .1)
-  where
-    none : (l m : List Said) → Every Early l → Every Late m → said (l ++ m) .0 ≤ 9 → (said (l ++ m) .1 ≡ 0) × (said (l ++ m) .2 ≡ 0)
-    none [] [] h k q = (refl, refl)
-    none [] (s ∷ m) h k q = absurd (omega (arith, k .0))
-    none (s ∷ l) m h k q = h .0 .placeless
+-- a refusal names no place, and with none the first fault's places are small
+said-small : (l m : List Said) → Every Early l → (l ≡ [] → Every Small m) → Small (said (l ++ m))
+said-small [] m h k = first-small m (k refl)
+said-small (s ∷ l) m h k = (omega (arith, h .0 .placeless .0), omega (arith, h .0 .placeless .1))
 
--- CHECK-SMALL: THE PLACES ARE THOSE OF A NODE AND A POSITION, so that 32 bits hold them
-pub check-small : {T : List ℕ} {c : ℕ} {w work work′ : List ℕ} {number place second : ℕ} → Checks T c w work work′ number place second
-    → (place ≤ 2 * maxRows) × (second ≤ maxRows)
-check-small {T} {c} {w} {work} C =
-    let P = small (refusals T c w (length work)) (faults (between T c) w) (refusals-early T c w (length work))
-    (λ z. faults-small (between T c) w (clear T c w (length work) (ap (λ l. said l .0) z) .index .shape)) in
-    let e = said-check T c w (length work) in (
-      subst (λ (p : ℕ). p ≤ 2 * maxRows) (sym (C .placed .0 ∙ ap (λ (s : Said). s .1) e)) (P .0),
-      subst (λ (p : ℕ). p ≤ maxRows) (sym (C .placed .1 ∙ ap (λ (s : Said). s .2) e)) (P .1),
-    )
-  where
-    first : (m : List Said) → Every Small m → Small (said m)
-    first [] h = (omega arith, omega arith)
-    first (s ∷ m) h = h .0
+-- ---- an outcome of the call
+module _ {T : List ℕ} {c : ℕ} {w work work′ : List ℕ} {number place second : ℕ} (C : Checks T c w work work′ number place second) where
+  -- the call's refusals
+  abbrev early : List Said
+  early = refusals T c w (length work)
 
-    -- a refusal names no place
-    small : (l m : List Said) → Every Early l → (l ≡ [] → Every Small m) → Small (said (l ++ m))
-    small [] m h k = first m (k refl)
-    small (s ∷ l) m h k = (omega (arith, h .0 .placeless .0), omega (arith, h .0 .placeless .1))
+  -- the faults of its index
+  abbrev late : List Said
+  late = faults (between T c) w
+
+  -- its number is that of the first refusal, else of the first fault
+  number-is : number ≡ said (early ++ late) .0
+  number-is = C .said ∙ ap numberOf (said-check T c w (length work))
+
+  -- so is its first place
+  place-is : place ≡ said (early ++ late) .1
+  place-is = C .placed .0 ∙ ap (λ (s : Said). s .1) (said-check T c w (length work))
+
+  -- and its second
+  second-is : second ≡ said (early ++ late) .2
+  second-is = C .placed .1 ∙ ap (λ (s : Said). s .2) (said-check T c w (length work))
+
+  -- 0 is given: no refusal meets the call, and the index is accepted
+  zero-passed : number ≡ 0 → Passed T c w work
+  zero-passed z =
+      let b = says-none early late (refusals-numbered T c w (length work)) (sym number-is ∙ z) in
+      let P = clear T c w (length work) (b .0) in
+      record {
+        columns = (P .table .some, P .table .few);
+        multiple = P .table .whole;
+        few = P .table .rows;
+        room = P .words;
+        same-rows = P .index .rows;
+        same-columns = P .index .columns;
+        accepted = record { words = P .there; shape = P .shape; sound = none-listed late (faults-numbered (between T c) w) (b .1) };
+      }
+
+  -- no refusal meets the call, and the index is accepted: 0 is given
+  passed-zero : Passed T c w work → number ≡ 0
+  passed-zero P =
+      let A = P .accepted in
+      let none = clear-none T c w (length work) (record {
+        table = sized-of (length T) c (P .columns) (P .multiple) (P .few);
+        index = record { shape = in-shape w (A .words) (A .shape); rows = P .same-rows; columns = P .same-columns };
+        there = A .words;
+        shape = A .shape;
+        words = P .room;
+      }) in
+      number-is ∙ ap numberOf (sym (says-next early late (refusals-numbered T c w (length work)) (sym none))) ∙ ap (λ l. said l .0) (A .sound)
+
+  -- CHECK-EXACT: 0 IS GIVEN EXACTLY WHERE NO REFUSAL MEETS THE CALL, THE INDEX IS THE TABLE'S, AND IT IS ACCEPTED
+  pub check-exact : (number ≡ 0) ↔ Passed T c w work
+  check-exact = (zero-passed, passed-zero)
+
+  -- CHECK-PLACELESS: 0 AND THE REFUSALS 1 TO 9 NAME NO PLACE
+  pub check-placeless : number ≤ 9 → (place ≡ 0) × (second ≡ 0)
+  check-placeless low =
+      let p = low-placeless early late (refusals-early T c w (length work)) (faults-late (between T c) w) (omega (arith, number-is)) in
+      (place-is ∙ p .0, second-is ∙ p .1)
+
+  -- CHECK-SMALL: THE FIRST PLACE IS AT MOST TWICE THE MOST ROWS, THE SECOND AT MOST THE MOST ROWS, so that 32 bits hold them
+  pub check-small : (place ≤ 2 * maxRows) × (second ≤ maxRows)
+  check-small =
+      let P = said-small early late (refusals-early T c w (length work))
+      (λ z. faults-small (between T c) w (clear T c w (length work) (ap (λ l. said l .0) z) .index .shape)) in
+      (rw place-is (P .0), rw second-is (P .1))

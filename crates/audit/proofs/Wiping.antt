@@ -8,6 +8,7 @@ use mathlib.Core.List.{List, _++_}
 use mathlib.Core.Path.{_∙_, _≡_, ap, sym}
 use native.Mathlib.Omega.{arith}
 
+-- after a wipe of n words, the first n are there and zero
 pub wiped-clear : (n : ℕ) (work : List ℕ) → n ≤ length work → Clear n (wiped n work)
 wiped-clear n work h =
     record {
@@ -23,7 +24,7 @@ drop-later n k a b h e =
     let q : n + (k - n) ≡ k = omega arith in
     sym (drop-drop (k - n) n a ∙ ap (λ (i : ℕ). drop i a) q) ∙ ap (drop (k - n)) e ∙ drop-drop (k - n) n b ∙ ap (λ (i : ℕ). drop i b) q
 
--- WIPED, MARKED IN THE FIRST n WORDS, AND WIPED AGAIN: i is n as the code has it
+-- WIPED, MARKED IN THE FIRST n WORDS, AND WIPED AGAIN: 6n words are zero, and the rest is as it was. i is n as the code has it
 pub wiped-again : (n : ℕ) (work marks : List ℕ) {i : ℕ} {before last : List ℕ} → i ≡ n
     → before ≡ wiped n work → drop n marks ≡ drop n before → last ≡ wiped (6 * i) marks → last ≡ wiped (6 * n) work
 wiped-again n work marks e first rest again =

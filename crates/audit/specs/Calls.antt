@@ -31,8 +31,9 @@ pub record Passed (T : List ℕ) (c : ℕ) (w work : List ℕ) : Type 0 where
   pub few : rowsOf T c ≤ maxRows
   -- not 5
   pub room : 6 * rowsOf T c ≤ length work
-  -- the header is the table's
+  -- the header's n is the table's
   pub same-rows : n# w ≡ rowsOf T c
+  -- the header's c is the table's
   pub same-columns : c# w ≡ c
   -- words, shape and no fault
   pub accepted : Accepted (between T c) w

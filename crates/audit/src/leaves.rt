@@ -1,4 +1,4 @@
-// 11: a stored distance is wrong. Leaves come in the order of nodes, so that the least position of all is taken.
+// 11: a stored distance is wrong. Leaves come in the order of nodes, which is not that of their positions, so that the least of all is taken.
 ghost use Prim.Native.Nat.{_<_};
 ghost use Rattle.audit.specs.Passes.{leafWrong};
 ghost use Rattle.audit.specs.Refusals.{Paired};

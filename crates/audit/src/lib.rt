@@ -26,14 +26,14 @@ use words::listing::index_number;
 use words::places::nodes;
 use words::places::rows;
 
-// A number of the document's table and its two places, else zero.
+// The number given back and its two places, zero where it names none.
 pub struct Checked {
     pub number: u32,
     pub place: usize,
     pub second: usize,
 }
 
-// 1 to 9: what refuses the call before the passes, else 0. `room` is the workspace's length.
+// 1 to 9: what refuses the call before the passes, or 0. `room` is the workspace's length.
 fn refusal_of(table: &[u16], c: usize, index: &[u32], room: usize) -> u32
     ensures { λ r. ⌜ r ≡ said (refusals (now (table .entry)) c (now (index .entry)) room) .0 ⌝ }
 {
@@ -48,7 +48,7 @@ fn refusal_of(table: &[u16], c: usize, index: &[u32], room: usize) -> u32
     index_number(index, n, c)
 }
 
-// 11 to 13: the first fault that distances show.
+// 11 to 13: the first fault that distances show, or 0.
 fn measured_fault(table: &[u16], c: usize, index: &[u32]) -> Checked
     requires { ⌜ Paired (now table) c (now index) ⌝ }
     ensures { λ r. ⌜ told r ≡ said (measuredFaults (between (now (table .entry)) c) (now (index .entry))) ⌝ }
@@ -72,7 +72,7 @@ fn measured_fault(table: &[u16], c: usize, index: &[u32]) -> Checked
     closeness(table, c, index)
 }
 
-// 10 to 13: the first fault of an index in shape. The first 6n words of the workspace end as zero.
+// 10 to 13: the first fault of an index in shape, or 0. The first 6n words of the workspace end as zero.
 fn first_fault(table: &[u16], c: usize, index: &[u32], work: &mut [u32]) -> Checked
     requires { ⌜ Paired (now table) c (now index) ⌝ }
     requires { ⌜ 6 * n# (now index) ≤ length (now work) ⌝ }

@@ -20,7 +20,7 @@ use words::places::node_first;
 use words::places::node_start;
 use words::places::nodes;
 
-// The row at p is closer to node i's first than to node j's, from which it is x away. So j's own is not measured again.
+// The row at p is closer to node i's first than to node j's, from which it is x away. Node j's own first is not measured again.
 fn is_closer(table: &[u16], c: usize, index: &[u32], i: usize, j: usize, x: u32, p: usize) -> bool
     requires { ⌜ Paired (now table) c (now index) ⌝ }
     requires { ⌜ (i < N# (now index)) × (p < n# (now index)) × (x ≡ between (now table) c (first# (now index) j) (row# (now index) p)) ⌝ }
@@ -98,7 +98,7 @@ fn first_stray(table: &[u16], c: usize, index: &[u32], k: usize) -> usize
     low
 }
 
-// The lowest node with such a row, and the lowest position there; else 0.
+// 13 with the lowest node that has such a row and the lowest position there, or 0.
 pub fn closeness(table: &[u16], c: usize, index: &[u32]) -> Checked
     requires { ⌜ Paired (now table) c (now index) ⌝ }
     ensures { λ r. ⌜ told r ≡ said (allStrays (between (now (table .entry)) c) (now (index .entry))) ⌝ }

@@ -1,11 +1,10 @@
 // 10: a row number again. The workspace marks the rows met so far.
-ghost use Prim.Native.Nat.{_≤_};
 ghost use Rattle.audit.specs.Workspace.{Clear};
 ghost use Rattle.laws.specs.First.{First};
 ghost use Rattle.tree.specs.Check.{again};
 ghost use Rattle.words.specs.InShape.{InShape};
 ghost use Rattle.words.specs.Words.{n#};
-ghost use lib.ListN.{drop, length};
+ghost use lib.ListN.{drop};
 ghost use mathlib.Core.Path.{_≡_};
 use words::places::row_at;
 use words::places::rows;

@@ -3,28 +3,30 @@ use Prim.Native.Nat.{_%_, _*_, _+_, _/_, _<_, _^_, _≤_, suc, zero, ℕ}
 use Rattle.image.proofs.Calls.{read-fault, reads-none}
 use Rattle.image.proofs.Checks.{check-append, check-place, from-lt, step-state, step-word}
 use Rattle.image.proofs.Refusals.{fifteen}
-use Rattle.image.proofs.Wrong.{lowest-is, lowest-le}
+use Rattle.image.proofs.Wrong.{lowest-is, lowest-le, wrongAt}
 use Rattle.image.specs.Below.{Below}
 use Rattle.image.specs.Calls.{Reads}
 use Rattle.image.specs.Changed.{Changed, Moved, blockWord}
 use Rattle.image.specs.Lowest.{lowest, wrongBlocks}
 use Rattle.laws.proofs.Tests.{is-true, refute}
+use Rattle.laws.specs.First.{First}
 use Rattle.limits.specs.Said.{Said}
 use Rattle.words.specs.Image.{blockGood, checkFrom, checkWord, saidRead, step, wordAt, wordsAt}
 use borrow.Author.Tests.{eqb-true, leb-false, leb-true}
 use lib.Dec.{leb}
 use lib.ListN.{length}
-use mathlib.Core.Bool.{Bool, false, true}
+use mathlib.Core.Bool.{Bool, false, not, true}
 use mathlib.Core.List.{List, [], _++_, _∷_}
 use mathlib.Core.Path.{_∙_, _≡_, ap, ap₂, refl, sym}
 use native.Mathlib.Nat.{not-suc-le-zero}
 use native.Mathlib.Omega.{arith}
 
+-- a test that cannot pass fails
 refuse : (t : Bool) → (t ≡ true → ⊥) → t ≡ false
 refuse t h = sym (refute t (λ p. h (is-true t p)))
 
 -- ---- the words of two blocks
--- k words that agree one by one
+-- k words that agree one by one are the same list
 pub same-words : (i i′ : List ℕ) (p p′ k : ℕ) → ((j : ℕ) → j < k → wordAt i (p + 4 * j) ≡ wordAt i′ (p′ + 4 * j))
     → wordsAt i p k ≡ wordsAt i′ p′ k
 unfolding wordsAt
@@ -32,49 +34,60 @@ same-words i i′ p p′ zero f = refl
 same-words i i′ p p′ (suc k) f =
     ap₂ (λ (l : List ℕ) (x : ℕ). l ++ (x ∷ [])) (same-words i i′ p p′ k (λ j h. f j (omega arith))) (f k (omega arith))
 
+-- a word of four bytes fits 32 bits
 word-lt : (i : List ℕ) (p : ℕ) → Below 256 i → wordAt i p < 2 ^ 32
 unfolding wordAt
 word-lt i p h = omega (arith, h p, h (p + 1), h (p + 2), h (p + 3))
 
+-- the check of one word more is one step further
 check-last : (i : List ℕ) (p k s : ℕ) → checkFrom s (wordsAt i p (suc k)) ≡ step (checkFrom s (wordsAt i p k)) (wordAt i (p + 4 * k))
 unfolding wordsAt checkFrom
 check-last i p k s = check-append (wordsAt i p k) (wordAt i (p + 4 * k) ∷ []) s
 
--- of n words just word k differs: their checks differ
+-- the words from byte p on of two images, which differ at word k; their checks start at s
 module _ (i i′ : List ℕ) (p k s : ℕ) (hs : s < 2 ^ 32) (bytes : Below 256 i) (bytes′ : Below 256 i′)
     (differs : wordAt i (p + 4 * k) ≡ wordAt i′ (p + 4 * k) → ⊥) where
-  check-differs : (n : ℕ) → k < n → ((j : ℕ) → j < n → (j ≡ k → ⊥) → wordAt i (p + 4 * j) ≡ wordAt i′ (p + 4 * j))
-      → checkFrom s (wordsAt i p n) ≡ checkFrom s (wordsAt i′ p n) → ⊥
+  -- word n of an image
+  abbrev word : List ℕ → ℕ → ℕ
+  word l n = wordAt l (p + 4 * n)
+
+  -- the check of its first n words
+  abbrev check : List ℕ → ℕ → ℕ
+  check l n = checkFrom s (wordsAt l p n)
+
+  -- OF n WORDS JUST WORD k DIFFERS: THEIR CHECKS DIFFER
+  check-differs : (n : ℕ) → k < n → ((j : ℕ) → j < n → (j ≡ k → ⊥) → word i j ≡ word i′ j) → check i n ≡ check i′ n → ⊥
   check-differs zero h f e = not-suc-le-zero h
   check-differs (suc n) h f e =
       go (leb n k) refl (λ q. check-differs n q (λ j g. f j (omega arith))) (sym (check-last i p n s) ∙ e ∙ check-last i′ p n s)
     where
-      go : (b : Bool) → leb n k ≡ b → (k < n → checkFrom s (wordsAt i p n) ≡ checkFrom s (wordsAt i′ p n) → ⊥)
-          → step (checkFrom s (wordsAt i p n)) (wordAt i (p + 4 * n)) ≡ step (checkFrom s (wordsAt i′ p n)) (wordAt i′ (p + 4 * n)) → ⊥
+      -- the last word is the one that differs, or one before it is
+      go : (b : Bool) → leb n k ≡ b → (k < n → check i n ≡ check i′ n → ⊥)
+          → step (check i n) (word i n) ≡ step (check i′ n) (word i′ n) → ⊥
       go true q ih e =
           let m : n ≡ k = omega (arith, leb-true n k q) in
           let w = same-words i i′ p p n (λ j g. f j (omega arith) (λ r. omega arith)) in
-          differs (rw m at (step-word (checkFrom s (wordsAt i p n)) (wordAt i (p + 4 * n)) (wordAt i′ (p + 4 * n)) (word-lt i (p + 4 * n) bytes)
-          (word-lt i′ (p + 4 * n) bytes′) (e ∙ ap (λ (l : List ℕ). step (checkFrom s l) (wordAt i′ (p + 4 * n))) (sym w))))
+          differs (rw m at (step-word (check i n) (word i n) (word i′ n) (word-lt i (p + 4 * n) bytes) (word-lt i′ (p + 4 * n) bytes′)
+          (e ∙ ap (λ (l : List ℕ). step (checkFrom s l) (word i′ n)) (sym w))))
       go false q ih e =
-          let g = leb-false n k q in
-          let w = f n (omega arith) (λ r. omega arith) in
-          ih g (step-state (checkFrom s (wordsAt i p n)) (checkFrom s (wordsAt i′ p n)) (wordAt i (p + 4 * n)) (from-lt (wordsAt i p n) s hs)
-          (from-lt (wordsAt i′ p n) s hs) (e ∙ ap (step (checkFrom s (wordsAt i′ p n))) (sym w)))
+          let w = f n (omega arith) (λ r. omega (arith, leb-false n k q)) in
+          ih (leb-false n k q) (step-state (check i n) (check i′ n) (word i n) (from-lt (wordsAt i p n) s hs) (from-lt (wordsAt i′ p n) s hs)
+          (e ∙ ap (step (check i′ n)) (sym w)))
 
 -- ---- the two theorems
-module _ (i : List ℕ) (b : ℕ) where
-  -- what a good block says
-  good-is : blockGood i b ≡ true → checkWord b (wordsAt i (512 * b) 127) ≡ blockWord i b 127
-  unfolding blockGood
-  good-is e = eqb-true (checkWord b (wordsAt i (512 * b) 127)) (wordAt i (512 * b + 508)) e
+-- a good block's last word is the check word of its 127 others
+good-is : (i : List ℕ) (b : ℕ) → blockGood i b ≡ true → checkWord b (wordsAt i (512 * b) 127) ≡ blockWord i b 127
+unfolding blockGood
+good-is i b e = eqb-true (checkWord b (wordsAt i (512 * b) 127)) (wordAt i (512 * b + 508)) e
 
 -- ONE CHANGED WORD, THE CHECK WORD INCLUDED, IS FOUND: where just one word of block b differs, the block is good in one image at most
-pub one-word : (i i′ : List ℕ) (b k : ℕ) → Below 256 i → Below 256 i′ → Changed i i′ b k → blockGood i b ≡ true → blockGood i′ b ≡ false
+pub one-word : (i i′ : List ℕ) (b k : ℕ) → Below 256 i → Below 256 i′ → Changed i i′ b k
+    → blockGood i b ≡ true → blockGood i′ b ≡ false
 unfolding checkWord
 one-word i i′ b k bytes bytes′ ch good =
     refuse (blockGood i′ b) (λ good′. go (leb 127 k) refl (good-is i b good) (good-is i′ b good′))
   where
+    -- the changed word is the check word, or one of the others
     go : (t : Bool) → leb 127 k ≡ t → checkWord b (wordsAt i (512 * b) 127) ≡ blockWord i b 127
         → checkWord b (wordsAt i′ (512 * b) 127) ≡ blockWord i′ b 127 → ⊥
     go true q e e′ =
@@ -87,19 +100,21 @@ one-word i i′ b k bytes bytes′ ch good =
         (e ∙ ch .same 127 (omega arith) (λ r. omega arith) ∙ sym e′)
 
 -- A BLOCK AT ANOTHER BLOCK'S PLACE IS FOUND: the 128 words of a good block are no good block under another number
-pub one-block : (i i′ : List ℕ) (a b : ℕ) → a < 2 ^ 32 → b < 2 ^ 32 → Moved i i′ a b → blockGood i a ≡ true → blockGood i′ b ≡ false
+pub one-block : (i i′ : List ℕ) (a b : ℕ) → a < 2 ^ 32 → b < 2 ^ 32 → Moved i i′ a b
+    → blockGood i a ≡ true → blockGood i′ b ≡ false
 one-block i i′ a b ha hb mv good =
     refuse (blockGood i′ b) (λ good′.
     let w = same-words i i′ (512 * a) (512 * b) 127 (λ j h. mv .same j (omega arith)) in
     mv .elsewhere (check-place a b (wordsAt i (512 * a) 127) ha hb
     (good-is i a good ∙ mv .same 127 (omega arith) ∙ sym (good-is i′ b good′) ∙ ap (checkWord b) (sym w))))
 
--- ---- what reading says of it
+-- ---- reading an image of whole blocks whose block b is wrong
 module _ (i : List ℕ) (b : ℕ) (whole : length i % 512 ≡ 0) (inside : b < length i / 512) (wrong : blockGood i b ≡ false) where
+  -- it says 15 and names the lowest wrong block
   said-is : (room : ℕ) → saidRead i room ≡ (15, lowest (length i / 512) (wrongBlocks i 0 (length i / 512)), 0)
   said-is room =
-      let n = length i / 512 in
-      let l = lowest-le i b n wrong n 0 (omega arith) (omega arith) in
+      let n : ℕ = length i / 512 in
+      let l = lowest-le i n b wrong in
       let q = fifteen i (λ e. omega arith) whole (omega arith) in
       read-fault i room (λ e. omega (arith, ap (λ (t : Said). t .0) q)) ∙ q
 
@@ -107,26 +122,28 @@ module _ (i : List ℕ) (b : ℕ) (whole : length i % 512 ≡ 0) (inside : b < l
   pub wrong-read : (before after : List ℕ) (number place words : ℕ) → Reads i before after number place words
       → (number ≡ 15) × (place ≤ b) × (words ≡ 0) × (after ≡ before)
   wrong-read before after number place words r =
-      let n = length i / 512 in
       let q = said-is (length before) in
       let e : number ≡ 15 = r .said ∙ ap (λ (t : Said). t .0) q in
       let d = reads-none i before after number place words r (λ z. omega arith) in
-      (e, rw (r .placed ∙ ap (λ (t : Said). t .1) q) (lowest-le i b n wrong n 0 (omega arith) (omega arith)), d .0, d .1)
+      (e, rw (r .placed ∙ ap (λ (t : Said). t .1) q) (lowest-le i (length i / 512) b wrong), d .0, d .1)
 
-  -- where every lower block is good, it is the block named
+  -- WHERE EVERY LOWER BLOCK IS GOOD, IT IS THE BLOCK NAMED
   pub wrong-named : ((a : ℕ) → a < b → blockGood i a ≡ true) → (room : ℕ) → saidRead i room ≡ (15, b, 0)
   wrong-named f room =
-      let n = length i / 512 in
-      said-is room ∙ ap (λ (p : ℕ). (15, p, 0)) (lowest-is i b n wrong n 0 (omega arith) (omega arith) (λ a h g. f a g))
+      let F : First (wrongAt i) 0 (length i / 512) b =
+      record { from = omega arith; to = omega arith; none = λ a _ h. ap not (f a h); here = λ _. ap not wrong } in
+      said-is room ∙ ap (λ (p : ℕ). (15, p, 0)) (lowest-is i (length i / 512) b F)
 
--- ---- the two theorems, as what a call says
+-- ---- the two theorems, as what a call of reading says
 module _ (i i′ : List ℕ) (b : ℕ) (whole : length i′ % 512 ≡ 0) (inside : b < length i′ / 512) (before after : List ℕ)
     (number place words : ℕ) (r : Reads i′ before after number place words) where
+  -- ONE CHANGED WORD OF A GOOD BLOCK: THE CALL IS REFUSED WITH 15, AND NOTHING IS READ
   pub one-word-read : (k : ℕ) → Below 256 i → Below 256 i′ → Changed i i′ b k → blockGood i b ≡ true
       → (number ≡ 15) × (place ≤ b) × (words ≡ 0) × (after ≡ before)
   one-word-read k bytes bytes′ ch good =
       wrong-read i′ b whole inside (one-word i i′ b k bytes bytes′ ch good) before after number place words r
 
+  -- A GOOD BLOCK AT ANOTHER BLOCK'S PLACE: THE SAME
   pub one-block-read : (a : ℕ) → a < 2 ^ 32 → b < 2 ^ 32 → Moved i i′ a b → blockGood i a ≡ true
       → (number ≡ 15) × (place ≤ b) × (words ≡ 0) × (after ≡ before)
   one-block-read a ha hb mv good = wrong-read i′ b whole inside (one-block i i′ a b ha hb mv good) before after number place words r

@@ -16,59 +16,64 @@ use mathlib.Core.Path.{_∙_, _≡_, ap, ap₂, refl, sym}
 use native.Mathlib.Omega.{arith}
 
 -- a block whose 128 words are the same is as good
-block-same : (i i′ : List ℕ) (b : ℕ) → ((j : ℕ) → j < 128 → blockWord i b j ≡ blockWord i′ b j) → blockGood i b ≡ blockGood i′ b
+block-same : (i i′ : List ℕ) (b : ℕ) → ((j : ℕ) → j < 128 → blockWord i b j ≡ blockWord i′ b j)
+    → blockGood i b ≡ blockGood i′ b
 unfolding blockGood
 block-same i i′ b f =
     ap₂ eqb (ap (checkWord b) (same-words i i′ (512 * b) (512 * b) 127 (λ j h. f j (omega arith)))) (f 127 (omega arith))
 
-module _ (i : List ℕ) (p v : ℕ) (there : p < length i) where
+-- byte p is changed to v
+module _ (i : List ℕ) (p v : ℕ) where
+  -- the image after the change
   abbrev i′ : List ℕ
   i′ = set i p v
 
+  -- every other byte is as it was
   other : (q : ℕ) → (q ≡ p → ⊥) → at i′ q ≡ at i q
   other q h = getD-set-other i p q v 0 h
 
-  new : (q : ℕ) → q ≡ p → at i′ q ≡ v
-  new q e = ap (at i′) e ∙ getD-set-same i p v 0 there
-
-  old : (q : ℕ) → q ≡ p → at i q ≡ at i p
-  old q e = ap (at i) e
-
-  -- the word that it is in, as its byte r
-  word-differs : (r q : ℕ) → q + r ≡ p → r < 4 → wordAt i q ≡ wordAt i′ q → at i p ≡ v
-  unfolding wordAt
-  word-differs zero q e h s =
-      let m : q ≡ p = omega arith in
-      omega (arith, new q m, old q m, other (q + 1) (λ n. omega arith), other (q + 2) (λ n. omega arith), other (q + 3) (λ n. omega arith))
-  word-differs (suc zero) q e h s =
-      let m : q + 1 ≡ p = omega arith in
-      omega (arith, other q (λ n. omega arith), new (q + 1) m, old (q + 1) m, other (q + 2) (λ n. omega arith), other (q + 3) (λ n. omega arith))
-  word-differs (suc (suc zero)) q e h s =
-      let m : q + 2 ≡ p = omega arith in
-      omega (arith, other q (λ n. omega arith), other (q + 1) (λ n. omega arith), new (q + 2) m, old (q + 2) m, other (q + 3) (λ n. omega arith))
-  word-differs (suc (suc (suc zero))) q e h s =
-      let m : q + 3 ≡ p = omega arith in
-      omega (arith, other q (λ n. omega arith), other (q + 1) (λ n. omega arith), other (q + 2) (λ n. omega arith), new (q + 3) m, old (q + 3) m)
-  word-differs (suc (suc (suc (suc r)))) q e h s = absurd (omega arith)
-
-  -- every word but the byte's own is the same
+  -- every word but the byte's own is as it was
   words-same : (b j : ℕ) → (512 * b + 4 * j ≡ p / 4 * 4 → ⊥) → blockWord i b j ≡ blockWord i′ b j
   words-same b j h = word-cong i i′ (512 * b + 4 * j) (512 * b + 4 * j) (λ d l. sym (other (512 * b + 4 * j + d) (λ e. h (omega arith))))
 
-  changed : (at i p ≡ v → ⊥) → Changed i i′ (p / 512) (p % 512 / 4)
-  changed differs =
-      record {
-        inside = omega arith;
-        same = λ j h n. words-same (p / 512) j (λ e. n (omega arith));
-        differs = λ e. differs (word-differs (p % 4) (512 * (p / 512) + 4 * (p % 512 / 4)) (omega arith) (omega arith) e);
-      }
+  module _ (there : p < length i) where
+    -- byte p is v
+    new : (q : ℕ) → q ≡ p → at i′ q ≡ v
+    new q e = ap (at i′) e ∙ getD-set-same i p v 0 there
 
-  bytes-still : v < 256 → Below 256 i → Below 256 i′
-  bytes-still small h q = go (eqb q p) refl
-    where
-      go : (t : Bool) → eqb q p ≡ t → at i′ q < 256
-      go true e = rw (new q (eqb-true q p e)) small
-      go false e = rw (other q (eqb-false q p e)) (h q)
+    -- a word that has byte p as its byte r, and is as it was: the byte is too
+    word-differs : (r q : ℕ) → q + r ≡ p → r < 4 → wordAt i q ≡ wordAt i′ q → at i p ≡ v
+    unfolding wordAt
+    word-differs zero q e h s =
+        let m : q ≡ p = omega arith in
+        omega (arith, new q m, ap (at i) m, other (q + 1) (λ n. omega arith), other (q + 2) (λ n. omega arith), other (q + 3) (λ n. omega arith))
+    word-differs (suc zero) q e h s =
+        let m : q + 1 ≡ p = omega arith in
+        omega (arith, other q (λ n. omega arith), new (q + 1) m, ap (at i) m, other (q + 2) (λ n. omega arith), other (q + 3) (λ n. omega arith))
+    word-differs (suc (suc zero)) q e h s =
+        let m : q + 2 ≡ p = omega arith in
+        omega (arith, other q (λ n. omega arith), other (q + 1) (λ n. omega arith), new (q + 2) m, ap (at i) m, other (q + 3) (λ n. omega arith))
+    word-differs (suc (suc (suc zero))) q e h s =
+        let m : q + 3 ≡ p = omega arith in
+        omega (arith, other q (λ n. omega arith), other (q + 1) (λ n. omega arith), other (q + 2) (λ n. omega arith), new (q + 3) m, ap (at i) m)
+    word-differs (suc (suc (suc (suc r)))) q e h s = absurd (omega arith)
+
+    -- where the byte differs, just its own word differs in its block
+    changed : (at i p ≡ v → ⊥) → Changed i i′ (p / 512) (p % 512 / 4)
+    changed differs =
+        record {
+          inside = omega arith;
+          same = λ j h n. words-same (p / 512) j (λ e. n (omega arith));
+          differs = λ e. differs (word-differs (p % 4) (512 * (p / 512) + 4 * (p % 512 / 4)) (omega arith) (omega arith) e);
+        }
+
+    -- bytes stay bytes
+    bytes-still : v < 256 → Below 256 i → Below 256 i′
+    bytes-still small h q = go (eqb q p) refl
+      where
+        go : (t : Bool) → eqb q p ≡ t → at i′ q < 256
+        go true e = rw (new q (eqb-true q p e)) small
+        go false e = rw (other q (eqb-false q p e)) (h q)
 
 -- ONE CHANGED BYTE IS FOUND: reading says 15, and names the byte's block
 pub one-byte : (i : List ℕ) (p v : ℕ) → Below 256 i → v < 256 → length i % 512 ≡ 0 → p < length i → (at i p ≡ v → ⊥)
@@ -78,4 +83,4 @@ one-byte i p v bytes small whole there differs good room =
     wrong-named (set i p v) (p / 512) (rw l whole) (omega arith)
     (one-word i (set i p v) (p / 512) (p % 512 / 4) bytes (bytes-still i p v there small bytes) (changed i p v there differs)
     (good (p / 512) (omega arith)))
-    (λ a h. sym (block-same i (set i p v) a (λ j g. words-same i p v there a j (λ e. omega arith))) ∙ good a (omega arith)) room
+    (λ a h. sym (block-same i (set i p v) a (λ j g. words-same i p v a j (λ e. omega arith))) ∙ good a (omega arith)) room

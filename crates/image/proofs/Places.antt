@@ -11,7 +11,7 @@ use native.Mathlib.Nat.{add-zero}
 use native.Mathlib.Numerals.{add-one}
 use native.Mathlib.Omega.{arith}
 
--- a word is its four bytes
+-- words whose four bytes are the same are the same
 pub word-cong : (i i′ : List ℕ) (q q′ : ℕ) → ((d : ℕ) → d < 4 → at i (q + d) ≡ at i′ (q′ + d)) → wordAt i q ≡ wordAt i′ q′
 unfolding wordAt
 word-cong i i′ q q′ f =
@@ -19,31 +19,34 @@ word-cong i i′ q q′ f =
     omega (arith, f 1 (omega arith), f 2 (omega arith), f 3 (omega arith))
 
 -- ---- the words of a block
+-- one word more
 pub words-more : (i : List ℕ) (p k : ℕ) → wordsAt i p (k + 1) ≡ wordsAt i p k ++ (wordAt i (p + 4 * k) ∷ [])
 unfolding wordsAt
 words-more i p k = ap (wordsAt i p) (add-one k)
 
--- the check of the first words of a list, one word further
+-- the check of the first k words of a list, one word further: s is that check from s₀ on, and r the check one step further
 pub take-check : (ws : List ℕ) (s₀ s k r : ℕ) → k < length ws → s ≡ checkFrom s₀ (take k ws) → r ≡ step s (at ws k)
     → r ≡ checkFrom s₀ (take (k + 1) ws)
 unfolding checkFrom
 take-check ws s₀ s k r h e g = rw (add-one k, take-suc ws k 0 h, check-append, ← e) g
 
 -- ---- the words of an image
+-- one index word more
 pub image-more : (i : List ℕ) (k : ℕ) → imageWords i (k + 1) ≡ imageWords i k ++ (imageWord i k ∷ [])
 unfolding imageWords
 image-more i k = ap (imageWords i) (add-one k)
 
+-- k index words are k
 pub image-length : (i : List ℕ) (k : ℕ) → length (imageWords i k) ≡ k
 unfolding imageWords
 image-length i zero = refl
 image-length i (suc k) = simp (length-append, image-length i k) (add-one k)
 
--- an index word lies within the blocks
+-- index word j, one of the 127 of each block, lies within the n bytes
 pub inside : (j n : ℕ) → j < 127 * (n / 512) → 4 * j + 4 * (j / 127) + 4 ≤ n
 inside j n h = omega arith
 
--- the words that k blocks are for lie within them
+-- the blocks for t words have places for them
 pub blocks-hold : (t k : ℕ) → blocksFor t ≡ k → t ≤ 127 * k
 unfolding blocksFor
 blocks-hold t k e = omega arith

@@ -9,8 +9,6 @@ use Rattle.image.specs.Below.{Below}
 use Rattle.image.specs.Calls.{Reads, Writes}
 use Rattle.image.specs.Lowest.{wrongBlocks}
 use Rattle.image.specs.Sound.{restZero}
-use Rattle.laws.proofs.Every.{all-of}
-use Rattle.laws.proofs.Ranges.{range-every}
 use Rattle.laws.proofs.Tests.{and-l, and-r, holds, is-true}
 use Rattle.laws.specs.Lists.{all, range}
 use Rattle.limits.specs.Said.{Said, fault, said}
@@ -18,7 +16,7 @@ use Rattle.words.proofs.InShape.{whole}
 use Rattle.words.specs.Image.{blocks, blocksFor, image, imageFaults, imageTotal, imageWord, imageWords, saidWrite}
 use Rattle.words.specs.Words.{at, headerOk, wordsOf, wordsOk}
 use borrow.Author.Tests.{le-ltb, leb-false, leb-true}
-use lib.Dec.{T, eqb, leb, lit<, ltb}
+use lib.Dec.{eqb, leb, lit<, ltb}
 use lib.ListN.{List·getD-eq-default, drop, length, length-take, take}
 use lib.Seq.{getD-take, length-take-le, take-all, take-at, take-take}
 use mathlib.Core.Bool.{Bool, _&&_, false, not, true}
@@ -27,15 +25,18 @@ use mathlib.Core.Path.{_∙_, _≡_, ap, ap₂, refl, subst, sym}
 use native.Mathlib.Omega.{arith}
 
 -- ---- the header
+-- the header test looks at the first eight words only
 header-take : (w : List ℕ) → headerOk (take 8 w) ≡ headerOk w
 unfolding headerOk
 header-take w =
     let f : (j : ℕ) → j < 8 → at (take 8 w) j ≡ at w j = λ j h. getD-take 8 w j 0 h in
     rw (f 0 (lit< tt), f 1 (lit< tt), f 2 (lit< tt), f 3 (lit< tt), f 4 (lit< tt), f 5 (lit< tt), f 6 (lit< tt), f 7 (lit< tt))
 
+-- the number of words that a header asks for is told by the first eight words
 total-take : (w : List ℕ) → wordsOf (take 8 w) ≡ wordsOf w
 total-take w = rw (getD-take 8 w 1 0 (lit< tt), getD-take 8 w 5 0 (lit< tt))
 
+-- an index's words have a possible header
 header-is : (w : List ℕ) → wordsOk w ≡ true → headerOk w ≡ true
 unfolding wordsOk
 header-is w e =
@@ -43,6 +44,7 @@ header-is w e =
     let b = leb (wordsOf w) (length w) in
     is-true (headerOk w) (and-r a (headerOk w) (and-l (a && headerOk w) b (holds (a && headerOk w && b) e)))
 
+-- the first entries of words are words
 below-take : (n k : ℕ) (l : List ℕ) → 1 ≤ k → Below k l → Below k (take n l)
 below-take n k l one h p = go (leb n p) refl
   where
@@ -50,56 +52,65 @@ below-take n k l one h p = go (leb n p) refl
     go true q = rw (List·getD-eq-default (take n l) 0 {n = p} (omega (arith, length-take n l, leb-true n p q))) one
     go false q = rw (getD-take n l p 0 (leb-false n p q)) (h p)
 
--- ---- the whole way
+-- ---- the image of an index
 module _ (w : List ℕ) (ok : wordsOk w ≡ true) (small : Below (2 ^ 32) w) where
+  -- how many words the index has
   abbrev t : ℕ
   t = wordsOf w
 
+  -- its words
   abbrev ws : List ℕ
   ws = take (wordsOf w) w
 
+  -- how many blocks hold them
   abbrev k : ℕ
   k = blocksFor (wordsOf w)
 
+  -- none of them is missing
   long : length ws ≡ t
   long = length-take-le t w (whole w ok .words)
 
+  -- each of them fits 32 bits
   low : Below (2 ^ 32) ws
   low = below-take t (2 ^ 32) w (omega arith) small
 
+  -- the blocks have places for them
   fits : t ≤ 127 * k
   fits = blocks-hold t k refl
 
+  -- there is a block
   some : 1 ≤ k
   unfolding blocksFor
   some = omega arith
 
+  -- the image is these blocks
   image-is : image w ≡ blocks ws k
   unfolding image
   image-is = refl
 
+  -- its length in bytes
   image-size : length (image w) ≡ 512 * k
   image-size = ap length image-is ∙ blocks-length ws k
 
+  -- its length in blocks
   size-blocks : length (image w) / 512 ≡ k
   size-blocks = omega (arith, image-size)
 
+  -- its header is the index's
   heads : imageWords (image w) 8 ≡ take 8 w
   heads =
       ap (λ i. imageWords i 8) image-is ∙ words-back ws k low 8 (omega (arith, long)) (omega (arith, fits)) ∙ take-take 8 t w (omega arith)
 
+  -- its header asks for as many words as the index has
   total-is : imageTotal (image w) ≡ t
   unfolding imageTotal
   total-is = ap wordsOf heads ∙ total-take w
 
+  -- the words after the last are zero
   rest-is : restZero (image w) (imageTotal (image w)) ≡ true
   rest-is =
-      let n : ℕ = 127 * k - length ws in
       ap₂ (λ a b. all (λ j. eqb (imageWord (image w) j) 0) (range a (127 * b - a))) (total-is ∙ sym long) size-blocks
-      ∙ ap (λ i. all (λ j. eqb (imageWord i j) 0) (range (length ws) n)) image-is
-      ∙ is-true (all (λ j. eqb (imageWord (blocks ws k) j) 0) (range (length ws) n))
-      (all-of (λ j. eqb (imageWord (blocks ws k) j) 0) (range (length ws) n)
-      (range-every (λ j. T (eqb (imageWord (blocks ws k) j) 0)) (length ws) n (zero-back ws k low n refl)))
+      ∙ ap (λ i. all (λ j. eqb (imageWord i j) 0) (range (length ws) (127 * k - length ws))) image-is ∙ zero-back ws k low
 
   -- THE IMAGE OF AN INDEX HAS NO FAULT
   pub image-sound : imageFaults (image w) ≡ []
@@ -114,11 +125,12 @@ module _ (w : List ℕ) (ok : wordsOk w ≡ true) (small : Below (2 ^ 32) w) whe
       ap₂ imageWords image-is total-is ∙ words-back ws k low t (omega (arith, long)) fits ∙ take-all t ws (omega (arith, long))
 
 -- ---- as calls
--- a write that gives 0 had an index
+-- over the two tests of writing: 0 says that the first passed
 wrote : (a s : Bool) → said (fault 16 (not a) ++ fault 5 s) .0 ≡ 0 → a ≡ true
 wrote true s e = refl
 wrote false s e = absurd (omega arith)
 
+-- a write that gives 0 had an index
 pub written-ok : (w : List ℕ) (room : ℕ) → saidWrite w room .0 ≡ 0 → wordsOk w ≡ true
 unfolding saidWrite
 written-ok w room e = wrote (wordsOk w) (ltb room (512 * blocksFor (wordsOf w))) e

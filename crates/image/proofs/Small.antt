@@ -1,4 +1,4 @@
--- How much the two image calls give back at most, for the most rows that there can be, and what their numbers say: 01, The image. Assumes nothing.
+-- How much the two image calls give back at most, and what their numbers say: 01, The image. Assumes nothing.
 use Prim.Native.Nat.{_%_, _*_, _+_, _/_, _≤_, ℕ}
 use Rattle.image.proofs.Calls.{writes-sixteen}
 use Rattle.image.proofs.Only.{write-only}
@@ -24,6 +24,7 @@ use native.Mathlib.Decide.{decLt}
 use native.Mathlib.Omega.{arith}
 
 -- ---- writing
+-- the greatest index needs no more blocks than the most rows
 blocks-few : (t : ℕ) → t ≤ 10 * maxRows + 8 → blocksFor t ≤ maxRows
 unfolding blocksFor
 blocks-few t h = omega arith
@@ -32,10 +33,12 @@ blocks-few t h = omega arith
 pub write-small : {w before after : List ℕ} {number blocks : ℕ} → Writes w before after number blocks → blocks ≤ maxRows
 write-small {w} {before} {after} {number} {blocks} r = by-words (wordsOk w) refl
   where
+    -- by whether the number is 0
     counted : (b : Bool) → blocks ≡ cond b (blocksFor (wordsOf w)) 0 → blocksFor (wordsOf w) ≤ maxRows → blocks ≤ maxRows
     counted true e h = omega arith
     counted false e h = omega arith
 
+    -- by whether the words are an index
     by-words : (b : Bool) → wordsOk w ≡ b → blocks ≤ maxRows
     by-words true e =
         let W = whole w e in
@@ -51,9 +54,11 @@ write-whole {w} {before} r = whole w (written-ok w (length before) (sym (r .said
 words-few : (w : List ℕ) → headerOk w ≡ true → wordsOf w ≤ 10 * maxRows + 8
 words-few w e = omega (arith, rows, nodes (nodesOk (n# w) (N# w)) refl)
   where
+    -- no more rows than there may be
     rows : n# w ≤ maxRows
     rows = by-cases (decLt maxRows (n# w)) (λ h. absurd (true≢false (sym e ∙ sym (bad-rows w h)))) (λ h. omega arith)
 
+    -- at most two nodes a row
     nodes : (b : Bool) → nodesOk (n# w) (N# w) ≡ b → N# w ≤ 2 * n# w
     nodes true q = nodes-are (n# w) (N# w) (holds (nodesOk (n# w) (N# w)) q) .0
     nodes false q = absurd (true≢false (sym e ∙ sym (bad-nodes w q)))
@@ -76,7 +81,8 @@ read-header i room e =
     go false [] false k z s e = absurd (omega arith)
 
 -- READING: no number but 15 names a block
-pub read-placed : {i before after : List ℕ} {number place words : ℕ} → Reads i before after number place words → (number ≡ 15 → ⊥) → place ≡ 0
+pub read-placed : {i before after : List ℕ} {number place words : ℕ} → Reads i before after number place words
+    → (number ≡ 15 → ⊥) → place ≡ 0
 unfolding saidRead imageFaults
 read-placed {i} {before} r h =
     r .placed ∙ go (eqb (length i) 0 || not (eqb (length i % 512) 0)) (wrongBlocks i 0 (length i / 512))
@@ -91,6 +97,7 @@ read-placed {i} {before} r h =
     go false [] false false true h = refl
     go false [] false false false h = refl
 
+-- an image with a possible header asks for no more either
 total-few : (i : List ℕ) → headerOk (imageWords i 8) ≡ true → imageTotal i ≤ 10 * maxRows + 8
 unfolding imageTotal
 total-few i h = words-few (imageWords i 8) h

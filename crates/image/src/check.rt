@@ -22,7 +22,7 @@ pub fn stepped(s: u32, x: u32) -> u32
     std::num::wrapping_add_u32(rotated(s), x)
 }
 
-// What the check of block b starts at.
+// What the check of block b starts at: its number plus 1, modulo 2^32.
 pub fn check_start(b: usize) -> u32
     ensures { λ r. ⌜ r ≡ (b + 1) % 2 ^ 32 ⌝ }
 {

@@ -51,7 +51,7 @@ fn rest_zero(image: &[u8], t: usize) -> bool
     true
 }
 
-// A refusal with its number and place.
+// A refusal with its number and place, and no words.
 fn refused(number: u32, place: usize) -> Read
     ensures { λ r. ⌜ (r .number ≡ number) × (r .place ≡ place) × (r .words ≡ 0) ⌝ }
 {

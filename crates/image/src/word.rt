@@ -10,12 +10,13 @@ use words::places::WIDTH;
 use words::places::nodes;
 use words::places::rows;
 
-// The bytes of a block, and how many index words it holds.
+// The bytes of a block.
 pub const BLOCK: usize = 512;
 
+// How many index words a block holds.
 pub const HELD: usize = 127;
 
-// How many words the header at the front of these asks for.
+// How many words the header at the front of these asks for: below 2^35, whatever its numbers are.
 pub fn words_of(header: &[u32]) -> usize
     requires { ⌜ 8 ≤ length (now header) ⌝ }
     ensures { λ r. ⌜ (r ≡ wordsOf (now (header .entry))) × (r < 34359738368) ⌝ }
@@ -23,7 +24,7 @@ pub fn words_of(header: &[u32]) -> usize
     HEADER + WIDTH * nodes(header) + 2 * rows(header)
 }
 
-// How many blocks hold t words.
+// How many blocks hold t words: below 2^32.
 pub fn blocks_for(t: usize) -> usize
     requires { ⌜ t < 34359738368 ⌝ }
     ensures { λ r. ⌜ (r ≡ blocksFor t) × (r < 4294967296) ⌝ }
@@ -42,6 +43,7 @@ pub fn put_word(part: &mut [u8], x: u32)
     part[3] = (x / 16777216 % 256) as u8;
 }
 
+// A byte as a word.
 fn wide(x: u8) -> u32
     ensures { λ r. ⌜ (r ≡ x) × (r < 256) ⌝ }
 {

@@ -11,13 +11,15 @@ use lib.ListN.{length}
 use mathlib.Core.Path.{_∙_, _≡_, sym}
 use native.Mathlib.Omega.{arith}
 
--- past the refusals: the start, and what holds there
+-- the start, seen from the branch past the refusals
 abbrev start : tie.Else1 → tie.Start
 start c = c .before .before .before .before .before
 
+-- there is no refusal in that branch
 none : (c : tie.Else1) → said (refusals (start c .args .table .now) (start c .args .c) (start c .args .index .now) (length (start c .args .work .now))) .0 ≡ 0
 none c = sym (c .before .refusal-of .ensures) ∙ c .if1 .left
 
+-- table, workspace and index are what the passes need
 going : (c : tie.Else1) → Clear (start c .args .table .now) (start c .args .c) (start c .args .index .now) (length (start c .args .work .now))
 going c =
     let a = start c .args in

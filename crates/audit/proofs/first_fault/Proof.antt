@@ -13,18 +13,21 @@ use borrow.Author.Needs.{needs}
 use mathlib.Core.Path.{_∙_, _≡_, ap, subst, sym}
 use native.Mathlib.Omega.{arith}
 
--- the start, seen from the first wiping, and that, seen from the second
+-- the start, seen from the first wiping
 abbrev start : tie.After-clear-words → tie.Start
 start c = c .before .before .before .before .before .before
 
+-- the first wiping, seen from the second
 abbrev first : tie.After-clear-words2 → tie.After-clear-words
 first c = c .before .before .before .before .before .before .before .before
 
--- the workspace before the marks, and at the end
+-- before the marks the first n words of the workspace are zero
 before-marks : (c : tie.After-clear-words) → c .clear-words .last .0 ≡ wiped (n# (start c .args .index .now)) (start c .args .work .now)
 before-marks c = c .clear-words .ensures ∙ ap (λ (i : ℕ). wiped i (start c .args .work .now)) (c .before .before .rows .ensures .0)
 
-at-end : (c : tie.After-clear-words2) → c .clear-words2 .last .0 ≡ wiped (6 * n# (start (first c) .args .index .now)) (start (first c) .args .work .now)
+-- at the end the first 6n are, and the rest is as it was at the start
+at-end : (c : tie.After-clear-words2)
+    → c .clear-words2 .last .0 ≡ wiped (6 * n# (start (first c) .args .index .now)) (start (first c) .args .work .now)
 at-end c =
     let marks = c .before .before .before .before .first-again in
     wiped-again _ (start (first c) .args .work .now) (marks .last .1 .0) (first c .before .before .rows .ensures .0) (before-marks (first c))

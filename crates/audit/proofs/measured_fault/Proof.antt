@@ -1,5 +1,6 @@
 -- `audit::measured_fault` meets its contract: a pass that finds nothing leaves the first fault to the next.
 -- Assumes nothing.
+use Prim.Native.Nat.{ℕ}
 use Rattle.audit.proofs.Faults.{distance-found, radius-found, radius-none}
 use Rattle.audit.proofs.measured_fault.Statement.{statement}
 use Rattle.audit.proofs.measured_fault.Tie as tie
@@ -7,6 +8,18 @@ use Rattle.measure.specs.Table.{between}
 use borrow.Author.Needs.{needs}
 use mathlib.Core.Path.{_∙_}
 use native.Mathlib.Omega.{arith}
+
+-- the start, seen from the pass for 11
+abbrev start : tie.After-first-wrong-distance → tie.Start
+start p = p .before .before .before
+
+-- the pass for 11, seen from the one for 12
+abbrev earlier : tie.After-first-wrong-radius → tie.After-first-wrong-distance
+earlier k = k .before .before .before
+
+-- the distance between the table's rows
+abbrev dist : tie.Start → ℕ → ℕ → ℕ
+dist s = between (s .args .table .now) (s .args .c)
 
 first-wrong-distance-requires : tie.Need-first-wrong-distance-requires
 first-wrong-distance-requires c κs = search needs
@@ -16,9 +29,10 @@ rows-requires c κs = search needs
 
 returns : tie.Need-returns
 returns c =
-    let a = c .before .before .before .before .before .args in
-    let p = c .before .before .first-wrong-distance in
-    distance-found (between (a .table .now) (a .c)) (a .index .now) (p .result) (p .ensures) (omega arith)
+    let p = c .before .before in
+    let s = start p in
+    let r = p .first-wrong-distance in
+    distance-found (dist s) (s .args .index .now) (r .result) (r .ensures) (omega arith)
 
 first-wrong-radius-requires : tie.Need-first-wrong-radius-requires
 first-wrong-radius-requires c κs = search needs
@@ -28,21 +42,23 @@ nodes-requires c κs = search needs
 
 returns-2 : tie.Need-returns-2
 returns-2 c =
-    let a = c .before .before .before .before .before .before .before .before .args in
-    let p = c .before .before .before .before .before .first-wrong-distance in
-    let k = c .before .before .first-wrong-radius in
-    radius-found (between (a .table .now) (a .c)) (a .index .now) (p .result) (p .ensures) (k .result) (k .ensures) (omega arith) (omega arith)
+    let later = c .before .before in
+    let s = start (earlier later) in
+    let p = earlier later .first-wrong-distance in
+    let k = later .first-wrong-radius in
+    radius-found (dist s) (s .args .index .now) (p .result) (p .ensures) (k .result) (k .ensures) (omega arith) (omega arith)
 
 closeness-requires : tie.Need-closeness-requires
 closeness-requires c κs = search needs
 
 returns-3 : tie.Need-returns-3
 returns-3 c =
-    let a = c .before .before .before .before .before .before .before .before .before .args in
-    let p = c .before .before .before .before .before .before .first-wrong-distance in
-    let k = c .before .before .before .first-wrong-radius in
+    let later = c .before .before .before in
+    let s = start (earlier later) in
+    let p = earlier later .first-wrong-distance in
+    let k = later .first-wrong-radius in
     c .closeness .ensures
-    ∙ radius-none (between (a .table .now) (a .c)) (a .index .now) (p .result) (p .ensures) (k .result) (k .ensures) (omega arith) (omega arith)
+    ∙ radius-none (dist s) (s .args .index .now) (p .result) (p .ensures) (k .result) (k .ensures) (omega arith) (omega arith)
 
 pub measured-fault-spec : {M : Type 1} → statement M
 measured-fault-spec =

@@ -15,17 +15,20 @@ use mathlib.Core.Bool.{true}
 use mathlib.Core.List.{List, _++_}
 use mathlib.Core.Path.{_∙_, _≡_, ap, ap₂, sym}
 
--- past the first test: the words, the lent bytes, and that the words are an index
-abbrev W : tie.Else1 → List ℕ
-W c = c .before .before .before .before .args .index .now
+-- the lent words, seen from past the first test
+abbrev words : tie.Else1 → List ℕ
+words c = c .before .before .before .before .args .index .now
 
-abbrev I : tie.Else1 → List ℕ
-I c = c .before .before .before .before .args .image .now
+-- the lent bytes
+abbrev lent : tie.Else1 → List ℕ
+lent c = c .before .before .before .before .args .image .now
 
-ok : (c : tie.Else1) → wordsOk (W c) ≡ true
+-- the words are an index
+ok : (c : tie.Else1) → wordsOk (words c) ≡ true
 ok c = yes (c .before .words-ok .ensures) (c .if1 .left)
 
-count : (c : tie.After-blocks-for) → c .blocks-for .result ≡ blocksFor (wordsOf (W (c .before .before)))
+-- the blocks are as many as hold its words
+count : (c : tie.After-blocks-for) → c .blocks-for .result ≡ blocksFor (wordsOf (words (c .before .before)))
 count c = c .blocks-for .ensures .0 ∙ ap blocksFor (c .before .words-of .ensures .0)
 
 words-ok-requires : tie.Need-words-ok-requires
@@ -37,7 +40,7 @@ returns c =
     writes-sixteen (start .args .index .now) (start .args .image .now) (no (c .before .words-ok .ensures) (c .if1 .taken))
 
 words-of-requires : tie.Need-words-of-requires
-words-of-requires c κs = header-there (W c) (ok c)
+words-of-requires c κs = header-there (words c) (ok c)
 
 blocks-for-requires : tie.Need-blocks-for-requires
 blocks-for-requires c κs = search needs
@@ -48,15 +51,15 @@ mul-if2 c = search needs
 returns-2 : tie.Need-returns-2
 returns-2 c =
     let e1 = c .before .before .before in
-    let short : length (I e1) < 512 * blocksFor (wordsOf (W e1)) = rw (← count (c .before)) (c .if2 .taken) in
-    writes-five (W e1) (I e1) (ok e1) short
+    let short : length (lent e1) < 512 * blocksFor (wordsOf (words e1)) = rw (← count (c .before)) (c .if2 .taken) in
+    writes-five (words e1) (lent e1) (ok e1) short
 
 slice-aggregate-put-blocks : tie.Need-slice-aggregate-put-blocks
 slice-aggregate-put-blocks c =
     let wo = c .before .before .before in
     let e1 = wo .before in
-    let within : wo .words-of .result ≤ length (W e1) = rw (wo .words-of .ensures .0) (whole (W e1) (ok e1) .words) in
-    sym (length-take-le (wo .words-of .result) (W e1) within)
+    let within : wo .words-of .result ≤ length (words e1) = rw (wo .words-of .ensures .0) (whole (words e1) (ok e1) .words) in
+    sym (length-take-le (wo .words-of .result) (words e1) within)
 
 put-blocks-requires : tie.Need-put-blocks-requires
 put-blocks-requires c κs = (c .before .before .before .blocks-for .ensures .1, c .before .before .if2 .left)
@@ -71,9 +74,10 @@ returns-3 c =
     let e2 = pb .before .before .before in
     let bf = e2 .before in
     let e1 = bf .before .before in
-    let room : 512 * blocksFor (wordsOf (W e1)) ≤ length (I e1) = rw (← count bf) (e2 .if2 .left) in
-    writes-done (W e1) (I e1) (ok e1) _ _ room (count bf)
-    (pb .put-blocks .ensures ∙ ap₂ (λ (t b : ℕ). blocks (take t (W e1)) b ++ drop (512 * b) (I e1)) (bf .before .words-of .ensures .0) (count bf))
+    let room : 512 * blocksFor (wordsOf (words e1)) ≤ length (lent e1) = rw (← count bf) (e2 .if2 .left) in
+    writes-done (words e1) (lent e1) (ok e1) _ _ room (count bf)
+    (pb .put-blocks .ensures
+    ∙ ap₂ (λ (t b : ℕ). blocks (take t (words e1)) b ++ drop (512 * b) (lent e1)) (bf .before .words-of .ensures .0) (count bf))
 
 pub write-image-spec : {M : Type 1} → statement M
 write-image-spec =

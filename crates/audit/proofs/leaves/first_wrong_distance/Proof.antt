@@ -18,6 +18,10 @@ Inv-loop table c index total n low₀ k₀ low k = (total ≡ N# index) × (k �
 abbrev μ-loop : tie.MeasureT-loop
 μ-loop table c index total n low₀ k₀ low k = total - k
 
+-- the start, seen from the loop
+abbrev start : tie.At-loop Inv-loop μ-loop → tie.Start Inv-loop μ-loop
+start l = l .before .before .before .before .before
+
 nodes-requires : tie.Need-nodes-requires Inv-loop μ-loop
 nodes-requires c κs = search needs
 
@@ -30,7 +34,7 @@ loop-holds c =
     (c .before .nodes .ensures .0, omega arith, rw (c .rows .ensures .0) (distances-start (between (a .table .now) (a .c)) (a .index .now)))
 
 leaf-wrong-requires : tie.Need-leaf-wrong-requires Inv-loop μ-loop
-leaf-wrong-requires c κs = (c .before .before .before .before .before .before .pre, omega arith)
+leaf-wrong-requires c κs = (start (c .before) .pre, omega arith)
 
 lesser-requires : tie.Need-lesser-requires Inv-loop μ-loop
 lesser-requires c κs = search needs
@@ -43,8 +47,9 @@ loop-less c = search needs
 
 loop-again : tie.Need-loop-again Inv-loop μ-loop
 loop-again c =
-    let l = c .before .before .before .loop in
-    let a = c .before .before .before .before .before .before .before .before .args in
+    let at-loop = c .before .before .before in
+    let l = at-loop .loop in
+    let a = start at-loop .args in
     let leaf = c .before .leaf-wrong in
     let more = distances-more (between (a .table .now) (a .c)) (a .index .now) (l .k) (l .low) (leaf .result) (l .inv .2) (leaf .ensures) in
     (l .inv .0, omega arith, rw (c .lesser .ensures) more)
@@ -52,7 +57,7 @@ loop-again c =
 returns : tie.Need-returns Inv-loop μ-loop
 returns c =
     let l = c .before .loop in
-    let a = c .before .before .before .before .before .before .args in
+    let a = start (c .before) .args in
     distances-done (between (a .table .now) (a .c)) (a .index .now) (l .k) (l .low) (omega arith) (l .inv .2)
 
 pub first-wrong-distance-spec : {M : Type 1} → statement M

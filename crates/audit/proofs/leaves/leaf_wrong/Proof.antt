@@ -1,6 +1,6 @@
 -- `audit::leaves::leaf_wrong` meets its contract: no position of the leaf that was passed is wrong. The measure is what is left of the run.
 -- Assumes nothing.
-use Prim.Native.Nat.{_-_, _≤_}
+use Prim.Native.Nat.{_+_, _-_, _≤_, ℕ}
 use Rattle.audit.proofs.Distances.{leaf-end, leaf-on, leaf-stop, none-inner}
 use Rattle.audit.proofs.Pairing.{inner-no, inner-yes}
 use Rattle.audit.proofs.leaves.leaf_wrong.Statement.{statement}
@@ -9,8 +9,11 @@ use Rattle.audit.specs.Passes.{leafWrong}
 use Rattle.laws.proofs.First.{first-none, search-start}
 use Rattle.laws.specs.First.{First}
 use Rattle.measure.specs.Table.{between}
-use Rattle.words.specs.Words.{start#}
+use Rattle.words.specs.Shape.{inner}
+use Rattle.words.specs.Words.{count#, n#, start#}
 use borrow.Author.Needs.{needs}
+use mathlib.Core.Bool.{false}
+use mathlib.Core.Path.{_≡_}
 use native.Mathlib.Omega.{arith}
 
 abbrev Inv-loop : tie.InvT-loop
@@ -18,6 +21,27 @@ Inv-loop table c index k n f end p₀ p = (p ≤ end) × First (leafWrong (betwe
 
 abbrev μ-loop : tie.MeasureT-loop
 μ-loop table c index k n f end p₀ p = end - p
+
+-- the branch of a leaf, seen from the loop
+abbrev branch : tie.At-loop Inv-loop μ-loop → tie.Else1 Inv-loop μ-loop
+branch l = l .before .before .before .before
+
+-- the start, seen from that branch
+abbrev start : tie.Else1 Inv-loop μ-loop → tie.Start Inv-loop μ-loop
+start e = e .before .before .before .before .before
+
+-- the distance between the table's rows
+abbrev dist : tie.Start Inv-loop μ-loop → ℕ → ℕ → ℕ
+dist s = between (s .args .table .now) (s .args .c)
+
+-- in that branch node k is a leaf
+is-leaf : (e : tie.Else1 Inv-loop μ-loop) → inner (start e .args .index .now) (start e .args .k) ≡ false
+is-leaf e = inner-no (start e .args .index .now) (start e .args .k) (e .before .node-child .ensures .0) (e .if1 .left)
+
+-- its run lies among the positions
+run-inside : (s : tie.Start Inv-loop μ-loop)
+    → start# (s .args .index .now) (s .args .k) + count# (s .args .index .now) (s .args .k) ≤ n# (s .args .index .now)
+run-inside s = s .pre .0 .shape .node (s .args .k) (s .pre .1) .run
 
 rows-requires : tie.Need-rows-requires Inv-loop μ-loop
 rows-requires c κs = search needs
@@ -27,10 +51,11 @@ node-child-requires c κs = search needs
 
 returns : tie.Need-returns Inv-loop μ-loop
 returns c =
-    let a = c .before .before .before .before .before .args in
+    let s = c .before .before .before .before .before in
+    let w = s .args .index .now in
+    let k = s .args .k in
     rw (c .before .before .rows .ensures .0)
-    (first-none _ 0 _ (omega arith)
-    (none-inner (between (a .table .now) (a .c)) (a .index .now) (a .k) (inner-yes (a .index .now) (a .k) (c .before .node-child .ensures .0) (c .if1 .taken))))
+    (first-none _ 0 _ (omega arith) (none-inner (dist s) w k (inner-yes w k (c .before .node-child .ensures .0) (c .if1 .taken))))
 
 node-first-requires : tie.Need-node-first-requires Inv-loop μ-loop
 node-first-requires c κs = search needs
@@ -46,23 +71,23 @@ loop-holds c = (omega arith, rw (c .node-start .ensures .0) (search-start _ _))
 
 stored-at-requires : tie.Need-stored-at-requires Inv-loop μ-loop
 stored-at-requires c κs =
-    let s = c .before .before .before .before .before .before .before .before .before .before in
-    omega (arith, s .pre .0 .shape .whole .words, s .pre .0 .shape .node (s .args .k) (s .pre .1) .run)
+    let s = start (branch (c .before)) in
+    omega (arith, s .pre .0 .shape .whole .words, run-inside s)
 
 apart-requires : tie.Need-apart-requires Inv-loop μ-loop
 apart-requires c κs =
-    let s = c .before .before .before .before .before .before .before .before .before .before .before in
-    (s .pre .0, (c .before .before .before .before .before .node-first .ensures .1, omega (arith, s .pre .0 .shape .node (s .args .k) (s .pre .1) .run)))
+    let l = c .before .before in
+    let s = start (branch l) in
+    (s .pre .0, (l .before .before .before .node-first .ensures .1, omega (arith, run-inside s)))
 
 returns-2 : tie.Need-returns-2 Inv-loop μ-loop
 returns-2 c =
     let l = c .before .before .before .before in
-    let e = l .before .before .before .before in
-    let s = e .before .before .before .before .before in
-    let a = s .args in
-    leaf-stop (between (a .table .now) (a .c)) (a .index .now) (a .k) (l .loop .p) (l .loop .inv .1)
-    (inner-no (a .index .now) (a .k) (e .before .node-child .ensures .0) (e .if1 .left)) (omega arith) (l .before .before .before .node-first .ensures .0)
-    (c .before .before .stored-at .ensures) (c .before .apart .ensures) (s .pre .0 .shape .node (a .k) (s .pre .1) .run) (c .if2 .taken)
+    let e = branch l in
+    let s = start e in
+    leaf-stop (dist s) (s .args .index .now) (s .args .k) (l .loop .p) (l .loop .inv .1) (is-leaf e) (omega arith)
+    (l .before .before .before .node-first .ensures .0) (c .before .before .stored-at .ensures) (c .before .apart .ensures) (run-inside s)
+    (c .if2 .taken)
 
 add-p : tie.Need-add-p Inv-loop μ-loop
 add-p c = search needs
@@ -73,19 +98,20 @@ loop-less c = search needs
 loop-again : tie.Need-loop-again Inv-loop μ-loop
 loop-again c =
     let l = c .before .before .before .before in
-    let e = l .before .before .before .before in
-    let a = e .before .before .before .before .before .args in (
+    let e = branch l in
+    let s = start e in (
       omega arith,
-      leaf-on (between (a .table .now) (a .c)) (a .index .now) (a .k) (l .loop .p) (l .loop .inv .1)
-          (inner-no (a .index .now) (a .k) (e .before .node-child .ensures .0) (e .if1 .left)) (omega arith)
+      leaf-on (dist s) (s .args .index .now) (s .args .k) (l .loop .p) (l .loop .inv .1) (is-leaf e) (omega arith)
           (l .before .before .before .node-first .ensures .0) (c .before .before .stored-at .ensures) (c .before .apart .ensures) (c .if2 .left),
     )
 
 returns-3 : tie.Need-returns-3 Inv-loop μ-loop
 returns-3 c =
-    let a = c .before .before .before .before .before .before .before .before .before .before .args in
-    rw (c .before .before .before .before .before .before .before .rows .ensures .0)
-    (leaf-end (between (a .table .now) (a .c)) (a .index .now) (a .k) (c .before .loop .p) (c .before .loop .inv .1) (omega arith))
+    let l = c .before in
+    let e = branch l in
+    let s = start e in
+    rw (e .before .before .rows .ensures .0)
+    (leaf-end (dist s) (s .args .index .now) (s .args .k) (l .loop .p) (l .loop .inv .1) (omega arith))
 
 pub leaf-wrong-spec : {M : Type 1} → statement M
 leaf-wrong-spec =

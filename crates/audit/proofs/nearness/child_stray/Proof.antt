@@ -22,23 +22,34 @@ Inv-loop table c index k a child j f end p₀ p = (p ≤ end) × First (kidStray
 abbrev μ-loop : tie.MeasureT-loop
 μ-loop table c index k a child j f end p₀ p = end - p
 
--- seen from the reading of the first child's number: the start, the index, and the child's number
+-- the reading of the child's first, seen from the loop
+abbrev first : tie.At-loop Inv-loop μ-loop → tie.After-node-first Inv-loop μ-loop
+first l = l .before .before .before
+
+-- the start, seen from the reading of the first child's number
 abbrev start : tie.After-node-child Inv-loop μ-loop → tie.Start Inv-loop μ-loop
 start c = c .before .before .before
 
-abbrev W : tie.After-node-child Inv-loop μ-loop → List ℕ
-W c = start c .args .index .now
+-- the index words
+abbrev words : tie.After-node-child Inv-loop μ-loop → List ℕ
+words c = start c .args .index .now
 
+-- the distance between the table's rows
+abbrev dist : tie.After-node-child Inv-loop μ-loop → ℕ → ℕ → ℕ
+dist c = between (start c .args .table .now) (start c .args .c)
+
+-- the number of child a
 abbrev own : tie.After-node-child Inv-loop μ-loop → ℕ
 own c = c .node-child .result + start c .args .a
 
--- the child is a node, and its run lies in node k's and among the positions
-kid : (c : tie.After-node-child Inv-loop μ-loop) → Kid (W c) (start c .args .k) (start c .args .a) (c .node-child .result)
+-- the child is a node, and its run lies in node k's
+kid : (c : tie.After-node-child Inv-loop μ-loop) → Kid (words c) (start c .args .k) (start c .args .a) (c .node-child .result)
 kid c =
     let s = start c in
-    kid-of (W c) (s .pre .0 .shape) (s .args .k) (s .args .a) (c .node-child .ensures .0) (s .pre .1 .0) (s .pre .1 .1) (s .pre .1 .2)
+    kid-of (words c) (s .pre .0 .shape) (s .args .k) (s .args .a) (c .node-child .ensures .0) (s .pre .1 .0) (s .pre .1 .1) (s .pre .1 .2)
 
-inside : (c : tie.After-node-child Inv-loop μ-loop) → start# (W c) (own c) + count# (W c) (own c) ≤ n# (W c)
+-- and among the positions
+inside : (c : tie.After-node-child Inv-loop μ-loop) → start# (words c) (own c) + count# (words c) (own c) ≤ n# (words c)
 inside c = start c .pre .0 .shape .node (own c) (kid c .node) .run
 
 node-child-requires : tie.Need-node-child-requires Inv-loop μ-loop
@@ -61,29 +72,27 @@ loop-holds c = (omega arith, rw (c .node-start .ensures .0) (search-start _ _))
 
 apart-requires : tie.Need-apart-requires Inv-loop μ-loop
 apart-requires c κs =
-    let f = c .before .before .before .before in
+    let f = first (c .before) in
     (start (f .before) .pre .0, (f .node-first .ensures .1, omega (arith, inside (f .before))))
 
 closer-to-other-requires : tie.Need-closer-to-other-requires Inv-loop μ-loop
 closer-to-other-requires c κs =
-    let f = c .before .before .before .before .before in
+    let l = c .before .before in
+    let f = first l in
     let n = f .before in
-    let a = start n .args in
-    let p = c .before .before .loop .p in
-    let x = c .apart .ensures ∙ ap (λ (i : ℕ). between (a .table .now) (a .c) i (row# (W n) p)) (f .node-first .ensures .0) in
+    let x = c .apart .ensures ∙ ap (λ (i : ℕ). dist n i (row# (words n) (l .loop .p))) (f .node-first .ensures .0) in
     (start n .pre .0, (kid n .all, omega (arith, inside n), x))
 
 returns : tie.Need-returns Inv-loop μ-loop
 returns c =
-    let f = c .before .before .before .before .before .before .before in
+    let l = c .before .before .before .before in
+    let f = first l in
     let n = f .before in
     let a = start n .args in
-    let d = between (a .table .now) (a .c) in
-    let l = c .before .before .before .before .loop in
     let e = n .node-child .ensures .0 in
-    kid-named d (W n) (a .k) (a .a) (l .p) e
-    (kid-stop d (W n) (a .k) (own n) (l .p) (l .inv .1) (omega arith) (f .node-first .ensures .0) (c .before .before .apart .ensures) e
-    (c .before .closer-to-other .ensures) (kid n .low) (kid n .high) (c .if1 .taken))
+    kid-named (dist n) (words n) (a .k) (a .a) (l .loop .p) e
+    (kid-stop (dist n) (words n) (a .k) (own n) (l .loop .p) (l .loop .inv .1) (omega arith) (f .node-first .ensures .0)
+    (c .before .before .apart .ensures) e (c .before .closer-to-other .ensures) (kid n .low) (kid n .high) (c .if1 .taken))
 
 add-p : tie.Need-add-p Inv-loop μ-loop
 add-p c = search needs
@@ -93,12 +102,11 @@ loop-less c = search needs
 
 loop-again : tie.Need-loop-again Inv-loop μ-loop
 loop-again c =
-    let f = c .before .before .before .before .before .before .before in
-    let n = f .before in
-    let a = start n .args in
-    let l = c .before .before .before .before .loop in (
+    let l = c .before .before .before .before in
+    let f = first l in
+    let n = f .before in (
       omega arith,
-      kid-on (between (a .table .now) (a .c)) (W n) (a .k) (own n) (l .p) (l .inv .1) (omega arith) (f .node-first .ensures .0)
+      kid-on (dist n) (words n) (start n .args .k) (own n) (l .loop .p) (l .loop .inv .1) (omega arith) (f .node-first .ensures .0)
           (c .before .before .apart .ensures) (n .node-child .ensures .0) (c .before .closer-to-other .ensures) (c .if1 .left),
     )
 
@@ -107,13 +115,12 @@ node-end-requires-2 c κs = search needs
 
 returns-2 : tie.Need-returns-2 Inv-loop μ-loop
 returns-2 c =
-    let n = c .before .before .before .before .before .before in
+    let l = c .before .before in
+    let n = first l .before in
     let a = start n .args in
-    let d = between (a .table .now) (a .c) in
-    let l = c .before .before .loop in
     rw (c .node-end2 .ensures)
-    (kid-named d (W n) (a .k) (a .a) (start# (W n) (a .k) + count# (W n) (a .k)) (n .node-child .ensures .0)
-    (kid-end d (W n) (a .k) (own n) (l .p) (l .inv .1) (omega arith)))
+    (kid-named (dist n) (words n) (a .k) (a .a) (start# (words n) (a .k) + count# (words n) (a .k)) (n .node-child .ensures .0)
+    (kid-end (dist n) (words n) (a .k) (own n) (l .loop .p) (l .loop .inv .1) (omega arith)))
 
 pub child-stray-spec : {M : Type 1} → statement M
 child-stray-spec =

@@ -1,7 +1,7 @@
 -- `audit::nearness::closeness` meets its contract: the first fault of the nodes left is the first of all. The measure is what is left of
 -- the nodes.
 -- Assumes nothing.
-use Prim.Native.Nat.{_-_, _≤_}
+use Prim.Native.Nat.{_-_, _≤_, ℕ}
 use Rattle.audit.proofs.Strays.{nodes-on, nodes-over, nodes-start, nodes-stop, saidFrom}
 use Rattle.audit.proofs.nearness.closeness.Statement.{statement}
 use Rattle.audit.proofs.nearness.closeness.Tie as tie
@@ -14,18 +14,27 @@ use mathlib.Core.Path.{_∙_, _≡_, sym}
 use native.Mathlib.Omega.{arith}
 
 abbrev Inv-loop : tie.InvT-loop
-Inv-loop table c index total k₀ k = (total ≡ N# index) × (k ≤ total) × (said (allStrays (between table c) index) ≡ saidFrom (between table c) index k)
+Inv-loop table c index total k₀ k =
+    (total ≡ N# index) × (k ≤ total) × (said (allStrays (between table c) index) ≡ saidFrom (between table c) index k)
 
 abbrev μ-loop : tie.MeasureT-loop
 μ-loop table c index total k₀ k = total - k
+
+-- the start, seen from the loop
+abbrev start : tie.At-loop Inv-loop μ-loop → tie.Start Inv-loop μ-loop
+start l = l .before .before .before .before
+
+-- the distance between the table's rows
+abbrev dist : tie.Start Inv-loop μ-loop → ℕ → ℕ → ℕ
+dist s = between (s .args .table .now) (s .args .c)
 
 nodes-requires : tie.Need-nodes-requires Inv-loop μ-loop
 nodes-requires c κs = search needs
 
 loop-holds : tie.Need-loop-holds Inv-loop μ-loop
 loop-holds c =
-    let a = c .before .before .before .args in
-    (c .nodes .ensures .0, omega arith, nodes-start (between (a .table .now) (a .c)) (a .index .now))
+    let s = c .before .before .before in
+    (c .nodes .ensures .0, omega arith, nodes-start (dist s) (s .args .index .now))
 
 first-stray-requires : tie.Need-first-stray-requires Inv-loop μ-loop
 first-stray-requires c κs = search needs
@@ -35,10 +44,10 @@ node-end-requires c κs = search needs
 
 returns : tie.Need-returns Inv-loop μ-loop
 returns c =
-    let l = c .before .before .before .before .loop in
-    let a = c .before .before .before .before .before .before .before .before .args in
+    let l = c .before .before .before .before in
+    let s = start l in
     let f = c .before .before .first-stray in
-    sym (l .inv .2 ∙ nodes-stop (between (a .table .now) (a .c)) (a .index .now) (l .k) (omega arith) (f .result) (omega arith) (f .ensures))
+    sym (l .loop .inv .2 ∙ nodes-stop (dist s) (s .args .index .now) (l .loop .k) (omega arith) (f .result) (omega arith) (f .ensures))
 
 add-k : tie.Need-add-k Inv-loop μ-loop
 add-k c = search needs
@@ -48,17 +57,17 @@ loop-less c = search needs
 
 loop-again : tie.Need-loop-again Inv-loop μ-loop
 loop-again c =
-    let l = c .before .before .before .before .loop in
-    let a = c .before .before .before .before .before .before .before .before .args in
+    let l = c .before .before .before .before in
+    let s = start l in
     let f = c .before .before .first-stray in
-    let on = nodes-on (between (a .table .now) (a .c)) (a .index .now) (l .k) (omega arith) (f .result) (omega arith) (f .ensures) in
-    (l .inv .0, omega arith, l .inv .2 ∙ on)
+    let on = nodes-on (dist s) (s .args .index .now) (l .loop .k) (omega arith) (f .result) (omega arith) (f .ensures) in
+    (l .loop .inv .0, omega arith, l .loop .inv .2 ∙ on)
 
 returns-2 : tie.Need-returns-2 Inv-loop μ-loop
 returns-2 c =
-    let l = c .before .loop in
-    let a = c .before .before .before .before .before .args in
-    sym (l .inv .2 ∙ nodes-over (between (a .table .now) (a .c)) (a .index .now) (l .k) (omega arith))
+    let l = c .before in
+    let s = start l in
+    sym (l .loop .inv .2 ∙ nodes-over (dist s) (s .args .index .now) (l .loop .k) (omega arith))
 
 pub closeness-spec : {M : Type 1} → statement M
 closeness-spec =

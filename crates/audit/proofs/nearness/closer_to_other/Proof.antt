@@ -9,6 +9,7 @@ use Rattle.laws.specs.First.{First}
 use Rattle.measure.specs.Table.{between}
 use Rattle.words.specs.Words.{m#}
 use borrow.Author.Needs.{needs}
+use mathlib.Core.Bool.{Bool}
 use mathlib.Core.Path.{_∙_, _≡_, ap, subst, sym}
 use native.Mathlib.Omega.{arith}
 
@@ -17,6 +18,14 @@ Inv-loop table c index child j x p end i₀ i = (i ≤ end) × (end ≡ child + 
 
 abbrev μ-loop : tie.MeasureT-loop
 μ-loop table c index child j x p end i₀ i = end - i
+
+-- the start, seen from the loop
+abbrev start : tie.At-loop Inv-loop μ-loop → tie.Start Inv-loop μ-loop
+start l = l .before .before .before .before
+
+-- the test of one centre: the row at p is closer to it
+abbrev test : tie.Start Inv-loop μ-loop → ℕ → Bool
+test s = closer (between (s .args .table .now) (s .args .c)) (s .args .index .now) (s .args .p) (s .args .x)
 
 centres-requires : tie.Need-centres-requires Inv-loop μ-loop
 centres-requires c κs = search needs
@@ -30,17 +39,18 @@ loop-holds c =
 
 is-closer-requires : tie.Need-is-closer-requires Inv-loop μ-loop
 is-closer-requires c κs =
-    let s = c .before .before .before .before .before in
+    let s = start (c .before) in
     (s .pre .0, (omega arith, s .pre .1 .1, s .pre .1 .2))
 
 returns : tie.Need-returns Inv-loop μ-loop
 returns c =
-    let l = c .before .before .before .loop in
-    let a = c .before .before .before .before .before .before .before .args in
-    let f = closer (between (a .table .now) (a .c)) (a .index .now) (a .p) (a .x) in
+    let l = c .before .before .before in
+    let f = test (start l) in
+    let a = start l .args in
     let m = m# (a .index .now) in
-    let F = search-stop f (a .child) (a .child + m) (l .i) (l .inv .2) (omega arith) (sym (c .before .is-closer .ensures) ∙ c .if1 .taken) in
-    sym (any-first f (a .child) m (l .i) F (omega arith))
+    let here = sym (c .before .is-closer .ensures) ∙ c .if1 .taken in
+    let F = search-stop f (a .child) (a .child + m) (l .loop .i) (l .loop .inv .2) (omega arith) here in
+    sym (any-first f (a .child) m (l .loop .i) F (omega arith))
 
 add-i : tie.Need-add-i Inv-loop μ-loop
 add-i c = search needs
@@ -55,11 +65,11 @@ loop-again c =
 
 returns-2 : tie.Need-returns-2 Inv-loop μ-loop
 returns-2 c =
-    let l = c .before .loop in
-    let a = c .before .before .before .before .before .args in
-    let f = closer (between (a .table .now) (a .c)) (a .index .now) (a .p) (a .x) in
-    let e : l .i ≡ a .child + m# (a .index .now) = omega arith in
-    sym (any-lost f (a .child) (m# (a .index .now)) (subst (λ i. First f (a .child) i i) e (l .inv .2)))
+    let l = c .before in
+    let f = test (start l) in
+    let a = start l .args in
+    let e : l .loop .i ≡ a .child + m# (a .index .now) = omega arith in
+    sym (any-lost f (a .child) (m# (a .index .now)) (subst (λ i. First f (a .child) i i) e (l .loop .inv .2)))
 
 pub closer-to-other-spec : {M : Type 1} → statement M
 closer-to-other-spec =

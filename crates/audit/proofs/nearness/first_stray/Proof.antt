@@ -8,8 +8,10 @@ use Rattle.audit.proofs.nearness.first_stray.Statement.{statement}
 use Rattle.audit.proofs.nearness.first_stray.Tie as tie
 use Rattle.audit.specs.Passes.{FirstIn}
 use Rattle.measure.specs.Table.{between}
+use Rattle.words.specs.Shape.{inner}
 use Rattle.words.specs.Words.{m#}
 use borrow.Author.Needs.{needs}
+use mathlib.Core.Bool.{true}
 use mathlib.Core.Path.{_≡_}
 use native.Mathlib.Omega.{arith}
 
@@ -18,6 +20,18 @@ Inv-loop table c index k low₀ m a₀ low a = (m ≡ m# index) × (a ≤ m) × 
 
 abbrev μ-loop : tie.MeasureT-loop
 μ-loop table c index k low₀ m a₀ low a = m - a
+
+-- the branch of an inner node, seen from the loop
+abbrev branch : tie.At-loop Inv-loop μ-loop → tie.Else1 Inv-loop μ-loop
+branch l = l .before .before
+
+-- the start, seen from that branch
+abbrev start : tie.Else1 Inv-loop μ-loop → tie.Start Inv-loop μ-loop
+start e = e .before .before .before .before .before
+
+-- in that branch node k is inner
+is-inner : (e : tie.Else1 Inv-loop μ-loop) → inner (start e .args .index .now) (start e .args .k) ≡ true
+is-inner e = inner-yes (start e .args .index .now) (start e .args .k) (e .before .node-child .ensures .0) (e .if1 .left)
 
 node-end-requires : tie.Need-node-end-requires Inv-loop μ-loop
 node-end-requires c κs = search needs
@@ -43,10 +57,8 @@ loop-holds c =
 
 child-stray-requires : tie.Need-child-stray-requires Inv-loop μ-loop
 child-stray-requires c κs =
-    let e = c .before .before .before in
-    let s = e .before .before .before .before .before in
-    let i = inner-yes (s .args .index .now) (s .args .k) (e .before .node-child .ensures .0) (e .if1 .left) in
-    (s .pre .0, (s .pre .1, i, omega arith))
+    let e = branch (c .before) in
+    (start e .pre .0, (start e .pre .1, is-inner e, omega arith))
 
 lesser-requires : tie.Need-lesser-requires Inv-loop μ-loop
 lesser-requires c κs = search needs
@@ -59,8 +71,9 @@ loop-less c = search needs
 
 loop-again : tie.Need-loop-again Inv-loop μ-loop
 loop-again c =
-    let l = c .before .before .before .loop in
-    let a = c .before .before .before .before .before .before .before .before .before .before .args in
+    let at-loop = c .before .before .before in
+    let l = at-loop .loop in
+    let a = start (branch at-loop) .args in
     let child = c .before .child-stray in
     let more = near-more (between (a .table .now) (a .c)) (a .index .now) (a .k) (l .a) (l .low) (child .result) (l .inv .2) (child .ensures) in
     (l .inv .0, omega arith, rw (c .lesser .ensures) more)
@@ -68,11 +81,9 @@ loop-again c =
 returns-2 : tie.Need-returns-2 Inv-loop μ-loop
 returns-2 c =
     let l = c .before .loop in
-    let e = c .before .before .before in
-    let a = e .before .before .before .before .before .args in
-    let w = a .index .now in
-    let i = inner-yes w (a .k) (e .before .node-child .ensures .0) (e .if1 .left) in
-    near-done (between (a .table .now) (a .c)) w (a .k) (l .a) (l .low) i (omega arith) (l .inv .2)
+    let e = branch (c .before) in
+    let a = start e .args in
+    near-done (between (a .table .now) (a .c)) (a .index .now) (a .k) (l .a) (l .low) (is-inner e) (omega arith) (l .inv .2)
 
 pub first-stray-spec : {M : Type 1} → statement M
 first-stray-spec =

@@ -1,6 +1,6 @@
 -- `audit::radii::first_wrong_radius` meets its contract: no node passed has a wrong radius. The measure is what is left of the nodes.
 -- Assumes nothing.
-use Prim.Native.Nat.{_-_, _≤_}
+use Prim.Native.Nat.{_-_, _≤_, ℕ}
 use Rattle.audit.proofs.Farthest.{radius-right, radius-wrong}
 use Rattle.audit.proofs.radii.first_wrong_radius.Statement.{statement}
 use Rattle.audit.proofs.radii.first_wrong_radius.Tie as tie
@@ -19,6 +19,14 @@ Inv-loop table c index total k₀ k = First (wrongRadius (between table c) index
 abbrev μ-loop : tie.MeasureT-loop
 μ-loop table c index total k₀ k = total - k
 
+-- the start, seen from the loop
+abbrev start : tie.At-loop Inv-loop μ-loop → tie.Start Inv-loop μ-loop
+start l = l .before .before .before .before
+
+-- the distance between the table's rows
+abbrev dist : tie.Start Inv-loop μ-loop → ℕ → ℕ → ℕ
+dist s = between (s .args .table .now) (s .args .c)
+
 nodes-requires : tie.Need-nodes-requires Inv-loop μ-loop
 nodes-requires c κs = search needs
 
@@ -33,11 +41,11 @@ reach-requires c κs = search needs
 
 returns : tie.Need-returns Inv-loop μ-loop
 returns c =
-    let l = c .before .before .before .before .loop in
-    let a = c .before .before .before .before .before .before .before .before .args in
+    let l = c .before .before .before .before in
+    let s = start l in
     let r = c .before .before .node-radius .ensures in
-    search-stop _ 0 _ (l .k) (l .inv .0) (omega arith)
-    (radius-wrong (between (a .table .now) (a .c)) (a .index .now) (l .k) r (c .before .reach .ensures) (λ e. omega arith))
+    let wrong = radius-wrong (dist s) (s .args .index .now) (l .loop .k) r (c .before .reach .ensures) (λ e. omega arith) in
+    search-stop _ 0 _ (l .loop .k) (l .loop .inv .0) (omega arith) wrong
 
 add-k : tie.Need-add-k Inv-loop μ-loop
 add-k c = search needs
@@ -47,11 +55,11 @@ loop-less c = search needs
 
 loop-again : tie.Need-loop-again Inv-loop μ-loop
 loop-again c =
-    let l = c .before .before .before .before .loop in
-    let a = c .before .before .before .before .before .before .before .before .args in
+    let l = c .before .before .before .before in
+    let s = start l in
     let r = c .before .before .node-radius .ensures in
-    let right = radius-right (between (a .table .now) (a .c)) (a .index .now) (l .k) r (c .before .reach .ensures) (omega arith) in
-    (search-on _ 0 (l .k) (l .inv .0) right, l .inv .1, omega arith)
+    let right = radius-right (dist s) (s .args .index .now) (l .loop .k) r (c .before .reach .ensures) (omega arith) in
+    (search-on _ 0 (l .loop .k) (l .loop .inv .0) right, l .loop .inv .1, omega arith)
 
 returns-2 : tie.Need-returns-2 Inv-loop μ-loop
 returns-2 c = search-end _ 0 _ (c .before .loop .k) (omega arith) (c .before .loop .inv .0)

@@ -18,11 +18,15 @@ Inv-loop index work₀ n p₀ work p = (n ≡ n# index) × Marks index work₀ w
 abbrev μ-loop : tie.MeasureT-loop
 μ-loop index work₀ n p₀ work p = n - p
 
+-- the start, seen from the loop
+abbrev start : tie.At-loop Inv-loop μ-loop → tie.Start Inv-loop μ-loop
+start l = l .before .before .before .before
+
 -- the row at p has a mark's place
 fits : (c : tie.After-row-at Inv-loop μ-loop) → c .row-at .result < length (c .before .before .loop .work)
 fits c =
-    let s = c .before .before .before .before .before .before in
-    row-marked (s .pre .0) (c .before .before .loop .inv .1) (omega arith) (c .row-at .ensures .0)
+    let l = c .before .before in
+    row-marked (start l .pre .0) (l .loop .inv .1) (omega arith) (c .row-at .ensures .0)
 
 rows-requires : tie.Need-rows-requires Inv-loop μ-loop
 rows-requires c κs = search needs
@@ -31,7 +35,7 @@ loop-holds : tie.Need-loop-holds Inv-loop μ-loop
 loop-holds c = (c .rows .ensures .0, marks-start _ _ (c .before .before .before .pre .1))
 
 row-at-requires : tie.Need-row-at-requires Inv-loop μ-loop
-row-at-requires c κs = omega (arith, c .before .before .before .before .before .pre .0 .whole .words)
+row-at-requires c κs = omega (arith, start (c .before) .pre .0 .whole .words)
 
 mul-if1 : tie.Need-mul-if1 Inv-loop μ-loop
 mul-if1 c = omega (arith, fits c)
@@ -44,9 +48,9 @@ same-length c = search needs
 
 returns : tie.Need-returns Inv-loop μ-loop
 returns c =
-    let l = c .before .before .before .before .loop in
-    let s = c .before .before .before .before .before .before .before .before in
-    (marks-found (s .pre .0) (l .inv .1) (omega arith) (c .before .before .row-at .ensures .0) (c .if1 .taken), l .inv .1 .rest)
+    let l = c .before .before .before .before in
+    let M = l .loop .inv .1 in
+    (marks-found (start l .pre .0) M (omega arith) (c .before .before .row-at .ensures .0) (c .if1 .taken), M .rest)
 
 mul-work : tie.Need-mul-work Inv-loop μ-loop
 mul-work c = omega (arith, fits (c .before .before))
@@ -62,9 +66,9 @@ loop-less c = search needs
 
 loop-again : tie.Need-loop-again Inv-loop μ-loop
 loop-again c =
-    let l = c .before .before .before .before .loop in
-    let s = c .before .before .before .before .before .before .before .before in
-    (l .inv .0, marks-more (s .pre .0) (l .inv .1) (omega arith) (c .before .before .row-at .ensures .0) (c .if1 .left))
+    let l = c .before .before .before .before in
+    let M = l .loop .inv .1 in
+    (l .loop .inv .0, marks-more (start l .pre .0) M (omega arith) (c .before .before .row-at .ensures .0) (c .if1 .left))
 
 same-length-2 : tie.Need-same-length-2 Inv-loop μ-loop
 same-length-2 c = search needs

@@ -13,11 +13,21 @@ use mathlib.Core.Path.{_∙_, _≡_, ap, ap₂, sym}
 use native.Mathlib.Numerals.{add-one}
 use native.Mathlib.Omega.{arith}
 
+-- the first i words of block b are copied
+record Copied (image : List ℕ) (b : ℕ) (held : List ℕ) (i : ℕ) : Type 0 where
+  bound : i ≤ 127
+  long : length held ≡ 127
+  same : take i held ≡ wordsAt image (512 * b) i
+
 abbrev Inv-loop : tie.InvT-loop
-Inv-loop image b from held₀ i₀ held i = (i ≤ 127) × ((length held ≡ 127) × (take i held ≡ wordsAt image (512 * b) i))
+Inv-loop image b from held₀ i₀ held i = Copied image b held i
 
 abbrev μ-loop : tie.MeasureT-loop
 μ-loop image b from held₀ i₀ held i = 127 - i
+
+-- the start, seen from the loop
+abbrev start : tie.At-loop Inv-loop μ-loop → tie.Start Inv-loop μ-loop
+start l = l .before .before
 
 mul-from : tie.Need-mul-from Inv-loop μ-loop
 mul-from c = search needs
@@ -49,19 +59,19 @@ loop-less c = search needs
 
 loop-again : tie.Need-loop-again Inv-loop μ-loop
 loop-again c =
-    let at-loop = c .before .before in
-    let start = at-loop .before .before in
-    let i = at-loop .loop .i in
-    let held = at-loop .loop .held in (
-      search needs,
-      (
-        simp length-set (at-loop .loop .inv .1 .0),
-        ap (λ (n : ℕ). take n (set held i (c .get-word .result))) (add-one i)
-            ∙ take-suc-set held i (c .get-word .result) (omega arith)
-            ∙ ap₂ (λ (l : List ℕ) (x : ℕ). l ++ (x ∷ [])) (at-loop .loop .inv .1 .1) (c .get-word .ensures)
-            ∙ sym (words-more (start .args .image .now) (512 * start .args .b) i),
-      ),
-    )
+    let l = c .before .before in
+    let a = start l .args in
+    let i = l .loop .i in
+    let held = l .loop .held in
+    record {
+      bound = search needs;
+      long = simp length-set (l .loop .inv .long);
+      same =
+          ap (λ (n : ℕ). take n (set held i (c .get-word .result))) (add-one i)
+          ∙ take-suc-set held i (c .get-word .result) (omega arith)
+          ∙ ap₂ (λ (l : List ℕ) (x : ℕ). l ++ (x ∷ [])) (l .loop .inv .same) (c .get-word .ensures)
+          ∙ sym (words-more (a .image .now) (512 * a .b) i);
+    }
 
 slice-aggregate-check-words : tie.Need-slice-aggregate-check-words Inv-loop μ-loop
 slice-aggregate-check-words c = search needs
@@ -71,14 +81,11 @@ check-words-requires c κs = search needs
 
 returns : tie.Need-returns Inv-loop μ-loop
 returns c =
-    let at-loop = c .before .before .before in
-    let start = at-loop .before .before in
-    let i = at-loop .loop .i in
-    let held = at-loop .loop .held in
-    let k : i ≡ 127 = omega arith in
-    c .check-words .ensures
-    ∙ ap (checkWord (start .args .b))
-    (sym (take-all i held (omega arith)) ∙ at-loop .loop .inv .1 .1 ∙ ap (wordsAt (start .args .image .now) (512 * start .args .b)) k)
+    let l = c .before .before .before in
+    let a = start l .args in
+    let e : l .loop .i ≡ 127 = omega arith in
+    let whole = sym (take-all (l .loop .i) (l .loop .held) (omega arith)) in
+    c .check-words .ensures ∙ ap (checkWord (a .b)) (whole ∙ l .loop .inv .same ∙ ap (wordsAt (a .image .now) (512 * a .b)) e)
 
 pub block-check-spec : {M : Type 1} → statement M
 block-check-spec =

@@ -18,6 +18,10 @@ Inv-loop held b check₀ i₀ check i = (i ≤ 127) × (check ≡ checkFrom chec
 abbrev μ-loop : tie.MeasureT-loop
 μ-loop held b check₀ i₀ check i = 127 - i
 
+-- the words, seen from the loop
+abbrev held : tie.At-loop Inv-loop μ-loop → List ℕ
+held l = l .before .before .before .args .held .now
+
 check-start-requires : tie.Need-check-start-requires Inv-loop μ-loop
 check-start-requires c κs = search needs
 
@@ -42,17 +46,14 @@ loop-less c = search needs
 
 loop-again : tie.Need-loop-again Inv-loop μ-loop
 loop-again c =
-    let at-loop = c .before .before .before in
-    let held = at-loop .before .before .before .args .held .now in
-    (search needs, take-check held _ _ (at-loop .loop .i) _ (omega arith) (at-loop .loop .inv .1) (c .stepped .ensures))
+    let l = c .before .before .before in
+    (search needs, take-check (held l) _ _ (l .loop .i) _ (omega arith) (l .loop .inv .1) (c .stepped .ensures))
 
 returns : tie.Need-returns Inv-loop μ-loop
 unfolding checkWord
 returns c =
-    let at-loop = c .before in
-    let held = at-loop .before .before .before .args .held .now in
-    at-loop .loop .inv .1
-    ∙ ap₂ (λ (s : ℕ) (l : List ℕ). checkFrom s l) (at-loop .before .check-start .ensures) (take-all (at-loop .loop .i) held (omega arith))
+    let l = c .before in
+    l .loop .inv .1 ∙ ap₂ checkFrom (l .before .check-start .ensures) (take-all (l .loop .i) (held l) (omega arith))
 
 pub check-words-spec : {M : Type 1} → statement M
 check-words-spec =

@@ -1,31 +1,38 @@
--- `image::check::first_wrong` meets its contract: up to block b none is wrong, so the lowest is the lowest from there on.
+-- `image::check::first_wrong` meets its contract: no block below b is wrong. The measure is what is left of the blocks.
 -- Assumes nothing.
 use Prim.Native.Nat.{_-_, _≤_}
-use Rattle.image.proofs.Wrong.{lowest-here, lowest-none, lowest-on, lowest-start}
+use Rattle.image.proofs.Wrong.{lowest-is, wrongAt}
 use Rattle.image.proofs.check.first_wrong.Statement.{statement}
 use Rattle.image.proofs.check.first_wrong.Tie as tie
-use Rattle.image.specs.Lowest.{lowest, wrongBlocks}
-use Rattle.laws.proofs.Tests.{no, yes}
+use Rattle.laws.proofs.First.{search-end, search-on, search-start, search-stop}
+use Rattle.laws.specs.First.{First}
 use borrow.Author.Needs.{needs}
-use mathlib.Core.Path.{_∙_, _≡_, sym}
+use mathlib.Core.Bool.{not}
+use mathlib.Core.Path.{_∙_, ap, sym}
+use native.Mathlib.Omega.{arith}
 
 abbrev Inv-loop : tie.InvT-loop
-Inv-loop image blocks b₀ b = (b ≤ blocks) × (lowest blocks (wrongBlocks image 0 blocks) ≡ lowest blocks (wrongBlocks image b (blocks - b)))
+Inv-loop image blocks b₀ b = (b ≤ blocks) × First (wrongAt image) 0 b b
 
 abbrev μ-loop : tie.MeasureT-loop
 μ-loop image blocks b₀ b = blocks - b
 
+-- the start, seen from the loop
+abbrev start : tie.At-loop Inv-loop μ-loop → tie.Start Inv-loop μ-loop
+start l = l .before .before
+
 loop-holds : tie.Need-loop-holds Inv-loop μ-loop
-loop-holds c = (search needs, lowest-start (c .before .args .image .now) (c .before .args .blocks))
+loop-holds c = (search needs, search-start (wrongAt (c .before .args .image .now)) 0)
 
 block-good-requires : tie.Need-block-good-requires Inv-loop μ-loop
 block-good-requires c κs = search needs
 
 returns : tie.Need-returns Inv-loop μ-loop
 returns c =
-    let at-loop = c .before .before .before in
-    let image = at-loop .before .before .args .image .now in
-    sym (at-loop .loop .inv .1 ∙ lowest-here image _ _ (c .before .before .loop-test .taken) (no (c .before .block-good .ensures) (c .if1 .taken)))
+    let l = c .before .before .before in
+    let a = start l .args in
+    let wrong = ap not (sym (c .before .block-good .ensures)) ∙ c .if1 .taken in
+    sym (lowest-is (a .image .now) (a .blocks) _ (search-stop _ 0 _ _ (l .loop .inv .1) (c .before .before .loop-test .taken) wrong))
 
 add-b : tie.Need-add-b Inv-loop μ-loop
 add-b c = search needs
@@ -35,16 +42,15 @@ loop-less c = search needs
 
 loop-again : tie.Need-loop-again Inv-loop μ-loop
 loop-again c =
-    let at-loop = c .before .before .before in
-    let image = at-loop .before .before .args .image .now in (
-      search needs,
-      at-loop .loop .inv .1 ∙ lowest-on image _ _ (c .before .before .loop-test .taken) (yes (c .before .block-good .ensures) (c .if1 .left)),
-    )
+    let l = c .before .before .before in
+    let good = ap not (sym (c .before .block-good .ensures)) ∙ c .if1 .left in
+    (search needs, search-on _ 0 (l .loop .b) (l .loop .inv .1) good)
 
 returns-2 : tie.Need-returns-2 Inv-loop μ-loop
 returns-2 c =
-    let at-loop = c .before in
-    sym (at-loop .loop .inv .1 ∙ lowest-none (at-loop .before .before .args .image .now) _ _ (at-loop .loop .inv .0) (c .loop-test .left))
+    let l = c .before in
+    let a = start l .args in
+    sym (lowest-is (a .image .now) (a .blocks) (l .loop .b) (search-end _ 0 _ (l .loop .b) (omega arith) (l .loop .inv .1)))
 
 pub first-wrong-spec : {M : Type 1} → statement M
 first-wrong-spec =

@@ -4,6 +4,7 @@ use Rattle.image.proofs.check.rotated.Statement.{statement}
 use Rattle.image.proofs.check.rotated.Tie as tie
 use Rattle.words.specs.Image.{rotate}
 use borrow.Author.Needs.{needs}
+use native.Mathlib.Omega.{arith}
 
 mul-result : tie.Need-mul-result
 mul-result c = search needs
@@ -13,7 +14,7 @@ add-result c = search needs
 
 returns : tie.Need-returns
 unfolding rotate
-returns c = search needs
+returns c = omega arith
 
 pub rotated-spec : {M : Type 1} → statement M
 rotated-spec = tie.close (tie.spec mul-result add-result returns)

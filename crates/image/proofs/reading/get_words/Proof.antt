@@ -8,15 +8,25 @@ use Rattle.laws.proofs.Parts.{store-more}
 use Rattle.words.specs.Image.{imageWords}
 use borrow.Author.Needs.{needs}
 use lib.ListN.{drop, length, length-set}
-use mathlib.Core.List.{_++_}
+use mathlib.Core.List.{List, _++_}
 use mathlib.Core.Path.{_∙_, _≡_, ap}
 use native.Mathlib.Omega.{arith}
 
+-- the first j index words are read, and the rest is as it was
+record Filled (image : List ℕ) (t : ℕ) (room₀ room : List ℕ) (j : ℕ) : Type 0 where
+  bound : j ≤ t
+  long : length room ≡ length room₀
+  read : room ≡ imageWords image j ++ drop j room₀
+
 abbrev Inv-loop : tie.InvT-loop
-Inv-loop image t room₀ j₀ room j = (j ≤ t) × ((length room ≡ length room₀) × (room ≡ imageWords image j ++ drop j room₀))
+Inv-loop image t room₀ j₀ room j = Filled image t room₀ room j
 
 abbrev μ-loop : tie.MeasureT-loop
 μ-loop image t room₀ j₀ room j = t - j
+
+-- the start, seen from the loop
+abbrev start : tie.At-loop Inv-loop μ-loop → tie.Start Inv-loop μ-loop
+start l = l .before .before .before
 
 loop-holds : tie.Need-loop-holds Inv-loop μ-loop
 unfolding imageWords
@@ -39,30 +49,28 @@ loop-less c = search needs
 
 loop-again : tie.Need-loop-again Inv-loop μ-loop
 loop-again c =
-    let at-loop = c .before .before in
-    let start = at-loop .before .before .before in
-    let image = start .args .image .now in
-    let room₀ = start .args .room .now in
-    let j = at-loop .loop .j in
-    let inv = at-loop .loop .inv in
-    let more : j < length room₀ = omega arith in (
-      search needs,
-      (
-        simp length-set (inv .1 .0),
-        store-more (imageWords image j) room₀ (at-loop .loop .room) j (c .image-word .result) (image-length image j) more (inv .1 .1)
-            ∙ rw (image-more image j, ← c .image-word .ensures),
-      ),
-    )
+    let l = c .before .before in
+    let image = start l .args .image .now in
+    let room₀ = start l .args .room .now in
+    let j = l .loop .j in
+    let more : j < length room₀ = omega arith in
+    record {
+      bound = search needs;
+      long = simp length-set (l .loop .inv .long);
+      read =
+          store-more (imageWords image j) room₀ (l .loop .room) j (c .image-word .result) (image-length image j) more (l .loop .inv .read)
+          ∙ rw (image-more image j, ← c .image-word .ensures);
+    }
 
 same-length : tie.Need-same-length Inv-loop μ-loop
 same-length c = search needs
 
 returns : tie.Need-returns Inv-loop μ-loop
 returns c =
-    let at-loop = c .before in
-    let start = at-loop .before .before .before in
-    let k : at-loop .loop .j ≡ start .args .t = omega arith in
-    at-loop .loop .inv .1 .1 ∙ ap (λ (j : ℕ). imageWords (start .args .image .now) j ++ drop j (start .args .room .now)) k
+    let l = c .before in
+    let a = start l .args in
+    let e : l .loop .j ≡ a .t = omega arith in
+    l .loop .inv .read ∙ ap (λ (j : ℕ). imageWords (a .image .now) j ++ drop j (a .room .now)) e
 
 pub get-words-spec : {M : Type 1} → statement M
 get-words-spec =

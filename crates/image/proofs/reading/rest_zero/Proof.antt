@@ -12,18 +12,17 @@ use borrow.Author.Tests.{eq-eqb, ne-eqb}
 use lib.Dec.{eqb}
 use lib.ListN.{length}
 use mathlib.Core.Bool.{Bool}
-use mathlib.Core.List.{List}
 use mathlib.Core.Path.{_∙_, _≡_, refl, sym}
-
--- index word j is zero
-abbrev zeroAt : List ℕ → ℕ → Bool
-zeroAt image j = eqb (imageWord image j) 0
 
 abbrev Inv-loop : tie.InvT-loop
 Inv-loop image t end j₀ j = restZero image t ≡ restZero image j
 
 abbrev μ-loop : tie.MeasureT-loop
 μ-loop image t end j₀ j = 127 * (length image / 512) - j
+
+-- the test of index word j, seen from the loop: it is zero
+abbrev zero : tie.At-loop Inv-loop μ-loop → ℕ → Bool
+zero l j = eqb (imageWord (l .before .before .args .image .now) j) 0
 
 mul-end : tie.Need-mul-end Inv-loop μ-loop
 mul-end c = search needs
@@ -36,10 +35,9 @@ image-word-requires c κs = inside _ _ (c .loop-test .taken)
 
 returns : tie.Need-returns Inv-loop μ-loop
 returns c =
-    let at-loop = c .before .before .before in
-    let image = at-loop .before .before .args .image .now in
-    all-stop (zeroAt image) _ _ (c .before .before .loop-test .taken) (ne-eqb _ 0 (λ e. c .if1 .taken (c .before .image-word .ensures ∙ e)))
-    ∙ sym (at-loop .loop .inv)
+    let l = c .before .before .before in
+    let other = ne-eqb _ 0 (λ e. c .if1 .taken (c .before .image-word .ensures ∙ e)) in
+    all-stop (zero l) _ _ (c .before .before .loop-test .taken) other ∙ sym (l .loop .inv)
 
 add-j : tie.Need-add-j Inv-loop μ-loop
 add-j c = search needs
@@ -49,15 +47,14 @@ loop-less c = search needs
 
 loop-again : tie.Need-loop-again Inv-loop μ-loop
 loop-again c =
-    let at-loop = c .before .before .before in
-    let image = at-loop .before .before .args .image .now in
-    at-loop .loop .inv
-    ∙ all-step (zeroAt image) _ _ (c .before .before .loop-test .taken) (eq-eqb _ 0 (sym (c .before .image-word .ensures) ∙ c .if1 .left))
+    let l = c .before .before .before in
+    let same = eq-eqb _ 0 (sym (c .before .image-word .ensures) ∙ c .if1 .left) in
+    l .loop .inv ∙ all-step (zero l) _ _ (c .before .before .loop-test .taken) same
 
 returns-2 : tie.Need-returns-2 Inv-loop μ-loop
 returns-2 c =
-    let at-loop = c .before in
-    all-end (zeroAt (at-loop .before .before .args .image .now)) _ _ (c .loop-test .left) ∙ sym (at-loop .loop .inv)
+    let l = c .before in
+    all-end (zero l) _ _ (c .loop-test .left) ∙ sym (l .loop .inv)
 
 pub rest-zero-spec : {M : Type 1} → statement M
 rest-zero-spec =

@@ -1,4 +1,5 @@
--- `image::writing::put_block` meets its contract: after i turns the bytes of i words stand at the part's front, and the check has gone over them.
+-- `image::writing::put_block` meets its contract: after i turns the bytes of i words stand at the part's front, and the check has gone over
+-- them.
 -- Assumes nothing.
 use Prim.Native.Nat.{_%_, _*_, _+_, _-_, _^_, _≤_, ℕ}
 use Rattle.image.proofs.Blocks.{window-bytes, window-bytes-length, window-check}
@@ -37,6 +38,7 @@ block-done index part₀ part last b s₀ s i inv done start long e =
     ∙ ap₂ (λ (x : ℕ) (t : List ℕ). (each bytes ws ++ bytes x) ++ t) sum (drop-of-length-le part₀ {i = 512} (omega arith))
     ∙ append-nil (each bytes ws ++ bytes (checkWord b ws))
 
+-- a word has four bytes
 four-more : (i : ℕ) → 4 * (i + 1) ≡ 4 * i + 4
 four-more i = omega arith
 
@@ -45,6 +47,10 @@ Inv-loop index b part₀ first check₀ i₀ part check i = Filled index first c
 
 abbrev μ-loop : tie.MeasureT-loop
 μ-loop index b part₀ first check₀ i₀ part check i = 127 - i
+
+-- the start, seen from the loop
+abbrev start : tie.At-loop Inv-loop μ-loop → tie.Start Inv-loop μ-loop
+start l = l .before .before .before .before
 
 mul-first : tie.Need-mul-first Inv-loop μ-loop
 mul-first c = search needs
@@ -91,18 +97,18 @@ loop-again c =
     let pw = c .before .before in
     let st = pw .before .before in
     let wo = st .before in
-    let at-loop = wo .before .before in
-    let inv = at-loop .loop .inv in
-    let start = at-loop .before .before .before .before in
-    let index = start .args .index .now in
-    let first = 127 * start .args .b in
-    let i = at-loop .loop .i in
+    let l = wo .before .before in
+    let inv = l .loop .inv in
+    let a = start l .args in
+    let index = a .index .now in
+    let first = 127 * a .b in
+    let i = l .loop .i in
     record {
       bound = search needs;
       long = search needs;
       sum = window-check index _ _ _ _ _ _ (inv .sum) (wo .word-or-zero .ensures) (st .stepped .ensures);
       wrote =
-          put-more (each bytes (window index first i)) (bytes (at index (first + i))) (start .args .part .now) (at-loop .loop .part)
+          put-more (each bytes (window index first i)) (bytes (at index (first + i))) (a .part .now) (l .loop .part)
           (pw .put-word .last .0) (4 * i) 4 (window-bytes-length index first i) (search needs) (inv .wrote)
           (rw (← wo .word-or-zero .ensures) (pw .put-word .ensures))
           ∙ rw (window-bytes index first i, four-more i);
@@ -125,10 +131,11 @@ same-length c = search needs
 
 returns : tie.Need-returns Inv-loop μ-loop
 returns c =
-    let at-loop = c .before .before .before .before .before in
-    let start = at-loop .before .before .before .before in
-    block-done (start .args .index .now) (start .args .part .now) (at-loop .loop .part) _ (start .args .b) _ _ _ (at-loop .loop .inv)
-    (c .before .before .before .before .loop-test .left) (at-loop .before .check-start .ensures) (start .pre .1) (c .before .before .put-word2 .ensures)
+    let left = c .before .before .before .before in
+    let l = left .before in
+    let a = start l .args in
+    block-done (a .index .now) (a .part .now) (l .loop .part) _ (a .b) _ _ _ (l .loop .inv) (left .loop-test .left)
+    (l .before .check-start .ensures) (start l .pre .1) (c .before .before .put-word2 .ensures)
 
 pub put-block-spec : {M : Type 1} → statement M
 put-block-spec =

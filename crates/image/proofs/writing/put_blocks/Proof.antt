@@ -13,15 +13,17 @@ use mathlib.Core.List.{List, _++_}
 use mathlib.Core.Path.{_∙_, _≡_, ap}
 use native.Mathlib.Omega.{arith}
 
--- b blocks are written
+-- the first b blocks are written, and the rest is as it was
 record Filled (index : List ℕ) (count : ℕ) (image₀ image : List ℕ) (b : ℕ) : Type 0 where
   bound : b ≤ count
   long : length image ≡ length image₀
   wrote : image ≡ blocks index b ++ drop (512 * b) image₀
 
+-- the part that is lent has a block's length
 block-long : (b : ℕ) → 512 * b + 512 - 512 * b ≡ 512
 block-long b = omega arith
 
+-- one block more
 block-more : (b : ℕ) → 512 * (b + 1) ≡ 512 * b + 512
 block-more b = omega arith
 
@@ -30,6 +32,10 @@ Inv-loop index count image₀ b₀ image b = Filled index count image₀ image b
 
 abbrev μ-loop : tie.MeasureT-loop
 μ-loop index count image₀ b₀ image b = count - b
+
+-- the start, seen from the loop
+abbrev start : tie.At-loop Inv-loop μ-loop → tie.Start Inv-loop μ-loop
+start l = l .before .before .before
 
 loop-holds : tie.Need-loop-holds Inv-loop μ-loop
 unfolding blocks
@@ -52,9 +58,8 @@ part-put-block-end c = search needs
 
 put-block-requires : tie.Need-put-block-requires Inv-loop μ-loop
 put-block-requires c κs =
-    let at-loop = c .before .before in
-    let b = at-loop .loop .b in
-    (omega arith, mid-len (512 * b) (512 * b + 512) (at-loop .loop .image) (omega arith) ∙ block-long b)
+    let l = c .before .before .loop in
+    (omega arith, mid-len (512 * l .b) (512 * l .b + 512) (l .image) (omega arith) ∙ block-long (l .b))
 
 add-b : tie.Need-add-b Inv-loop μ-loop
 add-b c = search needs
@@ -65,19 +70,17 @@ loop-less c = search needs
 loop-again : tie.Need-loop-again Inv-loop μ-loop
 loop-again c =
     let pb = c .before .before in
-    let at-loop = pb .before .before .before in
-    let start = at-loop .before .before .before in
-    let index = start .args .index .now in
-    let image = at-loop .loop .image in
-    let b = at-loop .loop .b in
-    let inv = at-loop .loop .inv in
+    let l = pb .before .before .before in
+    let index = start l .args .index .now in
+    let image = l .loop .image in
+    let b = l .loop .b in
     record {
       bound = search needs;
       long = search needs;
       wrote =
           ap (λ (l : List ℕ). putMid (512 * b) (512 * b + 512 - 512 * b) image l) (pb .put-block .ensures)
-          ∙ put-part (blocks index b) (block index b) (start .args .image .now) image (512 * b) (512 * b + 512) (blocks-length index b)
-          (omega arith) (inv .wrote)
+          ∙ put-part (blocks index b) (block index b) (start l .args .image .now) image (512 * b) (512 * b + 512) (blocks-length index b)
+          (omega arith) (l .loop .inv .wrote)
           ∙ rw (blocks-more index b, block-more b);
     }
 
@@ -86,10 +89,10 @@ same-length c = search needs
 
 returns : tie.Need-returns Inv-loop μ-loop
 returns c =
-    let at-loop = c .before in
-    let start = at-loop .before .before .before in
-    let k : at-loop .loop .b ≡ start .args .count = omega arith in
-    at-loop .loop .inv .wrote ∙ ap (λ (j : ℕ). blocks (start .args .index .now) j ++ drop (512 * j) (start .args .image .now)) k
+    let l = c .before in
+    let a = start l .args in
+    let e : l .loop .b ≡ a .count = omega arith in
+    l .loop .inv .wrote ∙ ap (λ (j : ℕ). blocks (a .index .now) j ++ drop (512 * j) (a .image .now)) e
 
 pub put-blocks-spec : {M : Type 1} → statement M
 put-blocks-spec =
