@@ -7,7 +7,7 @@ use Rattle.audit.specs.Refusals.{refusals}
 use Rattle.audit.specs.Workspace.{clears}
 use Rattle.buffers.specs.Wiped.{wiped}
 use Rattle.laws.specs.Every.{Every}
-use Rattle.limits.proofs.Faults.{early-low, early-placeless, numberOf, says-first, says-next}
+use Rattle.limits.proofs.Faults.{Early, early-low, early-placeless, numberOf, says-first, says-next}
 use Rattle.limits.specs.Said.{Said, said}
 use Rattle.measure.specs.Table.{between, rowsOf}
 use Rattle.tree.specs.Calls.{saidCheck}
