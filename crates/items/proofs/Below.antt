@@ -7,7 +7,7 @@ use Rattle.laws.specs.Bags.{total}
 use Rattle.laws.specs.Lists.{head, range, rest}
 use Rattle.laws.specs.Upto.{sumTo}
 use Rattle.limits.specs.Limits.{maxDepth}
-use Rattle.items.proofs.Opening.{least-same}
+use Rattle.items.proofs.Leasts.{least-all}
 use Rattle.items.specs.Items.{leastTo, placeBound}
 use Rattle.tree.proofs.Forks.{as-fork, as-leaf, forkNode, kids-first, kidsAt, leafNode, no-levels}
 use Rattle.tree.proofs.Members.{kids-firsts, run-first}
@@ -20,11 +20,11 @@ use Rattle.words.specs.Words.{N#, child#, count#, dist#, first#, m#, radius#, r
 use mathlib.Core.Bool.{Bool, false, true}
 use mathlib.Core.List.{List, _++_, foldr, map}
 use mathlib.Core.Path.{_∙_, _≡_, ap, ap₂, refl, subst, sym}
-use native.Mathlib.Nat.{add-suc, add-zero, not-suc-le-zero, suc-add}
+use native.Mathlib.Nat.{add-suc, add-zero, suc-add}
 use native.Mathlib.Omega.{arith}
 
--- ---- totals over ranges
-pub total-rest : {B : Type 0} (f : B → ℕ) (g : ℕ → B) (j k : ℕ) → total f (rest (map g (range j k))) ≡ sumTo (λ (i : ℕ). f (g (j + suc i))) (k - 1)
+-- a total over a range but its first, as a sum
+total-rest : {B : Type 0} (f : B → ℕ) (g : ℕ → B) (j k : ℕ) → total f (rest (map g (range j k))) ≡ sumTo (λ (i : ℕ). f (g (j + suc i))) (k - 1)
 total-rest f g j zero = sym (sum-none (λ (i : ℕ). f (g (j + suc i))))
 total-rest f g j (suc k) =
     let next : (i : ℕ) → suc j + i ≡ j + suc i = λ i. omega arith in
@@ -33,51 +33,22 @@ total-rest f g j (suc k) =
     ∙ sum-below-same (λ (i : ℕ). f (g (suc j + i))) (λ (i : ℕ). f (g (j + suc i))) k (λ i l. ap (λ (z : ℕ). f (g z)) (next i))
     ∙ ap (sumTo (λ (i : ℕ). f (g (j + suc i)))) less
 
-least-le : (f : ℕ → ℕ) (c : ℕ) → leastTo f c ≤ f 0
-least-le f zero = omega arith
-least-le f (suc c) = omega (arith, least-le f c)
-
-least-front : (f : ℕ → ℕ) (c : ℕ) → leastTo f (suc c) ≡ min (f 0) (leastTo (λ (i : ℕ). f (suc i)) c)
-least-front f zero = refl
-least-front f (suc c) = omega (arith, least-front f c)
-
-least-range : (x f : ℕ → ℕ) (a j c : ℕ) → foldr min a (map x (map f (range j (suc c)))) ≡ min a (leastTo (λ (i : ℕ). x (f (j + i))) c)
-least-range x f a j zero =
-    let e : j + 0 ≡ j = omega arith in
-    omega (arith, ap (λ (z : ℕ). x (f z)) e)
-least-range x f a j (suc c) =
-    let e : j + 0 ≡ j = omega arith in
-    let n : (i : ℕ) → suc j + i ≡ j + suc i = λ i. omega arith in
-    omega (
-      arith,
-      ap (λ (z : ℕ). x (f z)) e,
-      least-range x f a (suc j) c,
-      least-front (λ (i : ℕ). x (f (j + i))) c,
-      least-same (λ (i : ℕ). x (f (suc j + i))) (λ (i : ℕ). x (f (j + suc i))) c (λ i l. ap (λ (z : ℕ). x (f z)) (n i)),
-    )
-
--- the least over a range that is not empty
-least-all : (x f : ℕ → ℕ) (j m : ℕ) → 1 ≤ m
-    → foldr min (x (head (map f (range j m)))) (map x (map f (range j m))) ≡ leastTo (λ (i : ℕ). x (f (j + i))) (m - 1)
-least-all x f j zero h = absurd (not-suc-le-zero h)
-least-all x f j (suc c) h =
-    let e : j + 0 ≡ j = omega arith in
-    let l : c ≡ suc c - 1 = omega arith in
-    least-range x f (x (f j)) j c ∙ omega (arith, least-le (λ (i : ℕ). x (f (j + i))) c, ap (λ (z : ℕ). x (f z)) e)
-    ∙ ap (leastTo (λ (i : ℕ). x (f (j + i)))) l
-
 -- ---- the homes of nodes side by side
 module _ (x : ℕ → ℕ) (f : ℕ × ℕ → ℕ) where
+  -- where there is no node there is no home
   bare-total : (β : ℕ → ℕ → ℕ) → total f (homesIn x β bare) ≡ 0
   unfolding homesIn
   bare-total β = refl
 
+  -- a leaf and those after it: its rows but the first, each under its own bound, and theirs
   leaf-total : (β : ℕ → ℕ → ℕ) (R : ℕ) (es : List (ℕ × ℕ)) (g : Grove) → total f (homesIn x β (leaf R es g))
-      ≡ total f (map (λ e. (e .0, rowBound x (β (x (head (map (λ e. e .0) es))) R) (head (map (λ e. e .0) es)) e)) (rest es)) + total f (homesIn x β g)
+      ≡ total f (map (λ e. (e .0, rowBound x (β (x (head (map (λ e. e .0) es))) R) (head (map (λ e. e .0) es)) e)) (rest es))
+      + total f (homesIn x β g)
   unfolding homesIn
   leaf-total β R es g =
       total-append f (map (λ e. (e .0, rowBound x (β (x (head (map (λ e. e .0) es))) R) (head (map (λ e. e .0) es)) e)) (rest es)) (homesIn x β g)
 
+  -- an inner node and those after it: its centres but the first under its own bound, what is below its children, and theirs
   fork-total : (β : ℕ → ℕ → ℕ) (R : ℕ) (ks g : Grove) → total f (homesIn x β (fork R ks g))
       ≡ total f (map (λ r. (r, β (x (first ks)) R)) (rest (firsts ks))) + total f (homesIn x (childBound (β (x (first ks)) R) (nearestOf x ks)) ks)
       + total f (homesIn x β g)
@@ -87,13 +58,14 @@ module _ (x : ℕ → ℕ) (f : ℕ × ℕ → ℕ) where
       let b : List (ℕ × ℕ) = homesIn x (childBound (β (x (first ks)) R) (nearestOf x ks)) ks in
       omega (arith, total-append f (a ++ b) (homesIn x β g), total-append f a b)
 
-  -- a node alone, and those after it
-  leaf-alone : (β : ℕ → ℕ → ℕ) (R : ℕ) (es : List (ℕ × ℕ)) (g : Grove)
-      → total f (homesIn x β (leaf R es g)) ≡ total f (homesIn x (λ u v. β (x (head (map (λ e. e .0) es))) R) (leaf R es bare)) + total f (homesIn x β g)
+  -- a leaf, and those after it: the leaf stands alone under the bound that it has
+  leaf-alone : (β : ℕ → ℕ → ℕ) (R : ℕ) (es : List (ℕ × ℕ)) (g : Grove) → total f (homesIn x β (leaf R es g))
+      ≡ total f (homesIn x (λ u v. β (x (head (map (λ e. e .0) es))) R) (leaf R es bare)) + total f (homesIn x β g)
   leaf-alone β R es g =
       let γ : ℕ → ℕ → ℕ = λ u v. β (x (head (map (λ e. e .0) es))) R in
       omega (arith, leaf-total β R es g, leaf-total γ R es bare, bare-total γ)
 
+  -- an inner node, and those after it: it stands alone under the bound that it has
   fork-alone : (β : ℕ → ℕ → ℕ) (R : ℕ) (ks g : Grove)
       → total f (homesIn x β (fork R ks g)) ≡ total f (homesIn x (λ u v. β (x (first ks)) R) (fork R ks bare)) + total f (homesIn x β g)
   fork-alone β R ks g =
@@ -103,15 +75,17 @@ module _ (x : ℕ → ℕ) (f : ℕ × ℕ → ℕ) where
 -- ---- node k as a grove
 module _ (w : List ℕ) where
   -- nodes side by side, by two readings that agree at each
-  fold-same : (t u : ℕ → Grove → Grove) (j m : ℕ) → ((i : ℕ) (g : Grove) → i < m → t (j + i) g ≡ u (j + i) g) → foldr t bare (range j m) ≡ foldr u bare (range j m)
+  fold-same : (t u : ℕ → Grove → Grove) (j m : ℕ) → ((i : ℕ) (g : Grove) → i < m → t (j + i) g ≡ u (j + i) g)
+      → foldr t bare (range j m) ≡ foldr u bare (range j m)
   fold-same t u j zero h = refl
   fold-same t u j (suc m) h =
       ap (t j) (fold-same t u (suc j) m (λ i g l. subst (λ (z : ℕ). t z g ≡ u z g) (add-suc j i ∙ sym (suc-add j i)) (h (suc i) g (omega arith))))
-      ∙ subst (λ (z : ℕ). t z (foldr u bare (range (suc j) m)) ≡ u z (foldr u bare (range (suc j) m))) (add-zero j) (h 0 (foldr u bare (range (suc j) m)) (omega arith))
+      ∙ subst (λ (z : ℕ). t z (foldr u bare (range (suc j) m)) ≡ u z (foldr u bare (range (suc j) m))) (add-zero j)
+      (h 0 (foldr u bare (range (suc j) m)) (omega arith))
 
   module _ (S : InShape w) where
     -- A NODE WITH AT MOST `deep` LEVELS BELOW IT IS THE SAME WITH ONE MORE
-    pub tree-deeper : (deep k : ℕ) (g : Grove) → k < N# w → Left w deep k → treeAt w deep k g ≡ treeAt w (suc deep) k g
+    tree-deeper : (deep k : ℕ) (g : Grove) → k < N# w → Left w deep k → treeAt w deep k g ≡ treeAt w (suc deep) k g
     tree-deeper zero k g h l = no-levels w k g ∙ sym (as-leaf w 1 k g (S .node k h .bottom l))
     tree-deeper (suc deep) k g h l = go (λ j f q m. tree-deeper deep j f q m) (inner w k) refl
       where
@@ -127,16 +101,26 @@ module _ (w : List ℕ) where
             ∙ sym (as-fork w (suc deep) k g e)
         go ih false e = as-leaf w (suc deep) k g e ∙ sym (as-leaf w (suc (suc deep)) k g e)
 
+  module _ (x : ℕ → ℕ) where
+    -- the least distance over the centres of node k
+    abbrev pub nearestTo : ℕ → ℕ
+    nearestTo k = leastTo (λ (i : ℕ). x (first# w (child# w k + i))) (m# w - 1)
+
+    -- the bound of its i-th child, its own being b
+    abbrev pub kidBound : ℕ → ℕ → ℕ → ℕ
+    kidBound k b i = childBound b (nearestTo k) (x (first# w (child# w k + i))) (radius# w (child# w k + i))
+
   module _ (x : ℕ → ℕ) (f : ℕ × ℕ → ℕ) where
-    -- the rows at home below node k, whose bound is b, by their weight
+    -- the rows at home below node k, whose bound is b, by their weight, where it is read as at most `deep` levels
     belowAt : ℕ → ℕ → ℕ → ℕ
     belowAt deep k b = total f (homesIn x (λ u v. b) (treeAt w deep k bare))
 
+    -- the same, read to the depth that an index can have
     unfoldable pub below : ℕ → ℕ → ℕ
     below k b = total f (homesIn x (λ u v. b) (treeAt w maxDepth k bare))
 
     module _ (S : InShape w) where
-      -- A NODE'S PART OF THE TOTAL
+      -- A NODE'S PART OF THE TOTAL: what is below it under the bound that it has
       node-total : (deep k : ℕ) (β : ℕ → ℕ → ℕ) (g : Grove) → k < N# w
           → total f (homesIn x β (treeAt w deep k g)) ≡ belowAt deep k (β (x (first# w k)) (radius# w k)) + total f (homesIn x β g)
       unfolding belowAt
@@ -147,7 +131,8 @@ module _ (w : List ℕ) where
           by-leaf deep e =
               ap (λ (t : Grove). total f (homesIn x β t)) (e g) ∙ leaf-alone x f β (radius# w k) (members# w k) g
               ∙ ap (λ (z : ℕ). z + total f (homesIn x β g))
-              (ap (λ (i : ℕ). total f (homesIn x (λ u v. β (x i) (radius# w k)) (leafNode w k bare))) (run-first w S (start# w k) (count# w k) (S .node k h .some))
+              (ap (λ (i : ℕ). total f (homesIn x (λ u v. β (x i) (radius# w k)) (leafNode w k bare)))
+              (run-first w S (start# w k) (count# w k) (S .node k h .some))
               ∙ ap (λ (t : Grove). total f (homesIn x (λ u v. β (x (first# w k)) (radius# w k)) t)) (sym (e bare)))
 
           by-fork : (deep : ℕ) → inner w k ≡ true
@@ -167,9 +152,9 @@ module _ (w : List ℕ) where
           go zero = by-leaf zero (no-levels w k)
           go (suc deep) = at deep (inner w k) refl
 
-      -- nodes side by side
-      kids-total : (deep j m : ℕ) (β : ℕ → ℕ → ℕ) → j + m ≤ N# w
-          → total f (homesIn x β (foldr (treeAt w deep) bare (range j m))) ≡ sumTo (λ (i : ℕ). belowAt deep (j + i) (β (x (first# w (j + i))) (radius# w (j + i)))) m
+      -- nodes side by side: what is below each under the bound that it has
+      kids-total : (deep j m : ℕ) (β : ℕ → ℕ → ℕ) → j + m ≤ N# w → total f (homesIn x β (foldr (treeAt w deep) bare (range j m)))
+          ≡ sumTo (λ (i : ℕ). belowAt deep (j + i) (β (x (first# w (j + i))) (radius# w (j + i)))) m
       unfolding sumTo
       kids-total deep j zero β h = bare-total x f β
       kids-total deep j (suc m) β h =
@@ -196,15 +181,12 @@ module _ (w : List ℕ) where
           ∙ omega arith
 
       -- the least distance over the centres of node k, as the tree has it
-      abbrev pub nearestTo : ℕ → ℕ
-      nearestTo k = leastTo (λ (i : ℕ). x (first# w (child# w k + i))) (m# w - 1)
-
-      nearest-kids : (deep k : ℕ) → k < N# w → inner w k ≡ true → nearestOf x (kidsAt w deep k) ≡ nearestTo k
+      nearest-kids : (deep k : ℕ) → k < N# w → inner w k ≡ true → nearestOf x (kidsAt w deep k) ≡ nearestTo x k
       nearest-kids deep k h e =
           ap (λ (l : List ℕ). foldr min (x (head l)) (map x l)) (kids-firsts w S deep (child# w k) (m# w) (S .node k h .kids e .inside))
           ∙ least-all x (first# w) (child# w k) (m# w) (omega (arith, S .whole .fan .0))
 
-      -- a child as the tree has it, a level lower
+      -- a child's part is the same read a level lower: 23 is one level less than an index can have
       same-below : (k j b : ℕ) → k < N# w → inner w k ≡ true → j < m# w → belowAt 23 (child# w k + j) b ≡ below (child# w k + j) b
       unfolding belowAt below
       same-below k j b h e l =
@@ -215,12 +197,11 @@ module _ (w : List ℕ) where
           all-levels : (k : ℕ) → Left w maxDepth k
           all-levels k = (omega arith, omega (arith, left-root w .1))
 
-      -- what is below the children, each with its own bound
-      abbrev kidBound : ℕ → ℕ → ℕ → ℕ
-      kidBound k b i = childBound b (nearestTo k) (x (first# w (child# w k + i))) (radius# w (child# w k + i))
-
+      -- below an inner node: its centres but the first under its own bound, and what is below its children, read a level lower
       fork-parts : (k b : ℕ) → k < N# w → inner w k ≡ true
-          → below k b ≡ sumTo (λ (i : ℕ). f (first# w (child# w k + suc i), b)) (m# w - 1) + sumTo (λ (i : ℕ). belowAt 23 (child# w k + i) (kidBound k b i)) (m# w)
+          → below k b
+          ≡ sumTo (λ (i : ℕ). f (first# w (child# w k + suc i), b)) (m# w - 1)
+          + sumTo (λ (i : ℕ). belowAt 23 (child# w k + i) (kidBound x k b i)) (m# w)
       unfolding below
       fork-parts k b h e =
           ap (λ (t : Grove). total f (homesIn x (λ u v. b) t)) (as-fork w 23 k bare e) ∙ fork-total x f (λ u v. b) (radius# w k) (kidsAt w 23 k) bare
@@ -230,23 +211,24 @@ module _ (w : List ℕ) where
           within : child# w k + m# w ≤ N# w
           within = S .node k h .kids e .inside
 
-          centres : total f (map (λ (r : ℕ). (r, b)) (rest (firsts (kidsAt w 23 k)))) ≡ sumTo (λ (i : ℕ). f (first# w (child# w k + suc i), b)) (m# w - 1)
+          centres : total f (map (λ (r : ℕ). (r, b)) (rest (firsts (kidsAt w 23 k))))
+              ≡ sumTo (λ (i : ℕ). f (first# w (child# w k + suc i), b)) (m# w - 1)
           centres =
               ap (λ (l : List ℕ). total f (map (λ (r : ℕ). (r, b)) (rest l))) (kids-firsts w S 23 (child# w k) (m# w) within)
               ∙ total-map f (λ (r : ℕ). (r, b)) (rest (map (first# w) (range (child# w k) (m# w))))
               ∙ total-rest (λ (r : ℕ). f (r, b)) (first# w) (child# w k) (m# w)
 
-          kids : total f (homesIn x (childBound b (nearestOf x (kidsAt w 23 k))) (kidsAt w 23 k)) ≡ sumTo (λ (i : ℕ). belowAt 23 (child# w k + i) (kidBound k b i)) (m# w)
+          kids : total f (homesIn x (childBound b (nearestOf x (kidsAt w 23 k))) (kidsAt w 23 k))
+              ≡ sumTo (λ (i : ℕ). belowAt 23 (child# w k + i) (kidBound x k b i)) (m# w)
           kids =
               ap (λ (y : ℕ). total f (homesIn x (childBound b y) (kidsAt w 23 k))) (nearest-kids 23 k h e)
-              ∙ kids-total 23 (child# w k) (m# w) (childBound b (nearestTo k)) within
+              ∙ kids-total 23 (child# w k) (m# w) (childBound b (nearestTo x k)) within
 
       -- BELOW AN INNER NODE: its centres but the first under its own bound, and what is below its children under theirs
       pub fork-below : (k b : ℕ) → k < N# w → inner w k ≡ true → below k b
-          ≡ sumTo (λ (i : ℕ). f (first# w (child# w k + suc i), b)) (m# w - 1)
-          + sumTo (λ (i : ℕ). below (child# w k + i) (childBound b (nearestTo k) (x (first# w (child# w k + i))) (radius# w (child# w k + i)))) (m# w)
+          ≡ sumTo (λ (i : ℕ). f (first# w (child# w k + suc i), b)) (m# w - 1) + sumTo (λ (i : ℕ). below (child# w k + i) (kidBound x k b i)) (m# w)
       fork-below k b h e =
           fork-parts k b h e
           ∙ ap (λ (z : ℕ). sumTo (λ (i : ℕ). f (first# w (child# w k + suc i), b)) (m# w - 1) + z)
-          (sum-below-same (λ (i : ℕ). belowAt 23 (child# w k + i) (kidBound k b i)) (λ (i : ℕ). below (child# w k + i) (kidBound k b i)) (m# w)
-          (λ i l. same-below k i (kidBound k b i) h e l))
+          (sum-below-same (λ (i : ℕ). belowAt 23 (child# w k + i) (kidBound x k b i)) (λ (i : ℕ). below (child# w k + i) (kidBound x k b i)) (m# w)
+          (λ i l. same-below k i (kidBound x k b i) h e l))

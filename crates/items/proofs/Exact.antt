@@ -7,7 +7,7 @@ use Rattle.best.specs.Search.{Due, Homes, Kept, Lawful, Reach}
 use Rattle.laws.proofs.Every.{every-map}
 use Rattle.laws.specs.Every.{Every}
 use Rattle.laws.proofs.Ranges.{at-every}
-use Rattle.laws.specs.Bags.{SameBag, is}
+use Rattle.laws.specs.Bags.{SameBag}
 use Rattle.laws.specs.Lists.{keep, range}
 use Rattle.items.proofs.Begin.{begins, root-due}
 use Rattle.items.proofs.Laws.{badOf, homesOf, known, lawful, shares}
@@ -48,36 +48,44 @@ test-same true b f g = sym (f refl)
 test-same false true f g = g refl
 test-same false false f g = refl
 
+-- two tests, of which the second passes
 or-right : (a b : Bool) → b ≡ true → (a || b) ≡ true
 or-right true b e = refl
 or-right false b e = e
 
 module _ (w : List ℕ) (S : InShape w) (filled : 1 ≤ n# w) (wanted : ℕ) (some : 1 ≤ wanted) (x x′ : ℕ → ℕ) (F : Fits w wanted x x′) where
+  -- a row's home bound, of the rows that the index fits
   abbrev hb : ℕ → ℕ
   hb = homeBound w x′
 
+  -- where these rows have their homes
   abbrev H : Homes Item
-  H = homesOf w S x′ hb
+  H = homesOf w hb x′
 
+  -- the space of the index meets the laws of a search, with these rows
   law : Lawful (spaceOf w) H x′
-  law = lawful w S x′ hb (F .under)
+  law = lawful w hb x′ S (F .under)
 
+  -- the lent rows agree with these in every row that is due
   agree-due : (r : ℕ) → r < n# w → Due (spaceOf w) H wanted x′ r → x r ≡ x′ r
   agree-due r h c = F .agree r h (due-passes x′ (n# w) wanted some (hb r) .0 c)
 
-  opens-same : (i : Item) → badOf w S x′ hb i ≡ 0 → ((r : ℕ) → 0 < measuredBy w i r → x r ≡ x′ r) → openedBy w x i ≡ openedBy w x′ i
+  -- what an item opens is the same on both, where they agree in the rows that it measures
+  opens-same : (i : Item) → badOf w hb x′ i ≡ 0 → ((r : ℕ) → 0 < measuredBy w i r → x r ≡ x′ r) → openedBy w x i ≡ openedBy w x′ i
   opens-same i g h = item-local w x′ x i h
 
-  -- the root's first is measured on both
+  -- the root waits with its first at the same distance on both
   root-same : rootOf w x ≡ rootOf w x′
   root-same =
       let R : Root w = S .root filled in
       ap (node 0 0) (agree-due (first# w 0) (S .place (start# w 0) (omega (arith, R .start)) .row) (root-due w S filled (F .once) x′ wanted some))
 
   module _ (q : List Item) (m : ℕ → ℕ) (R : Run w wanted x q m) where
+    -- the search of these rows begins soundly
     begun : Kept (spaceOf w) H wanted x′ (rootOf w x′ ∷ []) (R .start)
     begun = begins w S filled (F .once) x′ wanted some (R .start) (R .begun)
 
+    -- the run on the lent rows began with the root as it waits on these
     reached : Reach (spaceOf w) wanted x (rootOf w x′ ∷ []) (R .start) q m
     reached = subst (λ (i : Item). Reach (spaceOf w) wanted x (i ∷ []) (R .start) q m) root-same (R .reached)
 
@@ -85,7 +93,7 @@ module _ (w : List ℕ) (S : InShape w) (filled : 1 ≤ n# w) (wanted : ℕ) (so
     pub run-keeps : Kept (spaceOf w) H wanted x′ q m
     run-keeps =
         search-keeps (spaceOf w) H wanted x′ law (rootOf w x′ ∷ []) (R .start) q m begun
-        (search-back (spaceOf w) H wanted x′ law x agree-due opens-same (known w S x′ hb) (rootOf w x′ ∷ []) (R .start) q m begun reached)
+        (search-back (spaceOf w) H wanted x′ law x agree-due opens-same (known w hb x′ S) (rootOf w x′ ∷ []) (R .start) q m begun reached)
 
     -- SO WHAT AN ITEM MEASURES THAT IS TAKEN IS NEW, and no row twice
     pub taken-new : (i : Item) (others : List Item) → SameBag q (i ∷ others) → (r : ℕ) → r < n# w → m r + measuredBy w i r ≤ 1
@@ -95,32 +103,34 @@ module _ (w : List ℕ) (S : InShape w) (filled : 1 ≤ n# w) (wanted : ℕ) (so
           arith,
           K .once r h,
           t (λ (j : Item). waitsOf w j r),
-          shares w S x′ hb i r (omega (arith, K .sound, t (badOf w S x′ hb))),
+          shares w hb x′ S i r (omega (arith, K .sound, t (badOf w hb x′))),
         )
 
   module _ (m : ℕ → ℕ) (R : Ran w wanted x m) where
     -- THE MEASURED ROWS ARE THOSE WHOSE HOME BOUND PASSES
     pub measured-passes : (r : ℕ) → r < n# w → ltb 0 (m r) ≡ passes x′ (n# w) wanted (hb r)
     measured-passes r h =
-        let a = measured-on-both (spaceOf w) H wanted x′ law x agree-due opens-same (known w S x′ hb) (rootOf w x′ ∷ []) (R .run .start) (R .waiting) m
-        (begun (R .waiting) m (R .run)) (reached (R .waiting) m (R .run)) (R .ended) r h in
+        let a = measured-on-both (spaceOf w) H wanted x′ law x agree-due opens-same (known w hb x′ S) (rootOf w x′ ∷ []) (R .run .start)
+        (R .waiting) m (begun (R .waiting) m (R .run)) (reached (R .waiting) m (R .run)) (R .ended) r h in
         let b = due-passes x′ (n# w) wanted some (hb r) in
         test-same (ltb 0 (m r)) (passes x′ (n# w) wanted (hb r)) (λ e. b .0 (a .0 (ltb-true 0 (m r) e))) (λ e. lt-ltb 0 (m r) (a .1 (b .1 e)))
 
+    -- the lent rows agree with these in every row measured
     agree-measured : Every (λ i. ltb 0 (m i) ≡ true → x i ≡ x′ i) (range 0 (n# w))
     agree-measured = at-every (λ i. ltb 0 (m i) ≡ true → x i ≡ x′ i) (n# w) (λ i l e. F .agree i l (sym (measured-passes i l) ∙ e))
 
     -- a row no farther than the last answer is measured
-    near-measured : (r : ℕ) → r < n# w → x′ r ≤ lastAt x′ (n# w) wanted some → ltb 0 (m r) ≡ true
+    near-measured : (r : ℕ) → r < n# w → x′ r ≤ lastAt x′ (n# w) wanted → ltb 0 (m r) ≡ true
     near-measured r h l =
-        measured-passes r h ∙ passes-is x′ (n# w) wanted some (hb r)
-        ∙ or-right (ltb (n# w) wanted) (leb (hb r) (lastAt x′ (n# w) wanted some)) (le-leb (hb r) (lastAt x′ (n# w) wanted some) (omega (arith, F .under r h)))
+        measured-passes r h ∙ passes-is x′ (n# w) wanted (hb r)
+        ∙ or-right (ltb (n# w) wanted) (leb (hb r) (lastAt x′ (n# w) wanted))
+        (le-leb (hb r) (lastAt x′ (n# w) wanted) (omega (arith, F .under r h)))
 
     -- THE FIRST OF THE ROWS MEASURED ARE THE ANSWERS
     pub first-answers : take (min wanted (n# w)) (inOrder x (n# w) m) ≡ answers x′ (n# w) wanted
     unfolding inOrder answers
     first-answers =
-        let D : ℕ = lastAt x′ (n# w) wanted some in
+        let D : ℕ = lastAt x′ (n# w) wanted in
         ap (λ (l : List (ℕ × ℕ)). take (min wanted (n# w)) (sort l)) (kept-same (λ i. ltb 0 (m i)) x x′ (range 0 (n# w)) agree-measured)
         ∙ best-of (λ a. ltb 0 (m (a .0))) (min wanted (n# w)) (candidates x′ (n# w))
         (every-map (λ a. a .1 ≤ D → ltb 0 (m (a .0)) ≡ true) (λ i. (i, x′ i)) (range 0 (n# w))

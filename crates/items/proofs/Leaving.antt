@@ -13,14 +13,15 @@ use mathlib.Core.Path.{_≡_}
 use native.Mathlib.Omega.{arith}
 
 module _ (w : List ℕ) (wanted : ℕ) (x : ℕ → ℕ) where
-  -- the rows of m that are closer than a bound, and what an item of that bound lacks of w
+  -- how many rows of m are closer than a bound
   abbrev nearer : (ℕ → ℕ) → ℕ → ℕ
   nearer m b = found (spaceOf w) x m b
 
+  -- how many fewer than w are closer than an item's bound
   abbrev lack : (ℕ → ℕ) → Item → ℕ
   lack m j = wanted - nearer m (boundOf j)
 
-  -- no fewer are closer than a greater bound, nor of more rows
+  -- no fewer are closer than a greater bound, of more rows
   nearer-up : (m m′ : ℕ → ℕ) (b b′ : ℕ) → ((r : ℕ) → m r ≤ m′ r) → b ≤ b′ → nearer m b ≤ nearer m′ b′
   nearer-up m m′ b b′ h l = closer-le (n# w) (both m (λ (r : ℕ). 1)) (both m′ (λ (r : ℕ). 1)) x b b′ (λ r. omega (arith, h r)) l
 
@@ -30,20 +31,23 @@ module _ (w : List ℕ) (wanted : ℕ) (x : ℕ → ℕ) where
     pub all-bag : SameBag (q ++ R .left) (item ∷ (others ++ R .left))
     all-bag f = omega (arith, total-append f q (R .left), total-append f others (R .left), bag f)
 
-    -- A ROUND: some of what it opens waits with the others, and the rest is left out
+    -- ---- a round: some of what it opens waits with the others, and the rest is left out
     module _ (due : nearer m (boundOf item) < wanted) (q′ out : List Item) (m′ : ℕ → ℕ)
-        (queued : (f : Item → ℕ) → total f q′ + total f out ≡ total f (openedBy w x item) + total f others) (marked : (r : ℕ) → m′ r ≡ m r + measuredBy w item r) where
+        (queued : (f : Item → ℕ) → total f q′ + total f out ≡ total f (openedBy w x item) + total f others)
+        (marked : (r : ℕ) → m′ r ≡ m r + measuredBy w item r) where
       -- none left out has a lower bound than the item
       least-left : total (λ (j : Item). boundOf item - boundOf j) (R .left) ≡ 0
       least-left =
           total-none (λ (j : Item). boundOf item - boundOf j) (lack m) (R .left)
           (λ j z p. omega (arith, due, nearer-up m m (boundOf j) (boundOf item) (λ r. omega arith) (omega arith))) (R .beyond)
 
+      -- w measured rows are closer than the bound of each that was left out, still
       still-left : total (lack m′) (R .left) ≡ 0
       still-left =
           total-none (lack m′) (lack m) (R .left)
           (λ j z p. omega (arith, nearer-up m m′ (boundOf j) (boundOf j) (λ r. omega (arith, marked r)) (omega arith))) (R .beyond)
 
+      -- A ROUND GOES ON, where w measured rows are closer than the bound of each that is left out
       pub leaves : Ended (spaceOf w) wanted x out m′ → Running w wanted x q′ m′
       leaves e = record {
         left = out ++ R .left;
@@ -75,7 +79,7 @@ module _ (w : List ℕ) (wanted : ℕ) (x : ℕ → ℕ) where
                 queued f,
               )
 
-    -- THE END: the first that waits is not due
+    -- THE END: w measured rows are closer than the bound of the first that waits
     pub leaves-off : wanted ≤ nearer m (boundOf item) → Ran w wanted x m
     leaves-off far = record {
       waiting = q ++ R .left;

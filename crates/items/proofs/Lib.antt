@@ -1,3 +1,4 @@
+pub mod Leasts
 pub mod Opening
 pub mod Below
 pub mod Laws

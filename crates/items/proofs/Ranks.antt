@@ -23,6 +23,7 @@ use native.Mathlib.Decide.{ℕ-discrete}
 use native.Mathlib.Omega.{arith}
 
 -- ---- sorting keeps every total
+-- an answer that is inserted adds its weight
 total-insert : (f : ℕ × ℕ → ℕ) (a : ℕ × ℕ) (s : List (ℕ × ℕ)) → total f (insert a s) ≡ f a + total f s
 total-insert f a [] = refl
 total-insert f a (b ∷ s) = go (before a b) (total-insert f a s)
@@ -31,6 +32,7 @@ total-insert f a (b ∷ s) = go (before a b) (total-insert f a s)
     go true ih = refl
     go false ih = omega arith
 
+-- a list and the list sorted have the same total
 pub total-sort : (f : ℕ × ℕ → ℕ) (l : List (ℕ × ℕ)) → total f (sort l) ≡ total f l
 total-sort f [] = refl
 total-sort f (a ∷ l) = omega (arith, total-insert f a (sort l), total-sort f l)
@@ -40,30 +42,35 @@ total-sort f (a ∷ l) = omega (arith, total-insert f a (sort l), total-sort f l
 abbrev nearer : ℕ → ℕ × ℕ → ℕ
 nearer k a = min 1 (k - a .1)
 
+-- none is closer than k where each is at k or farther
 none-nearer : (k : ℕ) (s : List (ℕ × ℕ)) → Every (λ b. k ≤ b .1) s → total (nearer k) s ≡ 0
 none-nearer k [] h = refl
 none-nearer k (b ∷ s) h = omega (arith, h .0, none-nearer k s (h .1))
 
+-- the first of a sorted list is no farther than the last of its first k + 1
 up-last : (b : ℕ × ℕ) (s : List (ℕ × ℕ)) (k : ℕ) → Sorted (b ∷ s) → b .1 ≤ lastDistance (take (suc k) (b ∷ s))
 up-last b s zero h = omega arith
 up-last b [] (suc k) h = omega arith
 up-last b (c ∷ s) (suc k) h = omega (arith, h .0 .0 .0, up-last c s k (h .1))
 
-few : (s : List (ℕ × ℕ)) (k : ℕ) → Sorted s → suc k ≤ total (λ (a : ℕ × ℕ). 1) s → total (nearer (lastDistance (take (suc k) s))) s < suc k
-few [] k h l = absurd (omega arith)
-few (a ∷ s) zero h l = omega (arith, none-nearer (a .1) s (every-of (Le a) (λ b. a .1 ≤ b .1) (λ b q. q .0) s (h .0)))
-few (a ∷ []) (suc k) h l = absurd (omega arith)
-few (a ∷ b ∷ s) (suc k) h l = omega (arith, few (b ∷ s) k (h .1) (omega arith))
+-- of a sorted list, fewer than k + 1 are closer than the last of its first k + 1
+few-sorted : (s : List (ℕ × ℕ)) (k : ℕ) → Sorted s → suc k ≤ total (λ (a : ℕ × ℕ). 1) s → total (nearer (lastDistance (take (suc k) s))) s < suc k
+few-sorted [] k h l = absurd (omega arith)
+few-sorted (a ∷ s) zero h l = omega (arith, none-nearer (a .1) s (every-of (Le a) (λ b. a .1 ≤ b .1) (λ b q. q .0) s (h .0)))
+few-sorted (a ∷ []) (suc k) h l = absurd (omega arith)
+few-sorted (a ∷ b ∷ s) (suc k) h l = omega (arith, few-sorted (b ∷ s) k (h .1) (omega arith))
 
-many : (s : List (ℕ × ℕ)) (k : ℕ) → Sorted s → suc k ≤ total (λ (a : ℕ × ℕ). 1) s → suc k ≤ total (nearer (lastDistance (take (suc k) s) + 1)) s
-many [] k h l = absurd (omega arith)
-many (a ∷ s) zero h l = omega arith
-many (a ∷ []) (suc k) h l = absurd (omega arith)
-many (a ∷ b ∷ s) (suc k) h l = omega (arith, h .0 .0 .0, up-last b s k (h .1), many (b ∷ s) k (h .1) (omega arith))
+-- and k + 1 are at most at that distance
+many-sorted : (s : List (ℕ × ℕ)) (k : ℕ) → Sorted s → suc k ≤ total (λ (a : ℕ × ℕ). 1) s
+    → suc k ≤ total (nearer (lastDistance (take (suc k) s) + 1)) s
+many-sorted [] k h l = absurd (omega arith)
+many-sorted (a ∷ s) zero h l = omega arith
+many-sorted (a ∷ []) (suc k) h l = absurd (omega arith)
+many-sorted (a ∷ b ∷ s) (suc k) h l = omega (arith, h .0 .0 .0, up-last b s k (h .1), many-sorted (b ∷ s) k (h .1) (omega arith))
 
 -- ---- among the rows
 module _ (x : ℕ → ℕ) (n : ℕ) where
-  -- all of n rows
+  -- how many of the n rows are closer than k
   abbrev pub nearerThan : ℕ → ℕ
   nearerThan k = closer n (λ (r : ℕ). 1) x k
 
@@ -74,45 +81,51 @@ module _ (x : ℕ → ℕ) (n : ℕ) where
       total-map f (λ i. (i, x i)) (range 0 n) ∙ total-range (λ (i : ℕ). f (i, x i)) 0 n
       ∙ sum-below-same (λ (i : ℕ). f (0 + i, x (0 + i))) (λ (i : ℕ). f (i, x i)) n (λ i l. ap (λ (z : ℕ). f (z, x z)) (z i))
 
+  -- and so is one over the candidates sorted
   sorted-rows : (f : ℕ × ℕ → ℕ) → total f (sort (candidates x n)) ≡ sumTo (λ (i : ℕ). f (i, x i)) n
   sorted-rows f = total-sort f (candidates x n) ∙ over-rows f
 
+  -- there are as many candidates as rows
   enough : (k : ℕ) → k ≤ n → k ≤ total (λ (a : ℕ × ℕ). 1) (sort (candidates x n))
   enough k h = omega (arith, sorted-rows (λ (a : ℕ × ℕ). 1), sum-ones n)
 
   -- FEWER THAN k ROWS ARE CLOSER THAN D, the distance of the k-th
-  pub few-closer : (k : ℕ) → 1 ≤ k → k ≤ n → nearerThan (lastDistance (take k (sort (candidates x n)))) < k
+  few-closer : (k : ℕ) → 1 ≤ k → k ≤ n → nearerThan (lastDistance (take k (sort (candidates x n)))) < k
   few-closer zero l h = absurd (omega arith)
   few-closer (suc k) l h =
       let D : ℕ = lastDistance (take (suc k) (sort (candidates x n))) in
-      subst (λ (z : ℕ). z < suc k) (sorted-rows (nearer D)) (few (sort (candidates x n)) k (sort-sorted (candidates x n)) (enough (suc k) h))
+      subst (λ (z : ℕ). z < suc k) (sorted-rows (nearer D)) (few-sorted (sort (candidates x n)) k (sort-sorted (candidates x n)) (enough (suc k) h))
 
   -- AND k ARE AT MOST AT D
-  pub many-within : (k : ℕ) → 1 ≤ k → k ≤ n → k ≤ nearerThan (lastDistance (take k (sort (candidates x n))) + 1)
+  many-within : (k : ℕ) → 1 ≤ k → k ≤ n → k ≤ nearerThan (lastDistance (take k (sort (candidates x n))) + 1)
   many-within zero l h = absurd (omega arith)
   many-within (suc k) l h =
       let D : ℕ = lastDistance (take (suc k) (sort (candidates x n))) in
-      subst (λ (z : ℕ). suc k ≤ z) (sorted-rows (nearer (D + 1))) (many (sort (candidates x n)) k (sort-sorted (candidates x n)) (enough (suc k) h))
+      subst (λ (z : ℕ). suc k ≤ z) (sorted-rows (nearer (D + 1)))
+      (many-sorted (sort (candidates x n)) k (sort-sorted (candidates x n)) (enough (suc k) h))
 
   -- ---- which bounds pass
+  -- no fewer are closer than a greater distance
   nearer-up : (k k′ : ℕ) → k ≤ k′ → nearerThan k ≤ nearerThan k′
   nearer-up k k′ h = closer-le n (λ (r : ℕ). 1) (λ (r : ℕ). 1) x k k′ (λ r. omega arith) h
 
+  -- no more are closer than there are
   nearer-most : (k : ℕ) → nearerThan k ≤ n
   nearer-most k = omega (arith, sum-below-le (λ (s : ℕ). min 1 (k - x s)) (λ (s : ℕ). 1) n (λ s l. omega arith), sum-ones n)
 
-  module _ (wanted : ℕ) (some : 1 ≤ wanted) where
+  module _ (wanted : ℕ) where
     -- the distance of the last answer
     abbrev pub lastAt : ℕ
     lastAt = lastDistance (take (min wanted n) (sort (candidates x n)))
 
+    -- a bound passes where more are wanted than there are rows, or it is at most that distance
     pub passes-is : (b : ℕ) → passes x n wanted b ≡ (ltb n wanted || leb b lastAt)
     unfolding passes answers
     passes-is b = refl
 
     -- A BOUND PASSES EXACTLY IF FEWER THAN w ROWS ARE CLOSER
-    pub due-passes : (b : ℕ) → (nearerThan b < wanted) ↔ (passes x n wanted b ≡ true)
-    due-passes b = subst (λ (p : Bool). (nearerThan b < wanted) ↔ (p ≡ true)) (sym (passes-is b)) (go (ltb n wanted) refl)
+    pub due-passes : 1 ≤ wanted → (b : ℕ) → (nearerThan b < wanted) ↔ (passes x n wanted b ≡ true)
+    due-passes some b = subst (λ (p : Bool). (nearerThan b < wanted) ↔ (p ≡ true)) (sym (passes-is b)) (go (ltb n wanted) refl)
       where
         go : (a : Bool) → ltb n wanted ≡ a → (nearerThan b < wanted) ↔ ((a || leb b lastAt) ≡ true)
         go true e = (λ h. refl, λ h. omega (arith, ltb-true n wanted e, nearer-most b))

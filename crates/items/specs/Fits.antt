@@ -13,6 +13,7 @@ use mathlib.Core.Path.{_≡_}
 abbrev pub homeBound : List ℕ → (ℕ → ℕ) → ℕ → ℕ
 homeBound w x r = look r (homes x (treeOf w))
 
+-- the index w fits the rows at x′, and those at x agree with them wherever a search for so many measures
 pub record Fits (w : List ℕ) (wanted : ℕ) (x x′ : ℕ → ℕ) : Type 0 where
   -- each row stands once
   pub once : (i : ℕ) → i < n# w → times i (map (row# w) (range 0 (n# w))) ≡ 1

@@ -14,6 +14,7 @@ pub data Item : Type 0 where
   node : (k b x : ℕ) → Item
   place : (p b : ℕ) → Item
 
+-- an item's bound
 abbrev pub boundOf : Item → ℕ
 boundOf (node k b x) = b
 boundOf (place p b) = b
@@ -34,31 +35,36 @@ module _ (w : List ℕ) where
   abbrev pub nearestAt : (ℕ → ℕ) → ℕ → ℕ → ℕ
   nearestAt d q x = leastTo (centreAt d q x) (m# w - 1)
 
+  -- child j waits with its first's distance, under the bound that follows from b, its parent's
   abbrev pub childOf : (ℕ → ℕ) → ℕ → ℕ → ℕ → ℕ → Item
   childOf d q b x j = node (q + j) (childBound b (nearestAt d q x) (centreAt d q x j) (radius# w (q + j))) (centreAt d q x j)
 
-  -- ---- a leaf's rows but its first
+  -- ---- a leaf's rows but its first, where the leaf has the bound b and its first is at x
+  -- the bound of the row at position p
   abbrev pub placeBound : ℕ → ℕ → ℕ → ℕ
   placeBound b x p = max b (gap x (dist# w p))
 
+  -- of leaf k, the row after its first by i waits under its own bound
   abbrev pub placeOf : ℕ → ℕ → ℕ → ℕ → Item
   placeOf k b x i = place (start# w k + suc i) (placeBound b x (start# w k + suc i))
 
   -- ---- taking an item
-  -- an inner node measures every centre but its own first, a leaf nothing, a position its row
+  -- a leaf measures nothing; an inner node, whose first child's number is q + 1, every centre but its own first
   abbrev pub measuresAt : ℕ → ℕ → ℕ
   measuresAt zero r = 0
   measuresAt (suc q) r = sumTo (λ (j : ℕ). is r (first# w (suc q + suc j))) (m# w - 1)
 
+  -- how often an item measures row r: a position measures its row
   abbrev pub measuredBy : Item → ℕ → ℕ
   measuredBy (node k b x) r = measuresAt (child# w k) r
   measuredBy (place p b) r = is r (row# w p)
 
-  -- a leaf opens to its rows but the first, an inner node to its children
+  -- a leaf opens to its rows but the first; an inner node, whose first child's number is q + 1, to its children
   abbrev pub opensAt : (ℕ → ℕ) → ℕ → ℕ → ℕ → ℕ → List Item
   opensAt d zero k b x = upto (placeOf k b x) (count# w k - 1)
   opensAt d (suc q) k b x = upto (childOf d (suc q) b x) (m# w)
 
+  -- what waits in an item's place, the rows being at d: nothing in a position's
   abbrev pub openedBy : (ℕ → ℕ) → Item → List Item
   openedBy d (node k b x) = opensAt d (child# w k) k b x
   openedBy d (place p b) = []
@@ -67,10 +73,11 @@ module _ (w : List ℕ) where
   abbrev pub spaceOf : Space Item
   spaceOf = record { bound = boundOf; measures = measuredBy; opens = openedBy; rows = n# w; live = λ (r : ℕ). 1 }
 
-  -- the rows still to be measured under an item: of a node, its members but the first
+  -- how often row r is still to be measured under node k: its members but the first
   abbrev pub waitsNode : ℕ → ℕ → ℕ
   waitsNode k r = sumTo (λ (i : ℕ). is r (row# w (start# w k + suc i))) (count# w k - 1)
 
+  -- the same under an item: under a position, its row
   abbrev pub waitsOf : Item → ℕ → ℕ
   waitsOf (node k b x) r = waitsNode k r
   waitsOf (place p b) r = is r (row# w p)

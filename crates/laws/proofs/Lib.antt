@@ -1,6 +1,7 @@
 pub mod Tests
 pub mod Lists
 pub mod Maps
+pub mod Keeping
 pub mod Every
 pub mod Ranges
 pub mod Empty

@@ -25,20 +25,22 @@ use mathlib.Core.List.{List, [], _++_, _∷_, map}
 use mathlib.Core.Path.{_∙_, _≡_, ap, ap₂, refl, subst, sym}
 use native.Mathlib.Omega.{arith}
 
--- the build writes the index of the five-row table, and so it is accepted
+-- the build writes the index of the five-row table
 built : build five 1 2 2 ≡ fiveWords
 unfolding sumTo l1 between family broods levelNodes nodes numbered encode choose split grow build
 built = refl
 
+-- and so the full check accepts it
 accepted : Accepted (between five 1) fiveWords
 accepted =
     subst (Accepted (between five 1)) built
     (build-accepted five 1 2 2 refl refl (omega arith) (omega arith, (omega arith, (omega arith, (omega arith, (omega arith, tt))))))
 
--- the definition, computed
+-- how far the query q is from a row
 abbrev x : ℕ → ℕ → ℕ
 x q = from five 1 (q ∷ [])
 
+-- the definition gives what the case says
 pub record Right (k : Case) : Type 0 where
   pub some : k .wanted ≡ 0 → ⊥
   pub count : min (k .wanted) 5 ≡ length (k .answers)
@@ -46,6 +48,7 @@ pub record Right (k : Case) : Type 0 where
   pub near : nearHow (x (k .query)) 5 (treeOf fiveWords) (k .wanted) ≡ k .bytes
   pub met : measured (k .bytes) ≡ k .met
 
+-- it does so in every case, by computation
 right-all : Every Right asked
 unfolding sumTo l1 from answers treeAt treeOf homesIn homes passes nearHow
 right-all = (
@@ -62,15 +65,17 @@ right-all = (
   ),
 )
 
--- neither the table nor the index is refused
+-- the table has no fault
 no-table-fault : 0 ≡ said (tableFaults 5 1) .0
 unfolding tableFaults
 no-table-fault = refl
 
+-- nor has the index
 no-index-fault : 0 ≡ said (indexFaults fiveWords 5 1) .0
 unfolding headerOk wordsOk born level tile nodeOk shapeOk indexFaults
 no-index-fault = refl
 
+-- where the definition gives it, so does every outcome of the call
 gets : (k : Case) → Right k → Gets k
 gets k R rs rs′ ds ds′ how how′ work work′ number given met a b d e s =
     let n : number ≡ 0 =

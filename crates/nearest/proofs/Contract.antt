@@ -2,7 +2,6 @@
 use Prim.Native.Nat.{_<_, _≤_, min, ℕ}
 use Rattle.laws.specs.Every.{Every}
 use Rattle.laws.proofs.Ranges.{at-every}
-use Rattle.laws.specs.Bags.{is}
 use Rattle.laws.specs.Lists.{has, look, range, times}
 use Rattle.measure.proofs.Metric.{query-point}
 use Rattle.measure.specs.Table.{between, from}
@@ -27,21 +26,24 @@ use mathlib.Core.Path.{_∙_, _≡_, ap, ap₂, refl, subst, sym}
 use native.Mathlib.Decide.{decLt}
 use native.Mathlib.Omega.{arith}
 
+-- two functions that agree at every element of a list map it to the same list
 map-same : (f g : ℕ → ℕ) (is : List ℕ) → Every (λ i. f i ≡ g i) is → map f is ≡ map g is
 map-same f g [] h = refl
 map-same f g (i ∷ is) h = ap₂ {C = List ℕ} (λ a l. a ∷ l) (h .0) (map-same f g is (h .1))
 
 -- ---- more wanted than there are rows is all of them
 module _ (x : ℕ → ℕ) (n wanted k : ℕ) (ek : k ≡ min wanted n) where
+  -- as many are given where k are wanted
   same-count : min k n ≡ min wanted n
   same-count = omega arith
 
+  -- and the answers are the same
   pub same-answers : answers x n k ≡ answers x n wanted
   unfolding answers
   same-answers = ap (λ (m : ℕ). take m (sort (candidates x n))) same-count
 
-  -- a bound that passes for k passes
-  pub still-passes : (b : ℕ) → passes x n k b ≡ true → passes x n wanted b ≡ true
+  -- a bound that passes where k are wanted passes
+  still-passes : (b : ℕ) → passes x n k b ≡ true → passes x n wanted b ≡ true
   still-passes b p = go (decLt n wanted)
     where
       go : Dec (n < wanted) → passes x n wanted b ≡ true
@@ -54,13 +56,15 @@ module _ (x : ℕ → ℕ) (n wanted k : ℕ) (ek : k ≡ min wanted n) where
   same-near : (g : Grove) → ((i : ℕ) → i < n → look i (homes x g) ≤ x i) → nearHow x n g k ≡ nearHow x n g wanted
   unfolding nearHow
   same-near g under =
-      ap (λ (as′ : List (ℕ × ℕ)). map (λ i. cond (has i (map (λ a. a .0) as′)) 3 (cond (passes x n k (look i (homes x g))) 1 0)) (range 0 n)) same-answers
-      ∙ map-same (λ i. cond (has i (map (λ a. a .0) (answers x n wanted))) 3 (cond (passes x n k (look i (homes x g))) 1 0))
-      (λ i. cond (has i (map (λ a. a .0) (answers x n wanted))) 3 (cond (passes x n wanted (look i (homes x g))) 1 0)) (range 0 n)
-      (at-every (λ i. cond {A = ℕ} (has i (map (λ a. a .0) (answers x n wanted))) 3 (cond (passes x n k (look i (homes x g))) 1 0)
-      ≡ cond (has i (map (λ a. a .0) (answers x n wanted))) 3 (cond (passes x n wanted (look i (homes x g))) 1 0)) n
+      ap (λ (as′ : List (ℕ × ℕ)). map (byte as′ k) (range 0 n)) same-answers
+      ∙ map-same (byte (answers x n wanted) k) (byte (answers x n wanted) wanted) (range 0 n)
+      (at-every (λ i. byte (answers x n wanted) k i ≡ byte (answers x n wanted) wanted i) n
       (λ i h. ap (λ (b : Bool). cond {A = ℕ} (has i (map (λ a. a .0) (answers x n wanted))) 3 (cond b 1 0)) (one i h (decLt n wanted))))
     where
+      -- the how-byte of row i, by the answers and the number wanted
+      byte : List (ℕ × ℕ) → ℕ → ℕ → ℕ
+      byte as′ w i = cond (has i (map (λ a. a .0) as′)) 3 (cond (passes x n w (look i (homes x g))) 1 0)
+
       one : (i : ℕ) → i < n → Dec (n < wanted) → passes x n k (look i (homes x g)) ≡ passes x n wanted (look i (homes x g))
       one i h (yes l) =
           let e : n ≡ k = omega arith in
@@ -71,21 +75,27 @@ module _ (x : ℕ → ℕ) (n wanted k : ℕ) (ek : k ≡ min wanted n) where
           ap (λ (k : ℕ). passes x n k (look i (homes x g))) e
 
 -- ---- a table that serves is one that fits
-pub byte-measured : (x : ℕ → ℕ) (n : ℕ) (g : Grove) (k i : ℕ) → i < n → passes x n k (look i (homes x g)) ≡ true → T (isMeasured (getD (nearHow x n g k) i 0))
-byte-measured x n g k i h p = subst (λ (v : ℕ). T (isMeasured v)) (sym (near-at x n g k i h)) (go (has i (map (λ a. a .0) (answers x n k))))
+-- the how-byte of a row whose home bound passes is 1 or 3
+pub byte-measured : (x : ℕ → ℕ) (n : ℕ) (g : Grove) (k i : ℕ) → i < n → passes x n k (look i (homes x g)) ≡ true
+    → T (isMeasured (getD (nearHow x n g k) i 0))
+byte-measured x n g k i h p =
+    subst (λ (v : ℕ). T (isMeasured v)) (sym (near-at x n g k i h)) (go (has i (map (λ a. a .0) (answers x n k))))
   where
     go : (a : Bool) → T (isMeasured (cond a 3 (cond (passes x n k (look i (homes x g))) 1 0)))
     go true = tt
     go false = rw p tt
 
 module _ (t t′ : List ℕ) (c : ℕ) (w q : List ℕ) (wanted k : ℕ) (ek : k ≡ min wanted (n# w)) (A : Serves t t′ c w q wanted) where
+  -- how far the query is from a row of the table that serves
   abbrev x′ : ℕ → ℕ
   x′ = from t′ c q
 
+  -- no row of it is closer than its home bound
   below : (i : ℕ) → i < n# w → homeBound w x′ i ≤ x′ i
   below i h = home-below (between t′ c) w (A .accepted) x′ (query-point t′ c q) i h
 
-  pub serves-fits : Fits w k (from t c q) (from t′ c q)
+  -- the index fits its rows, with which the lent ones agree where it counts
+  serves-fits : Fits w k (from t c q) (from t′ c q)
   serves-fits = record {
     once = λ i h. ap (times i) (sym (rows-tree w (shape-of (between t′ c) w (A .accepted)))) ∙ each-once (between t′ c) w (A .accepted) i h;
     under = below;
@@ -94,7 +104,8 @@ module _ (t t′ : List ℕ) (c : ℕ) (w q : List ℕ) (wanted k : ℕ) (ek : k
         (A .agree r h (byte-measured x′ (n# w) (treeOf w) wanted r h (still-passes x′ (n# w) wanted k ek (homeBound w x′ r) p)));
   }
 
-  pub settled-wanted : (rs rs′ ds ds′ how how′ : List ℕ) (given : ℕ) → Settled (from t′ c q) w k rs rs′ ds ds′ how how′ given
+  -- answers and how-bytes that are settled for k are settled for as many as are wanted
+  settled-wanted : (rs rs′ ds ds′ how how′ : List ℕ) (given : ℕ) → Settled (from t′ c q) w k rs rs′ ds ds′ how how′ given
       → Settled (from t′ c q) w wanted rs rs′ ds ds′ how how′ given
   settled-wanted rs rs′ ds ds′ how how′ given Z =
       let e = same-count x′ (n# w) wanted k ek in
@@ -107,8 +118,9 @@ module _ (t t′ : List ℕ) (c : ℕ) (w q : List ℕ) (wanted k : ℕ) (ek : k
       }
 
 -- ---- the call
-module _ (t : List ℕ) (c : ℕ) (w q : List ℕ) (wanted : ℕ) (rs ds how work : List ℕ) {number room : ℕ} (fit : (room ≤ length rs) × (room ≤ length ds))
-    (said-is : number ≡ saidNearest t c w q wanted room (length how) (length work) .0) where
+module _ (t : List ℕ) (c : ℕ) (w q : List ℕ) (wanted : ℕ) (rs ds how work : List ℕ) {number room : ℕ}
+    (fit : (room ≤ length rs) × (room ≤ length ds)) (said-is : number ≡ saidNearest t c w q wanted room (length how) (length work) .0) where
+  -- A REFUSAL MEETS THE CONTRACT
   pub refused-is : (number ≡ 0 → ⊥) → Answered t c w q wanted room rs rs ds ds how how work work number 0 0
   refused-is h = record {
     said = said-is;
@@ -120,11 +132,12 @@ module _ (t : List ℕ) (c : ℕ) (w q : List ℕ) (wanted : ℕ) (rs ds how wor
     found = λ z. absurd (h z);
   }
 
-  -- what the core asks
+  -- where nothing is refused, what is lent is what the core asks
   pub core-asks : (n k : ℕ) → number ≡ 0 → n ≡ n# w → k ≡ min wanted n → Lent t c w q k rs ds how work
   core-asks n k z en ek =
       fits t c w q wanted room rs ds how work fit k (ek ∙ ap (λ (n : ℕ). min wanted n) en) (sym said-is ∙ z)
 
+  -- A SEARCH MEETS THE CONTRACT
   pub done-is : (n k given met : ℕ) (rs′ ds′ how′ work′ : List ℕ) → number ≡ 0 → n ≡ n# w → k ≡ min wanted n
       → Found t c w q k rs rs′ ds ds′ how how′ work work′ given → met ≡ measured (take n how′)
       → Answered t c w q wanted room rs rs′ ds ds′ how how′ work work′ 0 given met
@@ -137,12 +150,13 @@ module _ (t : List ℕ) (c : ℕ) (w q : List ℕ) (wanted : ℕ) (rs ds how wor
         beyond = λ e. subst (λ (k : ℕ). (drop k rs′ ≡ drop k rs) × (drop k ds′ ≡ drop k ds) × (drop (n# w) how′ ≡ drop (n# w) how)) ek (D .beyond);
         few = λ e. omega (arith, D .few, ek);
         counted = λ e. em ∙ ap (λ (n : ℕ). measured (take n how′)) en;
-        found = λ e t′ A. settled-wanted t t′ c w q wanted k ek A rs rs′ ds ds′ how how′ given (D .found (from t′ c q) (serves-fits t t′ c w q wanted k ek A));
+        found = λ e t′ A.
+            settled-wanted t t′ c w q wanted k ek A rs rs′ ds ds′ how how′ given (D .found (from t′ c q) (serves-fits t t′ c w q wanted k ek A));
       }
 
 -- the same with the room said in another way
-pub room-is : {t : List ℕ} {c : ℕ} {w q : List ℕ} {wanted room room′ : ℕ} {rs rs′ ds ds′ how how′ work work′ : List ℕ} {number given met : ℕ} → room ≡ room′
-    → Answered t c w q wanted room rs rs′ ds ds′ how how′ work work′ number given met
+pub room-is : {t : List ℕ} {c : ℕ} {w q : List ℕ} {wanted room room′ : ℕ} {rs rs′ ds ds′ how how′ work work′ : List ℕ} {number given met : ℕ}
+    → room ≡ room′ → Answered t c w q wanted room rs rs′ ds ds′ how how′ work work′ number given met
     → Answered t c w q wanted room′ rs rs′ ds ds′ how how′ work work′ number given met
 room-is {t} {c} {w} {q} {wanted} {room} {room′} {rs} {rs′} {ds} {ds′} {how} {how′} {work} {work′} {number} {given} {met} e s =
     subst (λ (room : ℕ). Answered t c w q wanted room rs rs′ ds ds′ how how′ work work′ number given met) e s

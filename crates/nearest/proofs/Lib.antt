@@ -1,6 +1,7 @@
 pub mod Handing
 pub mod Ordering
 pub mod Handouts
+pub mod HowBytes
 pub mod Finding
 pub mod Refusals
 pub mod Contract

@@ -3,12 +3,13 @@
 use Prim.Native.Nat.{_<_, _≤_, min, ℕ}
 use Rattle.laws.proofs.Every.{every-both, every-map, every-take, has-every}
 use Rattle.laws.proofs.Lists.{tally-take}
-use Rattle.laws.proofs.Ranges.{at-every, range-length}
-use Rattle.laws.specs.Lists.{has, look, range}
+use Rattle.laws.proofs.Ranges.{at-every}
+use Rattle.laws.specs.Lists.{has, range}
 use Rattle.limits.specs.Limits.{maxRows}
 use Rattle.measure.proofs.Metric.{query-point}
 use Rattle.measure.specs.Table.{between, from, row, rowsOf}
 use Rattle.nearest.proofs.Contract.{byte-measured, same-answers}
+use Rattle.nearest.proofs.HowBytes.{near-length}
 use Rattle.nearest.proofs.Refusals.{clear}
 use Rattle.nearest.specs.Calls.{Answered, Serves, Settled}
 use Rattle.items.specs.Fits.{homeBound}
@@ -17,7 +18,6 @@ use Rattle.tree.proofs.Sorted.{sort-every, sort-sorted, sorted-take, under-last
 use Rattle.tree.proofs.Theorems.{home-below}
 use Rattle.tree.specs.Check.{Accepted}
 use Rattle.tree.specs.Grove.{treeOf}
-use Rattle.tree.specs.Homes.{homes}
 use Rattle.tree.specs.Nearest.{answers, candidates, isMeasured, lastDistance, measured, nearHow, passes, sort}
 use Rattle.words.specs.Words.{n#}
 use borrow.Author.Tests.{le-ltb, leb-true}
@@ -41,10 +41,12 @@ answer-near x hb n wanted i under e =
     let s : List (ℕ × ℕ) = sort (candidates x n) in
     has-every (λ i. hb i ≤ lastDistance (take k s)) i (map (λ a. a .0) (take k s))
     (every-map (λ i. hb i ≤ lastDistance (take k s)) (λ a. a .0) (take k s)
-    (every-both (λ a. a .1 ≤ lastDistance (take k s)) (λ a. hb (a .0) ≤ a .1) (λ a. hb (a .0) ≤ lastDistance (take k s)) (λ a p q. omega arith) (take k s)
+    (every-both (λ a. a .1 ≤ lastDistance (take k s)) (λ a. hb (a .0) ≤ a .1) (λ a. hb (a .0) ≤ lastDistance (take k s)) (λ a p q. omega arith)
+    (take k s)
     (under-last (take k s) (sorted-take k s (sort-sorted (candidates x n))))
     (every-take (λ a. hb (a .0) ≤ a .1) k s
-    (sort-every (λ a. hb (a .0) ≤ a .1) (candidates x n) (every-map (λ a. hb (a .0) ≤ a .1) (λ i. (i, x i)) (range 0 n) (at-every (λ i. hb i ≤ x i) n under))))))
+    (sort-every (λ a. hb (a .0) ≤ a .1) (candidates x n)
+    (every-map (λ a. hb (a .0) ≤ a .1) (λ i. (i, x i)) (range 0 n) (at-every (λ i. hb i ≤ x i) n under))))))
     e
 
 -- a bound that passes is at most D, where no more are wanted than there are
@@ -61,47 +63,54 @@ module _ {t : List ℕ} {c : ℕ} {w q : List ℕ} {wanted room : ℕ} {rs rs′
   rows-are = sym (clear t c w q wanted room (length how) (length work) (sym (s .said) ∙ done) .index .rows)
 
   module _ (x : ℕ → ℕ) (Z : Settled x w wanted rs rs′ ds ds′ how how′ given) where
-    near-length : length (nearHow x (n# w) (treeOf w) wanted) ≡ n# w
-    unfolding nearHow
-    near-length =
-        length-map (range 0 (n# w)) (λ i. cond (has i (map (λ a. a .0) (answers x (n# w) wanted))) 3 (cond (passes x (n# w) wanted (look i (homes x (treeOf w)))) 1 0))
-        ∙ range-length 0 (n# w)
-
+    -- as many are given as are wanted or there are
     part-length : (f : ℕ × ℕ → ℕ) → length (map f (answers x (n# w) wanted)) ≡ min wanted (n# w)
     part-length f =
         length-map (answers x (n# w) wanted) f ∙ ap length (sym (same-answers x (n# w) wanted (min wanted (n# w)) refl))
         ∙ answers-length x (n# w) (min wanted (n# w)) (omega arith)
 
-    -- what is written, and the counts
+    -- the rows written are those of the answers
     first-rows : take (min wanted (n# w)) rs′ ≡ map (λ a. a .0) (answers x (n# w) wanted)
     first-rows =
-        ap (take (min wanted (n# w))) (Z .rows) ∙ take-at (map (λ a. a .0) (answers x (n# w) wanted)) (drop (min wanted (n# w)) rs) (min wanted (n# w)) (part-length (λ a. a .0))
+        ap (take (min wanted (n# w))) (Z .rows)
+        ∙ take-at (map (λ a. a .0) (answers x (n# w) wanted)) (drop (min wanted (n# w)) rs) (min wanted (n# w)) (part-length (λ a. a .0))
 
+    -- and so are the distances
     first-distances : take (min wanted (n# w)) ds′ ≡ map (λ a. a .1) (answers x (n# w) wanted)
     first-distances =
-        ap (take (min wanted (n# w))) (Z .distances) ∙ take-at (map (λ a. a .1) (answers x (n# w) wanted)) (drop (min wanted (n# w)) ds) (min wanted (n# w)) (part-length (λ a. a .1))
+        ap (take (min wanted (n# w))) (Z .distances)
+        ∙ take-at (map (λ a. a .1) (answers x (n# w) wanted)) (drop (min wanted (n# w)) ds) (min wanted (n# w)) (part-length (λ a. a .1))
 
+    -- the first n how-bytes are those of the definition
     first-bytes : take (n# w) how′ ≡ nearHow x (n# w) (treeOf w) wanted
-    first-bytes = ap (take (n# w)) (Z .bytes) ∙ take-at (nearHow x (n# w) (treeOf w) wanted) (drop (n# w) how) (n# w) near-length
+    first-bytes =
+        ap (take (n# w)) (Z .bytes)
+        ∙ take-at (nearHow x (n# w) (treeOf w) wanted) (drop (n# w) how) (n# w) (near-length x (n# w) (treeOf w) wanted)
 
+    -- the count is that of the definition's how-bytes 1 and 3
     pub count-is : met ≡ measured (nearHow x (n# w) (treeOf w) wanted)
     count-is = s .counted done ∙ ap measured first-bytes
 
+    -- a row's how-byte is that of the definition
     byte-at : (i : ℕ) → i < n# w → getD how′ i 0 ≡ getD (nearHow x (n# w) (treeOf w) wanted) i 0
     byte-at i h =
         ap (λ (l : List ℕ). getD l i 0) (Z .bytes)
-        ∙ List·getD-append (nearHow x (n# w) (treeOf w) wanted) (drop (n# w) how) 0 i (subst (λ (n : ℕ). i < n) (sym near-length) h)
+        ∙ List·getD-append (nearHow x (n# w) (treeOf w) wanted) (drop (n# w) how) 0 i
+        (subst (λ (n : ℕ). i < n) (sym (near-length x (n# w) (treeOf w) wanted)) h)
 
 -- ---- a call that is not refused, on an index that the full check accepts with its table
 module _ {t : List ℕ} {c : ℕ} {w q : List ℕ} {wanted room : ℕ} {rs rs′ ds ds′ how how′ work work′ : List ℕ} {number given met : ℕ}
     (s : Answered t c w q wanted room rs rs′ ds ds′ how how′ work work′ number given met) (done : number ≡ 0) (A : Accepted (between t c) w) where
+  -- how far the query is from a row
   abbrev x : ℕ → ℕ
   x = from t c q
 
+  -- a row's home bound
   abbrev hb : ℕ → ℕ
   hb = homeBound w (from t c q)
 
-  -- EXACT: THE ANSWERS ARE THE FIRST OF ALL ROWS BY DISTANCE, THEN ROW NUMBER, AS MANY AS ARE WANTED OR THERE ARE, AND THE HOW-BYTES FOLLOW FROM HOME BOUNDS
+  -- EXACT: THE ANSWERS ARE THE FIRST OF ALL ROWS BY DISTANCE, THEN ROW NUMBER, AS MANY AS ARE WANTED OR THERE ARE, AND THE HOW-BYTES FOLLOW
+  -- FROM HOME BOUNDS
   pub nearest-exact : Settled (from t c q) w wanted rs rs′ ds ds′ how how′ given
   nearest-exact = s .found done t (record { rows = rows-are s done; accepted = A; agree = λ i h m. refl })
 
@@ -113,8 +122,8 @@ module _ {t : List ℕ} {c : ℕ} {w q : List ℕ} {wanted room : ℕ} {rs rs′
       (sym (byte-at s done x nearest-exact i h ∙ near-at x (n# w) (treeOf w) wanted i h))
       (go (has i (map (λ a. a .0) (answers x (n# w) wanted))) (passes x (n# w) wanted (hb i)) refl refl)
     where
-      go : (a b : Bool) → has i (map (λ a. a .0) (answers (from t c q) (n# w) wanted)) ≡ a → passes (from t c q) (n# w) wanted (homeBound w (from t c q) i) ≡ b
-          → T (isMeasured (cond a 3 (cond b 1 0))) ↔ (homeBound w (from t c q) i ≤ lastDistance (answers (from t c q) (n# w) wanted))
+      go : (a b : Bool) → has i (map (λ a. a .0) (answers x (n# w) wanted)) ≡ a → passes x (n# w) wanted (hb i) ≡ b
+          → T (isMeasured (cond a 3 (cond b 1 0))) ↔ (hb i ≤ lastDistance (answers x (n# w) wanted))
       go true b ea eb = (λ m. answer-near x hb (n# w) wanted i (λ r l. home-below (between t c) w A x (query-point t c q) r l) ea, λ m. tt)
       go false true ea eb = (λ m. passes-only x (n# w) wanted (hb i) few eb, λ m. tt)
       go false false ea eb = (λ m. absurd m, λ m. subst T (sym (passes-near x (n# w) wanted (hb i) m) ∙ eb) tt)
@@ -156,6 +165,7 @@ module _ {t : List ℕ} {c : ℕ} {w q : List ℕ} {wanted room : ℕ} {rs ds ho
   abbrev pub Same : Type 0
   Same = (given₁ ≡ given₂) × (met₁ ≡ met₂) × (rs₁ ≡ rs₂) × (ds₁ ≡ ds₂) × (how₁ ≡ how₂) × (work₁ ≡ work₂)
 
+  -- they have the same number
   one-number : number₁ ≡ number₂
   one-number = s₁ .said ∙ sym (s₂ .said)
 
@@ -207,7 +217,8 @@ module _ {t : List ℕ} {c : ℕ} {w q : List ℕ} {wanted room : ℕ} {rs ds ho
 -- THE COUNTS ARE NO MORE THAN THE ROWS, so that 32 bits hold them, and there are no more answers than there is room for
 pub nearest-small : {t : List ℕ} {c : ℕ} {w q : List ℕ} {wanted room : ℕ} {rs rs′ ds ds′ how how′ work work′ : List ℕ} {number given met : ℕ}
     → Answered t c w q wanted room rs rs′ ds ds′ how how′ work work′ number given met → (given ≤ maxRows) × (met ≤ maxRows) × (given ≤ room)
-nearest-small {t} {c} {w} {q} {wanted} {room} {how = how} {how′ = how′} {work = work} {number = number} {given = given} {met = met} s = go (ℕ-discrete number 0)
+nearest-small {t} {c} {w} {q} {wanted} {room} {how = how} {how′ = how′} {work = work} {number = number} {given = given} {met = met} s =
+    go (ℕ-discrete number 0)
   where
     go : Dec (number ≡ 0) → (given ≤ maxRows) × (met ≤ maxRows) × (given ≤ room)
     go (no k) = (omega (arith, s .refused k .0), omega (arith, s .refused k .1), omega (arith, s .refused k .0))

@@ -34,6 +34,7 @@ pub record Settled (x : ℕ → ℕ) (w : List ℕ) (wanted : ℕ) (rs rs′ ds 
   pub distances : ds′ ≡ map (λ a. a .1) (answers x (n# w) wanted) ++ drop (min wanted (n# w)) ds
   pub bytes : how′ ≡ nearHow x (n# w) (treeOf w) wanted ++ drop (n# w) how
 
+-- what such a search leaves, and gives: how many answers there are
 pub record Found (t : List ℕ) (c : ℕ) (w q : List ℕ) (wanted : ℕ) (rs rs′ ds ds′ how how′ work work′ : List ℕ) (given : ℕ) : Type 0 where
   -- the workspace is cleared, and what lies beyond stays
   pub cleared : work′ ≡ replicate (6 * n# w) 0 ++ drop (6 * n# w) work

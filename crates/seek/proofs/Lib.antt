@@ -1,7 +1,16 @@
+pub mod LeastKept
 pub mod Beyond
+pub mod RowEntries
 pub mod Holding
+pub mod Stopping
+pub mod Entering
+pub mod Staying
+pub mod OneRow
 pub mod Growing
 pub mod Queueing
+pub mod Reading
 pub mod Rounds
+pub mod InnerNodes
 pub mod Weights
 pub mod Progress
+pub mod Starting

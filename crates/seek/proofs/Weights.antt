@@ -16,23 +16,36 @@ use mathlib.Core.List.{List}
 use mathlib.Core.Path.{_∙_, _≡_, ap, refl, subst, sym}
 use native.Mathlib.Omega.{arith}
 
--- twice its positions, less one: a round takes more of this than it puts back
+-- twice an item's positions, less one: a round takes more of this than it puts back
 abbrev pub cost : List ℕ → Item → ℕ
 cost w i = weight w i + weight w i - 1
 
-module _ (w : List ℕ) (S : InShape w) (x : ℕ → ℕ) where
-  pub some-weight : (how : List ℕ) (i : Item) → amiss w how i ≡ 0 → 1 ≤ weight w i
-  some-weight how (node k b u) g = S .node k (omega arith) .some
-  some-weight how (place p b) g = omega arith
+-- a node of the index whose first is measured has no fault
+none-amiss : (k N v : ℕ) → k < N → 0 < v → (suc k - N) + (1 - v) ≡ 0
+none-amiss k N v h p = omega arith
 
-  -- of an inner node's children
+-- an item stays sound as more rows are measured
+pub amiss-on : (w how how′ : List ℕ) → ((r : ℕ) → 0 < at how r → 0 < at how′ r) → (i : Item) → amiss w how i ≡ 0 → amiss w how′ i ≡ 0
+amiss-on w how how′ grown (node k b u) g = none-amiss k (N# w) (at how′ (first# w k)) (omega arith) (grown (first# w k) (omega arith))
+amiss-on w how how′ grown (place p b) g = g
+
+-- a sound item stands for a position or more
+pub some-weight : (w : List ℕ) → InShape w → (how : List ℕ) (i : Item) → amiss w how i ≡ 0 → 1 ≤ weight w i
+some-weight w S how (node k b u) g = S .node k (omega arith) .some
+some-weight w S how (place p b) g = omega arith
+
+module _ (w : List ℕ) (S : InShape w) (x : ℕ → ℕ) where
+  -- ---- the children of a sound inner node
   module _ (how : List ℕ) (k b u : ℕ) (g : amiss w how (node k b u) ≡ 0) (i : inner w k ≡ true) where
+    -- it is a node of the index
     there : k < N# w
     there = omega arith
 
+    -- they stand for as many positions as it does
     kids-weight : total (weight w) (upto (childOf w x (child# w k) b u) (m# w)) ≡ count# w k
     kids-weight = total-upto (weight w) (childOf w x (child# w k) b u) (m# w) ∙ kids-count w S k there i
 
+    -- their costs are twice its positions, less one for each of them
     kids-cost : total (cost w) (upto (childOf w x (child# w k) b u) (m# w)) + m# w ≡ count# w k + count# w k
     kids-cost =
         let f : ℕ → ℕ = λ (j : ℕ). count# w (child# w k + j) in
@@ -46,18 +59,15 @@ module _ (w : List ℕ) (S : InShape w) (x : ℕ → ℕ) where
           sum-below-same (λ (j : ℕ). f j + f j - 1 + 1) (λ (j : ℕ). f j + f j) (m# w) (λ j l. omega (arith, kid-some w S k there i j l)),
         )
 
-    -- their firsts are measured
+    -- they are sound, once its centres are measured
     kids-amiss : (how′ : List ℕ) → (0 < at how (first# w k) → 0 < at how′ (first# w k))
         → ((r : ℕ) → 0 < sumTo (λ (j : ℕ). is r (first# w (child# w k + suc j))) (m# w - 1) → 0 < at how′ r)
         → total (amiss w how′) (upto (childOf w x (child# w k) b u) (m# w)) ≡ 0
     kids-amiss how′ grown seen =
         total-upto (amiss w how′) (childOf w x (child# w k) b u) (m# w)
         ∙ sum-below-zero (λ (j : ℕ). (suc (child# w k + j) - N# w) + (1 - at how′ (first# w (child# w k + j)))) (m# w)
-        (λ j l. none (child# w k + j) (N# w) (at how′ (first# w (child# w k + j))) (kid-in w S k there i j l) (each j l))
+        (λ j l. none-amiss (child# w k + j) (N# w) (at how′ (first# w (child# w k + j))) (kid-in w S k there i j l) (each j l))
       where
-        none : (k N v : ℕ) → k < N → 0 < v → (suc k - N) + (1 - v) ≡ 0
-        none k N v h p = omega arith
-
         each : (j : ℕ) → j < m# w → 0 < at how′ (first# w (child# w k + j))
         each zero l =
             let z : child# w k + 0 ≡ child# w k = omega arith in
@@ -66,7 +76,8 @@ module _ (w : List ℕ) (S : InShape w) (x : ℕ → ℕ) where
             let r : ℕ = first# w (child# w k + suc j) in
             seen r (omega (arith, sum-part (λ (j : ℕ). is r (first# w (child# w k + suc j))) (m# w - 1) j (omega arith), is-self r))
 
-  -- the three, of any item
+  -- ---- what a sound item opens
+  -- it stands for no more positions
   pub opened-weight : (how : List ℕ) (i : Item) → amiss w how i ≡ 0 → total (weight w) (openedBy w x i) ≤ weight w i
   opened-weight how (node k b u) g = go (child# w k) refl
     where
@@ -77,18 +88,21 @@ module _ (w : List ℕ) (S : InShape w) (x : ℕ → ℕ) where
           (omega (arith, kids-weight how k b u g (inner-some w k (omega arith))))
   opened-weight how (place p b) g = omega arith
 
+  -- it costs less
   pub opened-cost : (how : List ℕ) (i : Item) → amiss w how i ≡ 0 → total (cost w) (openedBy w x i) < cost w i
   opened-cost how (node k b u) g = go (child# w k) refl
     where
       go : (q : ℕ) → child# w k ≡ q → total (cost w) (opensAt w x q k b u) < count# w k + count# w k - 1
-      go zero e = omega (arith, total-upto (cost w) (placeOf w k b u) (count# w k - 1), sum-ones (count# w k - 1), some-weight how (node k b u) g)
+      go zero e =
+          omega (arith, total-upto (cost w) (placeOf w k b u) (count# w k - 1), sum-ones (count# w k - 1), some-weight w S how (node k b u) g)
       go (suc q) e =
           subst (λ (z : ℕ). total (cost w) (upto (childOf w x z b u) (m# w)) < count# w k + count# w k - 1) e
           (omega (arith, kids-cost how k b u g (inner-some w k (omega arith)), S .whole .fan .0))
   opened-cost how (place p b) g = omega arith
 
-  pub opened-amiss : (how how′ : List ℕ) (i : Item) → amiss w how i ≡ 0 → ((r : ℕ) → 0 < at how r → 0 < at how′ r) → ((r : ℕ) → 0 < measuredBy w i r → 0 < at how′ r)
-      → total (amiss w how′) (openedBy w x i) ≡ 0
+  -- it is sound, once what the item measures is measured
+  pub opened-amiss : (how how′ : List ℕ) (i : Item) → amiss w how i ≡ 0 → ((r : ℕ) → 0 < at how r → 0 < at how′ r)
+      → ((r : ℕ) → 0 < measuredBy w i r → 0 < at how′ r) → total (amiss w how′) (openedBy w x i) ≡ 0
   opened-amiss how how′ (node k b u) g grown seen = go (child# w k) refl seen
     where
       go : (q : ℕ) → child# w k ≡ q → ((r : ℕ) → 0 < measuresAt w q r → 0 < at how′ r) → total (amiss w how′) (opensAt w x q k b u) ≡ 0
@@ -96,14 +110,8 @@ module _ (w : List ℕ) (S : InShape w) (x : ℕ → ℕ) where
           total-upto (amiss w how′) (placeOf w k b u) (count# w k - 1)
           ∙ sum-below-zero (λ (j : ℕ). suc (start# w k + suc j) - n# w) (count# w k - 1) (λ j l. omega (arith, S .node k (omega arith) .run))
       go (suc q) e s =
-          subst (λ (z : ℕ). ((r : ℕ) → 0 < sumTo (λ (j : ℕ). is r (first# w (z + suc j))) (m# w - 1) → 0 < at how′ r) → total (amiss w how′) (upto (childOf w x z b u) (m# w)) ≡ 0) e
+          subst
+          (λ (z : ℕ). ((r : ℕ) → 0 < sumTo (λ (j : ℕ). is r (first# w (z + suc j))) (m# w - 1) → 0 < at how′ r)
+          → total (amiss w how′) (upto (childOf w x z b u) (m# w)) ≡ 0) e
           (kids-amiss how k b u g (inner-some w k (omega arith)) how′ (grown (first# w k))) s
   opened-amiss how how′ (place p b) g grown seen = refl
-
-  -- a sound item stays sound as more rows are measured
-  pub amiss-on : (how how′ : List ℕ) → ((r : ℕ) → 0 < at how r → 0 < at how′ r) → (i : Item) → amiss w how i ≡ 0 → amiss w how′ i ≡ 0
-  amiss-on how how′ grown (node k b u) g = none k (N# w) (at how′ (first# w k)) (omega arith) (grown (first# w k) (omega arith))
-    where
-      none : (k N v : ℕ) → k < N → 0 < v → (suc k - N) + (1 - v) ≡ 0
-      none k N v h p = omega arith
-  amiss-on how how′ grown (place p b) g = g

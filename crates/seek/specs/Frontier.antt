@@ -20,10 +20,12 @@ use mathlib.Core.Bool.{cond}
 use mathlib.Core.List.{List, _++_, map}
 use mathlib.Core.Path.{_≡_}
 
--- ---- entries and items: an id below 2n is a node's number, any other a position's, 2n on
+-- ---- entries and items
+-- the item of a key and an id: an id below 2n is a node's number, any other a position's, 2n on
 abbrev pub itemBy : List ℕ → (ℕ → ℕ) → ℕ → ℕ → Item
 itemBy w x key id = cond (ltb id (2 * n# w)) (node id key (x (first# w id))) (place (id - 2 * n# w) key)
 
+-- the item of an entry
 unfoldable pub itemOf : List ℕ → (ℕ → ℕ) → ℕ → Item
 itemOf w x e = itemBy w x (keyOf e) (idOf e)
 

@@ -25,9 +25,8 @@ same-length-4 c = search needs
 
 returns : tie.Need-returns
 returns c =
-    let least = c .before .before .before .before .before .before .before .before .before .before .before .before .before .least in
-    let answer = c .before .before .before .before .before .before .before .before .answer in
-    room-is (least .ensures) (answer .ensures)
+    let a = c .before .before .before .before .before .before .before .before in
+    room-is (a .before .before .before .before .before .least .ensures) (a .answer .ensures)
 
 pub nearest-spec : {M : Type 1} → statement M
 nearest-spec =

@@ -34,11 +34,10 @@ same-length-4 c = search needs
 
 returns : tie.Need-returns
 returns c =
-    let args = c .before .before .before .before .before .before .before .before .before .before .before .before .before .before .before .before .before .before .before .before .before .before .args in
-    let least = c .before .before .before .before .before .before .before .before .before .before .before .before .before .before .least in
-    let least2 = c .before .before .before .before .before .before .before .before .before .before .before .before .before .least2 in
-    let answer = c .before .before .before .before .before .before .before .before .answer in
-    room-is (least2 .ensures ∙ ap (λ (z : ℕ). min (args .own) z) (least .ensures)) (answer .ensures)
+    let a = c .before .before .before .before .before .before .before .before in
+    let r = a .before .before .before .before .before in
+    let s = r .before .before .before .before .before .before .before .before .before in
+    room-is (r .least2 .ensures ∙ ap (λ (z : ℕ). min (s .args .own) z) (r .before .least .ensures)) (a .answer .ensures)
 
 pub within-spec : {M : Type 1} → statement M
 within-spec =

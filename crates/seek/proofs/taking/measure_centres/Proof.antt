@@ -2,7 +2,8 @@
 -- Assumes nothing.
 use Prim.Native.Nat.{_-_}
 use Rattle.measure.specs.Table.{from}
-use Rattle.seek.proofs.Growing.{CentresTo, centres-done, centres-start, centres-step, ready-on}
+use Rattle.seek.proofs.Growing.{CentresTo, centres-done, centres-start, centres-step}
+use Rattle.seek.proofs.Staying.{ready-on}
 use Rattle.seek.proofs.taking.measure_centres.Statement.{statement}
 use Rattle.seek.proofs.taking.measure_centres.Tie as tie
 use borrow.Author.Needs.{needs}

@@ -1,7 +1,7 @@
 -- `nearest::taking::measure_row` meets its contract: the distance is kept and entered as it was measured.
 -- Assumes nothing.
 use Rattle.measure.proofs.Rows.{row-ends}
-use Rattle.seek.proofs.Growing.{room-to-enter, took}
+use Rattle.seek.proofs.OneRow.{room-to-enter, took}
 use Rattle.seek.proofs.taking.measure_row.Statement.{statement}
 use Rattle.seek.proofs.taking.measure_row.Tie as tie
 use borrow.Author.Needs.{needs}
@@ -57,21 +57,16 @@ enter-requires c κs =
 same-length : tie.Need-same-length
 same-length c = search needs
 
-same-length-2 : tie.Need-same-length-2
-same-length-2 c =
-    let pre = c .before .before .before .before .before .before .before .before .before .before .pre in
-    let query-distance = c .before .before .before .before .before .query-distance in
-    let turn = c .before .before .before .turn in
-    let enter = c .before .before .enter in
-    (took _ _ _ _ _ _ (pre .0 .stands) _ (pre .1) _ (query-distance .result) refl _ _ _ _ (query-distance .ensures .0) (query-distance .ensures .1) refl (turn .ensures) (enter .ensures)) .grew .since .words
-
 returns : tie.Need-returns
 returns c =
-    let pre = c .before .before .before .before .before .before .before .before .before .before .pre in
-    let query-distance = c .before .before .before .before .before .query-distance in
-    let turn = c .before .before .before .turn in
-    let enter = c .before .before .enter in
-    took _ _ _ _ _ _ (pre .0 .stands) _ (pre .1) _ (query-distance .result) refl _ _ _ _ (query-distance .ensures .0) (query-distance .ensures .1) refl (turn .ensures) (enter .ensures)
+    let e = c .before .before in
+    let q = e .before .before .before in
+    let pre = q .before .before .before .before .before .pre in
+    took _ _ _ _ _ _ (pre .0 .stands) _ (pre .1) _ (q .query-distance .result) refl _ _ _ _ (q .query-distance .ensures .0)
+    (q .query-distance .ensures .1) refl (e .before .turn .ensures) (e .enter .ensures)
+
+same-length-2 : tie.Need-same-length-2
+same-length-2 c = returns c .grew .since .words
 
 pub measure-row-spec : {M : Type 1} → statement M
 measure-row-spec =

@@ -7,6 +7,10 @@ use Rattle.seek.proofs.taking.take_item.Tie as tie
 use borrow.Author.Needs.{needs}
 use native.Mathlib.Omega.{arith}
 
+-- seen from the reading of the id: the start
+abbrev start : tie.After-id-of → tie.Start
+start i = i .before .before .before .before .before .before
+
 id-of-requires : tie.Need-id-of-requires
 id-of-requires c κs = search needs
 
@@ -14,19 +18,16 @@ cast-id : tie.Need-cast-id
 cast-id c = search needs
 
 mul-if1 : tie.Need-mul-if1
-mul-if1 c =
-    let pre = c .before .before .before .before .before .before .pre in
-    omega (arith, pre .1, pre .0 .room .shape .whole .rows)
+mul-if1 c = omega (arith, start c .pre .1, start c .pre .0 .room .shape .whole .rows)
 
 key-of-requires : tie.Need-key-of-requires
 key-of-requires c κs = search needs
 
 open-node-requires : tie.Need-open-node-requires
 open-node-requires c κs =
-    let pre = c .before .before .before .before .before .before .before .before .before .before .pre in
-    let id-of = c .before .before .before .before .id-of in
-    let key-of = c .key-of in
-    (node-takes _ _ _ _ _ _ _ _ _ _ _ _ (pre .1) (id-of .ensures) (pre .0) _ (key-of .ensures) (omega arith), pre .1)
+    let i = c .before .before .before .before in
+    let pre = start i .pre in
+    (node-takes _ _ _ _ _ _ _ _ _ _ _ _ (pre .1) (i .id-of .ensures) (pre .0) _ (c .key-of .ensures) (omega arith), pre .1)
 
 same-length : tie.Need-same-length
 same-length c = c .before .before .before .before .open-node .ensures .grew .since .bytes
@@ -36,15 +37,15 @@ same-length-2 c = c .before .before .before .before .open-node .ensures .grew .s
 
 returns : tie.Need-returns
 returns c =
-    let pre = c .before .before .before .before .before .before .before .before .before .before .before .before .before .before .before .pre in
-    let id-of = c .before .before .before .before .before .before .before .before .before .id-of in
-    let key-of = c .before .before .before .before .before .key-of in
-    let open-node = c .before .before .before .before .open-node in
-    node-taken _ _ _ _ _ _ _ _ _ _ _ _ (pre .1) (id-of .ensures) (pre .0) _ (key-of .ensures) (omega arith) _ _ _ _ (open-node .ensures)
+    let o = c .before .before .before .before in
+    let i = o .before .before .before .before .before in
+    let pre = start i .pre in
+    node-taken _ _ _ _ _ _ _ _ _ _ _ _ (pre .1) (i .id-of .ensures) (pre .0) _ (o .before .key-of .ensures) (omega arith) _ _ _ _
+    (o .open-node .ensures)
 
 mul-row-at : tie.Need-mul-row-at
 mul-row-at c =
-    let pre = c .before .before .before .before .before .before .before .pre in
+    let pre = start (c .before) .pre in
     omega (arith, pre .1, pre .0 .room .shape .whole .rows)
 
 sub-row-at : tie.Need-sub-row-at
@@ -52,16 +53,15 @@ sub-row-at c = search needs
 
 row-at-requires : tie.Need-row-at-requires
 row-at-requires c κs =
-    let pre = c .before .before .before .before .before .before .before .pre in
-    let id-of = c .before .id-of in
-    place-words _ _ (pre .0 .room .shape) (place-there _ _ _ _ _ _ _ _ _ _ _ _ (pre .1) (id-of .ensures) (pre .0) (omega arith))
+    let i = c .before in
+    let pre = start i .pre in
+    place-words _ _ (pre .0 .room .shape) (place-there _ _ _ _ _ _ _ _ _ _ _ _ (pre .1) (i .id-of .ensures) (pre .0) (omega arith))
 
 measure-row-requires : tie.Need-measure-row-requires
 measure-row-requires c κs =
-    let pre = c .before .before .before .before .before .before .before .before .before .before .pre in
-    let id-of = c .before .before .before .before .id-of in
-    let row-at = c .before .before .row-at in
-    place-row _ _ _ _ _ _ _ _ _ _ _ _ (pre .1) (id-of .ensures) (pre .0) (omega arith) _ (row-at .ensures .0)
+    let i = c .before .before .before .before in
+    let pre = start i .pre in
+    place-row _ _ _ _ _ _ _ _ _ _ _ _ (pre .1) (i .id-of .ensures) (pre .0) (omega arith) _ (c .before .before .row-at .ensures .0)
 
 same-length-3 : tie.Need-same-length-3
 same-length-3 c = c .before .before .before .before .measure-row .ensures .grew .since .bytes
@@ -71,11 +71,11 @@ same-length-4 c = c .before .before .before .before .measure-row .ensures .grew 
 
 returns-2 : tie.Need-returns-2
 returns-2 c =
-    let pre = c .before .before .before .before .before .before .before .before .before .before .before .before .before .before .before .pre in
-    let id-of = c .before .before .before .before .before .before .before .before .before .id-of in
-    let row-at = c .before .before .before .before .before .before .before .row-at in
-    let measure-row = c .before .before .before .before .measure-row in
-    place-taken _ _ _ _ _ _ _ _ _ _ _ _ (pre .1) (id-of .ensures) (pre .0) (omega arith) _ _ _ _ (row-at .ensures .0) (measure-row .ensures)
+    let m = c .before .before .before .before in
+    let i = m .before .before .before .before .before in
+    let pre = start i .pre in
+    place-taken _ _ _ _ _ _ _ _ _ _ _ _ (pre .1) (i .id-of .ensures) (pre .0) (omega arith) _ _ _ _ (m .before .before .before .row-at .ensures .0)
+    (m .measure-row .ensures)
 
 pub take-item-spec : {M : Type 1} → statement M
 take-item-spec =

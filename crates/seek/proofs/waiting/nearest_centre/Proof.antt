@@ -1,10 +1,13 @@
 -- `nearest::waiting::nearest_centre` meets its contract: each round looks at one centre.
 -- Assumes nothing.
-use Prim.Native.Nat.{_-_}
-use Rattle.seek.proofs.Queueing.{LeastTo, least-done, least-start, least-step}
+use Prim.Native.Nat.{_*_, _-_, _<_, _≤_, ℕ}
+use Rattle.limits.specs.Limits.{maxRows}
+use Rattle.seek.proofs.LeastKept.{LeastTo, least-done, least-start, least-step}
 use Rattle.seek.proofs.waiting.nearest_centre.Statement.{statement}
 use Rattle.seek.proofs.waiting.nearest_centre.Tie as tie
+use Rattle.words.specs.Words.{n#}
 use borrow.Author.Needs.{needs}
+use lib.ListN.{length}
 use mathlib.Core.Path.{refl}
 use native.Mathlib.Omega.{arith}
 
@@ -14,32 +17,25 @@ Inv-loop index work n a e f y₀ j₀ y j = LeastTo index work a e j y
 abbrev μ-loop : tie.MeasureT-loop
 μ-loop index work n a e f y₀ j₀ y j = e - j
 
+-- the distance kept for a row stands in the workspace, and its place is a number that the code can hold
+kept-there : (s : tie.Start Inv-loop μ-loop) (r : ℕ) → r < n# (s .args .index .now)
+    → (r < s .args .n) × (s .args .n ≤ maxRows) × (6 * s .args .n ≤ length (s .args .work .now))
+kept-there s r h = (omega (arith, s .pre .1), omega (arith, s .pre .1, s .pre .0 .whole .rows), s .pre .4)
+
 node-first-requires : tie.Need-node-first-requires Inv-loop μ-loop
 node-first-requires c κs = (c .before .before .pre .0, omega (arith, c .before .before .pre .2, c .before .before .pre .3))
 
 mul-y : tie.Need-mul-y Inv-loop μ-loop
-mul-y c =
-    let pre = c .before .before .before .pre in
-    let node-first = c .node-first in
-    omega (arith, node-first .ensures .1, pre .1, pre .4, pre .0 .whole .rows)
+mul-y c = omega (arith, kept-there (c .before .before .before) _ (c .node-first .ensures .1))
 
 add-y : tie.Need-add-y Inv-loop μ-loop
-add-y c =
-    let pre = c .before .before .before .pre in
-    let node-first = c .node-first in
-    omega (arith, node-first .ensures .1, pre .1, pre .4, pre .0 .whole .rows)
+add-y c = omega (arith, kept-there (c .before .before .before) _ (c .node-first .ensures .1))
 
 mul-y-2 : tie.Need-mul-y-2 Inv-loop μ-loop
-mul-y-2 c =
-    let pre = c .before .before .before .pre in
-    let node-first = c .node-first in
-    omega (arith, node-first .ensures .1, pre .1, pre .4, pre .0 .whole .rows)
+mul-y-2 c = omega (arith, kept-there (c .before .before .before) _ (c .node-first .ensures .1))
 
 shared-slice-read-y : tie.Need-shared-slice-read-y Inv-loop μ-loop
-shared-slice-read-y c =
-    let pre = c .before .before .before .before .pre in
-    let node-first = c .before .node-first in
-    omega (arith, node-first .ensures .1, pre .1, pre .4, pre .0 .whole .rows)
+shared-slice-read-y c = omega (arith, kept-there (c .before .before .before .before) _ (c .before .node-first .ensures .1))
 
 add-j : tie.Need-add-j Inv-loop μ-loop
 add-j c = omega (arith, c .before .before .before .before .pre .2)
@@ -56,28 +52,18 @@ node-first-requires-2 c κs =
     (pre .0, omega (arith, pre .3))
 
 mul-smaller : tie.Need-mul-smaller Inv-loop μ-loop
-mul-smaller c =
-    let pre = c .before .before .before .before .before .before .before .pre in
-    let node-first2 = c .node-first2 in
-    omega (arith, node-first2 .ensures .1, pre .1, pre .4, pre .0 .whole .rows)
+mul-smaller c = omega (arith, kept-there (c .before .before .before .before .before .before .before) _ (c .node-first2 .ensures .1))
 
 add-smaller : tie.Need-add-smaller Inv-loop μ-loop
-add-smaller c =
-    let pre = c .before .before .before .before .before .before .before .pre in
-    let node-first2 = c .node-first2 in
-    omega (arith, node-first2 .ensures .1, pre .1, pre .4, pre .0 .whole .rows)
+add-smaller c = omega (arith, kept-there (c .before .before .before .before .before .before .before) _ (c .node-first2 .ensures .1))
 
 mul-smaller-2 : tie.Need-mul-smaller-2 Inv-loop μ-loop
-mul-smaller-2 c =
-    let pre = c .before .before .before .before .before .before .before .pre in
-    let node-first2 = c .node-first2 in
-    omega (arith, node-first2 .ensures .1, pre .1, pre .4, pre .0 .whole .rows)
+mul-smaller-2 c = omega (arith, kept-there (c .before .before .before .before .before .before .before) _ (c .node-first2 .ensures .1))
 
 shared-slice-read-smaller : tie.Need-shared-slice-read-smaller Inv-loop μ-loop
 shared-slice-read-smaller c =
-    let pre = c .before .before .before .before .before .before .before .before .pre in
-    let node-first2 = c .before .node-first2 in
-    omega (arith, node-first2 .ensures .1, pre .1, pre .4, pre .0 .whole .rows)
+    let r = c .before in
+    omega (arith, kept-there (r .before .before .before .before .before .before .before) _ (r .node-first2 .ensures .1))
 
 smaller-requires : tie.Need-smaller-requires Inv-loop μ-loop
 smaller-requires c κs = search needs

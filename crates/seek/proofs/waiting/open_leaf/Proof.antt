@@ -1,6 +1,6 @@
 -- `nearest::waiting::open_leaf` meets its contract: the rows but the first of its run are queued.
 -- Assumes nothing.
-use Rattle.seek.proofs.Queueing.{leaf-more, leaf-room, node-words}
+use Rattle.seek.proofs.Queueing.{kept-there, leaf-more, leaf-room, node-words}
 use Rattle.seek.proofs.waiting.open_leaf.Statement.{statement}
 use Rattle.seek.proofs.waiting.open_leaf.Tie as tie
 use native.Mathlib.Omega.{arith}
@@ -9,28 +9,16 @@ node-first-requires : tie.Need-node-first-requires
 node-first-requires c κs = (c .before .before .pre .0 .shape, c .before .before .pre .1)
 
 mul-x : tie.Need-mul-x
-mul-x c =
-    let pre = c .before .before .before .pre in
-    let node-first = c .node-first in
-    omega (arith, node-first .ensures .1, pre .0 .rows, pre .0 .shape .whole .rows, pre .0 .words)
+mul-x c = omega (arith, kept-there _ _ _ _ _ _ (c .before .before .before .pre .0) (c .node-first .ensures .1))
 
 add-x : tie.Need-add-x
-add-x c =
-    let pre = c .before .before .before .pre in
-    let node-first = c .node-first in
-    omega (arith, node-first .ensures .1, pre .0 .rows, pre .0 .shape .whole .rows, pre .0 .words)
+add-x c = omega (arith, kept-there _ _ _ _ _ _ (c .before .before .before .pre .0) (c .node-first .ensures .1))
 
 mul-x-2 : tie.Need-mul-x-2
-mul-x-2 c =
-    let pre = c .before .before .before .pre in
-    let node-first = c .node-first in
-    omega (arith, node-first .ensures .1, pre .0 .rows, pre .0 .shape .whole .rows, pre .0 .words)
+mul-x-2 c = omega (arith, kept-there _ _ _ _ _ _ (c .before .before .before .pre .0) (c .node-first .ensures .1))
 
 slice-read-x : tie.Need-slice-read-x
-slice-read-x c =
-    let pre = c .before .before .before .before .pre in
-    let node-first = c .before .node-first in
-    omega (arith, node-first .ensures .1, pre .0 .rows, pre .0 .shape .whole .rows, pre .0 .words)
+slice-read-x c = omega (arith, kept-there _ _ _ _ _ _ (c .before .before .before .before .pre .0) (c .before .node-first .ensures .1))
 
 node-start-requires : tie.Need-node-start-requires
 node-start-requires c κs =
@@ -63,7 +51,8 @@ returns c =
     let node-start = c .before .before .before .before .before .node-start in
     let node-count = c .before .before .before .node-count in
     let queue-rows = c .before .before .queue-rows in
-    leaf-more _ _ _ _ _ _ _ _ (pre .0) (pre .1) (node-start .ensures .0) (node-count .ensures .0) (node-first .ensures .0) _ _ _ _ (queue-rows .ensures)
+    leaf-more _ _ _ _ _ _ _ _ (pre .0) (pre .1) (node-start .ensures .0) (node-count .ensures .0) (node-first .ensures .0) _ _ _ _
+    (queue-rows .ensures)
 
 pub open-leaf-spec : {M : Type 1} → statement M
 open-leaf-spec =

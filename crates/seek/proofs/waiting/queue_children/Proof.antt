@@ -1,21 +1,22 @@
 -- `nearest::waiting::queue_children` meets its contract: each round queues one node, under the bound of its kept distance.
 -- Assumes nothing.
-use Prim.Native.Nat.{_-_}
-use Rattle.seek.proofs.Queueing.{NodesTo, node-words, nodes-done, nodes-room, nodes-start, nodes-step}
+use Prim.Native.Nat.{_+_, _-_, ℕ}
+use Rattle.seek.proofs.Queueing.{QueuedTo, kept-there, node-entry, node-words, queued-done, queued-room, queued-start, queued-step}
 use Rattle.seek.proofs.waiting.queue_children.Statement.{statement}
 use Rattle.seek.proofs.waiting.queue_children.Tie as tie
+use Rattle.seek.specs.Frontier.{noded}
 use borrow.Author.Needs.{needs}
 use mathlib.Core.Path.{refl}
 use native.Mathlib.Omega.{arith}
 
 abbrev Inv-loop : tie.InvT-loop
-Inv-loop index work₀ n len a e b y last size₀ j₀ work size j = NodesTo index work₀ work len a e b y last j size
+Inv-loop index work₀ n len a e b y last size₀ j₀ work size j = QueuedTo work₀ work len a e (λ (i : ℕ). noded index work₀ b y (a + i)) last j size
 
 abbrev μ-loop : tie.MeasureT-loop
 μ-loop index work₀ n len a e b y last size₀ j₀ work size j = e - j
 
 loop-holds : tie.Need-loop-holds Inv-loop μ-loop
-loop-holds c = nodes-start _ _ _ _ _ _ _ _ _ (c .before .before .pre .0) (c .before .before .pre .1 .0)
+loop-holds c = queued-start _ _ _ _ _ _ (c .before .before .pre .1 .0) (c .before .before .pre .0 .queue)
 
 node-first-requires : tie.Need-node-first-requires Inv-loop μ-loop
 node-first-requires c κs =
@@ -23,29 +24,18 @@ node-first-requires c κs =
     (pre .0 .shape, omega (arith, pre .1 .1))
 
 mul-x : tie.Need-mul-x Inv-loop μ-loop
-mul-x c =
-    let pre = c .before .before .before .before .before .pre in
-    let node-first = c .node-first in
-    omega (arith, node-first .ensures .1, pre .0 .rows, pre .0 .shape .whole .rows)
+mul-x c = omega (arith, kept-there _ _ _ _ _ _ (c .before .before .before .before .before .pre .0) (c .node-first .ensures .1))
 
 add-x : tie.Need-add-x Inv-loop μ-loop
-add-x c =
-    let pre = c .before .before .before .before .before .pre in
-    let node-first = c .node-first in
-    omega (arith, node-first .ensures .1, pre .0 .rows, pre .0 .shape .whole .rows)
+add-x c = omega (arith, kept-there _ _ _ _ _ _ (c .before .before .before .before .before .pre .0) (c .node-first .ensures .1))
 
 mul-x-2 : tie.Need-mul-x-2 Inv-loop μ-loop
-mul-x-2 c =
-    let pre = c .before .before .before .before .before .pre in
-    let node-first = c .node-first in
-    omega (arith, node-first .ensures .1, pre .0 .rows, pre .0 .shape .whole .rows)
+mul-x-2 c = omega (arith, kept-there _ _ _ _ _ _ (c .before .before .before .before .before .pre .0) (c .node-first .ensures .1))
 
 slice-read-x : tie.Need-slice-read-x Inv-loop μ-loop
 slice-read-x c =
-    let pre = c .before .before .before .before .before .before .pre in
-    let loop = c .before .before .before .loop in
-    let node-first = c .before .node-first in
-    omega (arith, node-first .ensures .1, pre .0 .rows, pre .0 .words, loop .inv .more .outside .same)
+    let l = c .before .before .before in
+    omega (arith, kept-there _ _ _ _ _ _ (l .before .before .before .pre .0) (c .before .node-first .ensures .1), l .loop .inv .more .outside .same)
 
 node-radius-requires : tie.Need-node-radius-requires Inv-loop μ-loop
 node-radius-requires c κs =
@@ -64,7 +54,7 @@ push-due-requires : tie.Need-push-due-requires Inv-loop μ-loop
 push-due-requires c κs =
     let pre = c .before .before .before .before .before .before .before .before .before .pre in
     let loop = c .before .before .before .before .before .before .loop in
-    (loop .inv .more .queue, nodes-room _ _ _ _ _ _ _ _ _ (pre .0) _ _ _ (loop .inv) (omega arith))
+    (loop .inv .more .queue, queued-room _ _ _ _ _ _ _ _ _ (loop .inv) _ _ (pre .0) (omega arith))
 
 add-j : tie.Need-add-j Inv-loop μ-loop
 add-j c = search needs
@@ -80,16 +70,16 @@ loop-again c =
     let node-radius = c .before .before .before .before .before .node-radius in
     let child-bound = c .before .before .before .before .child-bound in
     let push-due = c .before .before .push-due in
-    nodes-step _ _ _ _ _ _ _ _ _ (pre .0) _ _ _ (loop .inv) _ _ _ _ _ _ (omega arith) (node-first .ensures .0) refl (node-radius .ensures) (child-bound .ensures) (push-due .ensures)
+    queued-step _ _ _ _ _ _ _ _ _ (loop .inv) _ _ _ (omega arith)
+    (node-entry _ _ _ _ _ _ _ _ _ _ _ _ _ _ _ _ (pre .0) (loop .inv) (node-first .ensures .0) refl (node-radius .ensures) (child-bound .ensures))
+    (push-due .ensures)
 
 same-length : tie.Need-same-length Inv-loop μ-loop
 same-length c = c .before .loop .inv .more .outside .same
 
 returns : tie.Need-returns Inv-loop μ-loop
 returns c =
-    let pre = c .before .before .before .before .pre in
-    let loop = c .before .loop in
-    nodes-done _ _ _ _ _ _ _ _ _ (pre .0) _ _ _ (loop .inv) (omega arith)
+    queued-done _ _ _ _ _ _ _ _ _ (c .before .loop .inv) (omega arith)
 
 pub queue-children-spec : {M : Type 1} → statement M
 queue-children-spec =

@@ -1,14 +1,15 @@
 -- `nearest::waiting::queue_rows` meets its contract: each round queues one position, under its own bound.
 -- Assumes nothing.
-use Prim.Native.Nat.{_-_}
-use Rattle.seek.proofs.Queueing.{RowsTo, place-words, rows-done, rows-room, rows-start, rows-step}
+use Prim.Native.Nat.{_+_, _-_, suc, ℕ}
+use Rattle.seek.proofs.Queueing.{QueuedTo, place-entry, place-words, queued-done, queued-room, queued-start, queued-step}
 use Rattle.seek.proofs.waiting.queue_rows.Statement.{statement}
 use Rattle.seek.proofs.waiting.queue_rows.Tie as tie
+use Rattle.seek.specs.Frontier.{placed}
 use borrow.Author.Needs.{needs}
 use native.Mathlib.Omega.{arith}
 
 abbrev Inv-loop : tie.InvT-loop
-Inv-loop index work₀ n len s e b x last size₀ p₀ work size p = RowsTo index work₀ work len s e b x last p size
+Inv-loop index work₀ n len s e b x last size₀ p₀ work size p = QueuedTo work₀ work len (s + 1) e (λ (i : ℕ). placed index b x (s + suc i)) last p size
 
 abbrev μ-loop : tie.MeasureT-loop
 μ-loop index work₀ n len s e b x last size₀ p₀ work size p = e - p
@@ -17,7 +18,7 @@ add-p : tie.Need-add-p Inv-loop μ-loop
 add-p c = omega (arith, c .before .before .pre .1 .0)
 
 loop-holds : tie.Need-loop-holds Inv-loop μ-loop
-loop-holds c = rows-start _ _ _ _ _ _ _ _ _ (c .before .before .pre .0) (c .before .before .pre .1 .0)
+loop-holds c = queued-start _ _ _ _ _ _ (omega (arith, c .before .before .pre .1 .0)) (c .before .before .pre .0 .queue)
 
 stored-at-requires : tie.Need-stored-at-requires Inv-loop μ-loop
 stored-at-requires c κs =
@@ -46,7 +47,7 @@ push-due-requires : tie.Need-push-due-requires Inv-loop μ-loop
 push-due-requires c κs =
     let pre = c .before .before .before .before .before .before .before .pre in
     let loop = c .before .before .before .before .loop in
-    (loop .inv .more .queue, rows-room _ _ _ _ _ _ _ _ _ (pre .0) _ _ _ (loop .inv) (omega arith))
+    (loop .inv .more .queue, queued-room _ _ _ _ _ _ _ _ _ (loop .inv) _ _ (pre .0) (omega arith))
 
 add-p-2 : tie.Need-add-p-2 Inv-loop μ-loop
 add-p-2 c = search needs
@@ -61,16 +62,15 @@ loop-again c =
     let stored-at = c .before .before .before .before .before .stored-at in
     let place-bound = c .before .before .before .before .place-bound in
     let push-due = c .before .before .push-due in
-    rows-step _ _ _ _ _ _ _ _ _ (pre .0) _ _ _ (loop .inv) _ _ _ _ (omega arith) (stored-at .ensures) (place-bound .ensures) (push-due .ensures)
+    queued-step _ _ _ _ _ _ _ _ _ (loop .inv) _ _ _ (omega arith)
+    (place-entry _ _ _ _ _ _ _ _ _ _ _ (pre .0) (loop .inv .low) (stored-at .ensures) (place-bound .ensures)) (push-due .ensures)
 
 same-length : tie.Need-same-length Inv-loop μ-loop
 same-length c = c .before .loop .inv .more .outside .same
 
 returns : tie.Need-returns Inv-loop μ-loop
 returns c =
-    let pre = c .before .before .before .before .pre in
-    let loop = c .before .loop in
-    rows-done _ _ _ _ _ _ _ _ _ (pre .0) _ _ _ (loop .inv) (omega arith)
+    queued-done _ _ _ _ _ _ _ _ _ (c .before .loop .inv) (omega arith)
 
 pub queue-rows-spec : {M : Type 1} → statement M
 queue-rows-spec =
