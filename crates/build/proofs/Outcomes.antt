@@ -1,5 +1,5 @@
 -- The call's outcomes: a refusal, and the index. Assumes nothing.
-use Prim.Native.Nat.{_%_, _*_, _+_, _/_, _≤_, ℕ}
+use Prim.Native.Nat.{_%_, _*_, _+_, _≤_, ℕ}
 use Rattle.build.proofs.Refusals.{no-lengths, said-lengths}
 use Rattle.build.proofs.Whole.{encode-long}
 use Rattle.build.specs.Calls.{Builds}
@@ -13,6 +13,7 @@ use Rattle.limits.specs.Said.{fault, lengthFaults, said}
 use Rattle.limits.specs.declared.Chosen.the-variants.{Refused, Taken}
 use Rattle.limits.specs.declared.Chosen.{Chosen}
 use Rattle.limits.specs.declared.Params.{Params}
+use Rattle.measure.specs.Table.{rowsOf}
 use Rattle.tree.proofs.Good.{share-is}
 use Rattle.tree.specs.Build.{build}
 use Rattle.tree.specs.Calls.{saidBuild}
@@ -29,24 +30,30 @@ use mathlib.Core.Path.{_∙_, _≡_, ap, refl, sym}
 use native.Mathlib.Nat.{mul-div-le}
 
 -- ---- what the tests passed say
+-- neither of two tests passes
 or-false : (a b : Bool) → (a || b) ≡ false → (a ≡ false) × (b ≡ false)
 or-false true b e = absurd (true≢false e)
 or-false false b e = (refl, e)
 
+-- m and l are at most their limits
 share-most : (m l : ℕ) → shareOk m l ≡ true → (m ≤ 64) × (l ≤ 1024)
 share-most m l e =
     let t : T (within 2 64 m && within m 1024 l) = holds (shareOk m l) e in
     (leb→le m 64 (and-r (leb 2 m) (leb m 64) (and-l (within 2 64 m) (within m 1024 l) t)), leb→le l 1024 (and-r (leb m l) (leb l 1024) (and-r (within 2 64 m) (within m 1024 l) t)))
 
--- the constructor's answer, taken apart
+-- ---- the constructor's answer, taken apart
+-- it took m and l: they are in range, and the parameters hold them
 pub answer-taken : (r : Chosen) (p : Params) (m l : ℕ) → r ≡ Taken p → told r ≡ chosen m l → (shareOk m l ≡ true) × (p .centres ≡ m) × (p .leaf ≡ l)
 answer-taken r p m l e q = taken-is p m l (ap told (sym e) ∙ q)
 
+-- it refused: they are not
 pub answer-refused : (r : Chosen) (m l : ℕ) → r ≡ Refused → told r ≡ chosen m l → shareOk m l ≡ false
 answer-refused r m l e q = refused-is m l (ap told (sym e) ∙ q)
 
 module _ (T : List ℕ) (c m l : ℕ) (room work : List ℕ) where
-  pub refused-builds : (k number words nodes : ℕ) → k ≡ saidBuild T c m l (length room) (length work) .0 → k ≢ 0 → (number ≡ k) × (words ≡ 0) × (nodes ≡ 0)
+  -- a refusal meets the contract: both rooms are as they were, and the counts are 0
+  pub refused-builds : (k number words nodes : ℕ) → k ≡ saidBuild T c m l (length room) (length work) .0 → k ≢ 0
+      → (number ≡ k) × (words ≡ 0) × (nodes ≡ 0)
       → Builds T c m l room work room work number words nodes
   refused-builds k number words nodes e h r =
       let f : eqb number 0 ≡ false = ne-eqb number 0 (λ q. h (sym (r .0) ∙ q)) in
@@ -63,28 +70,33 @@ module _ (T : List ℕ) (c m l : ℕ) (room work : List ℕ) where
     pub share : shareOk m l ≡ true
     pub centres : m′ ≡ m
     pub leaf : l′ ≡ l
-    pub none : said (lengthFaults (length T) c ++ fault 5 (shortOf (length T / c) (length room) (length work))) .0 ≡ 0
+    pub none : said (lengthFaults (length T) c ++ fault 5 (shortOf (rowsOf T c) (length room) (length work))) .0 ≡ 0
 
   module _ (m′ l′ : ℕ) (passed : Passed m′ l′) where
-    tests : (eqb (length T % c) 0 ≡ true) × (ltb maxRows (length T / c) ≡ false) × (shortOf (length T / c) (length room) (length work) ≡ false)
-    tests = no-lengths (eqb (length T % c) 0) (ltb maxRows (length T / c)) (shortOf (length T / c) (length room) (length work)) (passed .none)
+    -- the lengths' tests
+    tests : (eqb (length T % c) 0 ≡ true) × (ltb maxRows (rowsOf T c) ≡ false) × (shortOf (rowsOf T c) (length room) (length work) ≡ false)
+    tests = no-lengths (eqb (length T % c) 0) (ltb maxRows (rowsOf T c)) (shortOf (rowsOf T c) (length room) (length work)) (passed .none)
 
-    pub rows-most : length T / c ≤ maxRows
-    rows-most = ltb-false maxRows (length T / c) (tests .1)
+    -- few enough rows
+    pub rows-most : rowsOf T c ≤ maxRows
+    rows-most = ltb-false maxRows (rowsOf T c) (tests .1)
 
-    rooms : (10 * (length T / c) + 8 ≤ length room) × (6 * (length T / c) ≤ length work)
+    -- room and workspace are long enough
+    rooms : (10 * (rowsOf T c) + 8 ≤ length room) × (6 * (rowsOf T c) ≤ length work)
     rooms =
-        let o = or-false (ltb (length room) (10 * (length T / c) + 8)) (ltb (length work) (6 * (length T / c))) (tests .2) in
-        (ltb-false (length room) (10 * (length T / c) + 8) (o .0), ltb-false (length work) (6 * (length T / c)) (o .1))
+        let o = or-false (ltb (length room) (10 * (rowsOf T c) + 8)) (ltb (length work) (6 * (rowsOf T c))) (tests .2) in
+        (ltb-false (length room) (10 * (rowsOf T c) + 8) (o .0), ltb-false (length work) (6 * (rowsOf T c)) (o .1))
 
     -- the part of the workspace that is used
-    pub part-long : length (take (6 * (length T / c)) work) ≡ 6 * (length T / c)
-    part-long = length-take-le (6 * (length T / c)) work (rooms .1)
+    pub part-long : length (take (6 * (rowsOf T c)) work) ≡ 6 * (rowsOf T c)
+    part-long = length-take-le (6 * (rowsOf T c)) work (rooms .1)
 
-    pub work-long : 6 * (length T / c) ≤ length work
+    -- so that it can be lent
+    pub work-long : 6 * (rowsOf T c) ≤ length work
     work-long = rooms .1
 
-    built-fit : Fit T c m l (length T / c)
+    -- the numbers are in range
+    built-fit : Fit T c m l (rowsOf T c)
     built-fit =
         let s = share-is m l (passed .share) in
         let t = share-most m l (passed .share) in
@@ -98,19 +110,20 @@ module _ (T : List ℕ) (c m l : ℕ) (room work : List ℕ) where
           leaf = t .1;
         }
 
-    pub built-room : Room T c m′ l′ (length T / c) room (take (6 * (length T / c)) work)
+    -- what filling asks
+    pub built-room : Room T c m′ l′ (rowsOf T c) room (take (6 * (rowsOf T c)) work)
     built-room = rw (passed .centres, passed .leaf) record { fit = built-fit; space = rooms .0; halves = part-long }
 
-    -- the index, and how many words and nodes it has
-    pub built-builds : (room′ part′ work′ : List ℕ) (nodes words : ℕ) → Filled T c m′ l′ (length T / c) room room′ part′ nodes
-        → work′ ≡ part′ ++ drop (6 * (length T / c)) work → words ≡ nodeAt nodes + 2 * (length T / c)
+    -- the index is filled in: the contract is met
+    pub built-builds : (room′ part′ work′ : List ℕ) (nodes words : ℕ) → Filled T c m′ l′ (rowsOf T c) room room′ part′ nodes
+        → work′ ≡ part′ ++ drop (6 * (rowsOf T c)) work → words ≡ nodeAt nodes + 2 * (rowsOf T c)
         → Builds T c m l room work room′ work′ 0 words nodes
     unfolding build encode
     built-builds room′ part′ work′ nodes words filled e w =
-        let got : Filled T c m l (length T / c) room room′ part′ nodes = rw (passed .centres, passed .leaf) at filled in
+        let got : Filled T c m l (rowsOf T c) room room′ part′ nodes = rw (passed .centres, passed .leaf) at filled in
         record {
           said = sym (passed .none) ∙ said-lengths T c m l (length room) (length work) (passed .columns) (passed .share);
-          counted = (w ∙ sym (encode-long T c m l (length T / c) built-fit room nodes (got .count)), got .count);
+          counted = (w ∙ sym (encode-long built-fit (got .count)), got .count);
           index = got .index;
-          cleared = e ∙ ap (λ (x : List ℕ). x ++ drop (6 * (length T / c)) work) (got .cleared);
+          cleared = e ∙ ap (λ (x : List ℕ). x ++ drop (6 * (rowsOf T c)) work) (got .cleared);
         }

@@ -44,7 +44,7 @@ same-length-2 c = search needs
 returns : tie.Need-returns
 returns c =
     let s = c .before .before .before .before .before .before .before .before .before .before .before .before .before .before .before .before .before .before .before .before .before .before .before in
-    filled _ _ _ _ _ (s .pre .fit) _ _ _ _ _ _ (c .before .before .before .before .before .before .before .before .before .before .before .before .before .before .before .before .before .grow .ensures) (s .pre .space) _ (search needs) (c .before .before .before .before .before .before .before .before .before .before .before .put-header .ensures) (c .before .before .before .before .before .before .put-positions .ensures) (search needs) (c .before .before .clear-words .ensures)
+    filled (s .pre .fit) (c .before .before .before .before .before .before .before .before .before .before .before .before .before .before .before .before .before .grow .ensures) (s .pre .space) (search needs) (c .before .before .before .before .before .before .before .before .before .before .before .put-header .ensures) (c .before .before .before .before .before .before .put-positions .ensures) (search needs) (c .before .before .clear-words .ensures)
 
 pub fill-spec : {M : Type 1} → statement M
 fill-spec =

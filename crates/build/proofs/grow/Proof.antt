@@ -6,9 +6,7 @@ use Rattle.build.proofs.grow.Tie as tie
 use borrow.Author.Needs.{needs}
 
 returns : tie.Need-returns
-returns c =
-    let s = c .before .before .before .before in
-    grown-none _ _ _ _ _ (s .pre .fit) _ _ (c .if1 .taken)
+returns c = grown-none (c .if1 .taken)
 
 root-requires : tie.Need-root-requires
 root-requires c κs = (c .before .before .before .before .before .before .pre, search needs)
@@ -25,7 +23,7 @@ same-length-2 c = search needs
 returns-2 : tie.Need-returns-2
 returns-2 c =
     let s = c .before .before .before .before .before .before .before .before .before .before .before .before .before .before .before .before .before .before in
-    grown-levels _ _ _ _ _ (s .pre .fit) _ (search needs) _ _ _ (c .before .before .before .before .levels .ensures (record { origin = s .args .room .now; rooted = c .before .before .before .before .before .before .before .before .before .before .before .root .ensures }))
+    grown-levels (s .pre .fit) (search needs) (c .before .before .before .before .levels .ensures (record { origin = s .args .room .now; rooted = c .before .before .before .before .before .before .before .before .before .before .before .root .ensures }))
 
 pub grow-spec : {M : Type 1} → statement M
 grow-spec =

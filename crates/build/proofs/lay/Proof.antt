@@ -61,15 +61,13 @@ loop-less c = search needs
 loop-again : tie.Need-loop-again Inv-loop μ-loop
 loop-again c =
     let s = c .before .before .before .before .before .before .before in
-    laying-step _ _ _ (s .loop .work) (s .loop .radius) (s .loop .i) (s .loop .inv) _ _ _ (search needs) (search needs) (c .before .before .before .before .before .row-distance .ensures .0) (c .before .before .before .before .greater .ensures) (c .before .before .put-entry .ensures) (search needs)
+    laying-step (s .loop .inv) (search needs) (search needs) (c .before .before .before .before .before .row-distance .ensures .0) (c .before .before .before .before .greater .ensures) (c .before .before .put-entry .ensures) (search needs)
 
 same-length : tie.Need-same-length Inv-loop μ-loop
 same-length c = search needs
 
 returns : tie.Need-returns Inv-loop μ-loop
-returns c =
-    let s = c .before in
-    laying-done _ _ _ (s .loop .work) (s .loop .radius) (s .loop .i) (s .loop .inv) (search needs)
+returns c = laying-done (c .before .loop .inv) (search needs)
 
 pub lay-spec : {M : Type 1} → statement M
 lay-spec =

@@ -22,8 +22,8 @@ loop-holds c = (search needs, search needs, λ g. growing-start _ _ _ _ _ (g .or
 level-requires : tie.Need-level-requires Inv-loop μ-loop
 level-requires c κs =
     let s = c .before .before .before in
-    let p = c .before .before .before .before .before .before .before .pre in
-    growing-level _ _ _ _ _ (p .1 .origin) (s .loop .room) (s .loop .work) (s .loop .lo) (s .loop .hi) (s .loop .depth) (s .loop .inv .2 (p .1)) (p .0)
+    let p = s .before .before .before .before .pre in
+    growing-level (s .loop .inv .2 (p .1)) (p .0)
 
 add-depth : tie.Need-add-depth Inv-loop μ-loop
 add-depth c = search needs
@@ -36,7 +36,7 @@ loop-again c =
     let s = c .before .before .before .before .before .before .before .before in (
       search needs,
       search needs,
-      λ g. growing-step _ _ _ _ _ (g .origin) (s .loop .room) (s .loop .work) (s .loop .lo) (s .loop .hi) (s .loop .depth) (s .loop .inv .2 g) _ _ _ (c .before .before .before .before .before .before .before .before .before .before .before .before .pre .0) (search needs) (c .before .before .before .before .level .ensures),
+      λ g. growing-step (s .loop .inv .2 g) (s .before .before .before .before .pre .0) (search needs) (c .before .before .before .before .level .ensures),
     )
 
 same-length : tie.Need-same-length Inv-loop μ-loop
@@ -46,9 +46,7 @@ same-length-2 : tie.Need-same-length-2 Inv-loop μ-loop
 same-length-2 c = search needs
 
 returns : tie.Need-returns Inv-loop μ-loop
-returns c =
-    let s = c .before in
-    λ g. growing-done _ _ _ _ _ (g .origin) (s .loop .room) (s .loop .work) (s .loop .lo) (s .loop .hi) (s .loop .depth) (s .loop .inv .2 g) (search needs)
+returns c = λ g. growing-done (c .before .loop .inv .2 g) (search needs)
 
 pub levels-spec : {M : Type 1} → statement M
 levels-spec =

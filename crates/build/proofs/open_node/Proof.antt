@@ -44,7 +44,7 @@ slice-write-room c = search needs
 
 split-run-requires : tie.Need-split-run-requires
 split-run-requires c κs =
-    open-ready _ _ _ _ _ _ _ _ _ (c .before .before .before .before .before .before .before .before .before .before .pre) _ _ (c .before .before .before .before .before .node-start .ensures .0) (c .before .before .before .node-count .ensures .0) (search needs)
+    open-ready (c .before .before .before .before .before .before .before .before .before .before .pre) (c .before .before .before .before .before .node-start .ensures .0) (c .before .before .before .node-count .ensures .0) (search needs)
 
 add-result : tie.Need-add-result
 add-result c = search needs
@@ -60,7 +60,7 @@ same-length-3 c = search needs
 
 returns-2 : tie.Need-returns-2
 returns-2 c =
-    open-done _ _ _ _ _ _ _ _ _ (c .before .before .before .before .before .before .before .before .before .before .before .before .before .before .before .pre) _ _ (c .before .before .before .before .before .before .before .before .before .before .node-start .ensures .0) (c .before .before .before .before .before .before .before .before .node-count .ensures .0) (search needs) _ _ (c .before .before .before .before .split-run .ensures)
+    open-done (c .before .before .before .before .before .before .before .before .before .before .before .before .before .before .before .pre) (c .before .before .before .before .before .before .before .before .before .before .node-start .ensures .0) (c .before .before .before .before .before .before .before .before .node-count .ensures .0) (search needs) (c .before .before .before .before .split-run .ensures)
 
 pub open-node-spec : {M : Type 1} → statement M
 open-node-spec =

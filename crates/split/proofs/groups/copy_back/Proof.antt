@@ -1,7 +1,7 @@
 -- `split::groups::copy_back` meets its contract: the words from lo to p are copied (`copied`).
 -- Assumes nothing.
 use Prim.Native.Nat.{_-_, _≤_}
-use Rattle.split.proofs.Parts.{copied, copy-done, copy-start, copy-step}
+use Rattle.split.proofs.Copied.{copied, copy-done, copy-start, copy-step}
 use Rattle.split.proofs.groups.copy_back.Statement.{statement}
 use Rattle.split.proofs.groups.copy_back.Tie as tie
 use borrow.Author.Needs.{needs}

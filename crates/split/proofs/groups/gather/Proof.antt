@@ -22,7 +22,7 @@ part-put-entry-end c = search needs
 put-entry-requires : tie.Need-put-entry-requires
 put-entry-requires c κs =
     let s = c .before .before in
-    let fits = gather-fits (s .args .work .now) (s .args .lo) (s .args .hi) (s .args .centre) (s .args .to) (s .pre) in
+    let fits = gather-fits (s .pre) in
     simp (length-take, length-drop) (omega arith)
 
 add-pick : tie.Need-add-pick
@@ -31,13 +31,13 @@ add-pick c = search needs
 pick-requires : tie.Need-pick-requires
 pick-requires c κs =
     let s = c .before .before .before .before .before .before in
-    gather-picking (s .args .work .now) (s .args .lo) (s .args .hi) (s .args .centre) (s .args .to) (s .pre) _ (c .before .before .before .put-entry .ensures)
+    gather-picking (s .pre) (c .before .before .before .put-entry .ensures)
 
 add-t10 : tie.Need-add-t10
 add-t10 c =
     let s = c .before .before .before .before .before .before .before .before .before .before in
-    let fits = gather-fits (s .args .work .now) (s .args .lo) (s .args .hi) (s .args .centre) (s .args .to) (s .pre) in
-    let got = gather-done (s .args .work .now) (s .args .lo) (s .args .hi) (s .args .centre) (s .args .to) (s .pre) _ (c .before .before .before .before .before .before .before .put-entry .ensures) _ _ _ (c .before .before .before .pick .ensures) in
+    let fits = gather-fits (s .pre) in
+    let got = gather-done (s .pre) (c .before .before .before .before .before .before .before .put-entry .ensures) (c .before .before .before .pick .ensures) in
     search needs
 
 same-length : tie.Need-same-length
@@ -46,7 +46,7 @@ same-length c = search needs
 returns : tie.Need-returns
 returns c =
     let s = c .before .before .before .before .before .before .before .before .before .before in
-    gather-done (s .args .work .now) (s .args .lo) (s .args .hi) (s .args .centre) (s .args .to) (s .pre) _ (c .before .before .before .before .before .before .before .put-entry .ensures) _ _ _ (c .before .before .before .pick .ensures)
+    gather-done (s .pre) (c .before .before .before .before .before .before .before .put-entry .ensures) (c .before .before .before .pick .ensures)
 
 pub gather-spec : {M : Type 1} → statement M
 gather-spec =

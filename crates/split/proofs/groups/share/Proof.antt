@@ -16,7 +16,7 @@ abbrev μ-loop : tie.MeasureT-loop
 loop-holds : tie.Need-loop-holds Inv-loop μ-loop
 loop-holds c =
     let s = c .before .before in
-    (s .pre, sharing-start _ _ _ _ _ _ _ (s .pre))
+    (s .pre, sharing-start (s .pre))
 
 add-first : tie.Need-add-first Inv-loop μ-loop
 add-first c = search needs
@@ -51,7 +51,7 @@ mul-gather-3 c = search needs
 gather-requires : tie.Need-gather-requires Inv-loop μ-loop
 gather-requires c κs =
     let s = c .before .before .before in
-    sharing-asked _ _ _ _ _ _ _ (s .loop .inv .0) (s .loop .room) (s .loop .work) (s .loop .at) (s .loop .t) (s .loop .inv .1) (search needs)
+    sharing-asked (s .loop .inv .0) (s .loop .inv .1) (search needs)
 
 add-node : tie.Need-add-node Inv-loop μ-loop
 add-node c = search needs
@@ -80,7 +80,7 @@ cast-put-node c = search needs
 cast-put-node-2 : tie.Need-cast-put-node-2 Inv-loop μ-loop
 cast-put-node-2 c =
     let s = c .before .before .before .before .before .before .before .before in
-    let small = sharing-small _ _ _ _ _ _ _ (s .loop .inv .0) (s .loop .room) (s .loop .work) (s .loop .at) (s .loop .t) (s .loop .inv .1) (search needs) _ _ _ (c .before .before .before .before .gather .ensures) in
+    let small = sharing-small (s .loop .inv .0) (s .loop .inv .1) (search needs) (c .before .before .before .before .gather .ensures) in
     search needs
 
 put-node-requires : tie.Need-put-node-requires Inv-loop μ-loop
@@ -89,7 +89,7 @@ put-node-requires c κs = search needs
 add-at : tie.Need-add-at Inv-loop μ-loop
 add-at c =
     let s = c .before .before .before .before .before .before .before .before .before .before .before .before in
-    let small = sharing-small _ _ _ _ _ _ _ (s .loop .inv .0) (s .loop .room) (s .loop .work) (s .loop .at) (s .loop .t) (s .loop .inv .1) (search needs) _ _ _ (c .before .before .before .before .before .before .before .before .gather .ensures) in
+    let small = sharing-small (s .loop .inv .0) (s .loop .inv .1) (search needs) (c .before .before .before .before .before .before .before .before .gather .ensures) in
     search needs
 
 add-t : tie.Need-add-t Inv-loop μ-loop
@@ -102,7 +102,7 @@ loop-again : tie.Need-loop-again Inv-loop μ-loop
 loop-again c =
     let s = c .before .before .before .before .before .before .before .before .before .before .before .before in (
       s .loop .inv .0,
-      sharing-step _ _ _ _ _ _ _ (s .loop .inv .0) (s .loop .room) (s .loop .work) (s .loop .at) (s .loop .t) (s .loop .inv .1) (search needs) _ _ _ (c .before .before .before .before .before .before .before .before .gather .ensures) _ (c .before .before .before .put-node .ensures) (search needs) (search needs),
+      sharing-step (s .loop .inv .0) (s .loop .inv .1) (search needs) (c .before .before .before .before .before .before .before .before .gather .ensures) (c .before .before .before .put-node .ensures) (search needs) (search needs),
     )
 
 same-length : tie.Need-same-length Inv-loop μ-loop
@@ -114,7 +114,7 @@ same-length-2 c = search needs
 returns : tie.Need-returns Inv-loop μ-loop
 returns c =
     let s = c .before in
-    sharing-done _ _ _ _ _ _ _ (s .loop .inv .0) (s .loop .room) (s .loop .work) (s .loop .at) (s .loop .t) (s .loop .inv .1) (search needs)
+    sharing-done (s .loop .inv .0) (s .loop .inv .1) (search needs)
 
 pub share-spec : {M : Type 1} → statement M
 share-spec =

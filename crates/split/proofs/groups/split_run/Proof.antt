@@ -29,13 +29,13 @@ part-choose-end c = search needs
 choose-requires : tie.Need-choose-requires
 choose-requires c κs =
     let s = c .before .before .before .before in
-    let r = choose-ready (s .args .table .now) (s .args .c) (s .args .m) (s .args .n) (s .args .room .now) (s .args .work .now) (s .args .s) (s .args .count) (s .args .made) (s .pre) in
+    let r = choose-ready (s .pre) in
     (s .pre .columns, s .pre .share, r .0, r .1)
 
 share-requires : tie.Need-share-requires
 share-requires c κs =
     let s = c .before .before .before .before .before .before .before .before .before in
-    share-ready (s .args .table .now) (s .args .c) (s .args .m) (s .args .n) (s .args .room .now) (s .args .work .now) (s .args .s) (s .args .count) (s .args .made) (s .pre) _ (search needs) (c .before .before .before .before .choose .ensures)
+    share-ready (s .pre) (search needs) (c .before .before .before .before .choose .ensures)
 
 mul-copy-back : tie.Need-mul-copy-back
 mul-copy-back c = search needs
@@ -52,7 +52,7 @@ same-length-2 c = search needs
 returns : tie.Need-returns
 returns c =
     let s = c .before .before .before .before .before .before .before .before .before .before .before .before .before .before .before .before .before .before in
-    split-done (s .args .table .now) (s .args .c) (s .args .m) (s .args .n) (s .args .room .now) (s .args .work .now) (s .args .s) (s .args .count) (s .args .made) (s .pre) _ (search needs) (c .before .before .before .before .before .before .before .before .before .before .before .before .before .choose .ensures) _ _ _ (c .before .before .before .before .before .before .before .before .share .ensures) (c .before .before .copy-back .ensures)
+    split-done (s .pre) (search needs) (c .before .before .before .before .before .before .before .before .before .before .before .before .before .choose .ensures) (c .before .before .before .before .before .before .before .before .share .ensures) (c .before .before .copy-back .ensures)
 
 pub split-run-spec : {M : Type 1} → statement M
 split-run-spec =

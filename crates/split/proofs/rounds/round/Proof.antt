@@ -2,7 +2,8 @@
 -- Assumes nothing.
 
 use Rattle.measure.specs.Table.{between}
-use Rattle.split.proofs.Choosing.{entries-whole, round-done, round-requires}
+use Rattle.split.proofs.Choosing.{round-done, round-requires}
+use Rattle.split.proofs.Entries.{entries-whole}
 use Rattle.split.proofs.rounds.round.Statement.{statement}
 use Rattle.split.proofs.rounds.round.Tie as tie
 use Rattle.split.specs.Entries.{InTable}
@@ -40,7 +41,7 @@ nearer-requires c κs =
     let s = c .before .before .before .before .before .before .before .before .before .before .before .before .before .before in
     let f = c .before .before .before .before .before .before .before .before .before .before .farthest in
     let p = c .before .before .before .put-entry in
-    let r = round-requires (InTable (s .args .table .now) (s .args .c)) (between (s .args .table .now) (s .args .c)) (s .args .part .now) _ (p .last .0) (p .last .0) (f .result) _ (s .pre .2) (s .pre .1) (f .ensures .0) (f .ensures .1) (f .ensures .2) refl (c .before .before .before .before .before .before .before .shift .ensures) (p .ensures) in
+    let r = round-requires (s .args .part .now) (f .result) (s .pre .1) refl (c .before .before .before .before .before .before .before .shift .ensures) (p .ensures) (InTable (s .args .table .now) (s .args .c)) (s .pre .2) (f .ensures .2) (f .ensures .1) in
     (s .pre .0, r .1, r .0)
 
 same-length : tie.Need-same-length
@@ -51,7 +52,7 @@ returns c =
     let s = c .before .before .before .before .before .before .before .before .before .before .before .before .before .before .before .before .before in
     let f = c .before .before .before .before .before .before .before .before .before .before .before .before .before .farthest in
     let p = c .before .before .before .before .before .before .put-entry in
-    round-done (InTable (s .args .table .now) (s .args .c)) (between (s .args .table .now) (s .args .c)) (s .args .part .now) _ (p .last .0) _ (f .result) _ (s .pre .2) (s .pre .1) (f .ensures .0) (f .ensures .1) (f .ensures .2) refl (c .before .before .before .before .before .before .before .before .before .before .shift .ensures) (p .ensures) (c .before .before .nearer .ensures)
+    round-done (s .args .part .now) (f .result) (s .pre .1) refl (c .before .before .before .before .before .before .before .before .before .before .shift .ensures) (p .ensures) (between (s .args .table .now) (s .args .c)) _ (f .ensures .0) (c .before .before .nearer .ensures)
 
 pub round-spec : {M : Type 1} → statement M
 round-spec =
