@@ -98,11 +98,13 @@ module _ {w₀ : List ℕ} {lo hi a to : ℕ} {w : List ℕ} {count radius p : �
   unfolding picked
   taken h e = rw (source h, eq-eqb (getD w₀ (p + 2) 0) a (sym (centre-read h) ∙ e))
 
+  -- and `count` are not all
+  picks-more : p < hi → getD w (p + 2) 0 ≡ a → 3 * count + 3 ≤ length G
+  picks-more h e = omega (arith, ap length (inv .left ∙ taken h e), length-drop (3 * count) G)
+
   -- there is room for it
-  pub picks-fits : p < hi → getD w (p + 2) 0 ≡ a → (3 * count + 3 ≤ length (pickedIn w₀ lo hi a)) × (to + 3 * count + 3 ≤ length w)
-  picks-fits h e =
-      let s : 3 * count + 3 ≤ length G = omega (arith, ap length (inv .left ∙ taken h e), length-drop (3 * count) G) in
-      (s, omega (arith, s, picked-size a (stretch w₀ lo hi), inv .asked .room, inv .long))
+  pub picks-fits : p < hi → getD w (p + 2) 0 ≡ a → to + 3 * count + 3 ≤ length w
+  picks-fits h e = omega (arith, picks-more h e, picked-size a (stretch w₀ lo hi), inv .asked .room, inv .long)
 
   -- it is written
   pub picks-take : (ys : List ℕ) → p < hi → getD w (p + 2) 0 ≡ a
@@ -116,8 +118,8 @@ module _ {w₀ : List ℕ} {lo hi a to : ℕ} {w : List ℕ} {count radius p : �
       let t : (hi - p) % 3 ≡ 0 = inv .thirds in
       let r : to + 3 * size G ≤ length w₀ = inv .asked .room in
       let gs : length G ≡ 3 * size G = picked-size a (stretch w₀ lo hi) in
-      let fits = picks-fits h e in
-      let more : 3 * count + 3 ≤ length G = fits .0 in
+      let fits : q + 3 ≤ length w = picks-fits h e in
+      let more : 3 * count + 3 ≤ length G = picks-more h e in
       let up : 3 * (count + 1) ≡ 3 * count + 3 = omega arith in
       let qup : to + 3 * (count + 1) ≡ q + 3 = omega arith in
       let ri : getD w p 0 ≡ i = picks-read p h in
@@ -128,12 +130,12 @@ module _ {w₀ : List ℕ} {lo hi a to : ℕ} {w : List ℕ} {count radius p : �
       let lf : length front ≡ q =
       length-append (take to w₀) (take (3 * count) G) ∙ omega (arith, length-take-le to w₀ (omega arith), length-take-le (3 * count) G (inv .some)) in
       let put : putMid q (length w - q) w ys ≡ (front ++ i ∷ x ∷ a ∷ []) ++ drop (q + 3) w₀ =
-      put-more front (i ∷ x ∷ a ∷ []) w₀ w ys q 3 lf (omega (arith, fits .1)) (inv .wrote) f′ in
+      put-more front (i ∷ x ∷ a ∷ []) w₀ w ys q 3 lf (omega arith) (inv .wrote) f′ in
       let grown : take (3 * (count + 1)) G ≡ take (3 * count) G ++ i ∷ x ∷ a ∷ [] =
       ap (λ (k : ℕ). take k G) up ∙ take-add (3 * count) 3 G ∙ ap (λ (l : List ℕ). take (3 * count) G ++ take 3 l) rest in
       let long : length (putMid q (length w - q) w ys) ≡ length w₀ =
       ap length put
-      ∙ omega (arith, length-append (front ++ i ∷ x ∷ a ∷ []) (drop (q + 3) w₀), length-append front (i ∷ x ∷ a ∷ []), lf, length-drop (q + 3) w₀, fits .1, inv .long) in
+      ∙ omega (arith, length-append (front ++ i ∷ x ∷ a ∷ []) (drop (q + 3) w₀), length-append front (i ∷ x ∷ a ∷ []), lf, length-drop (q + 3) w₀, inv .long) in
       record {
         asked = inv .asked;
         over = omega arith;
