@@ -2,7 +2,7 @@
 use Prim.Native.Nat.{_*_, _+_, _≤_, suc, zero, ℕ}
 use Rattle.build.proofs.Items.{out-long, placed-long}
 use Rattle.build.proofs.Numbering.{numbered-levels}
-use Rattle.build.proofs.Outcomes.{Passed, built-room}
+use Rattle.build.proofs.Outcomes.{Passed, built-fit}
 use Rattle.build.proofs.Refusals.{none-said, said-lengths}
 use Rattle.build.proofs.Rooting.{root-run}
 use Rattle.build.proofs.Whole.{encode-long}
@@ -135,7 +135,7 @@ module _ (T : List ℕ) (c m l : ℕ) (room work : List ℕ) where
       let t = none-said T c m l (length room) (length work) z in
       let passed : Passed T c m l room work m l =
       record { columns = t .0; share = t .1; centres = refl; leaf = refl; none = said-lengths T c m l (length room) (length work) (t .0) (t .1) ∙ z } in
-      built-room T c m l room work m l passed .fit
+      built-fit passed
 
   -- the index of any table that is not refused
   built-small : saidBuild T c m l (length room) (length work) .0 ≡ 0

@@ -1,14 +1,38 @@
 -- `build::build` meets its contract: each return has its number, and the last one the index.
 -- Assumes nothing.
+use Prim.Native.Nat.{_*_, _≤_}
 use Rattle.build.proofs.Outcomes.{Passed, answer-refused, answer-taken, built-builds, built-room, part-long, refused-builds, rows-most, work-long}
 use Rattle.build.proofs.Refusals.{said-1, said-2, said-lengths}
 use Rattle.build.proofs.build.Statement.{statement}
 use Rattle.build.proofs.build.Tie as tie
 use Rattle.laws.proofs.Tests.{no, yes}
 use Rattle.limits.proofs.Numbers.{some-columns}
+use Rattle.limits.specs.Limits.{columnsOk, maxRows, shareOk}
+use Rattle.measure.specs.Table.{rowsOf}
 use borrow.Author.Needs.{needs}
-use mathlib.Core.Path.{_∙_, refl, sym}
+use mathlib.Core.Bool.{true}
+use mathlib.Core.Path.{_∙_, _≡_, refl, sym}
 use native.Mathlib.Omega.{arith}
+
+-- ---- the tests, one after the other
+abbrev start : tie.After-columns-ok → tie.Start
+start c = c .before .before .before .before
+
+-- the columns are in range
+columns : (c : tie.Else1) → columnsOk (start (c .before) .args .c) ≡ true
+columns c = yes (c .before .columns-ok .ensures) (c .if1 .left)
+
+-- the columns' test and the start, seen from where m and l were taken
+abbrev tested : tie.After-p → tie.Else1
+tested c = c .before .before .before
+
+abbrev begun : tie.After-p → tie.Start
+begun c = start (tested c .before)
+
+-- m and l are in range, and the parameters hold them
+answer : (c : tie.After-p)
+    → (shareOk (begun c .args .m) (begun c .args .l) ≡ true) × (c .p .given .0 .0 .centres ≡ begun c .args .m) × (c .p .given .0 .0 .leaf ≡ begun c .args .l)
+answer c = answer-taken (begun c .args .m) (begun c .args .l) (c .p .given .1) (c .before .before .new .ensures)
 
 columns-ok-requires : tie.Need-columns-ok-requires
 columns-ok-requires c κs = search needs
@@ -18,8 +42,8 @@ refused-requires c κs = search needs
 
 returns : tie.Need-returns
 returns c =
-    let a = c .before .before .before .before .before .before .args in
-    refused-builds (a .table .now) (a .c) (a .m) (a .l) (a .room .now) (a .work .now) 1 _ _ _ (said-1 _ _ _ _ _ _ (no (c .before .before .columns-ok .ensures) (c .before .if1 .taken))) (λ q. omega arith) (c .refused .ensures)
+    let k = c .before .before in
+    refused-builds (said-1 _ _ _ _ _ _ (no (k .columns-ok .ensures) (c .before .if1 .taken))) (λ q. omega arith) (c .refused .ensures)
 
 new-requires : tie.Need-new-requires
 new-requires c κs = search needs
@@ -35,81 +59,91 @@ refused-requires-2 c κs = search needs
 
 returns-2 : tie.Need-returns-2
 returns-2 c =
-    let a = c .before .before .before .before .before .before .before .before .before .args in
-    refused-builds (a .table .now) (a .c) (a .m) (a .l) (a .room .now) (a .work .now) 2 _ _ _
-    (said-2 _ _ _ _ _ _ (yes (c .before .before .before .before .before .columns-ok .ensures) (c .before .before .before .before .if1 .left)) (answer-refused _ (a .m) (a .l) (c .before .enum-told .given .1) (c .before .before .before .new .ensures))) (λ q. omega arith) (c .refused2 .ensures)
+    let t = c .before in
+    let e = t .before .before .before in
+    let a = start (e .before) .args in
+    refused-builds (said-2 _ _ _ _ _ _ (columns e) (answer-refused (a .m) (a .l) (t .enum-told .given .1) (t .before .before .new .ensures))) (λ q. omega arith)
+    (c .refused2 .ensures)
 
 lengths-number-requires : tie.Need-lengths-number-requires
-lengths-number-requires c κs = some-columns _ (yes (c .before .before .before .before .before .columns-ok .ensures) (c .before .before .before .before .if1 .left))
+lengths-number-requires c κs = some-columns _ (columns (c .before .before .before .before))
 
 refused-requires-3 : tie.Need-refused-requires-3
 refused-requires-3 c κs = search needs
 
 returns-3 : tie.Need-returns-3
 returns-3 c =
-    let a = c .before .before .before .before .before .before .before .before .before .before .before .before .args in
-    refused-builds (a .table .now) (a .c) (a .m) (a .l) (a .room .now) (a .work .now) _ _ _ _
-    (c .before .before .lengths-number .ensures
-    ∙ said-lengths (a .table .now) _ _ _ _ _ (yes (c .before .before .before .before .before .before .before .before .columns-ok .ensures) (c .before .before .before .before .before .before .before .if1 .left)) (answer-taken _ _ (a .m) (a .l) (c .before .before .before .before .p .given .1) (c .before .before .before .before .before .before .new .ensures) .0)) (c .before .if2 .taken) (c .refused3 .ensures)
+    let n = c .before .before in
+    let p = n .before .before in
+    let a = begun p .args in
+    refused-builds (n .lengths-number .ensures ∙ said-lengths (a .table .now) _ _ _ _ _ (columns (tested p)) (answer p .0)) (c .before .if2 .taken)
+    (c .refused3 .ensures)
 
--- behind the tests
+-- ---- behind the tests
+abbrev held : tie.Else2 → tie.After-p
+held c = c .before .before .before
+
+abbrev past : tie.After-fill → tie.Else2
+past c = c .before .before .before
+
 passed : (c : tie.Else2)
-    → Passed (c .before .before .before .before .before .before .before .before .before .before .before .args .table .now) (c .before .before .before .before .before .before .before .before .before .before .before .args .c) (c .before .before .before .before .before .before .before .before .before .before .before .args .m) (c .before .before .before .before .before .before .before .before .before .before .before .args .l) (c .before .before .before .before .before .before .before .before .before .before .before .args .room .now) (c .before .before .before .before .before .before .before .before .before .before .before .args .work .now)
-    (c .before .before .before .p .given .0 .0 .centres) (c .before .before .before .p .given .0 .0 .leaf)
+    → Passed (begun (held c) .args .table .now) (begun (held c) .args .c) (begun (held c) .args .m) (begun (held c) .args .l)
+    (begun (held c) .args .room .now) (begun (held c) .args .work .now) (held c .p .given .0 .0 .centres) (held c .p .given .0 .0 .leaf)
 passed c =
-    let a = c .before .before .before .before .before .before .before .before .before .before .before .args in
-    let answer = answer-taken _ (c .before .before .before .p .given .0 .0) (a .m) (a .l) (c .before .before .before .p .given .1) (c .before .before .before .before .before .new .ensures) in
+    let r = answer (held c) in
     record {
-      columns = yes (c .before .before .before .before .before .before .before .columns-ok .ensures) (c .before .before .before .before .before .before .if1 .left);
-      share = answer .0;
-      centres = answer .1;
-      leaf = answer .2;
+      columns = columns (tested (held c));
+      share = r .0;
+      centres = r .1;
+      leaf = r .2;
       none = sym (c .before .lengths-number .ensures) ∙ c .if2 .left;
     }
 
+-- few rows and few nodes
+few : (c : tie.After-fill)
+    → (rowsOf (begun (held (past c)) .args .table .now) (begun (held (past c)) .args .c) ≤ maxRows)
+    × (c .fill .result ≤ 2 * rowsOf (begun (held (past c)) .args .table .now) (begun (held (past c)) .args .c))
+few c = (rows-most (passed (past c)), c .fill .ensures .few)
+
 div-n : tie.Need-div-n
 div-n c =
-    let some = some-columns (c .before .before .before .before .before .before .before .before .before .before .before .args .c) (passed c .columns) in
+    let some = some-columns (begun (held c) .args .c) (columns (tested (held c))) in
     search needs
 
 mul-used : tie.Need-mul-used
 mul-used c =
-    let few = rows-most _ _ _ _ _ _ _ _ (passed c) in
+    let rows = rows-most (passed c) in
     search needs
 
 slice-relend-prefix-fill : tie.Need-slice-relend-prefix-fill
 slice-relend-prefix-fill c =
-    let long = work-long _ _ _ _ _ _ _ _ (passed (c .before)) in
+    let long = work-long (passed (c .before)) in
     search needs
 
 slice-aggregate-fill : tie.Need-slice-aggregate-fill
-slice-aggregate-fill c = sym (part-long _ _ _ _ _ _ _ _ (passed (c .before .before)))
+slice-aggregate-fill c = sym (part-long (passed (c .before .before)))
 
 fill-requires : tie.Need-fill-requires
-fill-requires c κs = built-room _ _ _ _ _ _ _ _ (passed (c .before .before))
+fill-requires c κs = built-room (passed (c .before .before))
 
 mul-t15 : tie.Need-mul-t15
 mul-t15 c =
-    let few = rows-most _ _ _ _ _ _ _ _ (passed (c .before .before .before .before .before .before .before)) in
-    let nodes = c .before .before .before .before .fill .ensures .few in
+    let small = few (c .before .before .before .before) in
     search needs
 
 add-t17 : tie.Need-add-t17
 add-t17 c =
-    let few = rows-most _ _ _ _ _ _ _ _ (passed (c .before .before .before .before .before .before .before)) in
-    let nodes = c .before .before .before .before .fill .ensures .few in
+    let small = few (c .before .before .before .before) in
     search needs
 
 mul-t16 : tie.Need-mul-t16
 mul-t16 c =
-    let few = rows-most _ _ _ _ _ _ _ _ (passed (c .before .before .before .before .before .before .before)) in
-    let nodes = c .before .before .before .before .fill .ensures .few in
+    let small = few (c .before .before .before .before) in
     search needs
 
 add-t22 : tie.Need-add-t22
 add-t22 c =
-    let few = rows-most _ _ _ _ _ _ _ _ (passed (c .before .before .before .before .before .before .before)) in
-    let nodes = c .before .before .before .before .fill .ensures .few in
+    let small = few (c .before .before .before .before) in
     search needs
 
 same-length : tie.Need-same-length
@@ -119,7 +153,9 @@ same-length-2 : tie.Need-same-length-2
 same-length-2 c = search needs
 
 returns-4 : tie.Need-returns-4
-returns-4 c = built-builds _ _ _ _ _ _ _ _ (passed (c .before .before .before .before .before .before .before)) _ _ _ _ _ (c .before .before .before .before .fill .ensures) (search needs) refl
+returns-4 c =
+    let f = c .before .before .before .before in
+    built-builds (passed (past f)) (f .fill .ensures) (search needs) refl
 
 pub build-spec : {M : Type 1} → statement M
 build-spec =

@@ -60,8 +60,10 @@ loop-less c = search needs
 
 loop-again : tie.Need-loop-again Inv-loop μ-loop
 loop-again c =
-    let s = c .before .before .before .before .before .before .before in
-    laying-step (s .loop .inv) (search needs) (search needs) (c .before .before .before .before .before .row-distance .ensures .0) (c .before .before .before .before .greater .ensures) (c .before .before .put-entry .ensures) (search needs)
+    let e = c .before .before in
+    let g = e .before .before in
+    laying-step (g .before .before .before .loop .inv) (search needs) (search needs) (g .before .row-distance .ensures .0) (g .greater .ensures)
+    (e .put-entry .ensures) (search needs)
 
 same-length : tie.Need-same-length Inv-loop μ-loop
 same-length c = search needs

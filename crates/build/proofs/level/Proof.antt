@@ -32,11 +32,9 @@ loop-less c = search needs
 
 loop-again : tie.Need-loop-again Inv-loop μ-loop
 loop-again c =
-    let s = c .before .before .before .before .before .before .before .before in (
-      search needs,
-      search needs,
-      λ g. levelling-step g (s .loop .inv .2 g) (search needs) (search needs) (c .before .before .before .before .open-node .ensures),
-    )
+    let n = c .before .before .before .before in
+    let s = n .before .before .before .before in
+    (search needs, search needs, λ g. levelling-step g (s .loop .inv .2 g) (search needs) (search needs) (n .open-node .ensures))
 
 same-length : tie.Need-same-length Inv-loop μ-loop
 same-length c = search needs

@@ -16,14 +16,17 @@ Inv-loop table c m l n room₀ work₀ lo₀ hi₀ depth₀ room work lo hi dept
 abbrev μ-loop : tie.MeasureT-loop
 μ-loop table c m l n room₀ work₀ lo₀ hi₀ depth₀ room work lo hi depth = maxDepth - depth
 
+-- the start, seen from the loop
+abbrev start : tie.At-loop Inv-loop μ-loop → tie.Start Inv-loop μ-loop
+start c = c .before .before .before .before
+
 loop-holds : tie.Need-loop-holds Inv-loop μ-loop
 loop-holds c = (search needs, search needs, λ g. growing-start _ _ _ _ _ (g .origin) _ _ (g .rooted))
 
 level-requires : tie.Need-level-requires Inv-loop μ-loop
 level-requires c κs =
     let s = c .before .before .before in
-    let p = s .before .before .before .before .pre in
-    growing-level (s .loop .inv .2 (p .1)) (p .0)
+    growing-level (s .loop .inv .2 (start s .pre .1)) (start s .pre .0)
 
 add-depth : tie.Need-add-depth Inv-loop μ-loop
 add-depth c = search needs
@@ -33,11 +36,9 @@ loop-less c = search needs
 
 loop-again : tie.Need-loop-again Inv-loop μ-loop
 loop-again c =
-    let s = c .before .before .before .before .before .before .before .before in (
-      search needs,
-      search needs,
-      λ g. growing-step (s .loop .inv .2 g) (s .before .before .before .before .pre .0) (search needs) (c .before .before .before .before .level .ensures),
-    )
+    let l = c .before .before .before .before in
+    let s = l .before .before .before .before in
+    (search needs, search needs, λ g. growing-step (s .loop .inv .2 g) (start s .pre .0) (search needs) (l .level .ensures))
 
 same-length : tie.Need-same-length Inv-loop μ-loop
 same-length c = search needs
