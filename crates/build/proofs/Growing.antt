@@ -75,7 +75,14 @@ pub record Growing (t : List ℕ) (c m l n : ℕ) (origin room work : List ℕ) 
 pub growing-start : (t : List ℕ) (c m l n : ℕ) (origin room work : List ℕ) → Rooted (between t c) m l n origin room work
     → Growing t c m l n origin room work 0 1 0
 growing-start t c m l n origin room work s =
-    record { before = []; items = rootItem n ∷ []; tiles = range 0 n ∷ []; stage = s; nodes = refl; below = append-nil (leaves (between t c) m l maxDepth (range 0 n)) }
+    record {
+      before = [];
+      items = rootItem n ∷ [];
+      tiles = range 0 n ∷ [];
+      stage = s;
+      nodes = refl;
+      below = append-nil (leaves (between t c) m l maxDepth (range 0 n));
+    }
 
 module _ {t : List ℕ} {c m l n : ℕ} {origin room work : List ℕ} {lo hi depth : ℕ} (inv : Growing t c m l n origin room work lo hi depth) where
   abbrev d : ℕ → ℕ → ℕ

@@ -9,7 +9,7 @@ use Rattle.laws.specs.Lists.{each, joined, keep}
 use Rattle.measure.specs.Table.{between}
 use Rattle.tree.specs.Build.{radius}
 use Rattle.tree.specs.Encode.{Node}
-use Rattle.words.specs.Words.{count#, start#}
+use Rattle.words.specs.Words.{count#, nodeAt, start#}
 use lib.Dec.{leb}
 use lib.ListN.{length, length-append, length-map}
 use mathlib.Core.Bool.{Bool, cond, not, true}
@@ -55,7 +55,8 @@ module _ {t : List ℕ} {c m l n : ℕ} {room₀ work₀ : List ℕ} {lo hi : �
       → fore done ++ x ∷ ns ≡ fore (done ++ q ∷ []) ++ ns
   fore-more done q x ns e =
       sym (append-assoc (fore done) (x ∷ []) ns)
-      ∙ ap (λ (y : List Node). y ++ ns) (append-assoc (g .before) (levelOut (between t c) m l hi done) (x ∷ []) ∙ ap (λ (y : List Node). g .before ++ y) (sym e))
+      ∙ ap (λ (y : List Node). y ++ ns)
+      (append-assoc (g .before) (levelOut (between t c) m l hi done) (x ∷ []) ∙ ap (λ (y : List Node). g .before ++ y) (sym e))
 
   -- ---- the node of item q, which is the next
   module _ {done : List Item} {q : Item} {rest : List Item} {past ahead : List (List ℕ)} {room work : List ℕ} {made k : ℕ}
@@ -67,11 +68,13 @@ module _ {t : List ℕ} {c m l n : ℕ} {room₀ work₀ : List ℕ} {lo hi : �
     pub fore-long : length (fore done) ≡ k
     fore-long = length-append (g .before) (levelOut d m l hi done) ∙ omega (arith, out-long d m l hi done, half .here)
 
+    -- and as many behind it as items wait and as children there are
     rear-long : length (rear done rest) ≡ length rest + length (nextLevel d m l done)
     rear-long =
         length-append (map (leafNode d m l) rest) (map (leafNode d m l) (nextLevel d m l done))
         ∙ ap₂ _+_ (length-map rest (leafNode d m l)) (length-map (nextLevel d m l done) (leafNode d m l))
 
+    -- the level's items: those done, this one, and the rest
     pub items-long : length (g .items) ≡ length done + (1 + length rest)
     items-long = ap length (half .all) ∙ length-append done (q ∷ rest) ∙ omega arith
 
@@ -84,14 +87,16 @@ module _ {t : List ℕ} {c m l n : ℕ} {room₀ work₀ : List ℕ} {lo hi : �
     pub made-few : made + 1 ≤ 2 * n
     made-few = omega (arith, half .few, runs-few (each (opened d m l) past ++ ahead) (half .tiled .runs), half .tiled .full)
 
+    -- there is room for a header
     pub header-fits : 8 ≤ length (g .origin)
     header-fits = omega (arith, g .stage .space)
 
     -- the room is as long as it was
     pub long : length room ≡ length (g .origin)
     long =
-        ap length (half .nodes)
-        ∙ room-long (g .origin) header-fits (fore done ++ rear done (q ∷ rest)) (omega (arith, all-long (leafNode d m l q), made-few, g .stage .space))
+        let ns : List Node = fore done ++ rear done (q ∷ rest) in
+        let fits : nodeAt (length ns) ≤ length (g .origin) = omega (arith, all-long (leafNode d m l q), made-few, g .stage .space) in
+        ap length (half .nodes) ∙ room-long (g .origin) header-fits ns fits
 
     -- its start and count are read
     pub start-is : start# room k ≡ q .0

@@ -41,11 +41,16 @@ out-long d m l next [] = refl
 out-long d m l next (q ∷ qs) = go (leb (length (q .1)) l) (λ k. out-long d m l k qs)
   where
     go : (b : Bool) → ((k : ℕ) → length (levelOut d m l k qs) ≡ length qs)
-        → length (cond b (leafNode d m l q ∷ levelOut d m l next qs) ((q .0, length (q .1), next, radius d (q .1)) ∷ levelOut d m l (next + m) qs)) ≡ suc (length qs)
+        → length (cond b (leafNode d m l q ∷ levelOut d m l next qs) ((q .0, length (q .1), next, radius d (q .1)) ∷ levelOut d m l (next + m) qs))
+        ≡ suc (length qs)
     go true ih = ap suc (ih next)
     go false ih = ap suc (ih (next + m))
 
 module _ (d : ℕ → ℕ → ℕ) (m l : ℕ) (m1 : 1 ≤ m) (ml : m ≤ l) where
+  -- an item's node once it has children, the first of them `next`
+  abbrev inner : ℕ → Item → Node
+  inner next q = (q .0, length (q .1), next, radius d (q .1))
+
   -- of two stretches of items, the second numbers its children after the first's
   pub out-append : (next : ℕ) (ps qs : List Item)
       → levelOut d m l next (ps ++ qs) ≡ levelOut d m l next ps ++ levelOut d m l (next + length (nextLevel d m l ps)) qs
@@ -54,27 +59,26 @@ module _ (d : ℕ → ℕ → ℕ) (m l : ℕ) (m1 : 1 ≤ m) (ml : m ≤ l) whe
   out-append next (p ∷ ps) qs = go (leb (length (p .1)) l) (λ k. out-append k ps qs)
     where
       go : (b : Bool) → ((k : ℕ) → levelOut d m l k (ps ++ qs) ≡ levelOut d m l k ps ++ levelOut d m l (k + length (nextLevel d m l ps)) qs)
-          → cond b (leafNode d m l p ∷ levelOut d m l next (ps ++ qs)) ((p .0, length (p .1), next, radius d (p .1)) ∷ levelOut d m l (next + m) (ps ++ qs))
-          ≡ cond b (leafNode d m l p ∷ levelOut d m l next ps) ((p .0, length (p .1), next, radius d (p .1)) ∷ levelOut d m l (next + m) ps)
+          → cond b (leafNode d m l p ∷ levelOut d m l next (ps ++ qs)) (inner next p ∷ levelOut d m l (next + m) (ps ++ qs))
+          ≡ cond b (leafNode d m l p ∷ levelOut d m l next ps) (inner next p ∷ levelOut d m l (next + m) ps)
           ++ levelOut d m l (next + length (cond b [] (placed (p .0) (split d m (p .1))) ++ nextLevel d m l ps)) qs
       go true ih = ap (λ (ns : List Node). leafNode d m l p ∷ ns) (ih next)
       go false ih =
           let kids : List Item = placed (p .0) (split d m (p .1)) in
           let k : next + m + length (nextLevel d m l ps) ≡ next + length (kids ++ nextLevel d m l ps) =
           omega (arith, length-append kids (nextLevel d m l ps), placed-long (p .0) (split d m (p .1)), split-length d m l m1 ml (p .1)) in
-          ap (λ (ns : List Node). (p .0, length (p .1), next, radius d (p .1)) ∷ ns)
+          ap (λ (ns : List Node). inner next p ∷ ns)
           (ih (next + m) ∙ ap (λ (j : ℕ). levelOut d m l (next + m) ps ++ levelOut d m l j qs) k)
 
   module _ (next : ℕ) (done : List Item) (q : Item) where
     -- the last item's node is a leaf's or an inner node's
     out-last : (b : Bool) → leb (length (q .1)) l ≡ b
         → levelOut d m l next (done ++ q ∷ [])
-        ≡ levelOut d m l next done ++ cond b (leafNode d m l q ∷ []) ((q .0, length (q .1), next + length (nextLevel d m l done), radius d (q .1)) ∷ [])
+        ≡ levelOut d m l next done ++ cond b (leafNode d m l q ∷ []) (inner (next + length (nextLevel d m l done)) q ∷ [])
     unfolding levelOut
     out-last b e =
         let k : ℕ = next + length (nextLevel d m l done) in
-        out-append next done (q ∷ [])
-        ∙ ap (λ (b : Bool). levelOut d m l next done ++ cond b (leafNode d m l q ∷ []) ((q .0, length (q .1), k, radius d (q .1)) ∷ [])) e
+        out-append next done (q ∷ []) ∙ ap (λ (b : Bool). levelOut d m l next done ++ cond b (leafNode d m l q ∷ []) (inner k q ∷ [])) e
 
     -- an item of at most l rows is a leaf
     pub out-small : leb (length (q .1)) l ≡ true → levelOut d m l next (done ++ q ∷ []) ≡ levelOut d m l next done ++ leafNode d m l q ∷ []

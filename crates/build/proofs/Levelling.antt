@@ -1,6 +1,6 @@
 -- One level, node after node, from its first to behind its last. Assumes nothing.
 use Prim.Native.Nat.{_*_, _+_, _<_, _≤_, ℕ}
-use Rattle.build.proofs.Halfway.{Half, Levelling, one}
+use Rattle.build.proofs.Halfway.{Half, Levelling, fore, one}
 use Rattle.build.proofs.Items.{out-long}
 use Rattle.build.proofs.Opening.{half-open, half-step}
 use Rattle.build.proofs.Waiting.{next-waits, none-waiting, small-opened}
@@ -40,7 +40,8 @@ module _ {t : List ℕ} {c m l n : ℕ} {room₀ work₀ : List ℕ} {lo hi : �
               runs = refl;
               nodes =
                   g .stage .nodes
-                  ∙ ap₂ (λ (x y : List Node). withNodes (g .origin) (x ++ y)) (sym (append-nil (g .before))) (sym (append-nil (map (leafNode d m l) (g .items))));
+                  ∙ ap₂ (λ (x y : List Node). withNodes (g .origin) (x ++ y)) (sym (append-nil (g .before)))
+                  (sym (append-nil (map (leafNode d m l) (g .items))));
               count = sym y;
               here = g .stage .first ∙ sym z;
               tiled = g .stage .tiled;
@@ -75,7 +76,8 @@ module _ {t : List ℕ} {c m l n : ℕ} {room₀ work₀ : List ℕ} {lo hi : �
     levelling-done h = go (inv .todo) (inv .half)
       where
         go : (todo : List Item) → Half g (inv .done) todo (inv .past) (inv .ahead) room work made k
-            → Stage d m l n (g .origin) (g .before ++ levelOut d m l hi (g .items)) (nextLevel d m l (g .items)) (each (opened d m l) (g .tiles)) room work hi made
+            → Stage d m l n (g .origin) (g .before ++ levelOut d m l hi (g .items)) (nextLevel d m l (g .items))
+            (each (opened d m l) (g .tiles)) room work hi made
         go (q ∷ rest) f = absurd (omega (arith, f .here, ap length (f .all), length-append (inv .done) (q ∷ rest), g .stage .last))
         go [] f =
             let e : g .items ≡ inv .done = f .all ∙ append-nil (inv .done) in
@@ -83,15 +85,14 @@ module _ {t : List ℕ} {c m l n : ℕ} {room₀ work₀ : List ℕ} {lo hi : �
             let ts : each (opened d m l) (inv .past) ++ inv .ahead ≡ each (opened d m l) (g .tiles) =
             sym (ap (each (opened d m l)) (f .runs) ∙ each-append (opened d m l) (inv .past) (inv .ahead)
             ∙ ap (λ (x : List (List ℕ)). each (opened d m l) (inv .past) ++ x) (small-opened d m l (inv .ahead) small)) in
-            let out = out-long d m l hi (g .items) in
+            let out : length (fore g (g .items)) ≡ length (g .before) + length (g .items) =
+            length-append (g .before) (levelOut d m l hi (g .items)) ∙ ap (λ (k : ℕ). length (g .before) + k) (out-long d m l hi (g .items)) in
             record {
               nodes =
-                  f .nodes
-                  ∙ ap (λ (x : List Item). withNodes (g .origin) ((g .before ++ levelOut d m l hi x) ++ map (leafNode d m l) (nextLevel d m l x))) (sym e);
+                  f .nodes ∙ ap (λ (x : List Item). withNodes (g .origin) (fore g x ++ map (leafNode d m l) (nextLevel d m l x))) (sym e);
               space = g .stage .space;
-              first = omega (arith, length-append (g .before) (levelOut d m l hi (g .items)), g .stage .last);
-              last =
-                  omega (arith, length-append (g .before) (levelOut d m l hi (g .items)), f .count, ap (λ (x : List Item). length (nextLevel d m l x)) e, g .stage .last);
+              first = omega (arith, out, g .stage .last);
+              last = omega (arith, out, f .count, ap (λ (x : List Item). length (nextLevel d m l x)) e, g .stage .last);
               few = subst (λ (x : List (List ℕ)). made + 1 ≤ 2 * length x) ts (f .few);
               tiled = subst (Tiled d n work) ts (f .tiled);
               wait = next-waits d m l (one g) (g .fit .leafy) (g .items) (g .tiles) (g .stage .tiled .runs) (g .stage .wait);

@@ -65,7 +65,8 @@ module _ (d : ℕ → ℕ → ℕ) (m l : ℕ) (m1 : 1 ≤ m) (ml : m ≤ l) whe
           ((s, length r, next, radius d r) ∷ levelOut d m l (next + m) (placed (s + length r) rs))
       go true e ih = rw length-map (ap (λ (ns : List Node). (s, length r, 0, radius d r) ∷ ns) (ih next (s + length r)))
       go false e ih =
-          rw (inner-long deep r (h .0) e, inner-span deep r) (ap (λ (ns : List Node). (s, length r, next, radius d r) ∷ ns) (ih (next + m) (s + length r)))
+          rw (inner-long deep r (h .0) e, inner-span deep r)
+          (ap (λ (ns : List Node). (s, length r, next, radius d r) ∷ ns) (ih (next + m) (s + length r)))
 
   -- ---- the children's families
   -- a family's nodes
@@ -125,7 +126,13 @@ module _ (d : ℕ → ℕ → ℕ) (m l : ℕ) (m1 : 1 ≤ m) (ml : m ≤ l) whe
   members-items : (deep : ℕ) (fs : List (Family)) → members (map (famOf deep) fs) ≡ length (items fs)
   members-items deep [] = refl
   members-items deep (f ∷ fs) =
-      omega (arith, forest-span d m l m1 ml deep (f .1), placed-long (f .0) (f .1), members-items deep fs, length-append (placed (f .0) (f .1)) (items fs))
+      omega (
+        arith,
+        forest-span d m l m1 ml deep (f .1),
+        placed-long (f .0) (f .1),
+        members-items deep fs,
+        length-append (placed (f .0) (f .1)) (items fs),
+      )
 
   -- one level, while another is below it
   level-out : (deep next : ℕ) (fs : List (Family)) → Good fs → levelNodes next (map (famOf (suc deep)) fs) ≡ levelOut d m l next (items fs)
@@ -135,7 +142,8 @@ module _ (d : ℕ → ℕ → ℕ) (m l : ℕ) (m1 : 1 ≤ m) (ml : m ≤ l) whe
       let k : members (broods (f .0) (forest (suc deep) (f .1))) ≡ length (nextLevel d m l (placed (f .0) (f .1))) =
       ap members (broods-more deep (f .0) (f .1) (h .0)) ∙ members-items deep (broodsOf (f .0) (f .1)) ∙ ap length (broods-items (f .0) (f .1)) in
       ap₂ (λ (ns : List Node) (j : ℕ). ns ++ levelNodes (next + j) (map (famOf (suc deep)) fs)) (family-more deep next (f .0) (f .1) (h .0)) k
-      ∙ ap (λ (ns : List Node). levelOut d m l next (placed (f .0) (f .1)) ++ ns) (level-out deep (next + length (nextLevel d m l (placed (f .0) (f .1)))) fs (h .1))
+      ∙ ap (λ (ns : List Node). levelOut d m l next (placed (f .0) (f .1)) ++ ns)
+      (level-out deep (next + length (nextLevel d m l (placed (f .0) (f .1)))) fs (h .1))
       ∙ sym (out-append d m l m1 ml next (placed (f .0) (f .1)) (items fs))
 
   -- the last level
@@ -173,7 +181,8 @@ module _ (d : ℕ → ℕ → ℕ) (m l : ℕ) (m1 : 1 ≤ m) (ml : m ≤ l) whe
   unfolding Good lower
   lower-good [] h = tt
   lower-good (f ∷ fs) h =
-      every-append (λ g. Every Run (g .1)) (broodsOf (f .0) (f .1)) (each (λ f. broodsOf (f .0) (f .1)) fs) (broods-good (f .0) (f .1) (h .0)) (lower-good fs (h .1))
+      every-append (λ g. Every Run (g .1)) (broodsOf (f .0) (f .1)) (each (λ f. broodsOf (f .0) (f .1)) fs)
+      (broods-good (f .0) (f .1) (h .0)) (lower-good fs (h .1))
 
   -- ---- all levels
   -- from a level on, `deep` levels down

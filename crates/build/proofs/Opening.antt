@@ -16,11 +16,11 @@ use Rattle.split.proofs.Laid.{split-joined}
 use Rattle.split.specs.Runs.{Splittable, Splitted}
 use Rattle.tree.proofs.Grow.{split-length}
 use Rattle.tree.specs.Build.{radius, split}
-use Rattle.tree.specs.Encode.{Node, nodeWords}
+use Rattle.tree.specs.Encode.{Node}
 use Rattle.words.specs.Words.{count#, nodeAt, start#}
 use borrow.Author.Tests.{leb-false, leb-true, lt-leb}
 use lib.Dec.{leb}
-use lib.ListN.{drop, length, length-append, length-map, set, take}
+use lib.ListN.{length, length-append, length-map, set}
 use mathlib.Core.Bool.{Bool, cond, false, not, true}
 use mathlib.Core.List.{List, [], _++_, _∷_, append-assoc, append-nil, map}
 use mathlib.Core.Path.{_∙_, _≡_, ap, ap₂, refl, subst, sym}
@@ -34,6 +34,7 @@ module _ {t : List ℕ} {c m l n : ℕ} {room₀ work₀ : List ℕ} {lo hi : �
 
   -- ---- it has more than l rows
   module _ (large : leb (length (q .1)) l ≡ false) where
+    -- as a fact of numbers
     large-is : l < length (q .1)
     large-is = leb-false (length (q .1)) l large
 
@@ -52,14 +53,17 @@ module _ {t : List ℕ} {c m l n : ℕ} {room₀ work₀ : List ℕ} {lo hi : �
     front : List (List ℕ)
     front = gone ++ next .front
 
+    -- the tiles, cut before its run and behind it
     tiles-cut : gone ++ ahead ≡ front ++ q .1 ∷ next .back
     unfolding front
     tiles-cut = ap (λ (x : List (List ℕ)). gone ++ x) (next .cut) ∙ sym (append-assoc gone (next .front) (q .1 ∷ next .back))
 
+    -- so cut they tile the workspace
     tiled-cut : Tiled d n work (front ++ q .1 ∷ next .back)
     unfolding gone
     tiled-cut = subst (Tiled d n work) tiles-cut (half .tiled)
 
+    -- and there are few nodes to them
     few-cut : made + 1 ≤ 2 * length (front ++ q .1 ∷ next .back)
     unfolding gone
     few-cut = subst (λ (x : List (List ℕ)). made + 1 ≤ 2 * length x) tiles-cut (half .few)
@@ -78,9 +82,11 @@ module _ {t : List ℕ} {c m l n : ℕ} {room₀ work₀ : List ℕ} {lo hi : �
     -- ---- its run is split
     module _ {room′ work′ : List ℕ} (same : length work′ ≡ length work)
         (got : Splitted t c m n (set room (nodeAt k + 2) made) work (start# room k) (count# room k) made room′ work′) where
+      -- its children's runs
       kids : List (List ℕ)
       kids = split d m (q .1)
 
+      -- m of them
       kids-many : length kids ≡ m
       unfolding kids
       kids-many = split-length d m l (one g) (g .fit .leafy) (q .1)
@@ -89,12 +95,14 @@ module _ {t : List ℕ} {c m l n : ℕ} {room₀ work₀ : List ℕ} {lo hi : �
       past′ : List (List ℕ)
       past′ = past ++ (next .front ++ q .1 ∷ [])
 
+      -- and those that did not
       past-cut : g .tiles ≡ past′ ++ next .back
       unfolding past′
       past-cut =
           half .runs ∙ ap (λ (x : List (List ℕ)). past ++ x) (next .cut ∙ sym (append-assoc (next .front) (q .1 ∷ []) (next .back)))
           ∙ sym (append-assoc past (next .front ++ q .1 ∷ []) (next .back))
 
+      -- they gave way to its children's runs, behind the tiles that were there
       opened-is : each (opened d m l) past′ ≡ front ++ kids
       unfolding past′ front gone kids
       opened-is =
@@ -104,13 +112,16 @@ module _ {t : List ℕ} {c m l n : ℕ} {room₀ work₀ : List ℕ} {lo hi : �
           (append-nil (opened d m l (q .1)) ∙ ap (λ (b : Bool). cond b (q .1 ∷ []) (split d m (q .1))) large))
           ∙ sym (append-assoc gone (next .front) kids)
 
+      -- the tiles then
       tiles-is : each (opened d m l) past′ ++ next .back ≡ front ++ (kids ++ next .back)
       tiles-is = ap (λ (x : List (List ℕ)). x ++ next .back) opened-is ∙ append-assoc front kids (next .back)
 
+      -- they tile the workspace
       tiled′ : Tiled d n work′ (front ++ (kids ++ next .back))
       unfolding kids
       tiled′ = tiles-after (g .fit) front (q .1) (next .back) tiled-cut large-is start-at (count-is g half) got same
 
+      -- there are m - 1 more
       tiles-long : length (front ++ (kids ++ next .back)) ≡ length front + m + length (next .back)
       tiles-long = length-append front (kids ++ next .back) ∙ omega (arith, length-append kids (next .back), kids-many)
 
@@ -122,50 +133,61 @@ module _ {t : List ℕ} {c m l n : ℕ} {room₀ work₀ : List ℕ} {lo hi : �
           let rows : length (joined kids) ≡ length (q .1) = split-joined d m (q .1) (one g) (omega (arith, g .fit .leafy, large-is)) run in
           sym (ap (λ (x : List (List ℕ)). length (joined x)) opened-is ∙ joined-append front kids ∙ ap₂ _+_ (joined-append gone (next .front)) rows)
 
-      -- ---- its words in the room: its first child's number
+      -- ---- its node has its first child's number
       node : Node
       node = (q .0, length (q .1), made, radius d (q .1))
 
-      set-is : set room (nodeAt k + 2) made ≡ withNodes (g .origin) (fore g done ++ node ∷ rear g done rest)
+      -- the nodes then
+      abbrev nodes : List Node
+      nodes = fore g done ++ node ∷ rear g done rest
+
+      -- that number is written
+      set-is : set room (nodeAt k + 2) made ≡ withNodes (g .origin) nodes
       unfolding node
       set-is =
           ap₂ (λ (x : List ℕ) (j : ℕ). set x (nodeAt j + 2) made) (half .nodes) (sym (fore-long g half))
           ∙ child-set (g .origin) (header-fits g half) (fore g done) (q .0) (length (q .1)) 0 (radius d (q .1)) (rear g done rest) made
 
-      -- its children's nodes
-      abbrev new : List Node
-      new = map (leafNode d m l) (placed (q .0) (split d m (q .1)))
+      -- ---- its children's items and nodes
+      abbrev items : List Item
+      items = placed (q .0) (split d m (q .1))
 
-      new-long : length new ≡ m
+      items-many : length items ≡ m
       unfolding kids
-      new-long = length-map (placed (q .0) (split d m (q .1))) (leafNode d m l) ∙ placed-long (q .0) (split d m (q .1)) ∙ kids-many
+      items-many = placed-long (q .0) (split d m (q .1)) ∙ kids-many
 
-      room-is : room′ ≡ withNodes (g .origin) ((fore g done ++ node ∷ rear g done rest) ++ new)
+      abbrev new : List Node
+      new = map (leafNode d m l) items
+
+      -- the nodes are written behind the last
+      room-is : room′ ≡ withNodes (g .origin) (nodes ++ new)
       room-is =
-          let ns : List Node = fore g done ++ node ∷ rear g done rest in
-          nodes-added (g .origin) (header-fits g half) ns new room′ m new-long
-          (nodes-after (g .fit) front (q .1) (next .back) tiled-cut large-is start-at (count-is g half) got
-          ∙ ap₂ (λ (x : List ℕ) (j : ℕ). take (nodeAt j) x ++ (each nodeWords (map (leafNode d m l) (placed (start# room k) (split d m (q .1)))) ++ drop (nodeAt (j + m)) x))
-          set-is (sym (all-long g half node))
-          ∙ ap (λ (j : ℕ). take (nodeAt (length ns)) (withNodes (g .origin) ns)
-          ++ (each nodeWords (map (leafNode d m l) (placed j (split d m (q .1)))) ++ drop (nodeAt (length ns + m)) (withNodes (g .origin) ns))) (start-is g half))
+          nodes-added (g .origin) (header-fits g half) nodes new made m (all-long g half node) (length-map items (leafNode d m l) ∙ items-many) set-is
+          (nodes-after (g .fit) front (q .1) (next .back) tiled-cut large-is start-at (count-is g half) got (start-is g half))
 
-      next-is : nextLevel d m l (done ++ q ∷ []) ≡ nextLevel d m l done ++ placed (q .0) (split d m (q .1))
+      -- its children's items stand last on the level below
+      next-is : nextLevel d m l (done ++ q ∷ []) ≡ nextLevel d m l done ++ items
       next-is = next-large d m l done q large
 
+      next-many : length (nextLevel d m l (done ++ q ∷ [])) ≡ length (nextLevel d m l done) + m
+      next-many = ap length next-is ∙ length-append (nextLevel d m l done) items ∙ ap (λ (j : ℕ). length (nextLevel d m l done) + j) items-many
+
+      -- and its node last among those that are opened
       out-is : levelOut d m l hi (done ++ q ∷ []) ≡ levelOut d m l hi done ++ node ∷ []
       unfolding node
       out-is =
           out-large d m l (one g) (g .fit .leafy) hi done q large
           ∙ ap (λ (j : ℕ). levelOut d m l hi done ++ (q .0, length (q .1), j, radius d (q .1)) ∷ []) (sym (half .count))
 
-      nodes-are : (fore g done ++ node ∷ rear g done rest) ++ new ≡ fore g (done ++ q ∷ []) ++ rear g (done ++ q ∷ []) rest
+      -- so that the nodes are those of the level with one item more opened
+      nodes-are : nodes ++ new ≡ fore g (done ++ q ∷ []) ++ rear g (done ++ q ∷ []) rest
       nodes-are =
           let R : List Node = map (leafNode d m l) rest in
           let M : List Node = map (leafNode d m l) (nextLevel d m l done) in
+          let more : M ++ new ≡ map (leafNode d m l) (nextLevel d m l (done ++ q ∷ [])) =
+          sym (map-append (leafNode d m l) (nextLevel d m l done) items) ∙ ap (map (leafNode d m l)) (sym next-is) in
           append-assoc (fore g done) (node ∷ rear g done rest) new ∙ fore-more g done q node (rear g done rest ++ new) out-is
-          ∙ ap (λ (x : List Node). fore g (done ++ q ∷ []) ++ x) (append-assoc R M new
-          ∙ ap (λ (x : List Node). R ++ x) (sym (map-append (leafNode d m l) (nextLevel d m l done) (placed (q .0) (split d m (q .1)))) ∙ ap (map (leafNode d m l)) (sym next-is)))
+          ∙ ap (λ (x : List Node). fore g (done ++ q ∷ []) ++ x) (append-assoc R M new ∙ ap (λ (x : List Node). R ++ x) more)
 
       -- it is opened
       half-large : {r : ℕ} → r ≡ made + m → Half g (done ++ q ∷ []) rest past′ (next .back) room′ work′ r (k + 1)
@@ -174,8 +196,7 @@ module _ {t : List ℕ} {c m l n : ℕ} {room₀ work₀ : List ℕ} {lo hi : �
             all = half .all ∙ sym (append-assoc done (q ∷ []) rest);
             runs = past-cut;
             nodes = room-is ∙ ap (withNodes (g .origin)) nodes-are;
-            count =
-                e ∙ omega (arith, half .count, ap length next-is, length-append (nextLevel d m l done) (placed (q .0) (split d m (q .1))), length-map (placed (q .0) (split d m (q .1))) (leafNode d m l), new-long);
+            count = omega (arith, e, half .count, next-many);
             here = omega (arith, half .here, length-append done (q ∷ []));
             tiled = subst (Tiled d n work′) (sym tiles-is) tiled′;
             wait = next .later ∙ ap (λ (j : ℕ). keep (waits l) (placed j (next .back))) next-at;

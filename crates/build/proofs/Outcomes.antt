@@ -55,8 +55,9 @@ answer-refused m l e q = refused-is m l (ap told (sym e) ∙ q)
 
 -- ---- a refusal
 -- both rooms are as they were, and the counts are 0: the contract is met
-pub refused-builds : {T : List ℕ} {c m l : ℕ} {room work : List ℕ} {k number words nodes : ℕ} → k ≡ saidBuild T c m l (length room) (length work) .0 → k ≢ 0
-    → (number ≡ k) × (words ≡ 0) × (nodes ≡ 0) → Builds T c m l room work room work number words nodes
+pub refused-builds : {T : List ℕ} {c m l : ℕ} {room work : List ℕ} {k number words nodes : ℕ}
+    → k ≡ saidBuild T c m l (length room) (length work) .0 → k ≢ 0 → (number ≡ k) × (words ≡ 0) × (nodes ≡ 0)
+    → Builds T c m l room work room work number words nodes
 refused-builds {number = number} e h r =
     let f : eqb number 0 ≡ false = ne-eqb number 0 (λ q. h (sym (r .0) ∙ q)) in
     record {

@@ -41,6 +41,7 @@ module _ {n : ℕ} {w part₀ part : List ℕ} {p : ℕ} (inv : Pairing n w part
       let grown : T ++ a ∷ b ∷ [] ≡ take (2 * (p + 1)) G =
       sym (ap (λ (k : ℕ). take k G) up ∙ take-add (2 * p) 2 G ∙ ap (λ (l : List ℕ). T ++ take 2 l) rest) in
       let long : length T ≡ 2 * p = length-take-le (2 * p) G size in
+      let longer : length (T ++ a ∷ []) ≡ 2 * p + 1 = length-append T (a ∷ []) ∙ ap (λ (j : ℕ). j + 1) long in
       let first : set part (2 * p) a ≡ (T ++ a ∷ []) ++ drop (2 * p + 1) part₀ = store-more T part₀ part (2 * p) a long (omega arith) (inv .wrote) in
       let two : 2 * p + 1 + 1 ≡ 2 * (p + 1) = omega arith in
       record {
@@ -50,7 +51,7 @@ module _ {n : ℕ} {w part₀ part : List ℕ} {p : ℕ} (inv : Pairing n w part
         left =
             ap (λ (k : ℕ). drop k G) up ∙ sym (drop-drop 2 (2 * p) G) ∙ ap (drop 2) rest ∙ ap (λ (k : ℕ). pairsIn (stretch w k (3 * n))) (sym next);
         wrote =
-            store-more (T ++ a ∷ []) part₀ (set part (2 * p) a) (2 * p + 1) b (length-append T (a ∷ []) ∙ ap (λ (j : ℕ). j + 1) long) (omega arith) first
+            store-more (T ++ a ∷ []) part₀ (set part (2 * p) a) (2 * p + 1) b longer (omega arith) first
             ∙ ap₂ (λ (l : List ℕ) (k : ℕ). l ++ drop k part₀) (append-assoc T (a ∷ []) (b ∷ []) ∙ grown) two;
       }
 

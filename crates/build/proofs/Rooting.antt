@@ -79,11 +79,12 @@ module _ {t : List ℕ} {c m l n : ℕ} {room work : List ℕ} (asked : Room t c
       → ys ≡ 0 ∷ n ∷ 0 ∷ r ∷ drop 4 (midOf 8 (length room - 8) room)
       → Rooted (between t c) m l n room (putMid 8 (length room - 8) room ys) work′
   root-stands {r} {work′} {ys} same told put =
+      let fits : 8 ≤ length room = omega (arith, asked .space) in
       let w : 0 ∷ n ∷ 0 ∷ r ∷ [] ≡ nodeWords (leafNode d m l (rootItem n)) =
       ap₂ (λ (x y : ℕ). 0 ∷ x ∷ 0 ∷ y ∷ []) (sym (range-length 0 n)) (told .0 ∙ sym (root-radius d n some)) in
       record {
         nodes =
-            put-more (take 8 room) (0 ∷ n ∷ 0 ∷ r ∷ []) room room ys 8 4 (length-take-le 8 room (omega (arith, asked .space))) (omega (arith, asked .space)) (sym (take-append-drop 8 room)) put
+            put-more (take 8 room) (0 ∷ n ∷ 0 ∷ r ∷ []) room room ys 8 4 (length-take-le 8 room fits) fits (sym (take-append-drop 8 room)) put
             ∙ append-assoc (take 8 room) (0 ∷ n ∷ 0 ∷ r ∷ []) (drop 12 room) ∙ ap (λ (x : List ℕ). take 8 room ++ (x ++ drop 12 room)) w;
         space = asked .space;
         first = refl;

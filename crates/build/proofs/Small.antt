@@ -134,7 +134,8 @@ module _ (T : List ℕ) (c m l : ℕ) (room work : List ℕ) where
   fit z =
       let t = none-said T c m l (length room) (length work) z in
       let passed : Passed T c m l room work m l =
-      record { columns = t .0; share = t .1; centres = refl; leaf = refl; none = said-lengths T c m l (length room) (length work) (t .0) (t .1) ∙ z } in
+      let lengths = said-lengths T c m l (length room) (length work) (t .0) (t .1) in
+      record { columns = t .0; share = t .1; centres = refl; leaf = refl; none = lengths ∙ z } in
       built-fit passed
 
   -- the index of any table that is not refused

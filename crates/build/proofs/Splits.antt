@@ -12,12 +12,13 @@ use Rattle.tree.specs.Encode.{nodeWords}
 use Rattle.words.specs.Words.{count#, nodeAt, start#}
 use lib.ListN.{drop, length, length-append, length-set, set, take}
 use mathlib.Core.List.{List, _++_, _∷_, map}
-use mathlib.Core.Path.{_∙_, _≡_, ap, refl, sym}
+use mathlib.Core.Path.{_∙_, _≡_, ap, ap₂, refl, sym}
 use native.Mathlib.Omega.{arith}
 
 -- ---- a tile of more than l rows
 module _ {t : List ℕ} {c m l n : ℕ} (fit : Fit t c m l n) {work : List ℕ} (front : List (List ℕ)) (run : List ℕ) (back : List (List ℕ))
     (tiled : Tiled (between t c) n work (front ++ run ∷ back)) (large : l < length run) where
+  -- there are centres, and rows enough for them
   one : 1 ≤ m
   one = omega (arith, fit .two)
 
@@ -46,6 +47,7 @@ module _ {t : List ℕ} {c m l n : ℕ} (fit : Fit t c m l n) {work : List ℕ} 
   -- ---- it is split
   module _ {room room′ work′ : List ℕ} {s count made : ℕ} (start : s ≡ length (joined front)) (size : count ≡ length run)
       (got : Splitted t c m n room work s count made room′ work′) where
+    -- the run that is read is the tile
     read : runAt work s count ≡ run
     read = rw (start, size) (tile-read front run back tiled)
 
@@ -54,11 +56,14 @@ module _ {t : List ℕ} {c m l n : ℕ} (fit : Fit t c m l n) {work : List ℕ} 
     tiles-after same = kids-tiled front run back tiled m one centred same (got .words ∙ rw (read, start, size))
 
     -- their nodes are in the room, no children yet
-    pub nodes-after : room′ ≡ take (nodeAt made) room ++ (each nodeWords (map (leafNode (between t c) m l) (placed s (split (between t c) m run))) ++ drop (nodeAt (made + m)) room)
-    nodes-after =
-        got .nodes
-        ∙ ap (λ (r : List ℕ). take (nodeAt made) room ++ (runNodes (between t c) s (split (between t c) m r) ++ drop (nodeAt (made + m)) room)) read
-        ∙ ap (λ (x : List ℕ). take (nodeAt made) room ++ (x ++ drop (nodeAt (made + m)) room)) (run-nodes (between t c) m l s (split (between t c) m run))
+    pub nodes-after : {at : ℕ} → s ≡ at
+        → room′ ≡ take (nodeAt made) room
+        ++ (each nodeWords (map (leafNode (between t c) m l) (placed at (split (between t c) m run))) ++ drop (nodeAt (made + m)) room)
+    nodes-after {at} here =
+        let kids : List (List ℕ) = split (between t c) m run in
+        let around : List ℕ → List ℕ = λ x. take (nodeAt made) room ++ (x ++ drop (nodeAt (made + m)) room) in
+        got .nodes ∙ ap₂ (λ (j : ℕ) (r : List ℕ). around (runNodes (between t c) j (split (between t c) m r))) here read
+        ∙ ap around (run-nodes (between t c) m l at kids)
 
 -- ---- a node of more than l rows is opened
 module _ {t : List ℕ} {c m l n : ℕ} {room work : List ℕ} {k made : ℕ} (asked : Openable t c m l n room work k made)

@@ -57,7 +57,8 @@ module _ (T : List ℕ) (c m l : ℕ) (room work : List ℕ) where
 
   -- WHAT THE CALL WROTE IS THE TABLE'S INDEX: NO CALL REFUSES SUCH A TABLE, THE HEADER HAS ITS ROWS AND COLUMNS, AND ASKS FOR JUST THESE WORDS
   pub build-headed : {room′ work′ : List ℕ} {number words nodes : ℕ} → Builds T c m l room work room′ work′ number words nodes → number ≡ 0
-      → Sized (length T) c × (n# (take words room′) ≡ rowsOf T c) × (c# (take words room′) ≡ c) × (length (take words room′) ≡ wordsOf (take words room′))
+      → Sized (length T) c × (n# (take words room′) ≡ rowsOf T c) × (c# (take words room′) ≡ c)
+      × (length (take words room′) ≡ wordsOf (take words room′))
   build-headed b z =
       let t = none-said T c m l (length room) (length work) (sym (b .said) ∙ z) in
       let h = headed T c m l (t .1) in

@@ -38,16 +38,25 @@ split-rows d m run m1 centred r P h =
     every-joined P (split d m run) (every-same P run (joined (split d m run)) (λ i. split-tally d m m m1 (omega arith) (eqb i) run r centred) h)
 
 -- ---- one tile among the others
-module _ {d : ℕ → ℕ → ℕ} {n : ℕ} {work : List ℕ} (front : List (List ℕ)) (run : List ℕ) (back : List (List ℕ)) (tiled : Tiled d n work (front ++ run ∷ back)) where
+module _ {d : ℕ → ℕ → ℕ} {n : ℕ} {work : List ℕ} (front : List (List ℕ)) (run : List ℕ) (back : List (List ℕ))
+    (tiled : Tiled d n work (front ++ run ∷ back)) where
   -- where it starts
   abbrev place : ℕ
   place = length (joined front)
 
+  -- the words before it, and those behind it
+  abbrev fore : List ℕ
+  fore = each (laid d) front
+
+  abbrev rear : List ℕ
+  rear = each (laid d) back
+
+  -- the rows before it, its own and those behind it are n
   whole : place + length run + length (joined back) ≡ n
   whole = omega (arith, joined-append front (run ∷ back), length-append run (joined back), tiled .full)
 
   -- the first half of the workspace, cut before it and behind it
-  cut : take (3 * n) work ≡ each (laid d) front ++ (laid d run ++ each (laid d) back)
+  cut : take (3 * n) work ≡ fore ++ (laid d run ++ rear)
   cut = tiled .words ∙ each-append (laid d) front (run ∷ back)
 
   -- it ends among the n positions
@@ -67,7 +76,7 @@ module _ {d : ℕ → ℕ → ℕ} {n : ℕ} {work : List ℕ} (front : List (Li
   tile-words =
       let k : 3 * place + 3 * length run - 3 * place ≡ 3 * length run = omega arith in
       ap (λ (j : ℕ). take j (drop (3 * place) work)) k
-      ∙ part-two work (each (laid d) front) (laid d run) (each (laid d) back) (3 * n) (3 * place) (3 * length run) cut (runs-long d front) (laid-long d run)
+      ∙ part-two work fore (laid d run) rear (3 * n) (3 * place) (3 * length run) cut (runs-long d front) (laid-long d run)
 
   -- so that its rows are read there
   pub tile-read : runAt work (length (joined front)) (length run) ≡ run
@@ -91,28 +100,36 @@ module _ {d : ℕ → ℕ → ℕ} {n : ℕ} {work : List ℕ} (front : List (Li
     -- there are m - 1 more tiles, and still at most n
     pub kids-few : length front + length back + m ≤ n
     kids-few =
-        omega (arith, runs-few (front ++ (kids ++ back)) kids-runs, kids-full, length-append front (kids ++ back), length-append kids back, split-length d m m m1 (omega arith) run)
+        omega (
+          arith,
+          runs-few (front ++ (kids ++ back)) kids-runs,
+          kids-full,
+          length-append front (kids ++ back),
+          length-append kids back,
+          split-length d m m m1 (omega arith) run,
+        )
 
     -- the workspace is tiled by them
     pub kids-tiled : {work′ : List ℕ} → length work′ ≡ length work
-        → take (3 * n) work′
-        ≡ take (3 * length (joined front)) work ++ (each (laid d) (split d m run) ++ stretch work (3 * length (joined front) + 3 * length run) (3 * n))
+        → take (3 * n) work′ ≡ take (3 * length (joined front)) work
+        ++ (each (laid d) (split d m run) ++ stretch work (3 * length (joined front) + 3 * length run) (3 * n))
         → Tiled d n work′ (front ++ (split d m run ++ back))
     kids-tiled same e =
         let P : ℕ → Type 0 = λ i. i < n in
         let k : 3 * n - (3 * place + 3 * length run) ≡ 3 * length (joined back) = omega (arith, whole) in
-        let fore =
-        part-one work (each (laid d) front) (laid d run) (each (laid d) back) (3 * n) (3 * place) (3 * length run) cut (runs-long d front) (laid-long d run) in
-        let rear = ap (λ (j : ℕ). take j (drop (3 * place + 3 * length run) work)) k
-        ∙ part-three work (each (laid d) front) (laid d run) (each (laid d) back) (3 * n) (3 * place) (3 * length run) cut (runs-long d front) (laid-long d run)
+        let before =
+        part-one work fore (laid d run) rear (3 * n) (3 * place) (3 * length run) cut (runs-long d front) (laid-long d run) in
+        let behind = ap (λ (j : ℕ). take j (drop (3 * place + 3 * length run) work)) k
+        ∙ part-three work fore (laid d run) rear (3 * n) (3 * place) (3 * length run) cut (runs-long d front) (laid-long d run)
         (3 * length (joined back)) (runs-long d back) in
         record {
           halves = omega (arith, tiled .halves);
           words =
-              e ∙ ap₂ (λ (x y : List ℕ). x ++ (each (laid d) kids ++ y)) fore rear
-              ∙ sym (each-append (laid d) front (kids ++ back) ∙ ap (λ (x : List ℕ). each (laid d) front ++ x) (each-append (laid d) kids back));
+              e ∙ ap₂ (λ (x y : List ℕ). x ++ (each (laid d) kids ++ y)) before behind
+              ∙ sym (each-append (laid d) front (kids ++ back) ∙ ap (λ (x : List ℕ). fore ++ x) (each-append (laid d) kids back));
           runs = kids-runs;
           rows = every-append (Every P) front (kids ++ back) (every-left (Every P) front (run ∷ back) (tiled .rows))
-              (every-append (Every P) kids back (split-rows d m run m1 centred tile-run P tile-rows) (every-right (Every P) front (run ∷ back) (tiled .rows) .1));
+              (every-append (Every P) kids back (split-rows d m run m1 centred tile-run P tile-rows)
+              (every-right (Every P) front (run ∷ back) (tiled .rows) .1));
           full = kids-full;
         }

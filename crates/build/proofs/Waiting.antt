@@ -108,12 +108,14 @@ module _ (d : ℕ → ℕ → ℕ) (m l : ℕ) where
             → keep (waits l) (cond b [] (placed s (split d m t)) ++ nextLevel d m l (placed (s + length t) ts))
             ≡ keep (waits l) (placed s (cond b (t ∷ []) (split d m t) ++ each (opened d m l) ts))
         go true e h =
-            h ∙ sym (ap (λ (b : Bool). cond (not b) ((s, t) ∷ keep (waits l) (placed (s + length t) (each (opened d m l) ts))) (keep (waits l) (placed (s + length t) (each (opened d m l) ts)))) e)
+            let more : List Item = keep (waits l) (placed (s + length t) (each (opened d m l) ts)) in
+            h ∙ sym (ap (λ (b : Bool). cond (not b) ((s, t) ∷ more) more) e)
         go false e h′ =
             let k : s + length t ≡ s + length (joined (split d m t)) =
             ap (λ (j : ℕ). s + j) (sym (split-joined d m t m1 (omega (arith, leb-false (length t) l e)) (h .0))) in
             keep-append (waits l) (placed s (split d m t)) (nextLevel d m l (placed (s + length t) ts))
-            ∙ ap (λ (x : List Item). keep (waits l) (placed s (split d m t)) ++ x) (h′ ∙ ap (λ (j : ℕ). keep (waits l) (placed j (each (opened d m l) ts))) k)
+            ∙ ap (λ (x : List Item). keep (waits l) (placed s (split d m t)) ++ x)
+            (h′ ∙ ap (λ (j : ℕ). keep (waits l) (placed j (each (opened d m l) ts))) k)
             ∙ sym (keep-append (waits l) (placed s (split d m t)) (placed (s + length (joined (split d m t))) (each (opened d m l) ts)))
             ∙ ap (keep (waits l)) (sym (placed-append s (split d m t) (each (opened d m l) ts)))
 

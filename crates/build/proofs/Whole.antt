@@ -57,10 +57,11 @@ module _ (d : ℕ → ℕ → ℕ) (m l : ℕ) (m1 : 1 ≤ m) (ml : m ≤ l) whe
   plant-pairs : (n : ℕ) → 1 ≤ n → pairsIn (each (laid d) (leaves d m l maxDepth (range 0 n))) ≡ each pairWords (entries (plant d m l n))
   plant-pairs zero h = absurd (omega arith)
   plant-pairs (suc n) h =
-      pairs-laid d (leaves d m l maxDepth (range 0 (suc n)))
-      ∙ ap (each pairWords) (sym (entries-leaves d m l maxDepth (range 0 (suc n)) bare ∙ append-nil (each (pairsOf d) (leaves d m l maxDepth (range 0 (suc n))))))
+      let ls : List (List ℕ) = leaves d m l maxDepth (range 0 (suc n)) in
+      pairs-laid d ls ∙ ap (each pairWords) (sym (entries-leaves d m l maxDepth (range 0 (suc n)) bare ∙ append-nil (each (pairsOf d) ls)))
 
 module _ {t : List ℕ} {c m l n : ℕ} (fit : Fit t c m l n) where
+  -- there are centres
   one : 1 ≤ m
   one = omega (arith, fit .two)
 
@@ -99,6 +100,7 @@ module _ {t : List ℕ} {c m l n : ℕ} (fit : Fit t c m l n) {origin room work 
   abbrev front : List ℕ
   front = headerOf n c m l made ++ each nodeWords ns
 
+  -- as far as the nodes' end
   front-long : length front ≡ nodeAt made
   front-long = length-append (headerOf n c m l made) (each nodeWords ns) ∙ omega (arith, each-words ns, grown .count)
 
@@ -116,7 +118,8 @@ module _ {t : List ℕ} {c m l n : ℕ} (fit : Fit t c m l n) {origin room work 
   unfolding encode
   words-are =
       append-assoc (headerOf n c m l made) (each nodeWords ns) (each pairWords (entries tree))
-      ∙ ap₂ (λ (i j : ℕ). headerOf i c m l j ++ (each nodeWords ns ++ each pairWords (entries tree))) (sym (positions (between t c) m l (one fit) (fit .leafy) n)) (grown .count)
+      ∙ ap₂ (λ (i j : ℕ). headerOf i c m l j ++ (each nodeWords ns ++ each pairWords (entries tree)))
+      (sym (positions (between t c) m l (one fit) (fit .leafy) n)) (grown .count)
 
   -- THE WHOLE INDEX STANDS IN THE ROOM
   pub filled : {room₂ ys work′ : List ℕ} → length room₂ ≡ length origin → room₂ ≡ headerOf n c m l made ++ drop 8 room

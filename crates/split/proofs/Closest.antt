@@ -65,7 +65,8 @@ module _ (d : ℕ → ℕ → ℕ) where
   -- it learns of one centre more
   near-one : (a : ℕ) (cs : List ℕ) (j i : ℕ) → nearOne d j i (nearness d (a ∷ cs) i) (closest d (a ∷ cs) i) ≡ held (a ∷ cs ++ j ∷ []) i
   near-one a cs j i =
-      rw (nearness-closest (a ∷ cs) i (omega arith), nearness-closest (a ∷ cs ++ j ∷ []) i (omega arith), closest-more a cs j i) (go (ltb (d j i) (d k i)))
+      rw (nearness-closest (a ∷ cs) i (omega arith), nearness-closest (a ∷ cs ++ j ∷ []) i (omega arith), closest-more a cs j i)
+      (go (ltb (d j i) (d k i)))
     where
       k : ℕ
       k = closest d (a ∷ cs) i

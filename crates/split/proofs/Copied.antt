@@ -16,7 +16,8 @@ copied w lo over p = (take lo w ++ take (p - lo) (drop (lo + over) w)) ++ drop p
 pub copy-start : (w : List ℕ) (lo over : ℕ) → w ≡ copied w lo over lo
 copy-start w lo over =
     let z : lo - lo ≡ 0 = omega arith in
-    sym (ap (λ (k : ℕ). (take lo w ++ take k (drop (lo + over) w)) ++ drop lo w) z ∙ ap (λ (l : List ℕ). l ++ drop lo w) (append-nil (take lo w)) ∙ take-append-drop lo w)
+    sym (ap (λ (k : ℕ). (take lo w ++ take k (drop (lo + over) w)) ++ drop lo w) z
+    ∙ ap (λ (l : List ℕ). l ++ drop lo w) (append-nil (take lo w)) ∙ take-append-drop lo w)
 
 -- one more is copied: the word that is read is still as it was
 pub copy-step : (w₀ w : List ℕ) (lo over p : ℕ) → lo ≤ p → p + over < length w₀ → w ≡ copied w₀ lo over p
@@ -36,7 +37,8 @@ copy-step w₀ w lo over p h l e =
     ap (λ (k : ℕ). take k source) up ∙ take-suc source (p - lo) 0 (omega (arith, length-drop (lo + over) w₀))
     ∙ ap (λ (y : ℕ). take (p - lo) source ++ y ∷ []) (getD-drop (lo + over) w₀ (p - lo) 0 ∙ ap (λ (k : ℕ). getD w₀ k 0) same) in
     ap (set w p) read ∙ store-more front w₀ w p x long (omega arith) e
-    ∙ ap (λ (l : List ℕ). l ++ drop (p + 1) w₀) (append-assoc (take lo w₀) (take (p - lo) source) (x ∷ []) ∙ ap (λ (l : List ℕ). take lo w₀ ++ l) (sym more))
+    ∙ ap (λ (l : List ℕ). l ++ drop (p + 1) w₀)
+    (append-assoc (take lo w₀) (take (p - lo) source) (x ∷ []) ∙ ap (λ (l : List ℕ). take lo w₀ ++ l) (sym more))
 
 -- all are copied
 pub copy-done : (w₀ w : List ℕ) (lo hi over p : ℕ) → p ≤ hi → hi ≤ p → w ≡ copied w₀ lo over p

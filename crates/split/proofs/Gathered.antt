@@ -43,9 +43,11 @@ module _ {w : List ℕ} {lo hi a to : ℕ} (asked : Gatherable w lo hi a to) {ys
       let r : to + 3 * size (group a (stretch w lo hi)) ≤ length w = asked .room in
       put-more (take to w) (own a) w w ys to 3 (length-take-le to w (omega arith)) (omega arith) (sym (take-append-drop to w)) put
 
+  -- as far as three words behind `to`
   fore-long : length (take to w ++ own a) ≡ to + 3
   fore-long = omega (arith, length-append (take to w) (own a), length-take-le to w (omega (arith, asked .room)))
 
+  -- the workspace is as long as it was
   fronted-long : length w₁ ≡ length w
   fronted-long =
       ap length fronted
@@ -54,7 +56,8 @@ module _ {w : List ℕ} {lo hi a to : ℕ} (asked : Gatherable w lo hi a to) {ys
   -- the entries that are picked from are as they were
   source-kept : stretch w₁ lo hi ≡ stretch w lo hi
   source-kept =
-      stretch-front w₁ w (own a ++ drop (to + 3) w) lo hi to (asked .before) (omega (arith, asked .room)) (fronted ∙ append-assoc (take to w) (own a) (drop (to + 3) w))
+      stretch-front w₁ w (own a ++ drop (to + 3) w) lo hi to (asked .before) (omega (arith, asked .room))
+      (fronted ∙ append-assoc (take to w) (own a) (drop (to + 3) w))
 
   -- there is room for those that are picked
   pub gather-picking : Picking (putMid to (length w - to) w ys) lo hi a (to + 3)

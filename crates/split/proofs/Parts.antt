@@ -39,7 +39,8 @@ read-front w w₀ more to k h e l =
 pub stretch-front : (w w₀ more : List ℕ) (lo hi to : ℕ) → hi ≤ to → to ≤ length w₀ → w ≡ take to w₀ ++ more → stretch w lo hi ≡ stretch w₀ lo hi
 stretch-front w w₀ more lo hi to h l e =
     by-cases (decLe lo hi)
-    (λ q. ap (λ (x : List ℕ). stretch x lo hi) e ∙ same more q ∙ sym (same (drop to w₀) q) ∙ ap (λ (x : List ℕ). stretch x lo hi) (take-append-drop to w₀))
+    (λ q. ap (λ (x : List ℕ). stretch x lo hi) e ∙ same more q ∙ sym (same (drop to w₀) q)
+    ∙ ap (λ (x : List ℕ). stretch x lo hi) (take-append-drop to w₀))
     (λ q.
     let z : hi - lo ≡ 0 = omega arith in
     rw z)
@@ -50,7 +51,7 @@ stretch-front w w₀ more lo hi to h l e =
         ap (take (hi - lo)) (drop-append-le lo (take to w₀) more (omega arith))
         ∙ take-append-le (hi - lo) (drop lo (take to w₀)) more (omega (arith, length-drop lo (take to w₀)))
 
--- ---- the first three words of a stretch
+-- ---- a stretch, by its first three words
 pub stretch-three : (w : List ℕ) (p hi : ℕ) → p + 3 ≤ hi → hi ≤ length w
     → stretch w p hi ≡ getD w p 0 ∷ getD w (p + 1) 0 ∷ getD w (p + 2) 0 ∷ stretch w (p + 3) hi
 stretch-three w p hi h l =
@@ -60,5 +61,6 @@ stretch-three w p hi h l =
     let three : p + 3 ≡ suc (suc (suc p)) = omega arith in
     let d : drop p w ≡ getD w p 0 ∷ getD w (suc p) 0 ∷ getD w (suc (suc p)) 0 ∷ drop (suc (suc (suc p))) w =
     drop-cons w p 0 (omega arith)
-    ∙ ap (λ (t : List ℕ). getD w p 0 ∷ t) (drop-cons w (suc p) 0 (omega arith) ∙ ap (λ (t : List ℕ). getD w (suc p) 0 ∷ t) (drop-cons w (suc (suc p)) 0 (omega arith))) in
+    ∙ ap (λ (t : List ℕ). getD w p 0 ∷ t)
+    (drop-cons w (suc p) 0 (omega arith) ∙ ap (λ (t : List ℕ). getD w (suc p) 0 ∷ t) (drop-cons w (suc (suc p)) 0 (omega arith))) in
     ap₂ (λ (k : ℕ) (t : List ℕ). take k t) less d ∙ rw (one, two, three)

@@ -135,7 +135,13 @@ module _ {w₀ : List ℕ} {lo hi a to : ℕ} {w : List ℕ} {count radius p : �
       ap (λ (k : ℕ). take k G) up ∙ take-add (3 * count) 3 G ∙ ap (λ (l : List ℕ). take (3 * count) G ++ take 3 l) rest in
       let long : length (putMid q (length w - q) w ys) ≡ length w₀ =
       ap length put
-      ∙ omega (arith, length-append (front ++ i ∷ x ∷ a ∷ []) (drop (q + 3) w₀), length-append front (i ∷ x ∷ a ∷ []), lf, length-drop (q + 3) w₀, inv .long) in
+      ∙ omega (
+        arith,
+        length-append (front ++ i ∷ x ∷ a ∷ []) (drop (q + 3) w₀),
+        length-append front (i ∷ x ∷ a ∷ []),
+        length-drop (q + 3) w₀,
+        inv .long,
+      ) in
       record {
         asked = inv .asked;
         over = omega arith;
@@ -147,7 +153,8 @@ module _ {w₀ : List ℕ} {lo hi a to : ℕ} {w : List ℕ} {count radius p : �
         far = rw rx (widen ∙ ap (λ (l : List ℕ). max radius (widest l)) (sym (taken h e)) ∙ inv .far);
       }
     where
-      widen : max (max radius (getD w₀ (p + 1) 0)) (widest (pickedIn w₀ (p + 3) hi a)) ≡ max radius (max (getD w₀ (p + 1) 0) (widest (pickedIn w₀ (p + 3) hi a)))
+      widen : max (max radius (getD w₀ (p + 1) 0)) (widest (pickedIn w₀ (p + 3) hi a))
+          ≡ max radius (max (getD w₀ (p + 1) 0) (widest (pickedIn w₀ (p + 3) hi a)))
       widen = omega arith
 
   -- ---- all are dealt with

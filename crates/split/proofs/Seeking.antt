@@ -72,7 +72,8 @@ seeking-step {es} {p} {b} inv h s t =
     let w : p % 3 ≡ 0 = inv .whole in
     let up : p - 3 + 3 ≡ p = omega arith in
     let f = far-step es (p - 3) b (omega arith) (rw up (inv .here)) in
-    record { inside = omega arith; whole = omega arith; fits = either s .0; place = either s .1; here = sym (f ∙ ap (λ (s : Bool). cond s (p - 3) b) t) }
+    let q : cond s (p - 3) b ≡ p - 3 + far (drop (p - 3) es) = sym (f ∙ ap (λ (s : Bool). cond s (p - 3) b) t) in
+    record { inside = omega arith; whole = omega arith; fits = either s .0; place = either s .1; here = q }
   where
     either : (s : Bool) → (cond s (p - 3) b + 3 ≤ length es) × (cond s (p - 3) b % 3 ≡ 0)
     either true = (omega (arith, inv .inside), omega (arith, inv .whole))

@@ -92,10 +92,12 @@ module _ {room₀ work₀ : List ℕ} {n m s count made : ℕ} (asked : Sharable
         record {
           words =
               inv .wrote ∙ append-assoc (take (3 * (n + s)) work₀) (take (3 * (at - s)) G) (drop behind work₀)
-              ∙ ap₂ (λ (l : List ℕ) (k : ℕ). take (3 * (n + s)) work₀ ++ (l ++ drop (3 * (n + s) + k) work₀)) (take-all (3 * (at - s)) G (omega (arith, asked .tile))) all;
+              ∙ ap₂ (λ (l : List ℕ) (k : ℕ). take (3 * (n + s)) work₀ ++ (l ++ drop (3 * (n + s) + k) work₀))
+              (take-all (3 * (at - s)) G (omega (arith, asked .tile))) all;
           nodes =
               inv .nodesWrote ∙ append-assoc (take (nodeAt made) room₀) (take (4 * t) N) (drop (nodeAt (made + t)) room₀)
-              ∙ ap₂ (λ (l : List ℕ) (k : ℕ). take (nodeAt made) room₀ ++ (l ++ drop (nodeAt (made + k)) room₀)) (take-all (4 * t) N (omega (arith, all-nodes))) same;
+              ∙ ap₂ (λ (l : List ℕ) (k : ℕ). take (nodeAt made) room₀ ++ (l ++ drop (nodeAt (made + k)) room₀))
+              (take-all (4 * t) N (omega (arith, all-nodes))) same;
         }
 
     -- ---- one group more
@@ -110,6 +112,7 @@ module _ {room₀ work₀ : List ℕ} {n m s count made : ℕ} (asked : Sharable
       abbrev g : List ℕ
       g = group centre W
 
+      -- the centres that are left
       next : centres work₀ (3 * (s + t)) (m - t) ≡ centre ∷ later
       unfolding centres centre later
       next =
@@ -120,6 +123,7 @@ module _ {room₀ work₀ : List ℕ} {n m s count made : ℕ} (asked : Sharable
       kept : work ≡ take (3 * (n + s)) work₀ ++ (take (3 * (at - s)) G ++ drop behind work₀)
       kept = inv .wrote ∙ append-assoc (take (3 * (n + s)) work₀) (take (3 * (at - s)) G) (drop behind work₀)
 
+      -- so that its centre and the entries that wait are read as they were
       sharing-read : getD work (3 * (s + t)) 0 ≡ getD work₀ (3 * (s + t)) 0
       sharing-read =
           read-front work work₀ (take (3 * (at - s)) G ++ drop behind work₀) (3 * (n + s)) (3 * (s + t))
@@ -130,6 +134,7 @@ module _ {room₀ work₀ : List ℕ} {n m s count made : ℕ} (asked : Sharable
           stretch-front work work₀ (take (3 * (at - s)) G ++ drop behind work₀) (3 * (s + m)) (3 * (s + count)) (3 * (n + s))
           (omega (arith, asked .inside)) (omega (arith, asked .inside, asked .halves)) kept
 
+      -- and so is the group
       same-group : group (getD work (3 * (s + t)) 0) (waiting work m s count) ≡ g
       unfolding centre
       same-group = ap₂ group sharing-read source
@@ -141,7 +146,8 @@ module _ {room₀ work₀ : List ℕ} {n m s count made : ℕ} (asked : Sharable
       sharing-fits : at + size g ≤ s + count
       sharing-fits =
           let from : s ≤ at = inv .from in
-          omega (arith, ap length rest-words, length-drop (3 * (at - s)) G, length-append g (shared W later), group-size centre W, asked .tile, inv .upto)
+          let words = ap length rest-words ∙ length-append g (shared W later) in
+          omega (arith, words, length-drop (3 * (at - s)) G, group-size centre W, asked .tile, inv .upto)
 
       -- there is room for it
       pub sharing-asked : Gatherable work (3 * (s + m)) (3 * (s + count)) (getD work (3 * (s + t)) 0) (3 * (n + at))
@@ -155,7 +161,8 @@ module _ {room₀ work₀ : List ℕ} {n m s count made : ℕ} (asked : Sharable
             room = rw same-group (omega (arith, sharing-fits, asked .halves, inv .long));
           }
 
-      module _ {work′ : List ℕ} {k radius : ℕ} (got : Gathered work (3 * (s + m)) (3 * (s + count)) (getD work (3 * (s + t)) 0) (3 * (n + at)) work′ k radius) where
+      module _ {work′ : List ℕ} {k radius : ℕ}
+          (got : Gathered work (3 * (s + m)) (3 * (s + count)) (getD work (3 * (s + t)) 0) (3 * (n + at)) work′ k radius) where
         -- it has k members, the farthest at `radius`
         members : k ≡ size g
         members = got .members ∙ ap size same-group
@@ -163,6 +170,7 @@ module _ {room₀ work₀ : List ℕ} {n m s count made : ℕ} (asked : Sharable
         far : radius ≡ widest g
         far = got .far ∙ ap widest same-group
 
+        -- it ends in the run
         pub sharing-small : at + k ≤ s + count
         sharing-small = omega (arith, members, sharing-fits)
 
@@ -183,6 +191,7 @@ module _ {room₀ work₀ : List ℕ} {n m s count made : ℕ} (asked : Sharable
             ap (λ (x : ℕ). take x G) step-size ∙ take-add (3 * (at - s)) (3 * k) G
             ∙ ap (λ (l : List ℕ). take (3 * (at - s)) G ++ l) (ap (take (3 * k)) rest-words ∙ take-at g (shared W later) (3 * k) group-long)
 
+        -- the group is written behind the others
         step-wrote : work′ ≡ (take (3 * (n + s)) work₀ ++ take (3 * (at + k - s)) G) ++ drop (3 * (n + s) + 3 * (at + k - s)) work₀
         step-wrote =
             let g′ : List ℕ = group (getD work (3 * (s + t)) 0) (waiting work m s count) in
@@ -190,9 +199,9 @@ module _ {room₀ work₀ : List ℕ} {n m s count made : ℕ} (asked : Sharable
             let from : s ≤ at = inv .from in
             let upto : at ≤ s + count = inv .upto in
             let fit = sharing-fits in
-            let lf : length front ≡ 3 * (n + at) =
-            length-append (take (3 * (n + s)) work₀) (take (3 * (at - s)) G)
-            ∙ omega (arith, length-take-le (3 * (n + s)) work₀ (omega (arith, asked .inside, asked .halves)), length-take-le (3 * (at - s)) G (omega (arith, asked .tile))) in
+            let old = length-take-le (3 * (n + s)) work₀ (omega (arith, asked .inside, asked .halves)) in
+            let new = length-take-le (3 * (at - s)) G (omega (arith, asked .tile)) in
+            let lf : length front ≡ 3 * (n + at) = length-append (take (3 * (n + s)) work₀) (take (3 * (at - s)) G) ∙ omega arith in
             let fore : take (3 * (n + at)) work ≡ front =
             ap (take (3 * (n + at))) (inv .wrote) ∙ take-at front (drop behind work₀) (3 * (n + at)) lf in
             let more : behind + 3 * k ≡ end = omega (arith, step-size) in

@@ -92,24 +92,35 @@ module _ {t : List ℕ} {c m n : ℕ} {room work : List ℕ} {s count made : ℕ
     after-long : length after ≡ length work
     after-long =
         ap length after-split
-        ∙ omega (arith, length-append (take lo work) (ys ++ drop hi work), length-append ys (drop hi work), fore, long, part-long, length-drop hi work, reached)
+        ∙ omega (
+          arith,
+          length-append (take lo work) (ys ++ drop hi work),
+          length-append ys (drop hi work),
+          fore,
+          part-long,
+          length-drop hi work,
+          reached,
+        )
+
+    words-long : length (chosenWords d m run) ≡ 3 * count
+    words-long = ap length (sym ys-are) ∙ long ∙ part-long
 
     -- the groups are the children's runs
     groups-are : groupWords after m s count ≡ each (laid d) (split d m run)
     groups-are =
-        group-words d (metric t c .self) after m s count run (drop hi work) (asked .share) (asked .centred) after-here (ap length (sym ys-are) ∙ long ∙ part-long)
+        group-words d (metric t c .self) after m s count run (drop hi work) (asked .share) (asked .centred) after-here words-long
 
     nodes-are : groupNodes after m s count ≡ runNodes d s (split d m run)
     nodes-are =
-        group-nodes d (metric t c .self) after m s count run (drop hi work) (asked .share) (asked .centred) after-here (ap length (sym ys-are) ∙ long ∙ part-long)
+        group-nodes d (metric t c .self) after m s count run (drop hi work) (asked .share) (asked .centred) after-here words-long
 
     -- and take as many words as the run
     groups-long : length (groupWords after m s count) ≡ 3 * count
     groups-long =
-        ap length groups-are
-        ∙ split-long d m run (asked .share) (omega (arith, run-long, asked .centred)) (omega (arith, run-long, asked .centred, asked .share), asked .once)
-        ∙ ap (λ (k : ℕ). 3 * k) run-long
+        let some : m ≤ length run = omega (arith, run-long, asked .centred) in
+        ap length groups-are ∙ split-long d m run (asked .share) some (omega (arith, asked .share), asked .once) ∙ ap (λ (k : ℕ). 3 * k) run-long
 
+    -- they can be shared out
     pub share-ready : Sharable room (withPart work s count ys) n m s count made
     share-ready =
         record {
@@ -146,7 +157,8 @@ module _ {t : List ℕ} {c m n : ℕ} {room work : List ℕ} {s count made : ℕ
           let at : 3 * s + 3 * n ≡ base = omega arith in
           let k : 3 * s + 3 * count + 3 * n - (3 * s + 3 * n) ≡ 3 * count = omega arith in
           ap₂ (λ (x y : ℕ). take x (drop y work₂)) k at
-          ∙ ap (take (3 * count)) (ap (drop base) (shared .words) ∙ drop-at (take base after) (G ++ drop (base + 3 * count) after) base (length-take-le base after base-fits))
+          ∙ ap (take (3 * count)) (ap (drop base) (shared .words)
+          ∙ drop-at (take base after) (G ++ drop (base + 3 * count) after) base (length-take-le base after base-fits))
           ∙ take-at G (drop (base + 3 * count) after) (3 * count) groups-long
 
       -- what stands behind the run in the first half is as it was
@@ -160,6 +172,7 @@ module _ {t : List ℕ} {c m n : ℕ} {room work : List ℕ} {s count made : ℕ
       third =
           copied ∙ ap₂ (λ (a b : List ℕ). a ++ (b ++ drop hi work₂)) second-fore second-groups ∙ sym (append-assoc (take lo work) G (drop hi work₂))
 
+      -- the first half of the workspace then
       third-half : take (3 * n) work₃ ≡ take lo work ++ (G ++ stretch work hi (3 * n))
       third-half =
           let l : length (take lo work ++ G) ≡ hi = length-append (take lo work) G ∙ omega (arith, fore, groups-long) in

@@ -31,7 +31,8 @@ begun c = start (tested c .before)
 
 -- m and l are in range, and the parameters hold them
 answer : (c : tie.After-p)
-    → (shareOk (begun c .args .m) (begun c .args .l) ≡ true) × (c .p .given .0 .0 .centres ≡ begun c .args .m) × (c .p .given .0 .0 .leaf ≡ begun c .args .l)
+    → (shareOk (begun c .args .m) (begun c .args .l) ≡ true)
+    × (c .p .given .0 .0 .centres ≡ begun c .args .m) × (c .p .given .0 .0 .leaf ≡ begun c .args .l)
 answer c = answer-taken (begun c .args .m) (begun c .args .l) (c .p .given .1) (c .before .before .new .ensures)
 
 columns-ok-requires : tie.Need-columns-ok-requires
@@ -62,8 +63,8 @@ returns-2 c =
     let t = c .before in
     let e = t .before .before .before in
     let a = start (e .before) .args in
-    refused-builds (said-2 _ _ _ _ _ _ (columns e) (answer-refused (a .m) (a .l) (t .enum-told .given .1) (t .before .before .new .ensures))) (λ q. omega arith)
-    (c .refused2 .ensures)
+    let share = answer-refused (a .m) (a .l) (t .enum-told .given .1) (t .before .before .new .ensures) in
+    refused-builds (said-2 _ _ _ _ _ _ (columns e) share) (λ q. omega arith) (c .refused2 .ensures)
 
 lengths-number-requires : tie.Need-lengths-number-requires
 lengths-number-requires c κs = some-columns _ (columns (c .before .before .before .before))

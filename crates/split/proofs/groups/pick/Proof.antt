@@ -101,7 +101,8 @@ loop-less c = search needs
 loop-again : tie.Need-loop-again Inv-loop μ-loop
 loop-again c =
     let e = c .before .before .before in
-    rw (c .greater .ensures) (picks-take (turn (e .before .before .before .before) .loop .inv) _ (search needs) (search needs) (e .put-entry .ensures))
+    let s = turn (e .before .before .before .before) in
+    rw (c .greater .ensures) (picks-take (s .loop .inv) _ (search needs) (search needs) (e .put-entry .ensures))
 
 loop-less-2 : tie.Need-loop-less-2 Inv-loop μ-loop
 loop-less-2 c = search needs
