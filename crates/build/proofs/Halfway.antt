@@ -98,12 +98,13 @@ module _ {t : List ℕ} {c m l n : ℕ} {room₀ work₀ : List ℕ} {lo hi : �
         let fits : nodeAt (length ns) ≤ length (g .origin) = omega (arith, all-long (leafNode d m l q), made-few, g .stage .space) in
         ap length (half .nodes) ∙ room-long (g .origin) header-fits ns fits
 
-    -- its start and count are read
+    -- its start is read
     pub start-is : start# room k ≡ q .0
     start-is =
         ap₂ start# (half .nodes) (sym fore-long)
         ∙ read-start (g .origin) header-fits (fore done) (q .0) (length (q .1)) 0 (radius d (q .1)) (rear done rest)
 
+    -- and its count
     pub count-is : count# room k ≡ length (q .1)
     count-is =
         ap₂ count# (half .nodes) (sym fore-long)

@@ -148,14 +148,17 @@ module _ {t : List ℕ} {c m l n : ℕ} {room₀ work₀ : List ℕ} {lo hi : �
           ap₂ (λ (x : List ℕ) (j : ℕ). set x (nodeAt j + 2) made) (half .nodes) (sym (fore-long g half))
           ∙ child-set (g .origin) (header-fits g half) (fore g done) (q .0) (length (q .1)) 0 (radius d (q .1)) (rear g done rest) made
 
-      -- ---- its children's items and nodes
+      -- ---- its children
+      -- their items
       abbrev items : List Item
       items = placed (q .0) (split d m (q .1))
 
+      -- m of them
       items-many : length items ≡ m
       unfolding kids
       items-many = placed-long (q .0) (split d m (q .1)) ∙ kids-many
 
+      -- their nodes
       abbrev new : List Node
       new = map (leafNode d m l) items
 
@@ -169,6 +172,7 @@ module _ {t : List ℕ} {c m l n : ℕ} {room₀ work₀ : List ℕ} {lo hi : �
       next-is : nextLevel d m l (done ++ q ∷ []) ≡ nextLevel d m l done ++ items
       next-is = next-large d m l done q large
 
+      -- m more than there were
       next-many : length (nextLevel d m l (done ++ q ∷ [])) ≡ length (nextLevel d m l done) + m
       next-many = ap length next-is ∙ length-append (nextLevel d m l done) items ∙ ap (λ (j : ℕ). length (nextLevel d m l done) + j) items-many
 

@@ -95,6 +95,7 @@ module _ {T : List ℕ} {c m l : ℕ} {room work : List ℕ} {m′ l′ : ℕ} (
   pub work-long : 6 * rowsOf T c ≤ length work
   work-long = rooms .1
 
+  -- as it is lent
   pub part-long : length (take (6 * rowsOf T c) work) ≡ 6 * rowsOf T c
   part-long = length-take-le (6 * rowsOf T c) work work-long
 

@@ -33,10 +33,11 @@ module _ (o : List ℕ) (eight : 8 ≤ length o) where
       ∙ omega (arith, length-append (take 8 o ++ each nodeWords ns) (drop (nodeAt (length ns)) o), front-long ns, length-drop (nodeAt (length ns)) o)
 
   module _ (ns : List Node) (s n x r : ℕ) (os : List Node) where
-    -- the words before one node, and those behind it
+    -- the words before one node
     abbrev front : List ℕ
     front = take 8 o ++ each nodeWords ns
 
+    -- and those behind it
     abbrev rear : List ℕ
     rear = each nodeWords os ++ drop (nodeAt (length (ns ++ (s, n, x, r) ∷ os))) o
 

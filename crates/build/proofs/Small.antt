@@ -57,6 +57,7 @@ runs-placed s [] h = tt
 runs-placed s (r ∷ rs) h = (h .0, runs-placed (s + length r) rs (h .1))
 
 module _ (d : ℕ → ℕ → ℕ) (m l : ℕ) (m2 : 2 ≤ m) (ml : m ≤ l) where
+  -- a node that is split has a child
   m1 : 1 ≤ m
   m1 = omega arith
 

@@ -18,10 +18,11 @@ use native.Mathlib.Omega.{arith}
 -- ---- a tile of more than l rows
 module _ {t : List ℕ} {c m l n : ℕ} (fit : Fit t c m l n) {work : List ℕ} (front : List (List ℕ)) (run : List ℕ) (back : List (List ℕ))
     (tiled : Tiled (between t c) n work (front ++ run ∷ back)) (large : l < length run) where
-  -- there are centres, and rows enough for them
+  -- there are centres
   one : 1 ≤ m
   one = omega (arith, fit .two)
 
+  -- and rows enough for them
   centred : m ≤ length run
   centred = omega (arith, fit .leafy)
 

@@ -44,10 +44,11 @@ module _ {d : ℕ → ℕ → ℕ} {n : ℕ} {work : List ℕ} (front : List (Li
   abbrev place : ℕ
   place = length (joined front)
 
-  -- the words before it, and those behind it
+  -- the words before it
   abbrev fore : List ℕ
   fore = each (laid d) front
 
+  -- and those behind it
   abbrev rear : List ℕ
   rear = each (laid d) back
 
@@ -84,6 +85,7 @@ module _ {d : ℕ → ℕ → ℕ} {n : ℕ} {work : List ℕ} (front : List (Li
 
   -- ---- its children's runs take its place
   module _ (m : ℕ) (m1 : 1 ≤ m) (centred : m ≤ length run) where
+    -- its children's runs
     abbrev kids : List (List ℕ)
     kids = split d m run
 

@@ -90,9 +90,11 @@ grown-none {origin = origin} e = rw e record { nodes = sym (take-append-drop 8 o
 -- ---- the header before the nodes, the positions behind them
 module _ {t : List ℕ} {c m l n : ℕ} (fit : Fit t c m l n) {origin room work : List ℕ} {made : ℕ} (grown : Grown t c m l n origin room work made)
     (space : 10 * n + 8 ≤ length origin) where
+  -- the tree of 01
   abbrev tree : Grove
   tree = plant (between t c) m l n
 
+  -- its nodes, in number order
   abbrev ns : List Node
   ns = numbered tree
 

@@ -37,13 +37,15 @@ pub record Sharing (room₀ work₀ : List ℕ) (n m s count made : ℕ) (room w
   pub nodesWrote : room ≡ (take (nodeAt made) room₀ ++ take (4 * t) (groupNodes work₀ m s count)) ++ drop (nodeAt (made + t)) room₀
 
 module _ {room₀ work₀ : List ℕ} {n m s count made : ℕ} (asked : Sharable room₀ work₀ n m s count made) where
-  -- the entries that wait, and the words of all groups and of all their nodes
+  -- the entries that wait
   abbrev W : List ℕ
   W = waiting work₀ m s count
 
+  -- the words of all groups
   abbrev G : List ℕ
   G = groupWords work₀ m s count
 
+  -- the words of all their nodes
   abbrev N : List ℕ
   N = groupNodes work₀ m s count
 
@@ -72,10 +74,11 @@ module _ {room₀ work₀ : List ℕ} {n m s count made : ℕ} (asked : Sharable
       }
 
   module _ {room work : List ℕ} {at t : ℕ} (inv : Sharing room₀ work₀ n m s count made room work at t) where
-    -- what is written of the workspace, and where the next group goes
+    -- the workspace as far as it is written
     abbrev front : List ℕ
     front = take (3 * (n + s)) work₀ ++ take (3 * (at - s)) G
 
+    -- where the next group goes
     abbrev behind : ℕ
     behind = 3 * (n + s) + 3 * (at - s)
 
@@ -102,13 +105,15 @@ module _ {room₀ work₀ : List ℕ} {n m s count made : ℕ} (asked : Sharable
 
     -- ---- one group more
     module _ (more : t < m) where
-      -- its centre, and the centres after it
+      -- its centre
       centre : ℕ
       centre = getD work₀ (3 * (s + t)) 0
 
+      -- the centres after it
       later : List ℕ
       later = centres work₀ (3 * (s + t) + 3) (m - (t + 1))
 
+      -- its words
       abbrev g : List ℕ
       g = group centre W
 
@@ -123,12 +128,13 @@ module _ {room₀ work₀ : List ℕ} {n m s count made : ℕ} (asked : Sharable
       kept : work ≡ take (3 * (n + s)) work₀ ++ (take (3 * (at - s)) G ++ drop behind work₀)
       kept = inv .wrote ∙ append-assoc (take (3 * (n + s)) work₀) (take (3 * (at - s)) G) (drop behind work₀)
 
-      -- so that its centre and the entries that wait are read as they were
+      -- so that its centre is read as it was
       sharing-read : getD work (3 * (s + t)) 0 ≡ getD work₀ (3 * (s + t)) 0
       sharing-read =
           read-front work work₀ (take (3 * (at - s)) G ++ drop behind work₀) (3 * (n + s)) (3 * (s + t))
           (omega (arith, asked .inside, asked .halves)) kept (omega (arith, asked .inside, asked .centred))
 
+      -- and so are the entries that wait
       source : waiting work m s count ≡ W
       source =
           stretch-front work work₀ (take (3 * (at - s)) G ++ drop behind work₀) (3 * (s + m)) (3 * (s + count)) (3 * (n + s))
@@ -139,10 +145,11 @@ module _ {room₀ work₀ : List ℕ} {n m s count made : ℕ} (asked : Sharable
       unfolding centre
       same-group = ap₂ group sharing-read source
 
-      -- it is the next of the words that are left, and fits
+      -- its words are the next of those that are left
       rest-words : drop (3 * (at - s)) G ≡ g ++ shared W later
       rest-words = inv .left ∙ ap (shared W) next
 
+      -- it ends in the run
       sharing-fits : at + size g ≤ s + count
       sharing-fits =
           let from : s ≤ at = inv .from in
@@ -163,29 +170,33 @@ module _ {room₀ work₀ : List ℕ} {n m s count made : ℕ} (asked : Sharable
 
       module _ {work′ : List ℕ} {k radius : ℕ}
           (got : Gathered work (3 * (s + m)) (3 * (s + count)) (getD work (3 * (s + t)) 0) (3 * (n + at)) work′ k radius) where
-        -- it has k members, the farthest at `radius`
+        -- it has k members
         members : k ≡ size g
         members = got .members ∙ ap size same-group
 
+        -- the farthest at `radius`
         far : radius ≡ widest g
         far = got .far ∙ ap widest same-group
 
-        -- it ends in the run
+        -- it ends in the run, by its count
         pub sharing-small : at + k ≤ s + count
         sharing-small = omega (arith, members, sharing-fits)
 
+        -- three words each
         group-long : length g ≡ 3 * k
         group-long = group-size centre W ∙ ap (λ (x : ℕ). 3 * x) (sym members)
 
+        -- how many words are written then
         step-size : 3 * (at + k - s) ≡ 3 * (at - s) + 3 * k
         step-size = omega (arith, inv .from)
 
-        -- the words that are left, and those that are written
+        -- the words that are left then
         step-left : drop (3 * (at + k - s)) G ≡ shared W later
         step-left =
             ap (λ (x : ℕ). drop x G) step-size ∙ sym (drop-drop (3 * k) (3 * (at - s)) G) ∙ ap (drop (3 * k)) rest-words
             ∙ drop-at g (shared W later) (3 * k) group-long
 
+        -- and those that are written
         step-take : take (3 * (at + k - s)) G ≡ take (3 * (at - s)) G ++ g
         step-take =
             ap (λ (x : ℕ). take x G) step-size ∙ take-add (3 * (at - s)) (3 * k) G
@@ -222,6 +233,7 @@ module _ {room₀ work₀ : List ℕ} {n m s count made : ℕ} (asked : Sharable
         node-words =
             inv .nodesLeft ∙ ap (sharedNodes at W) next ∙ ap₂ (λ (x y : ℕ). at ∷ x ∷ 0 ∷ y ∷ sharedNodes (at + x) W later) (sym members) (sym far)
 
+        -- four words more
         four : 4 * (t + 1) ≡ 4 * t + 4
         four = omega arith
 

@@ -32,22 +32,28 @@ module _ {t : List ℕ} {c m n : ℕ} {room work : List ℕ} {s count made : ℕ
   abbrev d : ℕ → ℕ → ℕ
   d = between t c
 
+  -- the words from where the run starts
   abbrev lo : ℕ
   lo = 3 * s
 
+  -- to where it ends
   abbrev hi : ℕ
   hi = 3 * s + 3 * count
 
+  -- its rows
   abbrev run : List ℕ
   run = runAt work s count
 
   -- ---- before the rounds
+  -- it ends in the workspace
   reached : hi ≤ length work
   reached = omega (arith, asked .inside, asked .halves)
 
+  -- three words a row
   part-long : length (runPart work s count) ≡ 3 * count
   part-long = mid-len lo hi work reached ∙ omega arith
 
+  -- `count` rows
   run-long : length run ≡ count
   run-long = omega (arith, part-long, ap length (asked .known), laid-long d run)
 
@@ -62,6 +68,7 @@ module _ {t : List ℕ} {c m n : ℕ} {room work : List ℕ} {s count made : ℕ
   -- ---- after the rounds
   module _ {ys : List ℕ} (long : length ys ≡ length (runPart work s count))
       (rounds : ys ≡ take 3 (runPart work s count) ++ roundsOf (between t c) (m - 1) (drop 3 (runPart work s count))) where
+    -- the workspace then
     abbrev after : List ℕ
     after = withPart work s count ys
 
@@ -71,6 +78,7 @@ module _ {t : List ℕ} {c m n : ℕ} {room work : List ℕ} {s count made : ℕ
         rounds ∙ ap (λ (l : List ℕ). take 3 l ++ roundsOf d (m - 1) (drop 3 l)) (asked .known)
         ∙ chosen-words d m run (asked .share) (omega (arith, run-long, asked .centred)) (metric t c .self (head run))
 
+    -- what stands before the run
     fore : length (take lo work) ≡ lo
     fore = length-take-le lo work (omega (arith, reached))
 
@@ -78,17 +86,21 @@ module _ {t : List ℕ} {c m n : ℕ} {room work : List ℕ} {s count made : ℕ
     after-split : after ≡ take lo work ++ (ys ++ drop hi work)
     after-split = ap (λ (l : List ℕ). take lo work ++ (ys ++ l)) (post-is lo hi work (omega arith))
 
+    -- before the run it is as it was
     after-fore : take lo after ≡ take lo work
     after-fore = ap (take lo) after-split ∙ take-at (take lo work) (ys ++ drop hi work) lo fore
 
+    -- the run has its words after the rounds
     after-here : drop lo after ≡ chosenWords d m run ++ drop hi work
     after-here = ap (drop lo) after-split ∙ drop-at (take lo work) (ys ++ drop hi work) lo fore ∙ ap (λ (l : List ℕ). l ++ drop hi work) ys-are
 
+    -- behind the run it is as it was
     after-back : drop hi after ≡ drop hi work
     after-back =
         ap (drop hi) (after-split ∙ sym (append-assoc (take lo work) ys (drop hi work)))
         ∙ drop-at (take lo work ++ ys) (drop hi work) hi (length-append (take lo work) ys ∙ omega (arith, fore, long, part-long))
 
+    -- and as long as it was
     after-long : length after ≡ length work
     after-long =
         ap length after-split
@@ -102,6 +114,7 @@ module _ {t : List ℕ} {c m n : ℕ} {room work : List ℕ} {s count made : ℕ
           reached,
         )
 
+    -- three words a row still
     words-long : length (chosenWords d m run) ≡ 3 * count
     words-long = ap length (sym ys-are) ∙ long ∙ part-long
 
@@ -110,6 +123,7 @@ module _ {t : List ℕ} {c m n : ℕ} {room work : List ℕ} {s count made : ℕ
     groups-are =
         group-words d (metric t c .self) after m s count run (drop hi work) (asked .share) (asked .centred) after-here words-long
 
+    -- and their nodes those of the runs
     nodes-are : groupNodes after m s count ≡ runNodes d s (split d m run)
     nodes-are =
         group-nodes d (metric t c .self) after m s count run (drop hi work) (asked .share) (asked .centred) after-here words-long
@@ -135,12 +149,15 @@ module _ {t : List ℕ} {c m n : ℕ} {room work : List ℕ} {s count made : ℕ
     -- ---- shared out to the second half, and copied back
     module _ {room′ work₂ work₃ : List ℕ} (shared : Shared room (withPart work s count ys) n m s count made room′ work₂)
         (copied : work₃ ≡ take (3 * s) work₂ ++ (stretch work₂ (3 * s + 3 * n) (3 * s + 3 * count + 3 * n) ++ drop (3 * s + 3 * count) work₂)) where
+      -- where the groups go
       abbrev base : ℕ
       base = 3 * (n + s)
 
+      -- their words
       abbrev G : List ℕ
       G = groupWords after m s count
 
+      -- there is room for them
       base-fits : base ≤ length after
       base-fits = omega (arith, after-long, asked .inside, asked .halves)
 

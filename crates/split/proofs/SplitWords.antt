@@ -81,9 +81,11 @@ centres-own w p (a ∷ cs) more e =
 -- THE GROUPS OF A RUN'S WORDS AFTER THE ROUNDS
 module _ (d : ℕ → ℕ → ℕ) (zeroed : (i : ℕ) → d i i ≡ 0) (w : List ℕ) (m s count : ℕ) (run more : List ℕ) (one : 1 ≤ m) (few : m ≤ count)
     (here : drop (3 * s) w ≡ chosenWords d m run ++ more) (long : length (chosenWords d m run) ≡ 3 * count) where
+  -- the centres
   cs : List ℕ
   cs = chosen d m run
 
+  -- the rows that wait
   is : List ℕ
   is = unchosen d m run
 
