@@ -37,20 +37,20 @@ module _ (d : ℕ → ℕ → ℕ) (m l : ℕ) where
       go false e = refl
 
   -- so for runs that follow each other
-  pub leaves-down : (deep : ℕ) (ts : List (List ℕ)) → each (leaves d m l (suc deep)) ts ≡ each (leaves d m l deep) (each (opened d m l) ts)
+  leaves-down : (deep : ℕ) (ts : List (List ℕ)) → each (leaves d m l (suc deep)) ts ≡ each (leaves d m l deep) (each (opened d m l) ts)
   leaves-down deep [] = refl
   leaves-down deep (r ∷ ts) =
       ap₂ (λ (x y : List (List ℕ)). x ++ y) (leaves-opened deep r) (leaves-down deep ts)
       ∙ sym (each-append (leaves d m l deep) (opened d m l r) (each (opened d m l) ts))
 
   -- where no level is left, each run is a leaf
-  pub leaves-none : (ts : List (List ℕ)) → each (leaves d m l 0) ts ≡ ts
+  leaves-none : (ts : List (List ℕ)) → each (leaves d m l 0) ts ≡ ts
   unfolding leaves
   leaves-none [] = refl
   leaves-none (r ∷ ts) = ap (λ (x : List (List ℕ)). r ∷ x) (leaves-none ts)
 
   -- the nodes of a level, and then those of the levels below it
-  pub nodes-down : (deep hi made : ℕ) (before : List Node) (items : List Item) → made ≡ hi + length (nextLevel d m l items)
+  nodes-down : (deep hi made : ℕ) (before : List Node) (items : List Item) → made ≡ hi + length (nextLevel d m l items)
       → before ++ allNodes d m l (suc deep) hi items ≡ (before ++ levelOut d m l hi items) ++ allNodes d m l deep made (nextLevel d m l items)
   unfolding allNodes
   nodes-down deep hi made before items e =
@@ -58,7 +58,7 @@ module _ (d : ℕ → ℕ → ℕ) (m l : ℕ) where
       ∙ sym (append-assoc before (levelOut d m l hi items) (allNodes d m l deep made (nextLevel d m l items)))
 
   -- where no level is left, each item is a leaf
-  pub nodes-none : (hi : ℕ) (items : List Item) → allNodes d m l 0 hi items ≡ map (leafNode d m l) items
+  nodes-none : (hi : ℕ) (items : List Item) → allNodes d m l 0 hi items ≡ map (leafNode d m l) items
   unfolding allNodes
   nodes-none hi items = refl
 
@@ -92,7 +92,7 @@ module _ {t : List ℕ} {c m l n : ℕ} {origin room work : List ℕ} {lo hi dep
   abbrev pub growing-level : Fit t c m l n → Level t c m l n room work lo hi
   growing-level fit = record { fit = fit; origin = origin; before = inv .before; items = inv .items; tiles = inv .tiles; stage = inv .stage }
 
-  -- it is opened
+  -- the next level is opened
   pub growing-step : {room′ work′ : List ℕ} {made : ℕ} → Fit t c m l n → depth < maxDepth → Staged t c m l n room work lo hi room′ work′ made
       → Growing t c m l n origin room′ work′ hi made (depth + 1)
   growing-step {made = made} fit h staged =
@@ -111,7 +111,7 @@ module _ {t : List ℕ} {c m l n : ℕ} {origin room work : List ℕ} {lo hi dep
             ∙ inv .below;
       }
 
-  -- all are
+  -- all levels are opened
   pub growing-done : maxDepth ≤ depth → Layered (between t c) m l n origin room work hi
   growing-done h =
       let z : maxDepth - depth ≡ 0 = omega arith in

@@ -22,7 +22,7 @@ pub record Laying (d : ℕ → ℕ → ℕ) (n : ℕ) (w₀ w : List ℕ) (radiu
   pub wrote : w ≡ each (entryOf0 d) (range 0 i) ++ drop (3 * i) w₀
   pub far : radius ≡ mostTo (d 0) i
 
--- none is
+-- no row is laid yet
 pub laying-start : (d : ℕ → ℕ → ℕ) (n : ℕ) (w : List ℕ) → Laying d n w w 0 0
 laying-start d n w = record { some = omega arith; long = refl; wrote = refl; far = sym (most-none (d 0)) }
 
@@ -53,7 +53,7 @@ module _ {d : ℕ → ℕ → ℕ} {n : ℕ} {w₀ w : List ℕ} {radius i : ℕ
         far = g ∙ ap₂ max (inv .far) q ∙ sym (most-next (d 0) i);
       }
 
-  -- all n are
+  -- all n rows are laid
   pub laying-done : n ≤ i → (radius ≡ mostTo (d 0) n) × (w ≡ each (entryOf0 d) (range 0 n) ++ drop (3 * n) w₀)
   laying-done h =
       let k : i ≡ n = omega (arith, inv .some) in

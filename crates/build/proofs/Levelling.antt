@@ -23,7 +23,7 @@ module _ {t : List ℕ} {c m l n : ℕ} {room₀ work₀ : List ℕ} {lo hi : �
   abbrev d : ℕ → ℕ → ℕ
   d = between t c
 
-  -- none is opened
+  -- no node is opened yet
   pub levelling-start : Levelling g room₀ work₀ hi lo
   unfolding levelOut
   levelling-start =

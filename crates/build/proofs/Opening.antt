@@ -34,7 +34,7 @@ module _ {t : List ℕ} {c m l n : ℕ} {room₀ work₀ : List ℕ} {lo hi : �
 
   -- ---- it has more than l rows
   module _ (large : leb (length (q .1)) l ≡ false) where
-    -- as a fact of numbers
+    -- more than l rows, as numbers
     large-is : l < length (q .1)
     large-is = leb-false (length (q .1)) l large
 

@@ -18,7 +18,7 @@ pub record Pairing (n : ℕ) (w part₀ part : List ℕ) (p : ℕ) : Type 0 wher
   pub left : drop (2 * p) (pairsIn (stretch w 0 (3 * n))) ≡ pairsIn (stretch w (3 * p) (3 * n))
   pub wrote : part ≡ take (2 * p) (pairsIn (stretch w 0 (3 * n))) ++ drop (2 * p) part₀
 
--- none is
+-- no pair is written yet
 pub pairing-start : (n : ℕ) (w part : List ℕ) → Pairing n w part part 0
 pairing-start n w part = record { some = omega arith; long = refl; size = omega arith; left = refl; wrote = refl }
 
@@ -55,7 +55,7 @@ module _ {n : ℕ} {w part₀ part : List ℕ} {p : ℕ} (inv : Pairing n w part
             ∙ ap₂ (λ (l : List ℕ) (k : ℕ). l ++ drop k part₀) (append-assoc T (a ∷ []) (b ∷ []) ∙ grown) two;
       }
 
-  -- all are
+  -- all pairs are written
   pub pairing-done : n ≤ p → part ≡ pairsIn (stretch w 0 (3 * n)) ++ drop (2 * n) part₀
   unfolding pairsIn
   pairing-done h =

@@ -20,7 +20,7 @@ abbrev pub Small : ℕ → List ℕ → Type 0
 Small l r = leb (length r) l ≡ true
 
 -- two stretches of runs: the second starts behind the rows of the first
-pub placed-append : (s : ℕ) (xs ys : List (List ℕ)) → placed s (xs ++ ys) ≡ placed s xs ++ placed (s + length (joined xs)) ys
+placed-append : (s : ℕ) (xs ys : List (List ℕ)) → placed s (xs ++ ys) ≡ placed s xs ++ placed (s + length (joined xs)) ys
 placed-append s [] ys = rw add-zero
 placed-append s (x ∷ xs) ys =
     let k : s + length x + length (joined xs) ≡ s + length (joined (x ∷ xs)) = omega (arith, length-append x (joined xs)) in

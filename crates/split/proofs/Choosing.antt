@@ -41,7 +41,7 @@ pub record Choosing (P : ℕ → Type 0) (d : ℕ → ℕ → ℕ) (m : ℕ) (ru
   pub left : Entries P (drop (3 * r) run)
   pub whole : take (3 * r) run ++ roundsOf d (m - r) (drop (3 * r) run) ≡ take 3 run₀ ++ roundsOf d (m - 1) (drop 3 run₀)
 
--- the first is
+-- the run's first is the first centre
 pub choosing-start : (P : ℕ → Type 0) (d : ℕ → ℕ → ℕ) (m : ℕ) (run : List ℕ) → 1 ≤ m → 3 * m ≤ length run → Entries P run → Choosing P d m run run 1
 choosing-start P d m run h l e =
     record { low = omega arith; high = h; room = l; long = refl; left = entries-front P run e (omega arith) .after; whole = refl }
@@ -51,7 +51,7 @@ module _ {P : ℕ → Type 0} {d : ℕ → ℕ → ℕ} {m : ℕ} {run₀ run : 
   pub choosing-requires : r < m → (3 ≤ length (midOf (3 * r) (length run - 3 * r) run)) × Entries P (midOf (3 * r) (length run - 3 * r) run)
   choosing-requires h = rw (mid-end (3 * r) run) (omega (arith, length-drop (3 * r) run, inv .room), inv .left)
 
-  -- one more is chosen
+  -- one centre more is chosen
   pub choosing-step : (new : List ℕ) → r < m → new ≡ roundOf d (midOf (3 * r) (length run - 3 * r) run)
       → Choosing P d m run₀ (putMid (3 * r) (length run - 3 * r) run new) (r + 1)
   unfolding roundsOf
@@ -85,7 +85,7 @@ module _ {P : ℕ → Type 0} {d : ℕ → ℕ → ℕ} {m : ℕ} {run₀ run : 
             ∙ inv .whole;
       }
 
-  -- all m are
+  -- all m centres are at the front
   pub choosing-done : m ≤ r → run ≡ take 3 run₀ ++ roundsOf d (m - 1) (drop 3 run₀)
   unfolding roundsOf
   choosing-done h =

@@ -75,7 +75,7 @@ module _ (d : ℕ → ℕ → ℕ) where
       go true = refl
       go false = refl
 
-  -- all of them do
+  -- all entries learn of it
   pub near-held : (a : ℕ) (cs : List ℕ) (j : ℕ) (is : List ℕ) → nearAll d j (each (held (a ∷ cs)) is) ≡ each (held (a ∷ cs ++ j ∷ [])) is
   unfolding nearAll
   near-held a cs j [] = refl

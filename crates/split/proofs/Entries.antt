@@ -54,7 +54,7 @@ near-front d j (i ∷ []) h = absurd (omega arith)
 near-front d j (i ∷ x ∷ []) h = absurd (omega arith)
 near-front d j (i ∷ x ∷ a ∷ es) h = (refl, refl)
 
--- they keep their rows
+-- entries that learn of a centre keep their rows
 near-entries : (P : ℕ → Type 0) (d : ℕ → ℕ → ℕ) (j : ℕ) (es : List ℕ) → Entries P es
     → Entries P (nearAll d j es) × (length (nearAll d j es) ≡ length es)
 unfolding Entries nearAll
@@ -64,7 +64,7 @@ near-entries P d j (i ∷ x ∷ []) e = absurd e
 near-entries P d j (i ∷ x ∷ a ∷ es) e = let r = near-entries P d j es (e .1) in ((e .0, r .0), omega (arith, r .1))
 
 -- ---- the entry that is chosen next
--- an entry stands there
+-- it is a whole entry
 far-place : (P : ℕ → Type 0) (es : List ℕ) → Entries P es → 3 ≤ length es → (far es + 3 ≤ length es) × (far es % 3 ≡ 0)
 unfolding Entries far
 far-place P [] e h = absurd (omega arith)

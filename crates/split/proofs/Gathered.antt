@@ -70,7 +70,7 @@ module _ {w : List ℕ} {lo hi a to : ℕ} (asked : Gatherable w lo hi a to) {ys
         room = rw (source-kept, fronted-long, group-more) (asked .room);
       }
 
-  -- they stand behind the centre
+  -- they stand behind the centre: the group is gathered
   pub gather-done : {w′ : List ℕ} {count radius : ℕ} → Picked (putMid to (length w - to) w ys) lo hi a (to + 3) w′ count radius
       → Gathered w lo hi a to w′ (count + 1) radius
   unfolding size widest

@@ -75,7 +75,7 @@ module _ (d : ℕ → ℕ → ℕ) where
           → FarHeld cs (i ∷ j ∷ is) (held d cs i ++ es) (aheadOf i (nearness d cs i) es b)
       pick s e = rw (behind .row, behind .dist, e) (go s e)
 
-  -- `far` finds it
+  -- `far` finds the entry of the farthest row
   far-held : (cs is : List ℕ) → 1 ≤ length is → FarHeld cs is (each (held d cs) is) (far (each (held d cs) is))
   unfolding far
   far-held cs [] h = absurd (not-suc-le-zero h)

@@ -44,7 +44,7 @@ pub record Nearing (P : ℕ → Type 0) (d : ℕ → ℕ → ℕ) (j : ℕ) (es�
   pub left : Entries P (drop p es)
   pub whole : take p es ++ nearAll d j (drop p es) ≡ nearAll d j es₀
 
--- none has
+-- no entry has learnt of it yet
 pub nearing-start : (P : ℕ → Type 0) (d : ℕ → ℕ → ℕ) (j : ℕ) (es : List ℕ) → Entries P es → Nearing P d j es es 0
 nearing-start P d j es e = record { inside = omega arith; long = refl; left = e; whole = refl }
 
@@ -53,7 +53,7 @@ module _ {P : ℕ → Type 0} {d : ℕ → ℕ → ℕ} {j : ℕ} {es₀ es : Li
   here : p < length es → Front P (drop p es)
   here h = entries-front P (drop p es) (inv .left) (omega (arith, length-drop p es))
 
-  -- its three words are there
+  -- it has its three words
   pub nearing-fits : p < length es → p + 3 ≤ length es
   nearing-fits h = omega (arith, here h .long, length-drop p es)
 
@@ -63,7 +63,7 @@ module _ {P : ℕ → Type 0} {d : ℕ → ℕ → ℕ} {j : ℕ} {es₀ es : Li
       let three : p + 3 - p ≡ 3 = omega arith in
       rw (three, getD-take 3 (drop p es) 0 0 (omega arith)) (here h .row)
 
-  -- it learns of j
+  -- it learns of j, and p is behind it
   pub nearing-step : (new : List ℕ) → p < length es → new ≡ nearAll d j (midOf p (p + 3 - p) es)
       → Nearing P d j es₀ (putMid p (p + 3 - p) es new) (p + 3)
   nearing-step new h e =
@@ -93,7 +93,7 @@ module _ {P : ℕ → Type 0} {d : ℕ → ℕ → ℕ} {j : ℕ} {es₀ es : Li
             ∙ inv .whole;
       }
 
-  -- all have
+  -- all entries have learnt of it
   pub nearing-done : length es ≤ p → es ≡ nearAll d j es₀
   unfolding nearAll
   nearing-done h =

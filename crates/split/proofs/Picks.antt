@@ -106,42 +106,50 @@ module _ {w₀ : List ℕ} {lo hi a to : ℕ} {w : List ℕ} {count radius p : �
   pub picks-fits : p < hi → getD w (p + 2) 0 ≡ a → to + 3 * count + 3 ≤ length w
   picks-fits h e = omega (arith, picks-more h e, picked-size a (stretch w₀ lo hi), inv .asked .room, inv .long)
 
+  -- its words
+  abbrev entry : List ℕ
+  entry = getD w₀ p 0 ∷ getD w₀ (p + 1) 0 ∷ a ∷ []
+
+  -- the words before it
+  abbrev front : List ℕ
+  front = take to w₀ ++ take (3 * count) G
+
+  -- they end where it goes
+  front-long : length front ≡ to + 3 * count
+  front-long =
+      let before : length (take to w₀) ≡ to = length-take-le to w₀ (omega (arith, inv .asked .room)) in
+      length-append (take to w₀) (take (3 * count) G) ∙ omega (arith, length-take-le (3 * count) G (inv .some))
+
+  -- it is put behind them
+  picks-put : (ys : List ℕ) → p < hi → getD w (p + 2) 0 ≡ a
+      → ys ≡ getD w p 0 ∷ getD w (p + 1) 0 ∷ a ∷ drop 3 (midOf (to + 3 * count) (length w - (to + 3 * count)) w)
+      → putMid (to + 3 * count) (length w - (to + 3 * count)) w ys ≡ (front ++ entry) ++ drop (to + 3 * count + 3) w₀
+  picks-put ys h e f =
+      let q : ℕ = to + 3 * count in
+      let t : (hi - p) % 3 ≡ 0 = inv .thirds in
+      let put : ys ≡ entry ++ drop 3 (midOf q (length w - q) w) =
+      f ∙ ap₂ (λ (y z : ℕ). y ∷ z ∷ a ∷ drop 3 (midOf q (length w - q) w)) (picks-read p h) (picks-read (p + 1) (omega arith)) in
+      put-more front entry w₀ w ys q 3 front-long (omega (arith, picks-fits h e)) (inv .wrote) put
+
   -- it is written
   pub picks-take : (ys : List ℕ) → p < hi → getD w (p + 2) 0 ≡ a
       → ys ≡ getD w p 0 ∷ getD w (p + 1) 0 ∷ a ∷ drop 3 (midOf (to + 3 * count) (length w - (to + 3 * count)) w)
       → Picks w₀ lo hi a to (putMid (to + 3 * count) (length w - (to + 3 * count)) w ys) (count + 1) (max radius (getD w (p + 1) 0)) (p + 3)
   unfolding widest
   picks-take ys h e f =
-      let i : ℕ = getD w₀ p 0 in
-      let x : ℕ = getD w₀ (p + 1) 0 in
       let q : ℕ = to + 3 * count in
+      let put : putMid q (length w - q) w ys ≡ (front ++ entry) ++ drop (q + 3) w₀ = picks-put ys h e f in
       let t : (hi - p) % 3 ≡ 0 = inv .thirds in
-      let r : to + 3 * size G ≤ length w₀ = inv .asked .room in
-      let gs : length G ≡ 3 * size G = picked-size a (stretch w₀ lo hi) in
       let fits : q + 3 ≤ length w = picks-fits h e in
       let more : 3 * count + 3 ≤ length G = picks-more h e in
       let up : 3 * (count + 1) ≡ 3 * count + 3 = omega arith in
       let qup : to + 3 * (count + 1) ≡ q + 3 = omega arith in
-      let ri : getD w p 0 ≡ i = picks-read p h in
-      let rx : getD w (p + 1) 0 ≡ x = picks-read (p + 1) (omega arith) in
-      let f′ : ys ≡ i ∷ x ∷ a ∷ drop 3 (midOf q (length w - q) w) = f ∙ ap₂ (λ (y z : ℕ). y ∷ z ∷ a ∷ drop 3 (midOf q (length w - q) w)) ri rx in
-      let rest : drop (3 * count) G ≡ i ∷ x ∷ a ∷ pickedIn w₀ (p + 3) hi a = inv .left ∙ taken h e in
-      let front : List ℕ = take to w₀ ++ take (3 * count) G in
-      let lf : length front ≡ q =
-      length-append (take to w₀) (take (3 * count) G) ∙ omega (arith, length-take-le to w₀ (omega arith), length-take-le (3 * count) G (inv .some)) in
-      let put : putMid q (length w - q) w ys ≡ (front ++ i ∷ x ∷ a ∷ []) ++ drop (q + 3) w₀ =
-      put-more front (i ∷ x ∷ a ∷ []) w₀ w ys q 3 lf (omega arith) (inv .wrote) f′ in
-      let grown : take (3 * (count + 1)) G ≡ take (3 * count) G ++ i ∷ x ∷ a ∷ [] =
+      let rest : drop (3 * count) G ≡ entry ++ pickedIn w₀ (p + 3) hi a = inv .left ∙ taken h e in
+      let grown : take (3 * (count + 1)) G ≡ take (3 * count) G ++ entry =
       ap (λ (k : ℕ). take k G) up ∙ take-add (3 * count) 3 G ∙ ap (λ (l : List ℕ). take (3 * count) G ++ take 3 l) rest in
       let long : length (putMid q (length w - q) w ys) ≡ length w₀ =
       ap length put
-      ∙ omega (
-        arith,
-        length-append (front ++ i ∷ x ∷ a ∷ []) (drop (q + 3) w₀),
-        length-append front (i ∷ x ∷ a ∷ []),
-        length-drop (q + 3) w₀,
-        inv .long,
-      ) in
+      ∙ omega (arith, length-append (front ++ entry) (drop (q + 3) w₀), length-append front entry, front-long, length-drop (q + 3) w₀, inv .long) in
       record {
         asked = inv .asked;
         over = omega arith;
@@ -149,8 +157,8 @@ module _ {w₀ : List ℕ} {lo hi a to : ℕ} {w : List ℕ} {count radius p : �
         long = long;
         some = omega arith;
         left = ap (λ (k : ℕ). drop k G) up ∙ sym (drop-drop 3 (3 * count) G) ∙ ap (drop 3) rest;
-        wrote = put ∙ rw (grown, qup) (ap (λ (l : List ℕ). l ++ drop (q + 3) w₀) (append-assoc (take to w₀) (take (3 * count) G) (i ∷ x ∷ a ∷ [])));
-        far = rw rx (widen ∙ ap (λ (l : List ℕ). max radius (widest l)) (sym (taken h e)) ∙ inv .far);
+        wrote = put ∙ rw (grown, qup) (ap (λ (l : List ℕ). l ++ drop (q + 3) w₀) (append-assoc (take to w₀) (take (3 * count) G) entry));
+        far = rw (picks-read (p + 1) (omega arith)) (widen ∙ ap (λ (l : List ℕ). max radius (widest l)) (sym (taken h e)) ∙ inv .far);
       }
     where
       widen : max (max radius (getD w₀ (p + 1) 0)) (widest (pickedIn w₀ (p + 3) hi a))

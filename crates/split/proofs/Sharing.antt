@@ -82,7 +82,7 @@ module _ {room₀ work₀ : List ℕ} {n m s count made : ℕ} (asked : Sharable
     abbrev behind : ℕ
     behind = 3 * (n + s) + 3 * (at - s)
 
-    -- all m are written
+    -- all m groups are written
     pub sharing-done : m ≤ t → Shared room₀ work₀ n m s count made room work
     unfolding centres sharedNodes
     sharing-done h =
@@ -124,7 +124,7 @@ module _ {room₀ work₀ : List ℕ} {n m s count made : ℕ} (asked : Sharable
           let less : m - t ≡ suc (m - (t + 1)) = omega arith in
           ap (centres work₀ (3 * (s + t))) less
 
-      -- the first half of the workspace is as it was
+      -- what stands before the groups is as it was
       kept : work ≡ take (3 * (n + s)) work₀ ++ (take (3 * (at - s)) G ++ drop behind work₀)
       kept = inv .wrote ∙ append-assoc (take (3 * (n + s)) work₀) (take (3 * (at - s)) G) (drop behind work₀)
 

@@ -32,11 +32,11 @@ module _ {t : List ℕ} {c m n : ℕ} {room work : List ℕ} {s count made : ℕ
   abbrev d : ℕ → ℕ → ℕ
   d = between t c
 
-  -- the words from where the run starts
+  -- the word where the run starts
   abbrev lo : ℕ
   lo = 3 * s
 
-  -- to where it ends
+  -- and the one where it ends
   abbrev hi : ℕ
   hi = 3 * s + 3 * count
 
@@ -78,7 +78,7 @@ module _ {t : List ℕ} {c m n : ℕ} {room work : List ℕ} {s count made : ℕ
         rounds ∙ ap (λ (l : List ℕ). take 3 l ++ roundsOf d (m - 1) (drop 3 l)) (asked .known)
         ∙ chosen-words d m run (asked .share) (omega (arith, run-long, asked .centred)) (metric t c .self (head run))
 
-    -- what stands before the run
+    -- the words before the run
     fore : length (take lo work) ≡ lo
     fore = length-take-le lo work (omega (arith, reached))
 

@@ -126,7 +126,7 @@ module _ (d : ℕ → ℕ → ℕ) (zeroed : (i : ℕ) → d i i ≡ 0) (w : Lis
   pub group-words : groupWords w m s count ≡ each (laid d) (split d m run)
   group-words = ap₂ shared waiting-is centres-are ∙ shared-laid d zeroed cs (omega (arith, cs-long)) is cs ∙ ap (each (laid d)) (sym split-is)
 
-  -- and so are their nodes
+  -- and their nodes are those of the runs
   pub group-nodes : groupNodes w m s count ≡ runNodes d s (split d m run)
   group-nodes =
       ap₂ (sharedNodes s) waiting-is centres-are ∙ nodes-laid d zeroed cs (omega (arith, cs-long)) is s cs ∙ ap (runNodes d s) (sym split-is)

@@ -1,4 +1,4 @@
--- `build::lay` meets its contract: i rows are laid, and the greatest distance so far and from there on is the radius (`Laying`).
+-- `build::lay` meets its contract: i rows are laid, and the radius is the greatest distance so far (`Laying`).
 -- Assumes nothing.
 use Prim.Native.Nat.{_-_}
 use Rattle.build.proofs.Laying.{Laying, laying-done, laying-start, laying-step}

@@ -1,4 +1,4 @@
--- `split::rounds::nearer` meets its contract: the entries before p have learnt of the new centre, and the rest are as they were (`Nearing`).
+-- `split::rounds::nearer` meets its contract: the entries before p have learnt of the new centre, and the rest are still to (`Nearing`).
 -- Assumes nothing.
 use Prim.Native.Nat.{_+_, _-_}
 use Rattle.measure.specs.Table.{between}
