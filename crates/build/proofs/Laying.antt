@@ -2,12 +2,12 @@
 use Prim.Native.Nat.{_*_, _+_, _-_, _<_, _≤_, max, ℕ}
 use Rattle.build.specs.Filled.{entryOf0}
 use Rattle.laws.proofs.Joins.{each-append}
+use Rattle.laws.proofs.Parts.{put-more}
 use Rattle.laws.proofs.Ranges.{range-append, range-length}
 use Rattle.laws.proofs.Upto.{most-next, most-none}
 use Rattle.laws.specs.Lists.{each, range}
 use Rattle.laws.specs.Upto.{mostTo}
-use Rattle.laws.proofs.Parts.{put-more}
-use Rattle.split.proofs.SplitWords.{under-long}
+use Rattle.split.proofs.Laid.{under-long}
 use borrow.Rule.Slice.PartMut.{midOf, putMid}
 use lib.ListN.{drop, length}
 use mathlib.Core.List.{List, [], _++_, _∷_}
@@ -22,33 +22,38 @@ pub record Laying (d : ℕ → ℕ → ℕ) (n : ℕ) (w₀ w : List ℕ) (radiu
   pub wrote : w ≡ each (entryOf0 d) (range 0 i) ++ drop (3 * i) w₀
   pub far : radius ≡ mostTo (d 0) i
 
+-- no row is laid yet
 pub laying-start : (d : ℕ → ℕ → ℕ) (n : ℕ) (w : List ℕ) → Laying d n w w 0 0
 laying-start d n w = record { some = omega arith; long = refl; wrote = refl; far = sym (most-none (d 0)) }
 
-laid-long : (d : ℕ → ℕ → ℕ) (i : ℕ) → length (each (entryOf0 d) (range 0 i)) ≡ 3 * i
-laid-long d i = under-long (d 0) 0 (range 0 i) ∙ ap (λ (k : ℕ). 3 * k) (range-length 0 i)
+-- three words a row
+rows-long : (d : ℕ → ℕ → ℕ) (i : ℕ) → length (each (entryOf0 d) (range 0 i)) ≡ 3 * i
+rows-long d i = under-long (d 0) 0 (range 0 i) ∙ ap (λ (k : ℕ). 3 * k) (range-length 0 i)
 
-laid-next : (d : ℕ → ℕ → ℕ) (i : ℕ) → each (entryOf0 d) (range 0 (i + 1)) ≡ each (entryOf0 d) (range 0 i) ++ entryOf0 d i
-laid-next d i =
+-- one row more
+rows-next : (d : ℕ → ℕ → ℕ) (i : ℕ) → each (entryOf0 d) (range 0 (i + 1)) ≡ each (entryOf0 d) (range 0 i) ++ entryOf0 d i
+rows-next d i =
     ap (each (entryOf0 d)) (range-append 0 i 1) ∙ each-append (entryOf0 d) (range 0 i) (range (0 + i) 1)
     ∙ ap (λ (k : ℕ). each (entryOf0 d) (range 0 i) ++ entryOf0 d k) (zero-add i)
 
-module _ (d : ℕ → ℕ → ℕ) (n : ℕ) (w₀ w : List ℕ) (radius i : ℕ) (inv : Laying d n w₀ w radius i) where
-  pub laying-step : (ys : List ℕ) (x r : ℕ) → i < n → 3 * n ≤ length w₀ → x ≡ d 0 i → r ≡ max radius x
+module _ {d : ℕ → ℕ → ℕ} {n : ℕ} {w₀ w : List ℕ} {radius i : ℕ} (inv : Laying d n w₀ w radius i) where
+  -- row i is laid, at the distance x
+  pub laying-step : {ys : List ℕ} {x r : ℕ} → i < n → 3 * n ≤ length w₀ → x ≡ d 0 i → r ≡ max radius x
       → ys ≡ i ∷ x ∷ 0 ∷ drop 3 (midOf (3 * i) (length w - 3 * i) w)
       → length (putMid (3 * i) (length w - 3 * i) w ys) ≡ length w → Laying d n w₀ (putMid (3 * i) (length w - 3 * i) w ys) r (i + 1)
-  laying-step ys x r h room q g e same =
+  laying-step {ys} {x} h room q g e same =
       let up : 3 * (i + 1) ≡ 3 * i + 3 = omega arith in
       record {
         some = omega arith;
         long = same ∙ inv .long;
         wrote =
-            put-more (each (entryOf0 d) (range 0 i)) (i ∷ x ∷ 0 ∷ []) w₀ w ys (3 * i) 3 (laid-long d i) (omega (arith, inv .long)) (inv .wrote) e
+            put-more (each (entryOf0 d) (range 0 i)) (i ∷ x ∷ 0 ∷ []) w₀ w ys (3 * i) 3 (rows-long d i) (omega (arith, inv .long)) (inv .wrote) e
             ∙ ap₂ (λ (y : ℕ) (k : ℕ). (each (entryOf0 d) (range 0 i) ++ i ∷ y ∷ 0 ∷ []) ++ drop k w₀) q (sym up)
-            ∙ ap (λ (y : List ℕ). y ++ drop (3 * (i + 1)) w₀) (sym (laid-next d i));
+            ∙ ap (λ (y : List ℕ). y ++ drop (3 * (i + 1)) w₀) (sym (rows-next d i));
         far = g ∙ ap₂ max (inv .far) q ∙ sym (most-next (d 0) i);
       }
 
+  -- all n rows are laid
   pub laying-done : n ≤ i → (radius ≡ mostTo (d 0) n) × (w ≡ each (entryOf0 d) (range 0 n) ++ drop (3 * n) w₀)
   laying-done h =
       let k : i ≡ n = omega (arith, inv .some) in

@@ -1,12 +1,13 @@
+pub mod Items
 pub mod Numbering
+pub mod Positions
 pub mod Tiles
 pub mod Waiting
 pub mod Rooms
-pub mod Items
 pub mod Splits
 pub mod Halfway
+pub mod Opening
 pub mod Levelling
-pub mod Turns
 pub mod Laying
 pub mod Headed
 pub mod Pairing

@@ -1,10 +1,11 @@
 -- The nodes level by level are the numbering of 01: what the code makes is `numbered` of the tree that is grown. Assumes nothing.
 use Prim.Native.Nat.{_+_, _≤_, suc, zero, ℕ}
+use Rattle.build.proofs.Items.{out-append, placed-long}
 use Rattle.build.specs.Levels.{Item, allNodes, leafNode, leaves, levelOut, nextLevel, parts, placed}
 use Rattle.laws.proofs.Every.{every-append}
-use Rattle.laws.specs.Every.{Every}
 use Rattle.laws.proofs.Joins.{each-append}
 use Rattle.laws.proofs.Lists.{map-append, tally-length}
+use Rattle.laws.specs.Every.{Every}
 use Rattle.laws.specs.Lists.{each, head}
 use Rattle.limits.specs.Limits.{maxDepth}
 use Rattle.tree.proofs.Grow.{forest-span, forest-tally, split-length, split-runs, split-tally}
@@ -15,19 +16,21 @@ use borrow.Author.Tests.{leb-false}
 use lib.Dec.{leb}
 use lib.ListN.{length, length-append, length-map}
 use mathlib.Core.Bool.{Bool, cond, false, true}
-use mathlib.Core.List.{List, [], _++_, _∷_, append-nil, foldr, map}
+use mathlib.Core.List.{List, [], _++_, _∷_, foldr, map}
 use mathlib.Core.Path.{_∙_, _≡_, ap, ap₂, refl, sym}
-use native.Mathlib.Nat.{add-zero}
 use native.Mathlib.Omega.{arith}
 
--- as many items as runs
-pub placed-long : (s : ℕ) (rs : List (List ℕ)) → length (placed s rs) ≡ length rs
-placed-long s [] = refl
-placed-long s (r ∷ rs) = ap suc (placed-long (s + length r) rs)
+-- runs side by side, and the position where the first of them starts
+abbrev Family : Type 0
+Family = ℕ × List (List ℕ)
+
+-- their items
+abbrev items : List Family → List Item
+items fs = each (λ f. placed (f .0) (f .1)) fs
 
 module _ (d : ℕ → ℕ → ℕ) (m l : ℕ) (m1 : 1 ≤ m) (ml : m ≤ l) where
   -- nodes side by side, grown from runs
-  abbrev pub forest : ℕ → List (List ℕ) → Grove
+  abbrev forest : ℕ → List (List ℕ) → Grove
   forest deep rs = foldr (grow d m l deep) bare rs
 
   -- a split run's children have as many rows
@@ -39,15 +42,18 @@ module _ (d : ℕ → ℕ → ℕ) (m l : ℕ) (m1 : 1 ≤ m) (ml : m ≤ l) whe
       ∙ forest-tally d m l m1 ml deep (λ i. true) (split d m run) (split-runs d m l m1 ml run r k)
       ∙ split-tally d m l m1 ml (λ i. true) run r k ∙ tally-length run
 
+  -- and there are m of them
   inner-span : (deep : ℕ) (run : List ℕ) → span (forest deep (split d m run)) ≡ m
   inner-span deep run = forest-span d m l m1 ml deep (split d m run) ∙ split-length d m l m1 ml run
 
   -- ---- one family
+  -- where no level is left, all are leaves
   family-last : (next s : ℕ) (rs : List (List ℕ)) → family next s (forest zero rs) ≡ map (leafNode d m l) (placed s rs)
   unfolding family grow
   family-last next s [] = refl
   family-last next s (r ∷ rs) = rw length-map (ap (λ (ns : List Node). (s, length r, 0, radius d r) ∷ ns) (family-last next (s + length r) rs))
 
+  -- else they are the nodes of the level
   family-more : (deep next s : ℕ) (rs : List (List ℕ)) → Every Run rs → family next s (forest (suc deep) rs) ≡ levelOut d m l next (placed s rs)
   unfolding family grow levelOut
   family-more deep next s [] h = refl
@@ -59,20 +65,20 @@ module _ (d : ℕ → ℕ → ℕ) (m l : ℕ) (m1 : 1 ≤ m) (ml : m ≤ l) whe
           ((s, length r, next, radius d r) ∷ levelOut d m l (next + m) (placed (s + length r) rs))
       go true e ih = rw length-map (ap (λ (ns : List Node). (s, length r, 0, radius d r) ∷ ns) (ih next (s + length r)))
       go false e ih =
-          rw (inner-long deep r (h .0) e, inner-span deep r) (ap (λ (ns : List Node). (s, length r, next, radius d r) ∷ ns) (ih (next + m) (s + length r)))
+          rw (inner-long deep r (h .0) e, inner-span deep r)
+          (ap (λ (ns : List Node). (s, length r, next, radius d r) ∷ ns) (ih (next + m) (s + length r)))
 
-  -- ---- families as runs: where each starts, and the runs
-  abbrev famOf : ℕ → ℕ × List (List ℕ) → ℕ × Grove
+  -- ---- the children's families
+  -- a family's nodes
+  abbrev famOf : ℕ → Family → ℕ × Grove
   famOf deep f = (f .0, forest deep (f .1))
 
-  abbrev items : List (ℕ × List (List ℕ)) → List Item
-  items fs = each (λ f. placed (f .0) (f .1)) fs
-
   -- the families of the runs that are split
-  broodsOf : ℕ → List (List ℕ) → List (ℕ × List (List ℕ))
+  broodsOf : ℕ → List (List ℕ) → List (Family)
   broodsOf s [] = []
-  broodsOf s (r ∷ rs) = let later : List (ℕ × List (List ℕ)) = broodsOf (s + length r) rs in cond (leb (length r) l) later ((s, split d m r) ∷ later)
+  broodsOf s (r ∷ rs) = let later : List (Family) = broodsOf (s + length r) rs in cond (leb (length r) l) later ((s, split d m r) ∷ later)
 
+  -- the families of the children of nodes that are grown from runs
   broods-more : (deep s : ℕ) (rs : List (List ℕ)) → Every Run rs → broods s (forest (suc deep) rs) ≡ map (famOf deep) (broodsOf s rs)
   unfolding broods grow broodsOf
   broods-more deep s [] h = refl
@@ -88,6 +94,7 @@ module _ (d : ℕ → ℕ → ℕ) (m l : ℕ) (m1 : 1 ≤ m) (ml : m ≤ l) whe
           ap (λ (k : ℕ). (s, forest deep (split d m r)) ∷ broods (s + k) (forest (suc deep) rs)) (inner-long deep r (h .0) e)
           ∙ ap (λ (fs : List (ℕ × Grove)). (s, forest deep (split d m r)) ∷ fs) (ih (s + length r))
 
+  -- their items are the level below
   broods-items : (s : ℕ) (rs : List (List ℕ)) → items (broodsOf s rs) ≡ nextLevel d m l (placed s rs)
   unfolding broodsOf
   broods-items s [] = refl
@@ -99,9 +106,11 @@ module _ (d : ℕ → ℕ → ℕ) (m l : ℕ) (m1 : 1 ≤ m) (ml : m ≤ l) whe
       go true ih = ih
       go false ih = ap (λ (qs : List Item). placed s (split d m r) ++ qs) ih
 
-  Good : List (ℕ × List (List ℕ)) → Type 0
+  -- the families' runs are not empty, and no row is in one twice
+  Good : List (Family) → Type 0
   Good fs = Every (λ f. Every Run (f .1)) fs
 
+  -- the children's are so too
   broods-good : (s : ℕ) (rs : List (List ℕ)) → Every Run rs → Good (broodsOf s rs)
   unfolding Good broodsOf
   broods-good s [] h = tt
@@ -113,48 +122,32 @@ module _ (d : ℕ → ℕ → ℕ) (m l : ℕ) (m1 : 1 ≤ m) (ml : m ≤ l) whe
       go false e ih = (split-runs d m l m1 ml r (h .0) (omega (arith, leb-false (length r) l e)), ih)
 
   -- ---- one level
-  pub out-append : (next : ℕ) (ps qs : List Item) → levelOut d m l next (ps ++ qs) ≡ levelOut d m l next ps ++ levelOut d m l (next + length (nextLevel d m l ps)) qs
-  unfolding levelOut
-  out-append next [] qs = rw add-zero
-  out-append next (p ∷ ps) qs = go (leb (length (p .1)) l) (λ k. out-append k ps qs)
-    where
-      go : (b : Bool) → ((k : ℕ) → levelOut d m l k (ps ++ qs) ≡ levelOut d m l k ps ++ levelOut d m l (k + length (nextLevel d m l ps)) qs)
-          → cond b (leafNode d m l p ∷ levelOut d m l next (ps ++ qs)) ((p .0, length (p .1), next, radius d (p .1)) ∷ levelOut d m l (next + m) (ps ++ qs))
-          ≡ cond b (leafNode d m l p ∷ levelOut d m l next ps) ((p .0, length (p .1), next, radius d (p .1)) ∷ levelOut d m l (next + m) ps)
-          ++ levelOut d m l (next + length (cond b [] (placed (p .0) (split d m (p .1))) ++ nextLevel d m l ps)) qs
-      go true ih = ap (λ (ns : List Node). leafNode d m l p ∷ ns) (ih next)
-      go false ih =
-          let k : next + m + length (nextLevel d m l ps) ≡ next + length (placed (p .0) (split d m (p .1)) ++ nextLevel d m l ps) =
-          omega (arith, length-append (placed (p .0) (split d m (p .1))) (nextLevel d m l ps), placed-long (p .0) (split d m (p .1)), split-length d m l m1 ml (p .1)) in
-          ap (λ (ns : List Node). (p .0, length (p .1), next, radius d (p .1)) ∷ ns)
-          (ih (next + m) ∙ ap (λ (j : ℕ). levelOut d m l (next + m) ps ++ levelOut d m l j qs) k)
-
-  pub out-long : (next : ℕ) (qs : List Item) → length (levelOut d m l next qs) ≡ length qs
-  unfolding levelOut
-  out-long next [] = refl
-  out-long next (q ∷ qs) = go (leb (length (q .1)) l) (λ k. out-long k qs)
-    where
-      go : (b : Bool) → ((k : ℕ) → length (levelOut d m l k qs) ≡ length qs)
-          → length (cond b (leafNode d m l q ∷ levelOut d m l next qs) ((q .0, length (q .1), next, radius d (q .1)) ∷ levelOut d m l (next + m) qs)) ≡ suc (length qs)
-      go true ih = ap suc (ih next)
-      go false ih = ap suc (ih (next + m))
-
-  members-items : (deep : ℕ) (fs : List (ℕ × List (List ℕ))) → members (map (famOf deep) fs) ≡ length (items fs)
+  -- as many nodes as items
+  members-items : (deep : ℕ) (fs : List (Family)) → members (map (famOf deep) fs) ≡ length (items fs)
   members-items deep [] = refl
   members-items deep (f ∷ fs) =
-      omega (arith, forest-span d m l m1 ml deep (f .1), placed-long (f .0) (f .1), members-items deep fs, length-append (placed (f .0) (f .1)) (items fs))
+      omega (
+        arith,
+        forest-span d m l m1 ml deep (f .1),
+        placed-long (f .0) (f .1),
+        members-items deep fs,
+        length-append (placed (f .0) (f .1)) (items fs),
+      )
 
-  level-out : (deep next : ℕ) (fs : List (ℕ × List (List ℕ))) → Good fs → levelNodes next (map (famOf (suc deep)) fs) ≡ levelOut d m l next (items fs)
+  -- one level, while another is below it
+  level-out : (deep next : ℕ) (fs : List (Family)) → Good fs → levelNodes next (map (famOf (suc deep)) fs) ≡ levelOut d m l next (items fs)
   unfolding levelNodes levelOut Good
   level-out deep next [] h = refl
   level-out deep next (f ∷ fs) h =
       let k : members (broods (f .0) (forest (suc deep) (f .1))) ≡ length (nextLevel d m l (placed (f .0) (f .1))) =
       ap members (broods-more deep (f .0) (f .1) (h .0)) ∙ members-items deep (broodsOf (f .0) (f .1)) ∙ ap length (broods-items (f .0) (f .1)) in
       ap₂ (λ (ns : List Node) (j : ℕ). ns ++ levelNodes (next + j) (map (famOf (suc deep)) fs)) (family-more deep next (f .0) (f .1) (h .0)) k
-      ∙ ap (λ (ns : List Node). levelOut d m l next (placed (f .0) (f .1)) ++ ns) (level-out deep (next + length (nextLevel d m l (placed (f .0) (f .1)))) fs (h .1))
-      ∙ sym (out-append next (placed (f .0) (f .1)) (items fs))
+      ∙ ap (λ (ns : List Node). levelOut d m l next (placed (f .0) (f .1)) ++ ns)
+      (level-out deep (next + length (nextLevel d m l (placed (f .0) (f .1)))) fs (h .1))
+      ∙ sym (out-append d m l m1 ml next (placed (f .0) (f .1)) (items fs))
 
-  level-last : (next : ℕ) (fs : List (ℕ × List (List ℕ))) → levelNodes next (map (famOf zero) fs) ≡ map (leafNode d m l) (items fs)
+  -- the last level
+  level-last : (next : ℕ) (fs : List (Family)) → levelNodes next (map (famOf zero) fs) ≡ map (leafNode d m l) (items fs)
   unfolding levelNodes
   level-last next [] = refl
   level-last next (f ∷ fs) =
@@ -162,17 +155,20 @@ module _ (d : ℕ → ℕ → ℕ) (m l : ℕ) (m1 : 1 ≤ m) (ml : m ≤ l) whe
       ∙ sym (map-append (leafNode d m l) (placed (f .0) (f .1)) (items fs))
 
   -- ---- the level below
-  lower : List (ℕ × List (List ℕ)) → List (ℕ × List (List ℕ))
+  -- its families
+  lower : List (Family) → List (Family)
   lower fs = each (λ f. broodsOf (f .0) (f .1)) fs
 
-  below-lower : (deep : ℕ) (fs : List (ℕ × List (List ℕ))) → Good fs → below (map (famOf (suc deep)) fs) ≡ map (famOf deep) (lower fs)
+  -- they are the children's families of the grown nodes
+  below-lower : (deep : ℕ) (fs : List (Family)) → Good fs → below (map (famOf (suc deep)) fs) ≡ map (famOf deep) (lower fs)
   unfolding Good lower
   below-lower deep [] h = refl
   below-lower deep (f ∷ fs) h =
       ap₂ (λ (a b : List (ℕ × Grove)). a ++ b) (broods-more deep (f .0) (f .1) (h .0)) (below-lower deep fs (h .1))
       ∙ sym (map-append (famOf deep) (broodsOf (f .0) (f .1)) (each (λ f. broodsOf (f .0) (f .1)) fs))
 
-  lower-items : (fs : List (ℕ × List (List ℕ))) → items (lower fs) ≡ nextLevel d m l (items fs)
+  -- their items are those of the level below
+  lower-items : (fs : List (Family)) → items (lower fs) ≡ nextLevel d m l (items fs)
   unfolding lower
   lower-items [] = refl
   lower-items (f ∷ fs) =
@@ -180,20 +176,24 @@ module _ (d : ℕ → ℕ → ℕ) (m l : ℕ) (m1 : 1 ≤ m) (ml : m ≤ l) whe
       ∙ ap₂ (λ (a b : List Item). a ++ b) (broods-items (f .0) (f .1)) (lower-items fs)
       ∙ sym (each-append (parts d m l) (placed (f .0) (f .1)) (items fs))
 
-  lower-good : (fs : List (ℕ × List (List ℕ))) → Good fs → Good (lower fs)
+  -- their runs are not empty, and no row is in one twice
+  lower-good : (fs : List (Family)) → Good fs → Good (lower fs)
   unfolding Good lower
   lower-good [] h = tt
   lower-good (f ∷ fs) h =
-      every-append (λ g. Every Run (g .1)) (broodsOf (f .0) (f .1)) (each (λ f. broodsOf (f .0) (f .1)) fs) (broods-good (f .0) (f .1) (h .0)) (lower-good fs (h .1))
+      every-append (λ g. Every Run (g .1)) (broodsOf (f .0) (f .1)) (each (λ f. broodsOf (f .0) (f .1)) fs)
+      (broods-good (f .0) (f .1) (h .0)) (lower-good fs (h .1))
 
   -- ---- all levels
-  nodes-all : (deep next : ℕ) (fs : List (ℕ × List (List ℕ))) → Good fs → nodes deep next (map (famOf deep) fs) ≡ allNodes d m l deep next (items fs)
+  -- from a level on, `deep` levels down
+  nodes-all : (deep next : ℕ) (fs : List (Family)) → Good fs → nodes deep next (map (famOf deep) fs) ≡ allNodes d m l deep next (items fs)
   unfolding nodes allNodes
   nodes-all zero next fs h = level-last next fs
   nodes-all (suc deep) next fs h =
       let b = below-lower deep fs h in
       let i = lower-items fs in
-      let k : members (below (map (famOf (suc deep)) fs)) ≡ length (nextLevel d m l (items fs)) = ap members b ∙ members-items deep (lower fs) ∙ ap length i in
+      let k : members (below (map (famOf (suc deep)) fs)) ≡ length (nextLevel d m l (items fs)) =
+      ap members b ∙ members-items deep (lower fs) ∙ ap length i in
       ap₂ (λ (a c : List Node). a ++ c) (level-out deep next fs h)
       (ap₂ (λ (j : ℕ) (gs : List (ℕ × Grove)). nodes deep (next + j) gs) k b
       ∙ nodes-all deep (next + length (nextLevel d m l (items fs))) (lower fs) (lower-good fs h)
@@ -205,27 +205,3 @@ module _ (d : ℕ → ℕ → ℕ) (m l : ℕ) (m1 : 1 ≤ m) (ml : m ≤ l) whe
   numbered-levels run r =
       ap (λ (k : ℕ). nodes maxDepth k ((0, grow d m l maxDepth run bare) ∷ [])) (forest-span d m l m1 ml maxDepth (run ∷ []))
       ∙ nodes-all maxDepth 1 ((0, run ∷ []) ∷ []) ((r, tt), tt)
-
-  -- ---- the positions
-  -- a leaf's members, each with its distance from the first
-  abbrev pub pairsOf : List ℕ → List (ℕ × ℕ)
-  pairsOf run = map (λ i. (i, d (head run) i)) run
-
-  entries-forest : (deep : ℕ) → ((run : List ℕ) (g : Grove) → entries (grow d m l deep run g) ≡ each pairsOf (leaves d m l deep run) ++ entries g)
-      → (rs : List (List ℕ)) → entries (forest deep rs) ≡ each pairsOf (each (leaves d m l deep) rs)
-  entries-forest deep one [] = refl
-  entries-forest deep one (r ∷ rs) =
-      one r (forest deep rs) ∙ ap (λ (es : List (ℕ × ℕ)). each pairsOf (leaves d m l deep r) ++ es) (entries-forest deep one rs)
-      ∙ sym (each-append pairsOf (leaves d m l deep r) (each (leaves d m l deep) rs))
-
-  -- THE POSITIONS OF A GROWN NODE: its leaves' members
-  pub entries-leaves : (deep : ℕ) (run : List ℕ) (g : Grove) → entries (grow d m l deep run g) ≡ each pairsOf (leaves d m l deep run) ++ entries g
-  unfolding grow leaves
-  entries-leaves zero run g = ap (λ (es : List (ℕ × ℕ)). es ++ entries g) (sym (append-nil (pairsOf run)))
-  entries-leaves (suc deep) run g = go (leb (length run) l) (entries-forest deep (λ r k. entries-leaves deep r k) (split d m run))
-    where
-      go : (b : Bool) → entries (forest deep (split d m run)) ≡ each pairsOf (each (leaves d m l deep) (split d m run))
-          → entries (cond b (leafOf d run g) (fork (radius d run) (forest deep (split d m run)) g))
-          ≡ each pairsOf (cond b (run ∷ []) (each (leaves d m l deep) (split d m run))) ++ entries g
-      go true h = ap (λ (es : List (ℕ × ℕ)). es ++ entries g) (sym (append-nil (pairsOf run)))
-      go false h = ap (λ (es : List (ℕ × ℕ)). es ++ entries g) h

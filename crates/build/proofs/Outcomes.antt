@@ -1,5 +1,5 @@
 -- The call's outcomes: a refusal, and the index. Assumes nothing.
-use Prim.Native.Nat.{_*_, _+_, _/_, _≤_, ℕ}
+use Prim.Native.Nat.{_*_, _+_, _≤_, ℕ}
 use Rattle.build.proofs.Refusals.{Clear, clear}
 use Rattle.build.proofs.Whole.{encode-long}
 use Rattle.build.specs.Calls.{Builds}
@@ -12,6 +12,7 @@ use Rattle.limits.specs.Limits.{maxRows, shareOk}
 use Rattle.limits.specs.declared.Chosen.the-variants.{Refused, Taken}
 use Rattle.limits.specs.declared.Chosen.{Chosen}
 use Rattle.limits.specs.declared.Params.{Params}
+use Rattle.measure.specs.Table.{rowsOf}
 use Rattle.tree.specs.Build.{build}
 use Rattle.tree.specs.Calls.{saidBuild}
 use Rattle.tree.specs.Encode.{encode}
@@ -26,68 +27,74 @@ use mathlib.Core.Logic.{_≢_}
 use mathlib.Core.Path.{_∙_, _≡_, ap, sym}
 
 -- ---- the constructor's answer, taken apart
--- taken: m and l are in range, and are what the parameters hold
-pub answer-taken : (r : Chosen) (p : Params) (m l : ℕ) → r ≡ Taken p → told r ≡ chosen m l → (shareOk m l ≡ true) × (p .centres ≡ m) × (p .leaf ≡ l)
-answer-taken r p m l e q = taken-is p m l (ap told (sym e) ∙ q)
+-- it took m and l: they are in range, and the parameters hold them
+pub answer-taken : {r : Chosen} {p : Params} (m l : ℕ) → r ≡ Taken p → told r ≡ chosen m l
+    → (shareOk m l ≡ true) × (p .centres ≡ m) × (p .leaf ≡ l)
+answer-taken {p = p} m l e q = taken-is p m l (ap told (sym e) ∙ q)
 
--- refused: they are not
-pub answer-refused : (r : Chosen) (m l : ℕ) → r ≡ Refused → told r ≡ chosen m l → shareOk m l ≡ false
-answer-refused r m l e q = refused-is m l (ap told (sym e) ∙ q)
+-- it refused: they are not
+pub answer-refused : {r : Chosen} (m l : ℕ) → r ≡ Refused → told r ≡ chosen m l → shareOk m l ≡ false
+answer-refused m l e q = refused-is m l (ap told (sym e) ∙ q)
 
--- ---- the outcomes
-module _ (T : List ℕ) (c m l : ℕ) (room work : List ℕ) where
-  -- a refusal: its number, zero counts, and all that is lent as it was
-  pub refused-builds : (k number words nodes : ℕ) → k ≡ saidBuild T c m l (length room) (length work) .0 → k ≢ 0 → (number ≡ k) × (words ≡ 0) × (nodes ≡ 0)
-      → Builds T c m l room work room work number words nodes
-  refused-builds k number words nodes e h r =
-      let f : eqb number 0 ≡ false = ne-eqb number 0 (λ q. h (sym (r .0) ∙ q)) in
+-- ---- a refusal
+-- both rooms are as they were, and the counts are 0: the contract is met
+pub refused-builds : {T : List ℕ} {c m l : ℕ} {room work : List ℕ} {k number words nodes : ℕ}
+    → k ≡ saidBuild T c m l (length room) (length work) .0 → k ≢ 0 → (number ≡ k) × (words ≡ 0) × (nodes ≡ 0)
+    → Builds T c m l room work room work number words nodes
+refused-builds {number = number} e h r =
+    let f : eqb number 0 ≡ false = ne-eqb number 0 (λ q. h (sym (r .0) ∙ q)) in
+    record {
+      said = r .0 ∙ e;
+      counted = (rw f (r .1), rw f (r .2));
+      index = rw f;
+      cleared = rw f;
+    }
+
+-- ---- the index
+-- nothing is refused, and m′ and l′ are what the parameters hold
+pub record Passed (T : List ℕ) (c m l : ℕ) (room work : List ℕ) (m′ l′ : ℕ) : Type 0 where
+  pub none : saidBuild T c m l (length room) (length work) .0 ≡ 0
+  pub centres : m′ ≡ m
+  pub leaf : l′ ≡ l
+
+module _ {T : List ℕ} {c m l : ℕ} {room work : List ℕ} {m′ l′ : ℕ} (passed : Passed T c m l room work m′ l′) where
+  -- every test is passed
+  cleared : Clear T c m l (length room) (length work)
+  cleared = clear T c m l (length room) (length work) (passed .none)
+
+  -- few enough rows
+  pub rows-most : rowsOf T c ≤ maxRows
+  rows-most = cleared .table .rows
+
+  -- the part of the workspace that is used
+  pub work-long : 6 * rowsOf T c ≤ length work
+  work-long = cleared .words
+
+  -- as it is lent
+  pub part-long : length (take (6 * rowsOf T c) work) ≡ 6 * rowsOf T c
+  part-long = length-take-le (6 * rowsOf T c) work work-long
+
+  -- the numbers are in range
+  pub built-fit : Fit T c m l (rowsOf T c)
+  built-fit =
+      let t = cleared .table in
+      let s = shared m l (cleared .share) in
+      record { columns = t .few; rows = t .rows; table = t .inside; two = s .two; most = s .most; leafy = s .leafy; leaf = s .leaf }
+
+  -- what filling asks
+  pub built-room : Room T c m′ l′ (rowsOf T c) room (take (6 * rowsOf T c) work)
+  built-room = rw (passed .centres, passed .leaf) record { fit = built-fit; space = cleared .space; halves = part-long }
+
+  -- the index is filled in: the contract is met
+  pub built-builds : {room′ part′ work′ : List ℕ} {nodes words : ℕ} → Filled T c m′ l′ (rowsOf T c) room room′ part′ nodes
+      → work′ ≡ part′ ++ drop (6 * rowsOf T c) work → words ≡ nodeAt nodes + 2 * rowsOf T c
+      → Builds T c m l room work room′ work′ 0 words nodes
+  unfolding build encode
+  built-builds {room′} {part′} {work′} {nodes} filled e w =
+      let got : Filled T c m l (rowsOf T c) room room′ part′ nodes = rw (passed .centres, passed .leaf) at filled in
       record {
-        said = r .0 ∙ e;
-        counted = (rw f (r .1), rw f (r .2));
-        index = rw f;
-        cleared = rw f;
+        said = sym (passed .none);
+        counted = (w ∙ sym (encode-long built-fit (got .count)), got .count);
+        index = got .index;
+        cleared = e ∙ ap (λ (x : List ℕ). x ++ drop (6 * rowsOf T c) work) (got .cleared);
       }
-
-  -- nothing is refused, and m′ and l′ are what the parameters hold
-  pub record Passed (m′ l′ : ℕ) : Type 0 where
-    pub none : saidBuild T c m l (length room) (length work) .0 ≡ 0
-    pub centres : m′ ≡ m
-    pub leaf : l′ ≡ l
-
-  module _ (m′ l′ : ℕ) (passed : Passed m′ l′) where
-    cleared : Clear T c m l (length room) (length work)
-    cleared = clear T c m l (length room) (length work) (passed .none)
-
-    pub rows-most : length T / c ≤ maxRows
-    rows-most = cleared .table .rows
-
-    pub work-long : 6 * (length T / c) ≤ length work
-    work-long = cleared .words
-
-    -- the part of the workspace that is used
-    pub part-long : length (take (6 * (length T / c)) work) ≡ 6 * (length T / c)
-    part-long = length-take-le (6 * (length T / c)) work work-long
-
-    built-fit : Fit T c m l (length T / c)
-    built-fit =
-        let t = cleared .table in
-        let s = shared m l (cleared .share) in
-        record { columns = t .few; rows = t .rows; table = t .inside; two = s .two; most = s .most; leafy = s .leafy; leaf = s .leaf }
-
-    -- what the filling asks
-    pub built-room : Room T c m′ l′ (length T / c) room (take (6 * (length T / c)) work)
-    built-room = rw (passed .centres, passed .leaf) record { fit = built-fit; space = cleared .space; halves = part-long }
-
-    -- the index, and how many words and nodes it has
-    pub built-builds : (room′ part′ work′ : List ℕ) (nodes words : ℕ) → Filled T c m′ l′ (length T / c) room room′ part′ nodes
-        → work′ ≡ part′ ++ drop (6 * (length T / c)) work → words ≡ nodeAt nodes + 2 * (length T / c)
-        → Builds T c m l room work room′ work′ 0 words nodes
-    unfolding build encode
-    built-builds room′ part′ work′ nodes words filled e w =
-        let got : Filled T c m l (length T / c) room room′ part′ nodes = rw (passed .centres, passed .leaf) at filled in
-        record {
-          said = sym (passed .none);
-          counted = (w ∙ sym (encode-long T c m l (length T / c) built-fit room nodes (got .count)), got .count);
-          index = got .index;
-          cleared = e ∙ ap (λ (x : List ℕ). x ++ drop (6 * (length T / c)) work) (got .cleared);
-        }

@@ -4,15 +4,15 @@ use Rattle.build.specs.Filled.{Room, Rooted, entryOf0, rootItem}
 use Rattle.build.specs.Levels.{leafNode}
 use Rattle.build.specs.Stages.{Tiled}
 use Rattle.laws.proofs.Lists.{map-append}
+use Rattle.laws.proofs.Parts.{put-more}
 use Rattle.laws.proofs.Ranges.{at-every, range-append, range-length}
 use Rattle.laws.proofs.Times.{range-times}
 use Rattle.laws.proofs.Upto.{most-next, most-none}
-use Rattle.laws.specs.Lists.{each, greatest, head, range}
+use Rattle.laws.specs.Lists.{each, greatest, range}
 use Rattle.laws.specs.Upto.{mostTo}
 use Rattle.measure.specs.Table.{between}
+use Rattle.split.proofs.Laid.{laid-long}
 use Rattle.split.specs.Runs.{laid}
-use Rattle.laws.proofs.Parts.{put-more}
-use Rattle.split.proofs.SplitWords.{under-long}
 use Rattle.tree.specs.Build.{Run, radius}
 use Rattle.tree.specs.Encode.{nodeWords, nodes}
 use borrow.Rule.Slice.PartMut.{midOf, putMid}
@@ -24,14 +24,17 @@ use native.Mathlib.Nat.{zero-add}
 use native.Mathlib.Numerals.{add-one}
 use native.Mathlib.Omega.{arith}
 
+-- the root's run is not empty, and has no row twice
 pub root-run : (n : ℕ) → 1 ≤ n → Run (range 0 n)
 root-run n h = (omega (arith, range-length 0 n), λ i. range-times i 0 n)
 
 -- ---- the radius is the greatest distance from row 0
+-- one number more at the end
 greatest-last : (xs : List ℕ) (x : ℕ) → greatest (xs ++ x ∷ []) ≡ max (greatest xs) x
 greatest-last [] x = omega arith
 greatest-last (y ∷ xs) x = omega (arith, greatest-last xs x)
 
+-- of the numbers of a range, as a loop finds it
 greatest-range : (f : ℕ → ℕ) (n : ℕ) → greatest (map f (range 0 n)) ≡ mostTo f n
 greatest-range f zero = sym (most-none f)
 greatest-range f (suc n) =
@@ -40,25 +43,30 @@ greatest-range f (suc n) =
     ∙ ap greatest (map-append f (range 0 n) (range (0 + n) 1)) ∙ greatest-last (map f (range 0 n)) (f (0 + n))
     ∙ ap₂ max (greatest-range f n) (ap f (zero-add n)) ∙ sym (most-next f n) ∙ ap (mostTo f) (sym up)
 
+-- the root's first is row 0
 root-radius : (d : ℕ → ℕ → ℕ) (n : ℕ) → 1 ≤ n → radius d (range 0 n) ≡ mostTo (d 0) n
 root-radius d zero h = absurd (omega arith)
 root-radius d (suc n) h = greatest-range (d 0) (suc n)
 
+-- and the centre of all its entries
 root-laid : (d : ℕ → ℕ → ℕ) (n : ℕ) → 1 ≤ n → laid d (range 0 n) ≡ each (entryOf0 d) (range 0 n)
 root-laid d zero h = absurd (omega arith)
 root-laid d (suc n) h = refl
 
-module _ (t : List ℕ) (c m l n : ℕ) (room work : List ℕ) (asked : Room t c m l n room work) (some : 1 ≤ n) (r : ℕ) (work′ ys : List ℕ) where
+module _ {t : List ℕ} {c m l n : ℕ} {room work : List ℕ} (asked : Room t c m l n room work) (some : 1 ≤ n) where
   abbrev d : ℕ → ℕ → ℕ
   d = between t c
 
-  tiled : length work′ ≡ length work → work′ ≡ each (entryOf0 (between t c)) (range 0 n) ++ drop (3 * n) work → Tiled (between t c) n work′ (range 0 n ∷ [])
-  tiled same e =
-      let long : length (laid d (range 0 n)) ≡ 3 * n = under-long (d (head (range 0 n))) (head (range 0 n)) (range 0 n) ∙ ap (λ (k : ℕ). 3 * k) (range-length 0 n) in
+  -- the workspace is the root's run, and nothing else
+  tiled : (work′ : List ℕ) → length work′ ≡ length work → work′ ≡ each (entryOf0 (between t c)) (range 0 n) ++ drop (3 * n) work
+      → Tiled (between t c) n work′ (range 0 n ∷ [])
+  tiled work′ same e =
+      let long : length (laid d (range 0 n)) ≡ 3 * n = laid-long d (range 0 n) ∙ ap (λ (k : ℕ). 3 * k) (range-length 0 n) in
       record {
         halves = omega (arith, asked .halves);
         words =
-            ap (take (3 * n)) (e ∙ ap (λ (x : List ℕ). x ++ drop (3 * n) work) (sym (root-laid d n some))) ∙ take-at (laid d (range 0 n)) (drop (3 * n) work) (3 * n) long
+            ap (take (3 * n)) (e ∙ ap (λ (x : List ℕ). x ++ drop (3 * n) work) (sym (root-laid d n some)))
+            ∙ take-at (laid d (range 0 n)) (drop (3 * n) work) (3 * n) long
             ∙ sym (append-nil (laid d (range 0 n)));
         runs = (root-run n some, tt);
         rows = (at-every (λ i. i < n) n (λ i h. h), tt);
@@ -66,20 +74,22 @@ module _ (t : List ℕ) (c m l n : ℕ) (room work : List ℕ) (asked : Room t c
       }
 
   -- THE ROOT STANDS
-  pub root-stands : length work′ ≡ length work → (r ≡ mostTo (between t c 0) n) × (work′ ≡ each (entryOf0 (between t c)) (range 0 n) ++ drop (3 * n) work)
+  pub root-stands : {r : ℕ} {work′ ys : List ℕ} → length work′ ≡ length work
+      → (r ≡ mostTo (between t c 0) n) × (work′ ≡ each (entryOf0 (between t c)) (range 0 n) ++ drop (3 * n) work)
       → ys ≡ 0 ∷ n ∷ 0 ∷ r ∷ drop 4 (midOf 8 (length room - 8) room)
       → Rooted (between t c) m l n room (putMid 8 (length room - 8) room ys) work′
-  root-stands same told put =
+  root-stands {r} {work′} {ys} same told put =
+      let fits : 8 ≤ length room = omega (arith, asked .space) in
       let w : 0 ∷ n ∷ 0 ∷ r ∷ [] ≡ nodeWords (leafNode d m l (rootItem n)) =
       ap₂ (λ (x y : ℕ). 0 ∷ x ∷ 0 ∷ y ∷ []) (sym (range-length 0 n)) (told .0 ∙ sym (root-radius d n some)) in
       record {
         nodes =
-            put-more (take 8 room) (0 ∷ n ∷ 0 ∷ r ∷ []) room room ys 8 4 (length-take-le 8 room (omega (arith, asked .space))) (omega (arith, asked .space)) (sym (take-append-drop 8 room)) put
+            put-more (take 8 room) (0 ∷ n ∷ 0 ∷ r ∷ []) room room ys 8 4 (length-take-le 8 room fits) fits (sym (take-append-drop 8 room)) put
             ∙ append-assoc (take 8 room) (0 ∷ n ∷ 0 ∷ r ∷ []) (drop 12 room) ∙ ap (λ (x : List ℕ). take 8 room ++ (x ++ drop 12 room)) w;
         space = asked .space;
         first = refl;
         last = refl;
         few = omega arith;
-        tiled = tiled same (told .1);
+        tiled = tiled work′ same (told .1);
         wait = refl;
       }

@@ -1,19 +1,20 @@
 -- How much a build gives back at most: 01, The tree, Index words, for the most rows that there can be. Assumes nothing.
-use Prim.Native.Nat.{_*_, _+_, _/_, _≤_, suc, zero, ℕ}
-use Rattle.build.proofs.Numbering.{numbered-levels, out-long, placed-long}
-use Rattle.build.proofs.Outcomes.{Passed, built-room}
+use Prim.Native.Nat.{_*_, _+_, _≤_, suc, zero, ℕ}
+use Rattle.build.proofs.Items.{out-long, placed-long}
+use Rattle.build.proofs.Numbering.{numbered-levels}
+use Rattle.build.proofs.Outcomes.{Passed, built-fit}
 use Rattle.build.proofs.Rooting.{root-run}
-use Rattle.build.proofs.Tiles.{split-joined}
 use Rattle.build.proofs.Whole.{encode-long}
 use Rattle.build.specs.Calls.{Builds}
 use Rattle.build.specs.Levels.{Item, allNodes, leafNode, levelOut, nextLevel, placed}
 use Rattle.build.specs.Stages.{Fit}
 use Rattle.laws.proofs.Every.{every-append}
-use Rattle.laws.specs.Every.{Every}
 use Rattle.laws.proofs.Ranges.{range-length}
+use Rattle.laws.specs.Every.{Every}
 use Rattle.laws.specs.Lists.{joined, range}
 use Rattle.limits.specs.Limits.{maxDepth, maxRows}
-use Rattle.measure.specs.Table.{between}
+use Rattle.measure.specs.Table.{between, rowsOf}
+use Rattle.split.proofs.Laid.{split-joined}
 use Rattle.tree.proofs.Grow.{split-length, split-runs}
 use Rattle.tree.specs.Build.{Run, build, plant, split}
 use Rattle.tree.specs.Calls.{saidBuild}
@@ -36,25 +37,30 @@ rows (q ∷ qs) = length (q .1) + rows qs
 Runs : List Item → Type 0
 Runs qs = Every (λ q. Run (q .1)) qs
 
+-- counted one stretch after the other
 rows-append : (ps qs : List Item) → rows (ps ++ qs) ≡ rows ps + rows qs
 unfolding rows
 rows-append [] qs = omega arith
 rows-append (p ∷ ps) qs = omega (arith, rows-append ps qs)
 
+-- items of runs that follow each other have the rows of the runs
 rows-placed : (s : ℕ) (rs : List (List ℕ)) → rows (placed s rs) ≡ length (joined rs)
 unfolding rows
 rows-placed s [] = refl
 rows-placed s (r ∷ rs) = omega (arith, rows-placed (s + length r) rs, length-append r (joined rs))
 
+-- and runs that are so
 runs-placed : (s : ℕ) (rs : List (List ℕ)) → Every Run rs → Runs (placed s rs)
 unfolding Runs
 runs-placed s [] h = tt
 runs-placed s (r ∷ rs) h = (h .0, runs-placed (s + length r) rs (h .1))
 
 module _ (d : ℕ → ℕ → ℕ) (m l : ℕ) (m2 : 2 ≤ m) (ml : m ≤ l) where
+  -- a node that is split has a child
   m1 : 1 ≤ m
   m1 = omega arith
 
+  -- the level below has such runs
   next-runs : (qs : List Item) → Runs qs → Runs (nextLevel d m l qs)
   unfolding Runs
   next-runs [] h = tt
@@ -83,17 +89,19 @@ module _ (d : ℕ → ℕ → ℕ) (m l : ℕ) (m2 : 2 ≤ m) (ml : m ≤ l) whe
             arith,
             rows-append kids (nextLevel d m l qs),
             rows-placed (q .0) (split d m (q .1)),
-            split-joined d m l m1 ml (q .1) (h .0) (leb-false (length (q .1)) l e),
+            split-joined d m (q .1) m1 (omega (arith, leb-false (length (q .1)) l e)) (h .0),
             length-append kids (nextLevel d m l qs),
             placed-long (q .0) (split d m (q .1)),
             split-length d m l m1 ml (q .1),
           )
 
+  -- no more items than rows
   last-few : (qs : List Item) → Runs qs → length qs ≤ rows qs
   unfolding Runs rows
   last-few [] h = omega arith
   last-few (q ∷ qs) h = omega (arith, last-few qs (h .1), h .0 .0)
 
+  -- the nodes of a level and of those below it: fewer than twice the rows
   all-few : (deep next : ℕ) (qs : List Item) → Runs qs → length (allNodes d m l deep next qs) + length qs ≤ 2 * rows qs
   unfolding allNodes
   all-few zero next qs h = omega (arith, length-map qs (leafNode d m l), last-few qs h)
@@ -103,7 +111,7 @@ module _ (d : ℕ → ℕ → ℕ) (m l : ℕ) (m2 : 2 ≤ m) (ml : m ≤ l) whe
         arith,
         all-few deep (next + length under) under (next-runs qs h),
         length-append (levelOut d m l next qs) (allNodes d m l deep (next + length under) under),
-        out-long d m l m1 ml next qs,
+        out-long d m l next qs,
         next-few qs h,
       )
 
@@ -121,20 +129,24 @@ module _ (d : ℕ → ℕ → ℕ) (m l : ℕ) (m2 : 2 ≤ m) (ml : m ≤ l) whe
       )
 
 module _ (T : List ℕ) (c m l : ℕ) (room work : List ℕ) where
-  fit : saidBuild T c m l (length room) (length work) .0 ≡ 0 → Fit T c m l (length T / c)
+  -- number 0: the numbers are in range
+  fit : saidBuild T c m l (length room) (length work) .0 ≡ 0 → Fit T c m l (rowsOf T c)
   fit z =
       let passed : Passed T c m l room work m l = record { none = z; centres = refl; leaf = refl } in
-      built-room T c m l room work m l passed .fit
+      built-fit passed
 
-  built-small : saidBuild T c m l (length room) (length work) .0 ≡ 0 → (length (build T c m l) ≤ 10 * maxRows + 8) × (N# (build T c m l) ≤ 2 * maxRows)
+  -- the index of any table that is not refused
+  built-small : saidBuild T c m l (length room) (length work) .0 ≡ 0
+      → (length (build T c m l) ≤ 10 * maxRows + 8) × (N# (build T c m l) ≤ 2 * maxRows)
   unfolding build encode
   built-small z =
       let f = fit z in
-      let few = nodes-few (between T c) m l (f .two) (f .leafy) (length T / c) in
-      (omega (arith, few, f .rows, encode-long T c m l (length T / c) f room (length (numbered (plant (between T c) m l (length T / c)))) refl), omega (arith, few, f .rows))
+      let few = nodes-few (between T c) m l (f .two) (f .leafy) (rowsOf T c) in
+      (omega (arith, few, f .rows, encode-long f refl), omega (arith, few, f .rows))
 
 -- THE COUNTS ARE SMALL: at most 10n + 8 words and 2n nodes for the most rows, so that 32 bits hold them
-pub build-small : {T : List ℕ} {c m l : ℕ} {room work room′ work′ : List ℕ} {number words nodes : ℕ} → Builds T c m l room work room′ work′ number words nodes
+pub build-small : {T : List ℕ} {c m l : ℕ} {room work room′ work′ : List ℕ} {number words nodes : ℕ}
+    → Builds T c m l room work room′ work′ number words nodes
     → (words ≤ 10 * maxRows + 8) × (nodes ≤ 2 * maxRows)
 build-small {T} {c} {m} {l} {room} {work} {number = number} {words} {nodes} b = go (eqb number 0) refl (b .counted .0) (b .counted .1)
   where

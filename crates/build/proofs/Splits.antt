@@ -5,7 +5,6 @@ use Rattle.build.proofs.Tiles.{kids-few, kids-tiled, tile-inside, tile-
 use Rattle.build.specs.Levels.{leafNode, placed}
 use Rattle.build.specs.Stages.{Fit, Openable, Opened, Tiled}
 use Rattle.laws.specs.Lists.{each, joined}
-use Rattle.measure.proofs.Metric.{metric}
 use Rattle.measure.specs.Table.{between}
 use Rattle.split.specs.Runs.{Splittable, Splitted, laid, runAt, runNodes}
 use Rattle.tree.specs.Build.{split}
@@ -13,51 +12,64 @@ use Rattle.tree.specs.Encode.{nodeWords}
 use Rattle.words.specs.Words.{count#, nodeAt, start#}
 use lib.ListN.{drop, length, length-append, length-set, set, take}
 use mathlib.Core.List.{List, _++_, _∷_, map}
-use mathlib.Core.Path.{_∙_, _≡_, ap, refl, sym}
+use mathlib.Core.Path.{_∙_, _≡_, ap, ap₂, refl, sym}
 use native.Mathlib.Omega.{arith}
 
-module _ (t : List ℕ) (c m l n : ℕ) (fit : Fit t c m l n) (room work : List ℕ) (made : ℕ) (front : List (List ℕ)) (run : List ℕ) (back : List (List ℕ))
+-- ---- a tile of more than l rows
+module _ {t : List ℕ} {c m l n : ℕ} (fit : Fit t c m l n) {work : List ℕ} (front : List (List ℕ)) (run : List ℕ) (back : List (List ℕ))
     (tiled : Tiled (between t c) n work (front ++ run ∷ back)) (large : l < length run) where
+  -- there are centres
   one : 1 ≤ m
   one = omega (arith, fit .two)
 
-  pub tile-ready : 10 * n + 8 ≤ length room → made + 1 ≤ 2 * length (front ++ run ∷ back) → Splittable t c m n room work (length (joined front)) (length run) made
+  -- and rows enough for them
+  centred : m ≤ length run
+  centred = omega (arith, fit .leafy)
+
+  -- its run can be split, and there is room for its children's nodes
+  pub tile-ready : {room : List ℕ} {made : ℕ} → 10 * n + 8 ≤ length room → made + 1 ≤ 2 * length (front ++ run ∷ back)
+      → Splittable t c m n room work (length (joined front)) (length run) made
   tile-ready space few =
-      let z = metric t c .self in
-      let read : runAt work (length (joined front)) (length run) ≡ run = tile-read (between t c) z n work front run back tiled in
-      let r = tile-run (between t c) z n work front run back tiled in
+      let read : runAt work (length (joined front)) (length run) ≡ run = tile-read front run back tiled in
       record {
         columns = fit .columns;
         few = fit .rows;
         table = fit .table;
         share = one;
-        centred = omega (arith, fit .leafy);
-        inside = tile-inside (between t c) z n work front run back tiled;
+        centred = centred;
+        inside = tile-inside front run back tiled;
         halves = tiled .halves;
-        nodes = omega (arith, kids-few (between t c) z n work front run back tiled m l one (fit .leafy) large, length-append front (run ∷ back), fit .two);
-        known = tile-words (between t c) z n work front run back tiled ∙ ap (laid (between t c)) (sym read);
-        rows = rw read (tile-rows (between t c) z n work front run back tiled);
-        once = rw read (r .1);
+        nodes = omega (arith, kids-few front run back tiled m one centred, length-append front (run ∷ back), fit .two);
+        known = tile-words front run back tiled ∙ ap (laid (between t c)) (sym read);
+        rows = rw read (tile-rows front run back tiled);
+        once = rw read (tile-run front run back tiled .1);
       }
 
-  module _ (room₁ room′ work′ : List ℕ) (s count : ℕ) (start : s ≡ length (joined front)) (size : count ≡ length run)
-      (same : length work′ ≡ length work) (got : Splitted t c m n room₁ work s count made room′ work′) where
+  -- ---- it is split
+  module _ {room room′ work′ : List ℕ} {s count made : ℕ} (start : s ≡ length (joined front)) (size : count ≡ length run)
+      (got : Splitted t c m n room work s count made room′ work′) where
+    -- the run that is read is the tile
     read : runAt work s count ≡ run
-    read = rw (start, size) (tile-read (between t c) (metric t c .self) n work front run back tiled)
+    read = rw (start, size) (tile-read front run back tiled)
 
-    pub tiles-after : Tiled (between t c) n work′ (front ++ (split (between t c) m run ++ back))
-    tiles-after =
-        kids-tiled (between t c) (metric t c .self) n work front run back tiled m l one (fit .leafy) large work′ same
-        (got .words ∙ rw (read, start, size))
+    -- its children's runs take its place
+    pub tiles-after : length work′ ≡ length work → Tiled (between t c) n work′ (front ++ (split (between t c) m run ++ back))
+    tiles-after same = kids-tiled front run back tiled m one centred same (got .words ∙ rw (read, start, size))
 
-    pub nodes-after : room′ ≡ take (nodeAt made) room₁ ++ (each nodeWords (map (leafNode (between t c) m l) (placed s (split (between t c) m run))) ++ drop (nodeAt (made + m)) room₁)
-    nodes-after =
-        got .nodes ∙ ap (λ (r : List ℕ). take (nodeAt made) room₁ ++ (runNodes (between t c) s (split (between t c) m r) ++ drop (nodeAt (made + m)) room₁)) read
-        ∙ ap (λ (x : List ℕ). take (nodeAt made) room₁ ++ (x ++ drop (nodeAt (made + m)) room₁)) (run-nodes (between t c) m l s (split (between t c) m run))
+    -- their nodes are in the room, no children yet
+    pub nodes-after : {at : ℕ} → s ≡ at
+        → room′ ≡ take (nodeAt made) room
+        ++ (each nodeWords (map (leafNode (between t c) m l) (placed at (split (between t c) m run))) ++ drop (nodeAt (made + m)) room)
+    nodes-after {at} here =
+        let kids : List (List ℕ) = split (between t c) m run in
+        let around : List ℕ → List ℕ = λ x. take (nodeAt made) room ++ (x ++ drop (nodeAt (made + m)) room) in
+        got .nodes ∙ ap₂ (λ (j : ℕ) (r : List ℕ). around (runNodes (between t c) j (split (between t c) m r))) here read
+        ∙ ap around (run-nodes (between t c) m l at kids)
 
--- ---- one node is opened
-module _ (t : List ℕ) (c m l n : ℕ) (room work : List ℕ) (k made : ℕ) (asked : Openable t c m l n room work k made)
-    (s count : ℕ) (start : s ≡ start# room k) (size : count ≡ count# room k) (large : l < count) where
+-- ---- a node of more than l rows is opened
+module _ {t : List ℕ} {c m l n : ℕ} {room work : List ℕ} {k made : ℕ} (asked : Openable t c m l n room work k made)
+    {s count : ℕ} (start : s ≡ start# room k) (size : count ≡ count# room k) (large : l < count) where
+  -- once its first child's number is written, its run can be split as before
   pub open-ready : Splittable t c m n (set room (nodeAt k + 2) made) work s count made
   open-ready =
       let h = asked .ready (omega arith) in
@@ -76,5 +88,7 @@ module _ (t : List ℕ) (c m l n : ℕ) (room work : List ℕ) (k made : ℕ) (a
         once = h .once;
       }
 
-  pub open-done : (room′ work′ : List ℕ) → Splitted t c m n (set room (nodeAt k + 2) made) work s count made room′ work′ → Opened t c m l n room work k made room′ work′ (made + m)
-  open-done room′ work′ got = record { stays = λ h. absurd (omega arith); splits = λ h. (refl, rw (start, size) at got) }
+  -- its children are the nodes from `made` on
+  pub open-done : {room′ work′ : List ℕ} → Splitted t c m n (set room (nodeAt k + 2) made) work s count made room′ work′
+      → Opened t c m l n room work k made room′ work′ (made + m)
+  open-done got = record { stays = λ h. absurd (omega arith); splits = λ h. (refl, rw (start, size) at got) }

@@ -1,24 +1,21 @@
 -- The theorems on the call: what it wrote is the table's and accepted, and no second outcome fits. Assumes nothing.
 use Prim.Native.Nat.{_*_, _≤_, ℕ}
 use Rattle.build.proofs.Refusals.{clear}
-use Rattle.build.proofs.Whole.{pairs-long, positions}
+use Rattle.build.proofs.Whole.{encode-words, positions}
 use Rattle.build.specs.Calls.{Builds}
 use Rattle.laws.specs.Every.{Every}
-use Rattle.laws.specs.Lists.{each}
 use Rattle.limits.proofs.Ranges.{shared}
 use Rattle.limits.proofs.Sized.{Sized, sized-columns}
 use Rattle.limits.specs.Limits.{shareOk}
 use Rattle.measure.specs.Table.{between, rowsOf}
 use Rattle.tree.proofs.Built.{build-accepted as words-accepted}
-use Rattle.tree.proofs.Written.{each-words}
 use Rattle.tree.specs.Build.{build, plant}
 use Rattle.tree.specs.Check.{Accepted}
-use Rattle.tree.specs.Encode.{encode, nodeWords, numbered, pairWords}
-use Rattle.tree.specs.Grove.{Grove, entries}
+use Rattle.tree.specs.Encode.{encode}
 use Rattle.words.specs.Words.{N#, c#, n#, wordsOf}
 use borrow.Author.Tests.{eq-eqb}
 use lib.Dec.{eqb}
-use lib.ListN.{drop, length, length-append, replicate, take}
+use lib.ListN.{drop, length, replicate, take}
 use lib.Seq.{take-at}
 use mathlib.Core.Bool.{cond, true}
 use mathlib.Core.List.{List, _++_}
@@ -37,20 +34,21 @@ module _ (T : List ℕ) (c m l : ℕ) where
   -- and asks for just the words that there are
   just-words : length (build T c m l) ≡ wordsOf (build T c m l)
   unfolding build encode
-  just-words =
-      let t : Grove = plant (between T c) m l (rowsOf T c) in
-      omega (arith, length-append (each nodeWords (numbered t)) (each pairWords (entries t)), each-words (numbered t), pairs-long (entries t))
+  just-words = encode-words c m l (plant (between T c) m l (rowsOf T c))
 
 -- ---- the call
 module _ (T : List ℕ) (c m l : ℕ) (room work : List ℕ) where
   -- the index stands at the front of the room
-  index-there : {room′ work′ : List ℕ} {number words nodes : ℕ} → Builds T c m l room work room′ work′ number words nodes → number ≡ 0 → take words room′ ≡ build T c m l
+  index-there : {room′ work′ : List ℕ} {number words nodes : ℕ} → Builds T c m l room work room′ work′ number words nodes → number ≡ 0
+      → take words room′ ≡ build T c m l
   index-there {number = number} b z =
       let q : eqb number 0 ≡ true = eq-eqb number 0 z in
-      ap₂ take (rw q at (b .counted .0)) (rw q at (b .index)) ∙ take-at (build T c m l) (drop (length (build T c m l)) room) (length (build T c m l)) refl
+      ap₂ take (rw q at (b .counted .0)) (rw q at (b .index))
+      ∙ take-at (build T c m l) (drop (length (build T c m l)) room) (length (build T c m l)) refl
 
   -- WHAT THE CALL WROTE IS ACCEPTED BY THE FULL CHECK
-  pub build-accepted : (room′ work′ : List ℕ) (number words nodes : ℕ) → Builds T c m l room work room′ work′ number words nodes → number ≡ 0 → Every (λ v. v ≤ 65535) T
+  pub build-accepted : (room′ work′ : List ℕ) (number words nodes : ℕ) → Builds T c m l room work room′ work′ number words nodes → number ≡ 0
+      → Every (λ v. v ≤ 65535) T
       → Accepted (between T c) (take words room′)
   build-accepted room′ work′ number words nodes b z small =
       let C = clear T c m l (length room) (length work) (sym (b .said) ∙ z) in
@@ -59,7 +57,8 @@ module _ (T : List ℕ) (c m l : ℕ) (room work : List ℕ) where
 
   -- WHAT THE CALL WROTE IS THE TABLE'S INDEX: NO CALL REFUSES SUCH A TABLE, THE HEADER HAS ITS ROWS AND COLUMNS, AND ASKS FOR JUST THESE WORDS
   pub build-headed : {room′ work′ : List ℕ} {number words nodes : ℕ} → Builds T c m l room work room′ work′ number words nodes → number ≡ 0
-      → Sized (length T) c × (n# (take words room′) ≡ rowsOf T c) × (c# (take words room′) ≡ c) × (length (take words room′) ≡ wordsOf (take words room′))
+      → Sized (length T) c × (n# (take words room′) ≡ rowsOf T c) × (c# (take words room′) ≡ c)
+      × (length (take words room′) ≡ wordsOf (take words room′))
   build-headed b z =
       let C = clear T c m l (length room) (length work) (sym (b .said) ∙ z) in
       let h = headed T c m l (C .share) in

@@ -2,20 +2,20 @@
 use Prim.Native.Nat.{_*_, _+_, _-_, _≤_, suc, zero, ℕ}
 use Rattle.buffers.proofs.Whole.{wiped-whole}
 use Rattle.buffers.specs.Wiped.{wiped}
-use Rattle.build.proofs.Numbering.{entries-leaves, numbered-levels, pairsOf}
+use Rattle.build.proofs.Numbering.{numbered-levels}
+use Rattle.build.proofs.Positions.{entries-leaves, pairs-laid, pairs-long, pairsOf}
 use Rattle.build.proofs.Rooting.{root-run}
 use Rattle.build.specs.Filled.{Filled, Grown, Layered, headerOf, pairsIn, rootItem}
 use Rattle.build.specs.Levels.{allNodes, leaves}
 use Rattle.build.specs.Stages.{Fit, withNodes}
-use Rattle.laws.proofs.Joins.{each-append}
 use Rattle.laws.proofs.Lists.{tally-length}
+use Rattle.laws.proofs.Parts.{put-more}
 use Rattle.laws.proofs.Ranges.{range-length}
 use Rattle.laws.specs.Lists.{each, head, range}
 use Rattle.limits.specs.Limits.{maxDepth}
 use Rattle.measure.specs.Table.{between}
-use Rattle.split.specs.Runs.{laid}
-use Rattle.laws.proofs.Parts.{put-more}
 use Rattle.split.specs.Groups.{stretch}
+use Rattle.split.specs.Runs.{laid}
 use Rattle.tree.proofs.Grow.{grown-tally}
 use Rattle.tree.proofs.Written.{each-words}
 use Rattle.tree.specs.Build.{plant}
@@ -31,50 +31,49 @@ use mathlib.Core.Path.{_∙_, _≡_, ap, ap₂, refl, sym}
 use native.Mathlib.Nat.{add-zero}
 use native.Mathlib.Omega.{arith}
 
--- ---- the pairs of runs that stand one after the other
-pairs-under : (f : ℕ → ℕ) (a : ℕ) (xs ys : List ℕ)
-    → pairsIn (each (λ i. i ∷ f i ∷ a ∷ []) xs ++ ys) ≡ each pairWords (map (λ i. (i, f i)) xs) ++ pairsIn ys
-unfolding pairsIn
-pairs-under f a [] ys = refl
-pairs-under f a (x ∷ xs) ys = ap (λ (l : List ℕ). x ∷ f x ∷ l) (pairs-under f a xs ys)
+-- 8 + 4N + 2n words, whatever the tree
+pub encode-words : (c m l : ℕ) (g : Grove) → length (encode c m l g) ≡ nodeAt (length (numbered g)) + 2 * length (entries g)
+unfolding encode
+encode-words c m l g =
+    omega (arith, length-append (each nodeWords (numbered g)) (each pairWords (entries g)), each-words (numbered g), pairs-long (entries g))
 
-pub pairs-long : (es : List (ℕ × ℕ)) → length (each pairWords es) ≡ 2 * length es
-pairs-long [] = refl
-pairs-long (e ∷ es) = omega (arith, pairs-long es)
-
+-- ---- the tree of n rows
 module _ (d : ℕ → ℕ → ℕ) (m l : ℕ) (m1 : 1 ≤ m) (ml : m ≤ l) where
-  pairs-laid : (rs : List (List ℕ)) → pairsIn (each (laid d) rs) ≡ each pairWords (each (pairsOf d m l m1 ml) rs)
-  unfolding pairsIn
-  pairs-laid [] = refl
-  pairs-laid (r ∷ rs) =
-      pairs-under (d (head r)) (head r) r (each (laid d) rs) ∙ ap (λ (x : List ℕ). each pairWords (pairsOf d m l m1 ml r) ++ x) (pairs-laid rs)
-      ∙ sym (each-append pairWords (pairsOf d m l m1 ml r) (each (pairsOf d m l m1 ml) rs))
-
   -- as many positions as rows
   pub positions : (n : ℕ) → length (entries (plant d m l n)) ≡ n
   positions zero = refl
   positions (suc n) =
       let t : Grove = plant d m l (suc n) in
       sym (length-map (entries t) (λ e. e .0)) ∙ sym (tally-length (rowsIn t))
-      ∙ grown-tally d m l m1 ml maxDepth (λ i. true) (range 0 (suc n)) bare (root-run (suc n) (omega arith)) ∙ add-zero _ ∙ tally-length (range 0 (suc n)) ∙ range-length 0 (suc n)
+      ∙ grown-tally d m l m1 ml maxDepth (λ i. true) (range 0 (suc n)) bare (root-run (suc n) (omega arith)) ∙ add-zero _
+      ∙ tally-length (range 0 (suc n)) ∙ range-length 0 (suc n)
 
+  -- its nodes are those of all levels
   plant-nodes : (n : ℕ) → 1 ≤ n → allNodes d m l maxDepth 1 (rootItem n ∷ []) ≡ numbered (plant d m l n)
   plant-nodes zero h = absurd (omega arith)
   plant-nodes (suc n) h = sym (numbered-levels d m l m1 ml (range 0 (suc n)) (root-run (suc n) h))
 
+  -- its positions are those of all leaves
   plant-pairs : (n : ℕ) → 1 ≤ n → pairsIn (each (laid d) (leaves d m l maxDepth (range 0 n))) ≡ each pairWords (entries (plant d m l n))
   plant-pairs zero h = absurd (omega arith)
   plant-pairs (suc n) h =
-      pairs-laid (leaves d m l maxDepth (range 0 (suc n)))
-      ∙ ap (each pairWords) (sym (entries-leaves d m l m1 ml maxDepth (range 0 (suc n)) bare ∙ append-nil (each (pairsOf d m l m1 ml) (leaves d m l maxDepth (range 0 (suc n))))))
+      let ls : List (List ℕ) = leaves d m l maxDepth (range 0 (suc n)) in
+      pairs-laid d ls ∙ ap (each pairWords) (sym (entries-leaves d m l maxDepth (range 0 (suc n)) bare ∙ append-nil (each (pairsOf d) ls)))
 
-module _ (t : List ℕ) (c m l n : ℕ) (fit : Fit t c m l n) (origin : List ℕ) where
+module _ {t : List ℕ} {c m l n : ℕ} (fit : Fit t c m l n) where
+  -- there are centres
   one : 1 ≤ m
   one = omega (arith, fit .two)
 
+  -- its index has 8 + 4N + 2n words
+  pub encode-long : {made : ℕ} → made ≡ length (numbered (plant (between t c) m l n))
+      → length (encode c m l (plant (between t c) m l n)) ≡ nodeAt made + 2 * n
+  encode-long e = omega (arith, encode-words c m l (plant (between t c) m l n), positions (between t c) m l one (fit .leafy) n, e)
+
   -- THE LEVELS ARE THE TREE OF 01
-  pub grown-levels : 1 ≤ n → (room work : List ℕ) (made : ℕ) → Layered (between t c) m l n origin room work made → Grown t c m l n origin room work made
-  grown-levels some room work made s =
+  pub grown-levels : {origin room work : List ℕ} {made : ℕ} → 1 ≤ n → Layered (between t c) m l n origin room work made
+      → Grown t c m l n origin room work made
+  grown-levels {origin} some s =
       let e = plant-nodes (between t c) m l one (fit .leafy) n some in
       record {
         nodes = s .nodes ∙ ap (withNodes origin) e;
@@ -83,58 +82,61 @@ module _ (t : List ℕ) (c m l n : ℕ) (fit : Fit t c m l n) (origin : List ℕ
         pairs = ap pairsIn (s .tiles) ∙ plant-pairs (between t c) m l one (fit .leafy) n some;
       }
 
-  -- a table of no rows has no nodes
-  pub grown-none : (work : List ℕ) → n ≡ 0 → Grown t c m l n origin origin work 0
-  unfolding numbered nodes levelNodes family broods pairsIn
-  grown-none work e = rw e record { nodes = sym (take-append-drop 8 origin); count = refl; few = omega arith; pairs = refl }
+-- a table of no rows has no nodes
+pub grown-none : {t : List ℕ} {c m l n : ℕ} {origin work : List ℕ} → n ≡ 0 → Grown t c m l n origin origin work 0
+unfolding numbered nodes levelNodes family broods pairsIn
+grown-none {origin = origin} e = rw e record { nodes = sym (take-append-drop 8 origin); count = refl; few = omega arith; pairs = refl }
 
-  -- 8 + 4N + 2n words
-  pub encode-long : (made : ℕ) → made ≡ length (numbered (plant (between t c) m l n)) → length (encode c m l (plant (between t c) m l n)) ≡ nodeAt made + 2 * n
+-- ---- the header before the nodes, the positions behind them
+module _ {t : List ℕ} {c m l n : ℕ} (fit : Fit t c m l n) {origin room work : List ℕ} {made : ℕ} (grown : Grown t c m l n origin room work made)
+    (space : 10 * n + 8 ≤ length origin) where
+  -- the tree of 01
+  abbrev tree : Grove
+  tree = plant (between t c) m l n
+
+  -- its nodes, in number order
+  abbrev ns : List Node
+  ns = numbered tree
+
+  -- the words before the positions
+  abbrev front : List ℕ
+  front = headerOf n c m l made ++ each nodeWords ns
+
+  -- as far as the nodes' end
+  front-long : length front ≡ nodeAt made
+  front-long = length-append (headerOf n c m l made) (each nodeWords ns) ∙ omega (arith, each-words ns, grown .count)
+
+  -- the header is written
+  headed : {room₂ : List ℕ} → room₂ ≡ headerOf n c m l made ++ drop 8 room → room₂ ≡ front ++ drop (nodeAt made) origin
+  headed e =
+      let behind : drop 8 room ≡ each nodeWords ns ++ drop (nodeAt (length ns)) origin =
+      ap (drop 8) (grown .nodes)
+      ∙ drop-at (take 8 origin) (each nodeWords ns ++ drop (nodeAt (length ns)) origin) 8 (length-take-le 8 origin (omega arith)) in
+      e ∙ ap (λ (x : List ℕ). headerOf n c m l made ++ x) (behind ∙ ap (λ (k : ℕ). each nodeWords ns ++ drop (nodeAt k) origin) (sym (grown .count)))
+      ∙ sym (append-assoc (headerOf n c m l made) (each nodeWords ns) (drop (nodeAt made) origin))
+
+  -- with the positions they are the words of 01
+  words-are : front ++ each pairWords (entries tree) ≡ encode c m l tree
   unfolding encode
-  encode-long made e =
-      let tree : Grove = plant (between t c) m l n in
-      omega (arith, length-append (each nodeWords (numbered tree)) (each pairWords (entries tree)), each-words (numbered tree), pairs-long (entries tree), positions (between t c) m l one (fit .leafy) n, e)
+  words-are =
+      append-assoc (headerOf n c m l made) (each nodeWords ns) (each pairWords (entries tree))
+      ∙ ap₂ (λ (i j : ℕ). headerOf i c m l j ++ (each nodeWords ns ++ each pairWords (entries tree)))
+      (sym (positions (between t c) m l (one fit) (fit .leafy) n)) (grown .count)
 
-  module _ (room work room₂ ys : List ℕ) (made : ℕ) (grown : Grown t c m l n origin room work made) (space : 10 * n + 8 ≤ length origin) where
-    abbrev tree : Grove
-    tree = plant (between t c) m l n
-
-    abbrev ns : List Node
-    ns = numbered tree
-
-    abbrev front : List ℕ
-    front = headerOf n c m l made ++ each nodeWords ns
-
-    front-long : length front ≡ nodeAt made
-    front-long = length-append (headerOf n c m l made) (each nodeWords ns) ∙ omega (arith, each-words ns, grown .count)
-
-    headed : room₂ ≡ headerOf n c m l made ++ drop 8 room → room₂ ≡ front ++ drop (nodeAt made) origin
-    headed e =
-        let d8 : drop 8 room ≡ each nodeWords ns ++ drop (nodeAt (length ns)) origin =
-        ap (drop 8) (grown .nodes) ∙ drop-at (take 8 origin) (each nodeWords ns ++ drop (nodeAt (length ns)) origin) 8 (length-take-le 8 origin (omega arith)) in
-        e ∙ ap (λ (x : List ℕ). headerOf n c m l made ++ x) (d8 ∙ ap (λ (k : ℕ). each nodeWords ns ++ drop (nodeAt k) origin) (sym (grown .count)))
-        ∙ sym (append-assoc (headerOf n c m l made) (each nodeWords ns) (drop (nodeAt made) origin))
-
-    words-are : front ++ each pairWords (entries tree) ≡ encode c m l tree
-    unfolding encode
-    words-are =
-        append-assoc (headerOf n c m l made) (each nodeWords ns) (each pairWords (entries tree))
-        ∙ ap₂ (λ (i j : ℕ). headerOf i c m l j ++ (each nodeWords ns ++ each pairWords (entries tree))) (sym (positions (between t c) m l one (fit .leafy) n)) (grown .count)
-
-    -- THE WHOLE INDEX STANDS IN THE ROOM
-    pub filled : (work′ : List ℕ) → length room₂ ≡ length origin → room₂ ≡ headerOf n c m l made ++ drop 8 room
-        → ys ≡ pairsIn (stretch work 0 (3 * n)) ++ drop (2 * n) (midOf (nodeAt made) (length room₂ - nodeAt made) room₂)
-        → length work ≡ 6 * n → work′ ≡ wiped (length work) work
-        → Filled t c m l n origin (putMid (nodeAt made) (length room₂ - nodeAt made) room₂ ys) work′ made
-    filled work′ same e f half cl =
-        let z : 3 * n - 0 ≡ 3 * n = omega arith in
-        let pairs : pairsIn (stretch work 0 (3 * n)) ≡ each pairWords (entries tree) = ap (λ (k : ℕ). pairsIn (take k work)) z ∙ grown .pairs in
-        record {
-          index =
-              put-more front (each pairWords (entries tree)) origin room₂ ys (nodeAt made) (2 * n) front-long (omega (arith, grown .few)) (headed e)
-              (f ∙ ap (λ (x : List ℕ). x ++ drop (2 * n) (midOf (nodeAt made) (length room₂ - nodeAt made) room₂)) pairs)
-              ∙ ap₂ (λ (x : List ℕ) (k : ℕ). x ++ drop k origin) words-are (sym (encode-long made (grown .count)));
-          count = grown .count;
-          few = grown .few;
-          cleared = cl ∙ wiped-whole work ∙ ap (λ (k : ℕ). replicate k 0) half;
-        }
+  -- THE WHOLE INDEX STANDS IN THE ROOM
+  pub filled : {room₂ ys work′ : List ℕ} → length room₂ ≡ length origin → room₂ ≡ headerOf n c m l made ++ drop 8 room
+      → ys ≡ pairsIn (stretch work 0 (3 * n)) ++ drop (2 * n) (midOf (nodeAt made) (length room₂ - nodeAt made) room₂)
+      → length work ≡ 6 * n → work′ ≡ wiped (length work) work
+      → Filled t c m l n origin (putMid (nodeAt made) (length room₂ - nodeAt made) room₂ ys) work′ made
+  filled {room₂} {ys} same e f half cleared =
+      let z : 3 * n - 0 ≡ 3 * n = omega arith in
+      let pairs : pairsIn (stretch work 0 (3 * n)) ≡ each pairWords (entries tree) = ap (λ (k : ℕ). pairsIn (take k work)) z ∙ grown .pairs in
+      record {
+        index =
+            put-more front (each pairWords (entries tree)) origin room₂ ys (nodeAt made) (2 * n) front-long (omega (arith, grown .few)) (headed e)
+            (f ∙ ap (λ (x : List ℕ). x ++ drop (2 * n) (midOf (nodeAt made) (length room₂ - nodeAt made) room₂)) pairs)
+            ∙ ap₂ (λ (x : List ℕ) (k : ℕ). x ++ drop k origin) words-are (sym (encode-long fit (grown .count)));
+        count = grown .count;
+        few = grown .few;
+        cleared = cleared ∙ wiped-whole work ∙ ap (λ (k : ℕ). replicate k 0) half;
+      }

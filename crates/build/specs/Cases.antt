@@ -11,6 +11,7 @@ use mathlib.Core.Path.{_≡_}
 abbrev pub sevens : List ℕ
 sevens = 7 ∷ 7 ∷ 7 ∷ 7 ∷ []
 
+-- the words of their index
 abbrev pub sevenWords : List ℕ
 sevenWords =
     1 ∷ 4 ∷ 1 ∷ 2 ∷ 2 ∷ 5 ∷ 1 ∷ 0

@@ -64,6 +64,7 @@ Staged t c m l n room work lo hi room′ work′ r =
     (each (opened (between t c) m l) (g .tiles)) room′ work′ hi r
 
 -- ---- one node
+-- node k is one of the nodes made; where it has more than l rows, its run can be split
 pub record Openable (t : List ℕ) (c m l n : ℕ) (room work : List ℕ) (k made : ℕ) : Type 0 where
   pub old : k < made
   pub small : made ≤ 2097152

@@ -1,5 +1,5 @@
-// The build of an index over a lent table. While it grows, the first half of the workspace holds an entry of three words for each position: the row, its
-// distance from the first of its run, and that first. The second half takes a run's entries as they are shared out.
+// The build of an index over a lent table. While it grows, the first half of the workspace holds an entry of three words for each
+// position: the row, its distance from the first of its run, and that first. The second half takes a run's entries as they are shared out.
 ghost use Prim.Native.Nat.{_*_, _+_, _/_, _≤_};
 ghost use Rattle.build.specs.Calls.{Builds};
 ghost use Rattle.build.specs.Filled.{Filled, Grown, Leveled, Planted, Room, Rooted, entryOf0, headerOf, pairsIn, shortOf};

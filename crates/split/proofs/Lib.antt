@@ -1,10 +1,15 @@
-pub mod Held
+pub mod Parts
+pub mod Entries
 pub mod Nearing
 pub mod Seeking
 pub mod Shifted
 pub mod Choosing
-pub mod Parts
+pub mod Closest
+pub mod Held
+pub mod Laid
+pub mod Picks
 pub mod Gathered
 pub mod Sharing
+pub mod Copied
 pub mod SplitWords
 pub mod SplitRun

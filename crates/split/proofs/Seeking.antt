@@ -9,7 +9,12 @@ use mathlib.Core.Path.{_∙_, _≡_, ap, refl, sym}
 use native.Mathlib.Nat.{zero-add}
 use native.Mathlib.Omega.{arith}
 
+-- the entry at p is chosen before the one at b
+abbrev pub aheadAt : List ℕ → ℕ → ℕ → Bool
+aheadAt es p b = ahead (getD es p 0) (getD es (p + 1) 0) (getD es b 0) (getD es (b + 1) 0)
+
 -- ---- where the farthest stands
+-- of two entries or more: the first, or the farthest of the others
 far-front : (es : List ℕ) → 4 ≤ length es → far es ≡ aheadOf (getD es 0 0) (getD es 1 0) (drop 3 es) (far (drop 3 es))
 unfolding far
 far-front [] h = absurd (omega arith)
@@ -18,6 +23,7 @@ far-front (i ∷ x ∷ []) h = absurd (omega arith)
 far-front (i ∷ x ∷ a ∷ []) h = absurd (omega arith)
 far-front (i ∷ x ∷ a ∷ e ∷ es) h = refl
 
+-- of one entry: that
 far-end : (es : List ℕ) → length es ≡ 3 → far es ≡ 0
 unfolding far
 far-end [] h = refl
@@ -26,8 +32,8 @@ far-end (i ∷ x ∷ []) h = refl
 far-end (i ∷ x ∷ a ∷ []) h = refl
 far-end (i ∷ x ∷ a ∷ e ∷ es) h = absurd (omega arith)
 
-far-step : (es : List ℕ) (p b : ℕ) → p + 6 ≤ length es → b ≡ p + 3 + far (drop (p + 3) es)
-    → p + far (drop p es) ≡ cond (ahead (getD es p 0) (getD es (p + 1) 0) (getD es b 0) (getD es (b + 1) 0)) p b
+-- from p on: p, or the farthest from the next entry on, which is b
+far-step : (es : List ℕ) (p b : ℕ) → p + 6 ≤ length es → b ≡ p + 3 + far (drop (p + 3) es) → p + far (drop p es) ≡ cond (aheadAt es p b) p b
 far-step es p b h e =
     let k : ℕ = far (drop (p + 3) es) in
     let t : drop 3 (drop p es) ≡ drop (p + 3) es = drop-drop 3 p es in
@@ -38,7 +44,7 @@ far-step es p b h e =
     ap (λ (n : ℕ). p + n)
     (far-front (drop p es) (omega (arith, length-drop p es))
     ∙ rw (t, y, z, o, getD-drop p es 1 0))
-    ∙ pick (ahead (getD es p 0) (getD es (p + 1) 0) (getD es b 0) (getD es (b + 1) 0)) k e
+    ∙ pick (aheadAt es p b) k e
   where
     pick : (s : Bool) (k : ℕ) → b ≡ p + 3 + k → p + cond s 0 (3 + k) ≡ cond s p b
     pick true k e = omega arith
@@ -52,37 +58,29 @@ pub record Seeking (es : List ℕ) (p b : ℕ) : Type 0 where
   pub place : b % 3 ≡ 0
   pub here : b ≡ p + far (drop p es)
 
+-- at the last entry
 pub seeking-start : (es : List ℕ) → 3 ≤ length es → length es % 3 ≡ 0 → Seeking es (length es - 3) (length es - 3)
 seeking-start es h w =
     let p : ℕ = length es - 3 in
     let z : far (drop p es) ≡ 0 = far-end (drop p es) (omega (arith, length-drop p es)) in
     record { inside = omega arith; whole = omega arith; fits = omega arith; place = omega arith; here = omega arith }
 
-module _ (es : List ℕ) (p b : ℕ) (inv : Seeking es p b) (h : 0 < p) where
-  seeking-far : p - 3 + far (drop (p - 3) es) ≡ cond (ahead (getD es (p - 3) 0) (getD es (p - 3 + 1) 0) (getD es b 0) (getD es (b + 1) 0)) (p - 3) b
-  seeking-far =
-      let three : 3 ≤ p = omega (arith, inv .whole) in
-      let up : p - 3 + 3 ≡ p = omega arith in
-      far-step es (p - 3) b (omega (arith, inv .inside)) (rw up (inv .here))
+-- one entry down: it is taken where it is ahead of b
+pub seeking-step : {es : List ℕ} {p b : ℕ} → Seeking es p b → 0 < p → (s : Bool) → aheadAt es (p - 3) b ≡ s → Seeking es (p - 3) (cond s (p - 3) b)
+seeking-step {es} {p} {b} inv h s t =
+    let i : p + 3 ≤ length es = inv .inside in
+    let w : p % 3 ≡ 0 = inv .whole in
+    let up : p - 3 + 3 ≡ p = omega arith in
+    let f = far-step es (p - 3) b (omega arith) (rw up (inv .here)) in
+    let q : cond s (p - 3) b ≡ p - 3 + far (drop (p - 3) es) = sym (f ∙ ap (λ (s : Bool). cond s (p - 3) b) t) in
+    record { inside = omega arith; whole = omega arith; fits = either s .0; place = either s .1; here = q }
+  where
+    either : (s : Bool) → (cond s (p - 3) b + 3 ≤ length es) × (cond s (p - 3) b % 3 ≡ 0)
+    either true = (omega (arith, inv .inside), omega (arith, inv .whole))
+    either false = (inv .fits, inv .place)
 
-  pub seeking-taken : ahead (getD es (p - 3) 0) (getD es (p - 3 + 1) 0) (getD es b 0) (getD es (b + 1) 0) ≡ true → Seeking es (p - 3) (p - 3)
-  seeking-taken t =
-      let f = seeking-far in
-      let three : 3 ≤ p = omega (arith, inv .whole) in
-      let q : p - 3 ≡ p - 3 + far (drop (p - 3) es) = sym (f ∙ ap (λ (s : Bool). cond s (p - 3) b) t) in
-      let i : p + 3 ≤ length es = inv .inside in
-      let w : p % 3 ≡ 0 = inv .whole in
-      record { inside = omega arith; whole = omega arith; fits = omega arith; place = omega arith; here = q }
-
-  pub seeking-left : ahead (getD es (p - 3) 0) (getD es (p - 3 + 1) 0) (getD es b 0) (getD es (b + 1) 0) ≡ false → Seeking es (p - 3) b
-  seeking-left t =
-      let f = seeking-far in
-      let three : 3 ≤ p = omega (arith, inv .whole) in
-      let i : p + 3 ≤ length es = inv .inside in
-      let w : p % 3 ≡ 0 = inv .whole in
-      record { inside = omega arith; whole = omega arith; fits = inv .fits; place = inv .place; here = sym (f ∙ ap (λ (s : Bool). cond s (p - 3) b) t) }
-
-pub seeking-done : (es : List ℕ) (p b : ℕ) → Seeking es p b → p ≤ 0 → (b ≡ far es) × (b + 3 ≤ length es) × (b % 3 ≡ 0)
-seeking-done es p b inv h =
+-- at the first entry
+pub seeking-done : {es : List ℕ} {p b : ℕ} → Seeking es p b → p ≤ 0 → (b ≡ far es) × (b + 3 ≤ length es) × (b % 3 ≡ 0)
+seeking-done {es} {p} {b} inv h =
     let z : p ≡ 0 = omega arith in
     (inv .here ∙ ap (λ (k : ℕ). k + far (drop k es)) z ∙ zero-add (far es), inv .fits, inv .place)

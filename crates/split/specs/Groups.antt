@@ -74,6 +74,7 @@ pub record Gatherable (w : List ℕ) (lo hi a to : ℕ) : Type 0 where
   pub thirds : (hi - lo) % 3 ≡ 0
   pub room : to + 3 * size (group a (stretch w lo hi)) ≤ length w
 
+-- it stands there, counted, with the greatest of its distances
 pub record Gathered (w : List ℕ) (lo hi a to : ℕ) (w′ : List ℕ) (count radius : ℕ) : Type 0 where
   pub words : w′ ≡ take to w ++ (group a (stretch w lo hi) ++ drop (to + 3 * size (group a (stretch w lo hi))) w)
   pub members : count ≡ size (group a (stretch w lo hi))
@@ -84,9 +85,11 @@ pub record Gathered (w : List ℕ) (lo hi a to : ℕ) (w′ : List ℕ) (count r
 abbrev pub waiting : List ℕ → ℕ → ℕ → ℕ → List ℕ
 waiting w m s count = stretch w (3 * (s + m)) (3 * (s + count))
 
+-- the words of all groups
 abbrev pub groupWords : List ℕ → ℕ → ℕ → ℕ → List ℕ
 groupWords w m s count = shared (waiting w m s count) (centres w (3 * s) m)
 
+-- the words of all their nodes
 abbrev pub groupNodes : List ℕ → ℕ → ℕ → ℕ → List ℕ
 groupNodes w m s count = sharedNodes s (waiting w m s count) (centres w (3 * s) m)
 

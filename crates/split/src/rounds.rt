@@ -1,5 +1,5 @@
-// Choosing the centres of a run: farthest first. A run's part of the workspace has an entry of three words for each member: the row, its least distance
-// to the centres so far, and the centre that is so close.
+// Choosing the centres of a run: farthest first. A run's part of the workspace has an entry of three words for each member: the row,
+// its least distance to the centres so far, and the centre that is so close.
 ghost use Prim.Native.Nat.{_%_, _*_, _+_, _-_, _≤_};
 ghost use Rattle.limits.specs.Limits.{maxColumns};
 ghost use Rattle.measure.specs.Table.{between};

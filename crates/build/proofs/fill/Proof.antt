@@ -5,6 +5,16 @@ use Rattle.build.proofs.fill.Statement.{statement}
 use Rattle.build.proofs.fill.Tie as tie
 use borrow.Author.Needs.{needs}
 
+-- the start, the nodes and the header, each seen from the next
+abbrev start : tie.After-grow → tie.Start
+start c = c .before .before .before .before .before .before
+
+abbrev grown : tie.After-put-header → tie.After-grow
+grown c = c .before .before .before .before .before .before
+
+abbrev headed : tie.After-put-positions → tie.After-put-header
+headed c = c .before .before .before .before .before
+
 grow-requires : tie.Need-grow-requires
 grow-requires c κs = search needs
 
@@ -43,8 +53,12 @@ same-length-2 c = search needs
 
 returns : tie.Need-returns
 returns c =
-    let s = c .before .before .before .before .before .before .before .before .before .before .before .before .before .before .before .before .before .before .before .before .before .before .before in
-    filled _ _ _ _ _ (s .pre .fit) _ _ _ _ _ _ (c .before .before .before .before .before .before .before .before .before .before .before .before .before .before .before .before .before .grow .ensures) (s .pre .space) _ (search needs) (c .before .before .before .before .before .before .before .before .before .before .before .put-header .ensures) (c .before .before .before .before .before .before .put-positions .ensures) (search needs) (c .before .before .clear-words .ensures)
+    let w = c .before .before in
+    let p = w .before .before .before .before in
+    let h = headed p in
+    let s = start (grown h) in
+    filled (s .pre .fit) (grown h .grow .ensures) (s .pre .space) (search needs) (h .put-header .ensures) (p .put-positions .ensures)
+    (search needs) (w .clear-words .ensures)
 
 pub fill-spec : {M : Type 1} → statement M
 fill-spec =

@@ -5,16 +5,20 @@ use Rattle.build.proofs.grow.Statement.{statement}
 use Rattle.build.proofs.grow.Tie as tie
 use borrow.Author.Needs.{needs}
 
+-- the start, seen from behind the root
+abbrev start : tie.After-root → tie.Start
+start c = c .before .before .before .before .before .before .before
+
 returns : tie.Need-returns
-returns c =
-    let s = c .before .before .before .before in
-    grown-none _ _ _ _ _ (s .pre .fit) _ _ (c .if1 .taken)
+returns c = grown-none (c .if1 .taken)
 
 root-requires : tie.Need-root-requires
 root-requires c κs = (c .before .before .before .before .before .before .pre, search needs)
 
 levels-requires : tie.Need-levels-requires
-levels-requires c κs = (c .before .before .before .before .before .before .before .before .before .before .before .before .before .pre .fit, record { origin = c .before .before .before .before .before .before .before .before .before .before .before .before .before .args .room .now; rooted = c .before .before .before .before .before .before .root .ensures })
+levels-requires c κs =
+    let r = c .before .before .before .before .before .before in
+    (start r .pre .fit, record { origin = start r .args .room .now; rooted = r .root .ensures })
 
 same-length : tie.Need-same-length
 same-length c = search needs
@@ -24,8 +28,9 @@ same-length-2 c = search needs
 
 returns-2 : tie.Need-returns-2
 returns-2 c =
-    let s = c .before .before .before .before .before .before .before .before .before .before .before .before .before .before .before .before .before .before in
-    grown-levels _ _ _ _ _ (s .pre .fit) _ (search needs) _ _ _ (c .before .before .before .before .levels .ensures (record { origin = s .args .room .now; rooted = c .before .before .before .before .before .before .before .before .before .before .before .root .ensures }))
+    let l = c .before .before .before .before in
+    let r = l .before .before .before .before .before .before .before in
+    grown-levels (start r .pre .fit) (search needs) (l .levels .ensures (record { origin = start r .args .room .now; rooted = r .root .ensures }))
 
 pub grow-spec : {M : Type 1} → statement M
 grow-spec =

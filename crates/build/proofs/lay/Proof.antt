@@ -1,4 +1,4 @@
--- `build::lay` meets its contract: i rows are laid, and the greatest distance so far and from there on is the radius (`Laying`).
+-- `build::lay` meets its contract: i rows are laid, and the radius is the greatest distance so far (`Laying`).
 -- Assumes nothing.
 use Prim.Native.Nat.{_-_}
 use Rattle.build.proofs.Laying.{Laying, laying-done, laying-start, laying-step}
@@ -60,16 +60,16 @@ loop-less c = search needs
 
 loop-again : tie.Need-loop-again Inv-loop μ-loop
 loop-again c =
-    let s = c .before .before .before .before .before .before .before in
-    laying-step _ _ _ (s .loop .work) (s .loop .radius) (s .loop .i) (s .loop .inv) _ _ _ (search needs) (search needs) (c .before .before .before .before .before .row-distance .ensures .0) (c .before .before .before .before .greater .ensures) (c .before .before .put-entry .ensures) (search needs)
+    let e = c .before .before in
+    let g = e .before .before in
+    laying-step (g .before .before .before .loop .inv) (search needs) (search needs) (g .before .row-distance .ensures .0) (g .greater .ensures)
+    (e .put-entry .ensures) (search needs)
 
 same-length : tie.Need-same-length Inv-loop μ-loop
 same-length c = search needs
 
 returns : tie.Need-returns Inv-loop μ-loop
-returns c =
-    let s = c .before in
-    laying-done _ _ _ (s .loop .work) (s .loop .radius) (s .loop .i) (s .loop .inv) (search needs)
+returns c = laying-done (c .before .loop .inv) (search needs)
 
 pub lay-spec : {M : Type 1} → statement M
 lay-spec =

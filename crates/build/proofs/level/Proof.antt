@@ -1,7 +1,7 @@
 -- `build::level` meets its contract: the nodes before k are opened (`Turn`), and behind the last the stage is one level down.
 -- Assumes nothing.
 use Prim.Native.Nat.{_-_}
-use Rattle.build.proofs.Turns.{Turn, turn-done, turn-open, turn-start, turn-step}
+use Rattle.build.proofs.Levelling.{Turn, levelling-done, levelling-open, levelling-start, levelling-step}
 use Rattle.build.proofs.level.Statement.{statement}
 use Rattle.build.proofs.level.Tie as tie
 use borrow.Author.Needs.{needs}
@@ -16,12 +16,13 @@ abbrev μ-loop : tie.MeasureT-loop
 μ-loop table c m l n room₀ work₀ lo hi made₀ k₀ room work made k = hi - k
 
 loop-holds : tie.Need-loop-holds Inv-loop μ-loop
-loop-holds c = (search needs, search needs, turn-start _ _ _ _ _ _ _ _ _)
+loop-holds c = (search needs, search needs, λ g. levelling-start g)
 
 open-node-requires : tie.Need-open-node-requires Inv-loop μ-loop
 open-node-requires c κs =
     let s = c .before .before .before in
-    turn-open _ _ _ _ _ _ _ _ _ (s .loop .room) (s .loop .work) (s .loop .made) (s .loop .k) (s .loop .inv .2) (c .before .before .before .before .before .before .before .pre) (search needs)
+    let g = s .before .before .before .before .pre in
+    levelling-open g (s .loop .inv .2 g) (search needs)
 
 add-k : tie.Need-add-k Inv-loop μ-loop
 add-k c = search needs
@@ -31,11 +32,9 @@ loop-less c = search needs
 
 loop-again : tie.Need-loop-again Inv-loop μ-loop
 loop-again c =
-    let s = c .before .before .before .before .before .before .before .before in (
-      search needs,
-      search needs,
-      turn-step _ _ _ _ _ _ _ _ _ (s .loop .room) (s .loop .work) (s .loop .made) (s .loop .k) (s .loop .inv .2) _ _ _ (search needs) (search needs) (c .before .before .before .before .open-node .ensures),
-    )
+    let n = c .before .before .before .before in
+    let s = n .before .before .before .before in
+    (search needs, search needs, λ g. levelling-step g (s .loop .inv .2 g) (search needs) (search needs) (n .open-node .ensures))
 
 same-length : tie.Need-same-length Inv-loop μ-loop
 same-length c = search needs
@@ -44,9 +43,7 @@ same-length-2 : tie.Need-same-length-2 Inv-loop μ-loop
 same-length-2 c = search needs
 
 returns : tie.Need-returns Inv-loop μ-loop
-returns c =
-    let s = c .before in
-    turn-done _ _ _ _ _ _ _ _ _ (s .loop .room) (s .loop .work) (s .loop .made) (s .loop .k) (s .loop .inv .2) (search needs)
+returns c = λ g. levelling-done g (c .before .loop .inv .2 g) (search needs)
 
 pub level-spec : {M : Type 1} → statement M
 level-spec =

@@ -16,14 +16,17 @@ Inv-loop table c m l n room₀ work₀ lo₀ hi₀ depth₀ room work lo hi dept
 abbrev μ-loop : tie.MeasureT-loop
 μ-loop table c m l n room₀ work₀ lo₀ hi₀ depth₀ room work lo hi depth = maxDepth - depth
 
+-- the start, seen from the loop
+abbrev start : tie.At-loop Inv-loop μ-loop → tie.Start Inv-loop μ-loop
+start c = c .before .before .before .before
+
 loop-holds : tie.Need-loop-holds Inv-loop μ-loop
 loop-holds c = (search needs, search needs, λ g. growing-start _ _ _ _ _ (g .origin) _ _ (g .rooted))
 
 level-requires : tie.Need-level-requires Inv-loop μ-loop
 level-requires c κs =
     let s = c .before .before .before in
-    let p = c .before .before .before .before .before .before .before .pre in
-    growing-level _ _ _ _ _ (p .1 .origin) (s .loop .room) (s .loop .work) (s .loop .lo) (s .loop .hi) (s .loop .depth) (s .loop .inv .2 (p .1)) (p .0)
+    growing-level (s .loop .inv .2 (start s .pre .1)) (start s .pre .0)
 
 add-depth : tie.Need-add-depth Inv-loop μ-loop
 add-depth c = search needs
@@ -33,11 +36,9 @@ loop-less c = search needs
 
 loop-again : tie.Need-loop-again Inv-loop μ-loop
 loop-again c =
-    let s = c .before .before .before .before .before .before .before .before in (
-      search needs,
-      search needs,
-      λ g. growing-step _ _ _ _ _ (g .origin) (s .loop .room) (s .loop .work) (s .loop .lo) (s .loop .hi) (s .loop .depth) (s .loop .inv .2 g) _ _ _ (c .before .before .before .before .before .before .before .before .before .before .before .before .pre .0) (search needs) (c .before .before .before .before .level .ensures),
-    )
+    let l = c .before .before .before .before in
+    let s = l .before .before .before .before in
+    (search needs, search needs, λ g. growing-step (s .loop .inv .2 g) (start s .pre .0) (search needs) (l .level .ensures))
 
 same-length : tie.Need-same-length Inv-loop μ-loop
 same-length c = search needs
@@ -46,9 +47,7 @@ same-length-2 : tie.Need-same-length-2 Inv-loop μ-loop
 same-length-2 c = search needs
 
 returns : tie.Need-returns Inv-loop μ-loop
-returns c =
-    let s = c .before in
-    λ g. growing-done _ _ _ _ _ (g .origin) (s .loop .room) (s .loop .work) (s .loop .lo) (s .loop .hi) (s .loop .depth) (s .loop .inv .2 g) (search needs)
+returns c = λ g. growing-done (c .before .loop .inv .2 g) (search needs)
 
 pub levels-spec : {M : Type 1} → statement M
 levels-spec =

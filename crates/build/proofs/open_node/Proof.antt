@@ -10,6 +10,10 @@ use lib.ListN.{length, length-set, set}
 use mathlib.Core.Path.{_∙_, _≡_, refl}
 use native.Mathlib.Omega.{arith}
 
+-- the start, seen from where the node is read
+abbrev start : tie.After-node-count → tie.Start
+start c = c .before .before .before .before .before .before .before
+
 node-start-requires : tie.Need-node-start-requires
 node-start-requires c κs = search needs
 
@@ -44,15 +48,17 @@ slice-write-room c = search needs
 
 split-run-requires : tie.Need-split-run-requires
 split-run-requires c κs =
-    open-ready _ _ _ _ _ _ _ _ _ (c .before .before .before .before .before .before .before .before .before .before .pre) _ _ (c .before .before .before .before .before .node-start .ensures .0) (c .before .before .before .node-count .ensures .0) (search needs)
+    let k = c .before .before .before in
+    open-ready (start k .pre) (k .before .before .node-start .ensures .0) (k .node-count .ensures .0) (search needs)
 
 add-result : tie.Need-add-result
 add-result c = search needs
 
 same-length-2 : tie.Need-same-length-2
 same-length-2 c =
-    let a = c .before .before .before .before .before .before .before .before .before .before .before .before .before .before .before .args in
-    let l : length (c .before .before .before .before .split-run .last .1 .1 .1 .1 .0) ≡ length (set (a .room .now) (nodeAt (a .k) + 2) (a .made)) = search needs in
+    let r = c .before .before .before .before in
+    let a = start (r .before .before .before .before) .args in
+    let l : length (r .split-run .last .1 .1 .1 .1 .0) ≡ length (set (a .room .now) (nodeAt (a .k) + 2) (a .made)) = search needs in
     l ∙ length-set (a .room .now) (nodeAt (a .k) + 2) (a .made)
 
 same-length-3 : tie.Need-same-length-3
@@ -60,7 +66,9 @@ same-length-3 c = search needs
 
 returns-2 : tie.Need-returns-2
 returns-2 c =
-    open-done _ _ _ _ _ _ _ _ _ (c .before .before .before .before .before .before .before .before .before .before .before .before .before .before .before .pre) _ _ (c .before .before .before .before .before .before .before .before .before .before .node-start .ensures .0) (c .before .before .before .before .before .before .before .before .node-count .ensures .0) (search needs) _ _ (c .before .before .before .before .split-run .ensures)
+    let r = c .before .before .before .before in
+    let k = r .before .before .before .before in
+    open-done (start k .pre) (k .before .before .node-start .ensures .0) (k .node-count .ensures .0) (search needs) (r .split-run .ensures)
 
 pub open-node-spec : {M : Type 1} → statement M
 open-node-spec =

@@ -63,17 +63,13 @@ loop-less : tie.Need-loop-less Inv-loop μ-loop
 loop-less c = search needs
 
 loop-again : tie.Need-loop-again Inv-loop μ-loop
-loop-again c =
-    let s = c .before .before .before in
-    pairing-step _ _ _ (s .loop .part) (s .loop .p) (s .loop .inv) (search needs) (search needs) (search needs)
+loop-again c = pairing-step (c .before .before .before .loop .inv) (search needs) (search needs) (search needs)
 
 same-length : tie.Need-same-length Inv-loop μ-loop
 same-length c = search needs
 
 returns : tie.Need-returns Inv-loop μ-loop
-returns c =
-    let s = c .before in
-    pairing-done _ _ _ (s .loop .part) (s .loop .p) (s .loop .inv) (search needs)
+returns c = pairing-done (c .before .loop .inv) (search needs)
 
 pub put-positions-spec : {M : Type 1} → statement M
 put-positions-spec =

@@ -31,8 +31,9 @@ same-length-2 c = search needs
 
 returns : tie.Need-returns
 returns c =
-    let s = c .before .before .before .before .before .before .before .before .before .before .before in
-    root-stands _ _ (s .args .m) (s .args .l) _ _ _ (s .pre .0) (s .pre .1) _ _ _ (search needs) (c .before .before .before .before .before .before .lay .ensures) (c .before .before .put-node .ensures)
+    let l = c .before .before .before .before .before .before in
+    let s = l .before .before .before .before .before in
+    root-stands (s .pre .0) (s .pre .1) (search needs) (l .lay .ensures) (c .before .before .put-node .ensures)
 
 pub root-spec : {M : Type 1} → statement M
 root-spec =

@@ -1,7 +1,7 @@
 -- `split::groups::copy_back` meets its contract: the words from lo to p are copied (`copied`).
 -- Assumes nothing.
 use Prim.Native.Nat.{_-_, _≤_}
-use Rattle.split.proofs.Parts.{copied, copy-done, copy-start, copy-step}
+use Rattle.split.proofs.Copied.{copied, copy-done, copy-start, copy-step}
 use Rattle.split.proofs.groups.copy_back.Statement.{statement}
 use Rattle.split.proofs.groups.copy_back.Tie as tie
 use borrow.Author.Needs.{needs}
@@ -43,15 +43,17 @@ loop-again : tie.Need-loop-again Inv-loop μ-loop
 loop-again c =
     let s = c .before .before in
     let a = s .before .args in
-    (omega arith, omega arith, simp length-set (omega arith), copy-step (a .work .now) (s .loop .work) (a .lo) (a .over) (s .loop .p) (omega arith) (omega arith) (s .loop .inv .3))
+    let more = copy-step (a .work .now) (s .loop .work) (a .lo) (a .over) (s .loop .p) (omega arith) (omega arith) (s .loop .inv .3) in
+    (omega arith, omega arith, simp length-set (omega arith), more)
 
 same-length : tie.Need-same-length Inv-loop μ-loop
 same-length c = search needs
 
 returns : tie.Need-returns Inv-loop μ-loop
 returns c =
-    let a = c .before .before .args in
-    copy-done (a .work .now) (c .before .loop .work) (a .lo) (a .hi) (a .over) (c .before .loop .p) (omega arith) (omega arith) (c .before .loop .inv .3)
+    let s = c .before in
+    let a = s .before .args in
+    copy-done (a .work .now) (s .loop .work) (a .lo) (a .hi) (a .over) (s .loop .p) (omega arith) (omega arith) (s .loop .inv .3)
 
 pub copy-back-spec : {M : Type 1} → statement M
 copy-back-spec =

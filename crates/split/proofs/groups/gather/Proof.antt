@@ -7,6 +7,13 @@ use borrow.Author.Needs.{needs}
 use lib.ListN.{length-drop, length-take}
 use native.Mathlib.Omega.{arith}
 
+-- the start, seen from behind the centre's entry, and that, seen from behind those that are picked
+abbrev start : tie.After-put-entry → tie.Start
+start c = c .before .before .before
+
+abbrev first : tie.After-pick → tie.After-put-entry
+first c = c .before .before .before .before
+
 mul-put-entry : tie.Need-mul-put-entry
 mul-put-entry c = search needs
 
@@ -21,8 +28,7 @@ part-put-entry-end c = search needs
 
 put-entry-requires : tie.Need-put-entry-requires
 put-entry-requires c κs =
-    let s = c .before .before in
-    let fits = gather-fits (s .args .work .now) (s .args .lo) (s .args .hi) (s .args .centre) (s .args .to) (s .pre) in
+    let fits = gather-fits (c .before .before .pre) in
     simp (length-take, length-drop) (omega arith)
 
 add-pick : tie.Need-add-pick
@@ -30,14 +36,14 @@ add-pick c = search needs
 
 pick-requires : tie.Need-pick-requires
 pick-requires c κs =
-    let s = c .before .before .before .before .before .before in
-    gather-picking (s .args .work .now) (s .args .lo) (s .args .hi) (s .args .centre) (s .args .to) (s .pre) _ (c .before .before .before .put-entry .ensures)
+    let e = c .before .before .before in
+    gather-picking (start e .pre) (e .put-entry .ensures)
 
 add-t10 : tie.Need-add-t10
 add-t10 c =
-    let s = c .before .before .before .before .before .before .before .before .before .before in
-    let fits = gather-fits (s .args .work .now) (s .args .lo) (s .args .hi) (s .args .centre) (s .args .to) (s .pre) in
-    let got = gather-done (s .args .work .now) (s .args .lo) (s .args .hi) (s .args .centre) (s .args .to) (s .pre) _ (c .before .before .before .before .before .before .before .put-entry .ensures) _ _ _ (c .before .before .before .pick .ensures) in
+    let k = c .before .before .before in
+    let fits = gather-fits (start (first k) .pre) in
+    let got = gather-done (start (first k) .pre) (first k .put-entry .ensures) (k .pick .ensures) in
     search needs
 
 same-length : tie.Need-same-length
@@ -45,8 +51,8 @@ same-length c = search needs
 
 returns : tie.Need-returns
 returns c =
-    let s = c .before .before .before .before .before .before .before .before .before .before in
-    gather-done (s .args .work .now) (s .args .lo) (s .args .hi) (s .args .centre) (s .args .to) (s .pre) _ (c .before .before .before .before .before .before .before .put-entry .ensures) _ _ _ (c .before .before .before .pick .ensures)
+    let k = c .before .before .before in
+    gather-done (start (first k) .pre) (first k .put-entry .ensures) (k .pick .ensures)
 
 pub gather-spec : {M : Type 1} → statement M
 gather-spec =

@@ -1,23 +1,29 @@
--- `split::groups::pick` meets its contract: the entries before p are dealt with, and what is picked from the rest is still to be written (`Gathering`).
+-- `split::groups::pick` meets its contract: the entries before p are dealt with, and what is picked from the rest is still to be written (`Picks`).
 -- Assumes nothing.
-use Prim.Native.Nat.{_-_}
-use Rattle.split.proofs.Gathered.{Gathering, gathering-done, gathering-fits, gathering-skip, gathering-start, gathering-take}
+use Prim.Native.Nat.{_*_, _+_, _-_, _≤_}
+use Rattle.split.proofs.Picks.{Picks, picks-done, picks-fits, picks-skip, picks-start, picks-take}
 use Rattle.split.proofs.groups.pick.Statement.{statement}
 use Rattle.split.proofs.groups.pick.Tie as tie
 use borrow.Author.Needs.{needs}
-use lib.ListN.{length-drop, length-take}
+use lib.ListN.{length, length-drop, length-take}
 use native.Mathlib.Omega.{arith}
 
 abbrev Inv-loop : tie.InvT-loop
-Inv-loop work₀ lo hi centre to count₀ radius₀ p₀ work count radius p = Gathering work₀ lo hi centre to work count radius p
+Inv-loop work₀ lo hi centre to count₀ radius₀ p₀ work count radius p = Picks work₀ lo hi centre to work count radius p
 
 abbrev μ-loop : tie.MeasureT-loop
 μ-loop work₀ lo hi centre to count₀ radius₀ p₀ work count radius p = hi - p
 
+-- the turn of the loop, seen from where an entry is taken
+abbrev turn : tie.Then1 Inv-loop μ-loop → tie.At-loop Inv-loop μ-loop
+turn c = c .before .before .before
+
+-- there is room for it
+fits : (c : tie.Then1 Inv-loop μ-loop) → turn c .before .before .args .to + 3 * turn c .loop .count + 3 ≤ length (turn c .loop .work)
+fits c = picks-fits (turn c .loop .inv) (search needs) (search needs)
+
 loop-holds : tie.Need-loop-holds Inv-loop μ-loop
-loop-holds c =
-    let s = c .before in
-    gathering-start (s .args .work .now) (s .args .lo) (s .args .hi) (s .args .centre) (s .args .to) (s .pre .order) (s .pre .before) (s .pre .thirds) (s .pre .room)
+loop-holds c = picks-start (c .before .pre)
 
 add-p : tie.Need-add-p Inv-loop μ-loop
 add-p c = search needs
@@ -48,50 +54,42 @@ slice-read-least c = search needs
 
 mul-q : tie.Need-mul-q Inv-loop μ-loop
 mul-q c =
-    let s = c .before .before .before .before .before in
-    let fits = gathering-fits _ _ _ _ _ (s .loop .work) (s .loop .count) (s .loop .radius) (s .loop .p) (s .loop .inv) (search needs) (search needs) in
+    let room = fits (c .before .before) in
     search needs
 
 add-q : tie.Need-add-q Inv-loop μ-loop
 add-q c =
-    let s = c .before .before .before .before .before in
-    let fits = gathering-fits _ _ _ _ _ (s .loop .work) (s .loop .count) (s .loop .radius) (s .loop .p) (s .loop .inv) (search needs) (search needs) in
+    let room = fits (c .before .before) in
     search needs
 
 mul-put-entry : tie.Need-mul-put-entry Inv-loop μ-loop
 mul-put-entry c =
-    let s = c .before .before .before .before .before in
-    let fits = gathering-fits _ _ _ _ _ (s .loop .work) (s .loop .count) (s .loop .radius) (s .loop .p) (s .loop .inv) (search needs) (search needs) in
+    let room = fits (c .before .before) in
     search needs
 
 sub-put-entry : tie.Need-sub-put-entry Inv-loop μ-loop
 sub-put-entry c =
-    let s = c .before .before .before .before .before in
-    let fits = gathering-fits _ _ _ _ _ (s .loop .work) (s .loop .count) (s .loop .radius) (s .loop .p) (s .loop .inv) (search needs) (search needs) in
+    let room = fits (c .before .before) in
     search needs
 
 part-put-entry-start : tie.Need-part-put-entry-start Inv-loop μ-loop
 part-put-entry-start c =
-    let s = c .before .before .before .before .before in
-    let fits = gathering-fits _ _ _ _ _ (s .loop .work) (s .loop .count) (s .loop .radius) (s .loop .p) (s .loop .inv) (search needs) (search needs) in
+    let room = fits (c .before .before) in
     search needs
 
 part-put-entry-end : tie.Need-part-put-entry-end Inv-loop μ-loop
 part-put-entry-end c =
-    let s = c .before .before .before .before .before in
-    let fits = gathering-fits _ _ _ _ _ (s .loop .work) (s .loop .count) (s .loop .radius) (s .loop .p) (s .loop .inv) (search needs) (search needs) in
+    let room = fits (c .before .before) in
     search needs
 
 put-entry-requires : tie.Need-put-entry-requires Inv-loop μ-loop
 put-entry-requires c κs =
-    let s = c .before .before .before .before .before .before in
-    let fits = gathering-fits _ _ _ _ _ (s .loop .work) (s .loop .count) (s .loop .radius) (s .loop .p) (s .loop .inv) (search needs) (search needs) in
+    let room = fits (c .before .before .before) in
     simp (length-take, length-drop) (omega arith)
 
 add-count : tie.Need-add-count Inv-loop μ-loop
 add-count c =
-    let s = c .before .before .before .before .before .before .before .before .before in
-    let fits = gathering-fits _ _ _ _ _ (s .loop .work) (s .loop .count) (s .loop .radius) (s .loop .p) (s .loop .inv) (search needs) (search needs) in
+    let room = fits (c .before .before .before .before .before .before) in
     search needs
 
 greater-requires : tie.Need-greater-requires Inv-loop μ-loop
@@ -102,24 +100,22 @@ loop-less c = search needs
 
 loop-again : tie.Need-loop-again Inv-loop μ-loop
 loop-again c =
-    let s = c .before .before .before .before .before .before .before .before .before .before in
-    rw (c .greater .ensures) (gathering-take _ _ _ _ _ (s .loop .work) (s .loop .count) (s .loop .radius) (s .loop .p) (s .loop .inv) _ (search needs) (search needs) (c .before .before .before .put-entry .ensures))
+    let e = c .before .before .before in
+    let s = turn (e .before .before .before .before) in
+    rw (c .greater .ensures) (picks-take (s .loop .inv) _ (search needs) (search needs) (e .put-entry .ensures))
 
 loop-less-2 : tie.Need-loop-less-2 Inv-loop μ-loop
 loop-less-2 c = search needs
 
 loop-again-2 : tie.Need-loop-again-2 Inv-loop μ-loop
 loop-again-2 c =
-    let s = c .before .before .before in
-    gathering-skip _ _ _ _ _ (s .loop .work) (s .loop .count) (s .loop .radius) (s .loop .p) (s .loop .inv) (search needs) (c .if1 .left)
+    picks-skip (c .before .before .before .loop .inv) (search needs) (c .if1 .left)
 
 same-length : tie.Need-same-length Inv-loop μ-loop
 same-length c = search needs
 
 returns : tie.Need-returns Inv-loop μ-loop
-returns c =
-    let s = c .before in
-    gathering-done _ _ _ _ _ (s .loop .work) (s .loop .count) (s .loop .radius) (s .loop .p) (s .loop .inv) (search needs)
+returns c = picks-done (c .before .loop .inv) (search needs)
 
 pub pick-spec : {M : Type 1} → statement M
 pick-spec =

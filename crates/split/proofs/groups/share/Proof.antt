@@ -8,15 +8,18 @@ use Rattle.split.specs.Groups.{Sharable}
 use borrow.Author.Needs.{needs}
 
 abbrev Inv-loop : tie.InvT-loop
-Inv-loop room₀ work₀ n m s count made at₀ t₀ room work at t = Sharable room₀ work₀ n m s count made × Sharing room₀ work₀ n m s count made room work at t
+Inv-loop room₀ work₀ n m s count made at₀ t₀ room work at t =
+    Sharable room₀ work₀ n m s count made × Sharing room₀ work₀ n m s count made room work at t
 
 abbrev μ-loop : tie.MeasureT-loop
 μ-loop room₀ work₀ n m s count made at₀ t₀ room work at t = m - t
 
+-- the turn of the loop, seen from behind the group
+abbrev turn : tie.After-gather Inv-loop μ-loop → tie.At-loop Inv-loop μ-loop
+turn c = c .before .before .before .before
+
 loop-holds : tie.Need-loop-holds Inv-loop μ-loop
-loop-holds c =
-    let s = c .before .before in
-    (s .pre, sharing-start _ _ _ _ _ _ _ (s .pre))
+loop-holds c = (c .before .before .pre, sharing-start (c .before .before .pre))
 
 add-first : tie.Need-add-first Inv-loop μ-loop
 add-first c = search needs
@@ -50,8 +53,8 @@ mul-gather-3 c = search needs
 
 gather-requires : tie.Need-gather-requires Inv-loop μ-loop
 gather-requires c κs =
-    let s = c .before .before .before in
-    sharing-asked _ _ _ _ _ _ _ (s .loop .inv .0) (s .loop .room) (s .loop .work) (s .loop .at) (s .loop .t) (s .loop .inv .1) (search needs)
+    let s = c .before .before .before .loop .inv in
+    sharing-asked (s .0) (s .1) (search needs)
 
 add-node : tie.Need-add-node Inv-loop μ-loop
 add-node c = search needs
@@ -79,8 +82,8 @@ cast-put-node c = search needs
 
 cast-put-node-2 : tie.Need-cast-put-node-2 Inv-loop μ-loop
 cast-put-node-2 c =
-    let s = c .before .before .before .before .before .before .before .before in
-    let small = sharing-small _ _ _ _ _ _ _ (s .loop .inv .0) (s .loop .room) (s .loop .work) (s .loop .at) (s .loop .t) (s .loop .inv .1) (search needs) _ _ _ (c .before .before .before .before .gather .ensures) in
+    let k = c .before .before .before .before in
+    let small = sharing-small (turn k .loop .inv .0) (turn k .loop .inv .1) (search needs) (k .gather .ensures) in
     search needs
 
 put-node-requires : tie.Need-put-node-requires Inv-loop μ-loop
@@ -88,8 +91,8 @@ put-node-requires c κs = search needs
 
 add-at : tie.Need-add-at Inv-loop μ-loop
 add-at c =
-    let s = c .before .before .before .before .before .before .before .before .before .before .before .before in
-    let small = sharing-small _ _ _ _ _ _ _ (s .loop .inv .0) (s .loop .room) (s .loop .work) (s .loop .at) (s .loop .t) (s .loop .inv .1) (search needs) _ _ _ (c .before .before .before .before .before .before .before .before .gather .ensures) in
+    let k = c .before .before .before .before .before .before .before .before in
+    let small = sharing-small (turn k .loop .inv .0) (turn k .loop .inv .1) (search needs) (k .gather .ensures) in
     search needs
 
 add-t : tie.Need-add-t Inv-loop μ-loop
@@ -100,10 +103,10 @@ loop-less c = search needs
 
 loop-again : tie.Need-loop-again Inv-loop μ-loop
 loop-again c =
-    let s = c .before .before .before .before .before .before .before .before .before .before .before .before in (
-      s .loop .inv .0,
-      sharing-step _ _ _ _ _ _ _ (s .loop .inv .0) (s .loop .room) (s .loop .work) (s .loop .at) (s .loop .t) (s .loop .inv .1) (search needs) _ _ _ (c .before .before .before .before .before .before .before .before .gather .ensures) _ (c .before .before .before .put-node .ensures) (search needs) (search needs),
-    )
+    let e = c .before .before .before in
+    let k = e .before .before .before .before .before in
+    let s = turn k .loop .inv in
+    (s .0, sharing-step (s .0) (s .1) (search needs) (k .gather .ensures) (e .put-node .ensures) (search needs) (search needs))
 
 same-length : tie.Need-same-length Inv-loop μ-loop
 same-length c = search needs
@@ -113,8 +116,8 @@ same-length-2 c = search needs
 
 returns : tie.Need-returns Inv-loop μ-loop
 returns c =
-    let s = c .before in
-    sharing-done _ _ _ _ _ _ _ (s .loop .inv .0) (s .loop .room) (s .loop .work) (s .loop .at) (s .loop .t) (s .loop .inv .1) (search needs)
+    let s = c .before .loop .inv in
+    sharing-done (s .0) (s .1) (search needs)
 
 pub share-spec : {M : Type 1} → statement M
 share-spec =

@@ -5,6 +5,13 @@ use Rattle.split.proofs.groups.split_run.Statement.{statement}
 use Rattle.split.proofs.groups.split_run.Tie as tie
 use borrow.Author.Needs.{needs}
 
+-- the start, seen from behind the rounds, and those, seen from behind the sharing out
+abbrev start : tie.After-choose → tie.Start
+start c = c .before .before .before .before .before
+
+abbrev chosen : tie.After-share → tie.After-choose
+chosen c = c .before .before .before .before .before
+
 mul-lo : tie.Need-mul-lo
 mul-lo c = search needs
 
@@ -29,13 +36,13 @@ part-choose-end c = search needs
 choose-requires : tie.Need-choose-requires
 choose-requires c κs =
     let s = c .before .before .before .before in
-    let r = choose-ready (s .args .table .now) (s .args .c) (s .args .m) (s .args .n) (s .args .room .now) (s .args .work .now) (s .args .s) (s .args .count) (s .args .made) (s .pre) in
+    let r = choose-ready (s .pre) in
     (s .pre .columns, s .pre .share, r .0, r .1)
 
 share-requires : tie.Need-share-requires
 share-requires c κs =
-    let s = c .before .before .before .before .before .before .before .before .before in
-    share-ready (s .args .table .now) (s .args .c) (s .args .m) (s .args .n) (s .args .room .now) (s .args .work .now) (s .args .s) (s .args .count) (s .args .made) (s .pre) _ (search needs) (c .before .before .before .before .choose .ensures)
+    let k = c .before .before .before .before in
+    share-ready (start k .pre) (search needs) (k .choose .ensures)
 
 mul-copy-back : tie.Need-mul-copy-back
 mul-copy-back c = search needs
@@ -51,8 +58,10 @@ same-length-2 c = search needs
 
 returns : tie.Need-returns
 returns c =
-    let s = c .before .before .before .before .before .before .before .before .before .before .before .before .before .before .before .before .before .before in
-    split-done (s .args .table .now) (s .args .c) (s .args .m) (s .args .n) (s .args .room .now) (s .args .work .now) (s .args .s) (s .args .count) (s .args .made) (s .pre) _ (search needs) (c .before .before .before .before .before .before .before .before .before .before .before .before .before .choose .ensures) _ _ _ (c .before .before .before .before .before .before .before .before .share .ensures) (c .before .before .copy-back .ensures)
+    let b = c .before .before in
+    let h = b .before .before .before .before .before .before in
+    let k = chosen h in
+    split-done (start k .pre) (search needs) (k .choose .ensures) (h .share .ensures) (b .copy-back .ensures)
 
 pub split-run-spec : {M : Type 1} → statement M
 split-run-spec =

@@ -37,8 +37,8 @@ part-round-end c = search needs
 round-requires : tie.Need-round-requires Inv-loop μ-loop
 round-requires c κs =
     let s = c .before .before in
-    let r = choosing-requires _ _ _ _ (s .loop .run) (s .loop .r) (s .loop .inv) (search needs) in
-    (c .before .before .before .before .before .pre .0, r .0, r .1)
+    let r = choosing-requires (s .loop .inv) (search needs) in
+    (s .before .before .before .pre .0, r .0, r .1)
 
 add-r : tie.Need-add-r Inv-loop μ-loop
 add-r c = search needs
@@ -48,16 +48,13 @@ loop-less c = search needs
 
 loop-again : tie.Need-loop-again Inv-loop μ-loop
 loop-again c =
-    let s = c .before .before .before .before .before in
-    choosing-step _ _ _ _ (s .loop .run) (s .loop .r) (s .loop .inv) _ (search needs) (c .before .before .round .ensures)
+    choosing-step (c .before .before .before .before .before .loop .inv) _ (search needs) (c .before .before .round .ensures)
 
 same-length : tie.Need-same-length Inv-loop μ-loop
 same-length c = search needs
 
 returns : tie.Need-returns Inv-loop μ-loop
-returns c =
-    let s = c .before in
-    choosing-done _ _ _ _ (s .loop .run) (s .loop .r) (s .loop .inv) (search needs)
+returns c = choosing-done (c .before .loop .inv) (search needs)
 
 pub choose-spec : {M : Type 1} → statement M
 choose-spec =

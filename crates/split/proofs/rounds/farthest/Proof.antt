@@ -1,10 +1,11 @@
 -- `split::rounds::farthest` meets its contract: the search comes down from the end, and b is the farthest from p on (`Seeking`).
 -- Assumes nothing.
 
-use Rattle.split.proofs.Seeking.{Seeking, seeking-done, seeking-left, seeking-start, seeking-taken}
+use Rattle.split.proofs.Seeking.{Seeking, seeking-done, seeking-start, seeking-step}
 use Rattle.split.proofs.rounds.farthest.Statement.{statement}
 use Rattle.split.proofs.rounds.farthest.Tie as tie
 use borrow.Author.Needs.{needs}
+use mathlib.Core.Bool.{false, true}
 use mathlib.Core.Path.{_∙_, sym}
 
 abbrev Inv-loop : tie.InvT-loop
@@ -30,21 +31,17 @@ loop-less c = search needs
 
 loop-again : tie.Need-loop-again Inv-loop μ-loop
 loop-again c =
-    let s = c .before .before .before in
-    seeking-taken (s .before .before .args .part .now) (s .loop .p) (s .loop .b) (s .loop .inv) (search needs) (sym (c .before .precedes .ensures) ∙ c .if1 .taken)
+    seeking-step (c .before .before .before .loop .inv) (search needs) true (sym (c .before .precedes .ensures) ∙ c .if1 .taken)
 
 loop-less-2 : tie.Need-loop-less-2 Inv-loop μ-loop
 loop-less-2 c = search needs
 
 loop-again-2 : tie.Need-loop-again-2 Inv-loop μ-loop
 loop-again-2 c =
-    let s = c .before .before .before in
-    seeking-left (s .before .before .args .part .now) (s .loop .p) (s .loop .b) (s .loop .inv) (search needs) (sym (c .before .precedes .ensures) ∙ c .if1 .left)
+    seeking-step (c .before .before .before .loop .inv) (search needs) false (sym (c .before .precedes .ensures) ∙ c .if1 .left)
 
 returns : tie.Need-returns Inv-loop μ-loop
-returns c =
-    let s = c .before in
-    seeking-done (c .before .before .before .args .part .now) (s .loop .p) (s .loop .b) (s .loop .inv) (c .loop-test .left)
+returns c = seeking-done (c .before .loop .inv) (c .loop-test .left)
 
 pub farthest-spec : {M : Type 1} → statement M
 farthest-spec =

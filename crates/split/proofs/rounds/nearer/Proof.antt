@@ -1,4 +1,4 @@
--- `split::rounds::nearer` meets its contract: the entries before p have learnt of the new centre, and the rest are as they were (`Nearing`).
+-- `split::rounds::nearer` meets its contract: the entries before p have learnt of the new centre, and the rest are still to (`Nearing`).
 -- Assumes nothing.
 use Prim.Native.Nat.{_+_, _-_}
 use Rattle.measure.specs.Table.{between}
@@ -36,18 +36,18 @@ part-nearer-one-start c = search needs
 part-nearer-one-end : tie.Need-part-nearer-one-end Inv-loop μ-loop
 part-nearer-one-end c =
     let s = c .before in
-    let fits = nearing-fits _ _ _ _ (s .loop .part) (s .loop .p) (s .loop .inv) (search needs) in
+    let fits = nearing-fits (s .loop .inv) (search needs) in
     search needs
 
 nearer-one-requires : tie.Need-nearer-one-requires Inv-loop μ-loop
 nearer-one-requires c κs =
     let s = c .before .before in
-    let a = c .before .before .before .before .before in
-    let fits = nearing-fits _ _ _ _ (s .loop .part) (s .loop .p) (s .loop .inv) (search needs) in (
+    let a = s .before .before .before in
+    let fits = nearing-fits (s .loop .inv) (search needs) in (
       a .pre .0,
       a .pre .1,
       mid-len (s .loop .p) (s .loop .p + 3) (s .loop .part) fits ∙ omega arith,
-      nearing-row _ _ _ _ (s .loop .part) (s .loop .p) (s .loop .inv) (search needs),
+      nearing-row (s .loop .inv) (search needs),
     )
 
 loop-less : tie.Need-loop-less Inv-loop μ-loop
@@ -55,16 +55,13 @@ loop-less c = search needs
 
 loop-again : tie.Need-loop-again Inv-loop μ-loop
 loop-again c =
-    let s = c .before .before .before .before .before in
-    nearing-step _ _ _ _ (s .loop .part) (s .loop .p) (s .loop .inv) _ (search needs) (c .before .before .nearer-one .ensures)
+    nearing-step (c .before .before .before .before .before .loop .inv) _ (search needs) (c .before .before .nearer-one .ensures)
 
 same-length : tie.Need-same-length Inv-loop μ-loop
 same-length c = search needs
 
 returns : tie.Need-returns Inv-loop μ-loop
-returns c =
-    let s = c .before in
-    nearing-done _ _ _ _ (s .loop .part) (s .loop .p) (s .loop .inv) (search needs)
+returns c = nearing-done (c .before .loop .inv) (search needs)
 
 pub nearer-spec : {M : Type 1} → statement M
 nearer-spec =

@@ -9,6 +9,17 @@ use borrow.Author.Needs.{needs}
 use lib.ListN.{getD}
 use mathlib.Core.Path.{_∙_, _≡_, ap₂}
 
+-- the start, seen from behind the measuring
+abbrev start : tie.After-row-distance → tie.Start
+start c = c .before .before .before .before .before .before
+
+-- what is measured is the entry's distance from the new centre
+measured : (c : tie.After-row-distance)
+    → c .row-distance .result ≡ between (start c .args .table .now) (start c .args .c) (start c .args .centre) (getD (start c .args .entry .now) 0 0)
+measured c =
+    let a = start c .args in
+    c .row-distance .ensures .0 ∙ ap₂ (between (a .table .now) (a .c)) (c .before .before .before .wide .ensures) (c .before .wide2 .ensures)
+
 wide-requires : tie.Need-wide-requires
 wide-requires c κs = search needs
 
@@ -39,19 +50,15 @@ same-length c = search needs
 
 returns : tie.Need-returns
 returns c =
-    let s = c .before .before .before .before .before .before .before .before in
-    let i : c .before .before .before .before .before .wide .result ≡ s .args .centre = c .before .before .before .before .before .wide .ensures in
-    let j : c .before .before .before .wide2 .result ≡ getD (s .args .entry .now) 0 0 = c .before .before .before .wide2 .ensures in
-    let gives = c .before .before .row-distance .ensures .0 ∙ ap₂ (between (s .args .table .now) (s .args .c)) i j in
-    near-less (between (s .args .table .now) (s .args .c)) (s .args .centre) (c .before .before .row-distance .result) (s .args .entry .now) (s .pre .2) gives (c .if1 .taken)
+    let m = c .before .before in
+    let s = start m in
+    near-less (between (s .args .table .now) (s .args .c)) (s .args .centre) _ (s .args .entry .now) (s .pre .2) (measured m) (c .if1 .taken)
 
 returns-2 : tie.Need-returns-2
 returns-2 c =
-    let s = c .before .before .before .before .before .before .before .before in
-    let i : c .before .before .before .before .before .wide .result ≡ s .args .centre = c .before .before .before .before .before .wide .ensures in
-    let j : c .before .before .before .wide2 .result ≡ getD (s .args .entry .now) 0 0 = c .before .before .before .wide2 .ensures in
-    let gives = c .before .before .row-distance .ensures .0 ∙ ap₂ (between (s .args .table .now) (s .args .c)) i j in
-    near-same (between (s .args .table .now) (s .args .c)) (s .args .centre) (c .before .before .row-distance .result) (s .args .entry .now) (s .pre .2) gives (c .if1 .left)
+    let m = c .before .before in
+    let s = start m in
+    near-same (between (s .args .table .now) (s .args .c)) (s .args .centre) _ (s .args .entry .now) (s .pre .2) (measured m) (c .if1 .left)
 
 pub nearer-one-spec : {M : Type 1} → statement M
 nearer-one-spec =

@@ -1,7 +1,7 @@
 -- `split::rounds::put_entry` meets its contract: three stores at the front.
 -- Assumes nothing.
 
-use Rattle.split.proofs.Nearing.{three-sets}
+use Rattle.split.proofs.Parts.{three-sets}
 use Rattle.split.proofs.rounds.put_entry.Statement.{statement}
 use Rattle.split.proofs.rounds.put_entry.Tie as tie
 use borrow.Author.Needs.{needs}

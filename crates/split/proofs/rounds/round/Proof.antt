@@ -2,12 +2,23 @@
 -- Assumes nothing.
 
 use Rattle.measure.specs.Table.{between}
-use Rattle.split.proofs.Choosing.{entries-whole, round-done, round-requires}
+use Rattle.split.proofs.Choosing.{round-done, round-requires}
+use Rattle.split.proofs.Entries.{entries-whole}
 use Rattle.split.proofs.rounds.round.Statement.{statement}
 use Rattle.split.proofs.rounds.round.Tie as tie
 use Rattle.split.specs.Entries.{InTable}
 use borrow.Author.Needs.{needs}
 use mathlib.Core.Path.{refl}
+
+-- the start, the search and the shift, each seen from the next
+abbrev start : tie.After-farthest → tie.Start
+start c = c .before .before .before .before
+
+abbrev found : tie.After-shift → tie.After-farthest
+found c = c .before .before .before
+
+abbrev moved : tie.After-put-entry → tie.After-shift
+moved c = c .before .before .before .before
 
 farthest-requires : tie.Need-farthest-requires
 farthest-requires c κs =
@@ -37,10 +48,12 @@ part-nearer-end c = search needs
 
 nearer-requires : tie.Need-nearer-requires
 nearer-requires c κs =
-    let s = c .before .before .before .before .before .before .before .before .before .before .before .before .before .before in
-    let f = c .before .before .before .before .before .before .before .before .before .before .farthest in
-    let p = c .before .before .before .put-entry in
-    let r = round-requires (InTable (s .args .table .now) (s .args .c)) (between (s .args .table .now) (s .args .c)) (s .args .part .now) _ (p .last .0) (p .last .0) (f .result) _ (s .pre .2) (s .pre .1) (f .ensures .0) (f .ensures .1) (f .ensures .2) refl (c .before .before .before .before .before .before .before .shift .ensures) (p .ensures) in
+    let e = c .before .before .before in
+    let f = found (moved e) in
+    let s = start f in
+    let r =
+    round-requires (s .args .part .now) (f .farthest .result) (s .pre .1) refl (moved e .shift .ensures) (e .put-entry .ensures)
+    (InTable (s .args .table .now) (s .args .c)) (s .pre .2) (f .farthest .ensures .2) (f .farthest .ensures .1) in
     (s .pre .0, r .1, r .0)
 
 same-length : tie.Need-same-length
@@ -48,10 +61,11 @@ same-length c = search needs
 
 returns : tie.Need-returns
 returns c =
-    let s = c .before .before .before .before .before .before .before .before .before .before .before .before .before .before .before .before .before in
-    let f = c .before .before .before .before .before .before .before .before .before .before .before .before .before .farthest in
-    let p = c .before .before .before .before .before .before .put-entry in
-    round-done (InTable (s .args .table .now) (s .args .c)) (between (s .args .table .now) (s .args .c)) (s .args .part .now) _ (p .last .0) _ (f .result) _ (s .pre .2) (s .pre .1) (f .ensures .0) (f .ensures .1) (f .ensures .2) refl (c .before .before .before .before .before .before .before .before .before .before .shift .ensures) (p .ensures) (c .before .before .nearer .ensures)
+    let e = c .before .before .before .before .before .before in
+    let f = found (moved e) in
+    let s = start f in
+    round-done (s .args .part .now) (f .farthest .result) (s .pre .1) refl (moved e .shift .ensures) (e .put-entry .ensures)
+    (between (s .args .table .now) (s .args .c)) _ (f .farthest .ensures .0) (c .before .before .nearer .ensures)
 
 pub round-spec : {M : Type 1} → statement M
 round-spec =
