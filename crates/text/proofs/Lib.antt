@@ -1,4 +1,6 @@
+pub mod Never
 pub mod Within
+pub mod Copying
 pub mod Bytes
 pub mod Putting
 pub mod Passes
