@@ -4,7 +4,7 @@ ghost use Rattle.io.specs.Counts.{Counts};
 ghost use lib.ListN.{length};
 use libc::STDOUT_FILENO;
 use lines::print_lines;
-use samples::FIVE;
+use samples::five_index;
 
 // Two numbers on a line.
 fn print_pair(a: u32, b: usize) {
@@ -66,7 +66,8 @@ fn load(path: &[u8], bytes: &mut [u8]) -> usize
 
 // The five-row index through a file: what writing and reading say, then its nodes and positions.
 fn trip(image: &mut [u8]) {
-    let written = image::write_image(&FIVE, image);
+    let index = five_index();
+    let written = image::write_image(&index, image);
     print_pair(written.number, written.blocks);
     save(b"five", image);
     let mut back = [0u8; 512];
