@@ -1,2 +1,1 @@
 pub mod Worths
-pub mod Indexed

@@ -1,2 +1,1 @@
 pub mod Worth
-pub mod Answers

@@ -76,24 +76,35 @@ fn say_no_row(row: usize, rows: usize) {
     say(b"\n");
 }
 
-// What is wrong with the line that the reader stopped at.
-fn say_line_fault(r: Reader) {
-    let fault = r.fault;
-    if fault == sheet::line::NOT_A_NUMBER {
-        say(b"not a number\n");
-    } else if fault == sheet::line::TOO_GREAT {
-        say(b"a number above 65,535\n");
-    } else if fault == sheet::line::TOO_WIDE {
-        say(b"more than 16 numbers in a row\n");
-    } else if fault == sheet::UNEVEN {
-        say_count(r.here.count, b"number");
-        say(b", where the rows above have ");
-        say_number(r.columns);
-        say(b"\n");
-    } else if fault == sheet::TOO_MANY_ROWS {
+// A row that has another count than the rows above.
+fn say_uneven(count: usize, columns: usize) {
+    say_count(count, b"number");
+    say(b", where the rows above have ");
+    say_number(columns);
+    say(b"\n");
+}
+
+// What is wrong with a line as a row of the table.
+fn say_row_fault(r: Reader) {
+    if r.fault == sheet::UNEVEN {
+        say_uneven(r.here.count, r.columns);
+    } else if r.fault == sheet::TOO_MANY_ROWS {
         say(b"more than 65,536 rows\n");
     } else {
         say(b"too long a text\n");
+    }
+}
+
+// What is wrong with the line that the reader stopped at.
+fn say_line_fault(r: Reader) {
+    if r.fault == sheet::line::NOT_A_NUMBER {
+        say(b"not a number\n");
+    } else if r.fault == sheet::line::TOO_GREAT {
+        say(b"a number above 65,535\n");
+    } else if r.fault == sheet::line::TOO_WIDE {
+        say(b"more than 16 numbers in a row\n");
+    } else {
+        say_row_fault(r);
     }
 }
 
@@ -110,18 +121,8 @@ fn say_fault(r: Reader) {
 }
 
 // Answers a question on the rows that were read. Gives 0 where it is answered, and 1 where a line says why it is not.
-fn answer(
-    question: Question,
-    table: &[u16],
-    c: usize,
-    n: usize,
-    room: &mut [u32],
-    work: &mut [u32],
-    how: &mut [u8],
-    rows: &mut [u32],
-    distances: &mut [u32],
-) -> u32
-    requires { ⌜ (c ≤ maxColumns) × (c * n ≤ length (now table)) × (n ≤ length (now how)) ⌝ }
+fn answer(question: Question, table: &[u16], c: usize, n: usize) -> u32
+    requires { ⌜ (c ≤ maxColumns) × (c * n ≤ length (now table)) × (n ≤ 65536) ⌝ }
     ensures { λ r. ⌜ r ≤ 1 ⌝ }
 {
     let row = question.row;
@@ -131,34 +132,14 @@ fn answer(
     }
     let way = question.way;
     match way {
-        Way::Like => answering::like(table, c, n, row, question.amount, room, work, how),
-        Way::Nearest => answering::closest(
-            table,
-            c,
-            n,
-            row,
-            question.amount as usize,
-            room,
-            work,
-            how,
-            rows,
-            distances,
-        ),
+        Way::Like => answering::like(table, c, n, row, question.amount),
+        Way::Nearest => answering::closest(table, c, n, row, question.amount as usize),
         Way::Nothing => 1,
     }
 }
 
 // Reads the text and answers the question. Gives 0 where it is answered, and 1 where a line says why it is not.
-fn run_in(
-    question: Question,
-    table: &mut [u16],
-    room: &mut [u32],
-    work: &mut [u32],
-    how: &mut [u8],
-    rows: &mut [u32],
-    distances: &mut [u32],
-) -> u32
-    requires { ⌜ 65536 ≤ length (now how) ⌝ }
+fn run_in(question: Question, table: &mut [u16]) -> u32
     ensures { λ r. ⌜ r ≤ 1 ⌝ }
 {
     let came = reading::read_rows(question.file, table);
@@ -172,18 +153,7 @@ fn run_in(
         return 1;
     }
     let put = reader.put;
-    let part = &table[..put];
-    answer(
-        question,
-        part,
-        reader.columns,
-        reader.rows,
-        room,
-        work,
-        how,
-        rows,
-        distances,
-    )
+    answer(question, &table[..put], reader.columns, reader.rows)
 }
 
 // The whole program. Gives 0 where the question is answered, and 1 where a line says why it is not.
@@ -195,18 +165,5 @@ pub fn run() -> u32
         return 1;
     }
     let mut table = rooms::table_room();
-    let mut room = rooms::index_room();
-    let mut work = rooms::workspace();
-    let mut how = rooms::byte_room();
-    let mut rows = rooms::answer_room();
-    let mut distances = rooms::answer_room();
-    run_in(
-        question,
-        &mut table,
-        &mut room,
-        &mut work,
-        &mut how,
-        &mut rows,
-        &mut distances,
-    )
+    run_in(question, &mut table)
 }

@@ -1,4 +1,4 @@
-// The buffers of the program, with their lengths alone, which lending them as slices needs.
+// The buffers of the program, for 65,536 rows of 16 columns, with their lengths alone, which lending them as slices needs.
 ghost use lib.ListN.{length};
 ghost use mathlib.Core.Path.{_≡_};
 

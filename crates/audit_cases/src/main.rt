@@ -1,7 +1,10 @@
 // The full check on the five-row index, on spoilt copies and on a few more, a line each: the number, its two places, and what the
 // workspace's words sum to after the call. Each word was 7; for the five rows one more is lent than is asked for, so that 7 is left.
-use samples::FIVE;
+ghost use lib.ListN.{length};
+ghost use mathlib.Core.Path.{_≡_};
 use samples::FIVE_ROWS as ROWS;
+use samples::five_index;
+use samples::put;
 
 fn wide(x: u32) -> u64 {
     x as u64
@@ -40,7 +43,7 @@ fn five(index: [u32; 38]) {
 
 // The five-row index with one word changed.
 fn spoilt(at: usize, word: u32) {
-    let mut index = FIVE;
+    let mut index = five_index();
     if at < 38 {
         index[at] = word;
     }
@@ -65,7 +68,7 @@ fn one_fault() {
     spoilt(31, 2);
     spoilt(11, 19);
     // row 3, at 11, stands with the centre 0 and is closer to 20
-    let mut stray = FIVE;
+    let mut stray = five_index();
     stray[15] = 11;
     stray[19] = 10;
     stray[32] = 3;
@@ -77,22 +80,22 @@ fn one_fault() {
 // Of several the lowest number is named, then the lowest place.
 fn more_faults() {
     // positions 1 and 4; position 4's leaf has the lower number
-    let mut index = FIVE;
+    let mut index = five_index();
     index[31] = 2;
     index[37] = 8;
     five(index);
     // nodes 0 and 1
-    index = FIVE;
+    index = five_index();
     index[11] = 19;
     index[15] = 11;
     five(index);
     // a row again at position 4, and the distance of position 1
-    index = FIVE;
+    index = five_index();
     index[31] = 2;
     index[36] = 0;
     five(index);
     // a stray, and a radius
-    index = FIVE;
+    index = five_index();
     index[15] = 11;
     index[19] = 10;
     index[23] = 2;
@@ -102,55 +105,54 @@ fn more_faults() {
     five(index);
 }
 
-// What is refused before the passes.
-fn refused() {
+// 1: no column, and too many. 3: the length is odd.
+fn wrong_columns() {
+    let index = five_index();
     let mut work = [7u32; 31];
-    show(&ROWS, 0, &FIVE, &mut work);
-    show(&ROWS, 17, &FIVE, &mut work);
-    show(&ROWS, 2, &FIVE, &mut work);
-    // one workspace word short, for a good index and for a spoilt one
-    let mut short = [7u32; 29];
-    show(&ROWS, 1, &FIVE, &mut short);
-    show(&ROWS, 1, &FIVE[..8], &mut short);
-    // a row more
-    let rows: [u16; 6] = [0, 1, 10, 11, 20, 30];
-    let mut long = [7u32; 36];
-    show(&rows, 1, &FIVE, &mut long);
-    // a word missing
-    show(&ROWS, 1, &FIVE[..37], &mut work);
+    show(&ROWS, 0, &index, &mut work);
+    show(&ROWS, 17, &index, &mut work);
+    show(&ROWS, 2, &index, &mut work);
+}
+
+// 5: one workspace word short, for a good index and for a spoilt one.
+fn short_work() {
+    let index = five_index();
+    let mut work = [7u32; 29];
+    show(&ROWS, 1, &index, &mut work);
+    show(&ROWS, 1, &index[0..8], &mut work);
+}
+
+// 8: a row more.
+fn other_table() {
+    let index = five_index();
+    let mut work = [7u32; 36];
+    show(&[0, 1, 10, 11, 20, 30], 1, &index, &mut work);
+}
+
+// 8: a word missing.
+fn missing_word() {
+    let index = five_index();
+    let mut work = [7u32; 31];
+    show(&ROWS, 1, &index[0..37], &mut work);
+}
+
+// The index of the rows 0 10 5, with the last at its later centre.
+fn later_index() -> [u32; 26]
+    ensures { λ r. ⌜ 26 ≡ length r ⌝ }
+{
+    let mut index = [0; 26];
+    put(&[1, 3, 1, 2, 2, 3, 1, 0], &mut index, 0);
+    put(&[0, 3, 1, 10], &mut index, 8);
+    put(&[0, 1, 0, 0], &mut index, 12);
+    put(&[1, 2, 0, 5], &mut index, 16);
+    put(&[0, 0, 1, 0, 2, 5], &mut index, 20);
+    index
 }
 
 // A row as far from two centres may stand with either; and there may be no row.
 fn free() {
     let rows: [u16; 3] = [0, 10, 5];
-    let later: [u32; 26] = [
-        1,
-        3,
-        1,
-        2,
-        2,
-        3,
-        1,
-        0,
-        0,
-        3,
-        1,
-        10,
-        0,
-        1,
-        0,
-        0,
-        1,
-        2,
-        0,
-        5,
-        0,
-        0,
-        1,
-        0,
-        2,
-        5,
-    ];
+    let later = later_index();
     let mut work = [7u32; 19];
     show(&rows, 1, &later, &mut work);
     let none: [u32; 8] = [1, 0, 1, 2, 2, 0, 1, 0];
@@ -159,9 +161,12 @@ fn free() {
 }
 
 fn main() {
-    five(FIVE);
+    five(five_index());
     one_fault();
     more_faults();
-    refused();
+    wrong_columns();
+    short_work();
+    other_table();
+    missing_word();
     free();
 }

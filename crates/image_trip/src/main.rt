@@ -3,40 +3,15 @@ ghost use Prim.Native.Nat.{_<_, _≤_};
 ghost use Rattle.io.specs.Counts.{Counts};
 ghost use lib.ListN.{length};
 use libc::STDOUT_FILENO;
-use samples::FIVE;
-
-// A word, as decimal digits.
-fn print_word(x: u32) {
-    io::print_decimal(STDOUT_FILENO, x as u64);
-}
-
-// What stands after a word.
-fn print_after(last: bool) {
-    if last {
-        io::write_all(STDOUT_FILENO, b"\n");
-    } else {
-        io::write_all(STDOUT_FILENO, b" ");
-    }
-}
-
-// The words, so many to a line.
-fn print_lines(words: &[u32], width: usize)
-    requires { ⌜ 1 ≤ width ⌝ }
-{
-    let mut i = 0;
-    while i < words.len() {
-        print_word(words[i]);
-        i += 1;
-        print_after(i % width == 0);
-    }
-}
+use lines::print_lines;
+use samples::five_index;
 
 // Two numbers on a line.
 fn print_pair(a: u32, b: usize) {
-    print_word(a);
-    print_after(false);
+    io::print_decimal(STDOUT_FILENO, a as u64);
+    io::write_all(STDOUT_FILENO, b" ");
     io::print_decimal(STDOUT_FILENO, b as u64);
-    print_after(true);
+    io::write_all(STDOUT_FILENO, b"\n");
 }
 
 // What reading says of the image, into a room that the five-row index fits: the number and its place.
@@ -91,7 +66,8 @@ fn load(path: &[u8], bytes: &mut [u8]) -> usize
 
 // The five-row index through a file: what writing and reading say, then its nodes and positions.
 fn trip(image: &mut [u8]) {
-    let written = image::write_image(&FIVE, image);
+    let index = five_index();
+    let written = image::write_image(&index, image);
     print_pair(written.number, written.blocks);
     save(b"five", image);
     let mut back = [0u8; 512];

@@ -21,13 +21,14 @@ unfolding encode
 encode-nodes c m l t =
     omega (arith, length-append (each nodeWords (numbered t)) (each pairWords (entries t)), each-words (numbered t))
 
+-- so has the one that a build writes
 build-nodes : (T : List ℕ) (c m l : ℕ) → nodeAt (N# (build T c m l)) ≤ length (build T c m l)
 unfolding build
 build-nodes T c m l = encode-nodes c m l (plant (between T c) m l (rowsOf T c))
 
 -- on 0 the nodes' words end where the positions' words begin, and these end in the room
-pub built-there : (T : List ℕ) (c m l : ℕ) (room work room′ work′ : List ℕ) (number words nodes : ℕ) → Builds T c m l room work room′ work′ number words nodes
-    → number ≡ 0 → (nodeAt nodes ≤ words) × (words ≤ length room′)
+pub built-there : (T : List ℕ) (c m l : ℕ) (room work room′ work′ : List ℕ) (number words nodes : ℕ)
+    → Builds T c m l room work room′ work′ number words nodes → number ≡ 0 → (nodeAt nodes ≤ words) × (words ≤ length room′)
 built-there T c m l room work room′ work′ number words nodes b z =
     let w : List ℕ = build T c m l in
     let long : words ≡ length w = b .counted .0 ∙ ap (λ (x : ℕ). cond (eqb x 0) (length w) 0) z in

@@ -1,3 +1,3 @@
-pub mod Copying
+pub mod Keeping
 pub mod Index
 pub mod Low

@@ -13,7 +13,7 @@ use mathlib.Core.List.{List, _++_}
 use mathlib.Core.Path.{_≡_, subst, sym}
 use native.Mathlib.Omega.{arith}
 
--- the five refusals of a build
+-- the first of a build's five refusals, or 0
 five-low : (a b c d e : Bool) → said (fault 1 a ++ fault 2 b ++ (fault 3 c ++ fault 4 d) ++ fault 5 e) .0 ≤ 18
 five-low true b c d e = omega arith
 five-low false true c d e = omega arith
@@ -22,6 +22,7 @@ five-low false false false true e = omega arith
 five-low false false false false true = omega arith
 five-low false false false false false = omega arith
 
+-- the number of a build
 pub build-low : (T : List ℕ) (c m l room work number : ℕ) → number ≡ saidBuild T c m l room work .0 → number ≤ 18
 unfolding saidBuild
 build-low T c m l room work number e =
@@ -29,11 +30,13 @@ build-low T c m l room work number e =
     (five-low (not (columnsOk c)) (not (shareOk m l)) (not (eqb (length T % c) 0)) (ltb maxRows (rowsOf T c))
     (ltb room (10 * rowsOf T c + 8) || ltb work (6 * rowsOf T c)))
 
+-- 18, 5 or 0
 text-cases : (a b : Bool) → cond {A = ℕ} a (cond b 5 0) 18 ≤ 18
 text-cases true true = omega arith
 text-cases true false = omega arith
 text-cases false b = omega arith
 
+-- the number of a reading
 pub text-low : (t : List ℕ) (room number : ℕ) → number ≡ saidRead t room → number ≤ 18
 unfolding saidRead
 text-low t room number e = subst (λ n. n ≤ 18) (sym e) (text-cases (readable t) (ltb room (length (numbers t))))

@@ -6,6 +6,7 @@ ghost use lib.ListN.{length};
 ghost use mathlib.Core.Path.{_≡_};
 use libc::STDIN_FILENO;
 use libc::STDOUT_FILENO;
+use lines::print_lines;
 use words::places::HEADER;
 use words::places::WIDTH;
 
@@ -59,28 +60,6 @@ fn read_text(text: &mut [u8]) -> usize
         left -= 1;
     }
     text.len()
-}
-
-// Prints a number, and behind it a newline or a space.
-fn print_word(word: u32, last: bool) {
-    io::print_decimal(STDOUT_FILENO, word as u64);
-    if last {
-        io::write_all(STDOUT_FILENO, b"\n");
-    } else {
-        io::write_all(STDOUT_FILENO, b" ");
-    }
-}
-
-// Prints the words, `width` to a line.
-fn print_lines(words: &[u32], width: usize)
-    requires { ⌜ 1 ≤ width ⌝ }
-{
-    let mut i = 0;
-    while i < words.len() {
-        let next = i + 1;
-        print_word(words[i], next % width == 0);
-        i = next;
-    }
 }
 
 // Prints an index: a line for each node, and then one for each position.

@@ -1,104 +1,47 @@
-// The nearest call, run. A line for each case: its number, how many answers there are, how many rows were measured; six row numbers, which are 9 before;
-// six distances, which are 99 before; eight how-bytes, which are 9 before; and words 0, 29 and 30 of the workspace, which are 9 before.
+// The nearest call, run. A line for each case: its number, how many answers there are, how many rows were measured; six row numbers, which are 9
+// before; six distances, which are 99 before; eight how-bytes, which are 9 before; and words 0, 29 and 30 of the workspace, which are 9 before.
 ghost use lib.ListN.{length};
 ghost use mathlib.Core.Path.{_≡_};
 use nearest::Given;
-use samples::FIVE;
 use samples::FIVE_ROWS;
-use samples::PAIRS;
 use samples::count;
 use samples::digit;
+use samples::five_index;
 use samples::many;
+use samples::pairs_index;
+use samples::put;
 
-// rows 6 9 5 3 0
-const ODD: [u32; 46] = [
-    1,
-    5,
-    1,
-    2,
-    2,
-    7,
-    1,
-    0,
-    0,
-    5,
-    1,
-    6,
-    0,
-    4,
-    3,
-    3,
-    4,
-    1,
-    0,
-    0,
-    0,
-    3,
-    5,
-    3,
-    3,
-    1,
-    0,
-    0,
-    0,
-    2,
-    0,
-    1,
-    2,
-    1,
-    0,
-    0,
-    0,
-    0,
-    2,
-    1,
-    3,
-    0,
-    1,
-    0,
-    4,
-    0,
-];
+// The index of the rows 6 9 5 3 0.
+fn odd_index() -> [u32; 46]
+    ensures { λ r. ⌜ 46 ≡ length r ⌝ }
+{
+    let mut index = [0; 46];
+    put(&[1, 5, 1, 2, 2, 7, 1, 0], &mut index, 0);
+    put(&[0, 5, 1, 6], &mut index, 8);
+    put(&[0, 4, 3, 3], &mut index, 12);
+    put(&[4, 1, 0, 0], &mut index, 16);
+    put(&[0, 3, 5, 3], &mut index, 20);
+    put(&[3, 1, 0, 0], &mut index, 24);
+    put(&[0, 2, 0, 1], &mut index, 28);
+    put(&[2, 1, 0, 0], &mut index, 32);
+    put(&[0, 0, 2, 1, 3, 0, 1, 0, 4, 0], &mut index, 36);
+    index
+}
 
-// rows 7 7 7 7
-const SEVENS: [u32; 36] = [
-    1,
-    4,
-    1,
-    2,
-    2,
-    5,
-    1,
-    0,
-    0,
-    4,
-    1,
-    0,
-    0,
-    3,
-    3,
-    0,
-    3,
-    1,
-    0,
-    0,
-    0,
-    2,
-    0,
-    0,
-    2,
-    1,
-    0,
-    0,
-    0,
-    0,
-    3,
-    0,
-    2,
-    0,
-    1,
-    0,
-];
+// The index of the rows 7 7 7 7.
+fn sevens_index() -> [u32; 36]
+    ensures { λ r. ⌜ 36 ≡ length r ⌝ }
+{
+    let mut index = [0; 36];
+    put(&[1, 4, 1, 2, 2, 5, 1, 0], &mut index, 0);
+    put(&[0, 4, 1, 0], &mut index, 8);
+    put(&[0, 3, 3, 0], &mut index, 12);
+    put(&[3, 1, 0, 0], &mut index, 16);
+    put(&[0, 2, 0, 0], &mut index, 20);
+    put(&[2, 1, 0, 0], &mut index, 24);
+    put(&[0, 0, 3, 0, 2, 0, 1, 0], &mut index, 28);
+    index
+}
 
 fn byte(h: u8) -> u8 {
     digit(h as u32)
@@ -178,7 +121,7 @@ fn show(table: &[u16], c: usize, index: &[u32], query: &[u16], wanted: usize) {
 }
 
 fn five(query: u16, wanted: usize) {
-    let index = FIVE;
+    let index = five_index();
     let table = FIVE_ROWS;
     show(&table, 1, &index, &[query], wanted);
 }
@@ -196,18 +139,18 @@ fn five_rows() {
 
 // Rows on which a search that rounds (x - y)/2 down would measure one more.
 fn odd_rows() {
-    let index = ODD;
+    let index = odd_index();
     show(&[6, 9, 5, 3, 0], 1, &index, &[10], 1);
 }
 
 // Equal rows: ties go to the lower row.
 fn equal_rows(wanted: usize) {
-    let index = SEVENS;
+    let index = sevens_index();
     show(&[7, 7, 7, 7], 1, &index, &[9], wanted);
 }
 
 fn two_columns() {
-    let index = PAIRS;
+    let index = pairs_index();
     show(&[1, 2, 3, 4, 10, 10], 2, &index, &[3, 3], 1);
 }
 
@@ -229,7 +172,7 @@ fn too_many() {
 
 // 5: room for one answer of two, and a query of two columns.
 fn short_answers() {
-    let index = FIVE;
+    let index = five_index();
     let table = FIVE_ROWS;
     let mut rows = [9u32; 6];
     let mut distances = [99u32; 6];
@@ -251,7 +194,7 @@ fn short_answers() {
 
 // 5: four how-bytes for five rows, and a query of two columns.
 fn short_bytes() {
-    let index = FIVE;
+    let index = five_index();
     let table = FIVE_ROWS;
     let mut rows = [9u32; 6];
     let mut distances = [99u32; 6];
@@ -273,7 +216,7 @@ fn short_bytes() {
 
 // 5: a word of workspace too few.
 fn short_work() {
-    let index = FIVE;
+    let index = five_index();
     let table = FIVE_ROWS;
     let mut rows = [9u32; 6];
     let mut distances = [99u32; 6];
@@ -303,13 +246,13 @@ fn wrong_call() {
 
 // 8: another n.
 fn other_table() {
-    let index = FIVE;
+    let index = five_index();
     show(&[0, 1, 10, 11], 1, &index, &[9], 1);
 }
 
 // The five-row table with one word of its index changed.
 fn changed(at: usize, word: u32) {
-    let mut index = FIVE;
+    let mut index = five_index();
     let table = FIVE_ROWS;
     if at < 38 {
         index[at] = word;
@@ -327,7 +270,7 @@ fn wrong_index() {
 
 // 0: row 1 stands twice and row 4 not at all, which no table fits. The number and the zero workspace are settled, and what lies beyond.
 fn row_twice() {
-    let mut index = FIVE;
+    let mut index = five_index();
     let table = FIVE_ROWS;
     index[34] = 1;
     let mut rows = [9u32; 6];

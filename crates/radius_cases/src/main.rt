@@ -3,54 +3,28 @@
 ghost use lib.ListN.{length};
 ghost use mathlib.Core.Path.{_≡_};
 use radius::Found;
-use samples::FIVE;
 use samples::FIVE_ROWS;
-use samples::PAIRS;
 use samples::count;
 use samples::digit;
+use samples::five_index;
 use samples::many;
+use samples::pairs_index;
+use samples::put;
 
-// rows 4 2 2 6 7
-const ODD: [u32; 38] = [
-    1,
-    5,
-    1,
-    2,
-    2,
-    5,
-    1,
-    0,
-    0,
-    5,
-    1,
-    3,
-    0,
-    3,
-    3,
-    2,
-    3,
-    2,
-    0,
-    1,
-    0,
-    1,
-    0,
-    0,
-    1,
-    2,
-    0,
-    0,
-    0,
-    0,
-    1,
-    0,
-    2,
-    0,
-    4,
-    0,
-    3,
-    1,
-];
+// The index of the rows 4 2 2 6 7.
+fn odd_index() -> [u32; 38]
+    ensures { λ r. ⌜ 38 ≡ length r ⌝ }
+{
+    let mut index = [0; 38];
+    put(&[1, 5, 1, 2, 2, 5, 1, 0], &mut index, 0);
+    put(&[0, 5, 1, 3], &mut index, 8);
+    put(&[0, 3, 3, 2], &mut index, 12);
+    put(&[3, 2, 0, 1], &mut index, 16);
+    put(&[0, 1, 0, 0], &mut index, 20);
+    put(&[1, 2, 0, 0], &mut index, 24);
+    put(&[0, 0, 1, 0, 2, 0, 4, 0, 3, 1], &mut index, 28);
+    index
+}
 
 fn byte(h: u8) -> u8 {
     digit(h as u32)
@@ -84,7 +58,7 @@ fn show(table: &[u16], c: usize, index: &[u32], query: &[u16], r: u32) {
 }
 
 fn five(query: u16, r: u32) {
-    let index = FIVE;
+    let index = five_index();
     let table = FIVE_ROWS;
     show(&table, 1, &index, &[query], r);
 }
@@ -103,12 +77,12 @@ fn five_rows() {
 
 // Rows on which (x - y)/2 rounded down would open one more leaf.
 fn odd_rows() {
-    let index = ODD;
+    let index = odd_index();
     show(&[4, 2, 2, 6, 7], 1, &index, &[6], 0);
 }
 
 fn two_columns() {
-    let index = PAIRS;
+    let index = pairs_index();
     show(&[1, 2, 3, 4, 10, 10], 2, &index, &[3, 3], 2);
 }
 
@@ -130,7 +104,7 @@ fn wrong_query() {
 
 // 5: four how-bytes for five rows, and a query of two columns.
 fn short_room() {
-    let index = FIVE;
+    let index = five_index();
     let table = FIVE_ROWS;
     let mut how = [9u8; 4];
     let found = radius::radius(&table, 1, &index, &[9, 9], 1, &mut how);
@@ -139,7 +113,7 @@ fn short_room() {
 
 // 8: another n, and another c.
 fn other_table() {
-    let index = FIVE;
+    let index = five_index();
     show(&[0, 1, 10, 11], 1, &index, &[9], 1);
     show(
         &[0, 1, 10, 11, 20, 21, 22, 23, 24, 25],
@@ -152,15 +126,15 @@ fn other_table() {
 
 // 8: a word missing at the end, and no word at all.
 fn missing_words() {
-    let index = FIVE;
+    let index = five_index();
     let table = FIVE_ROWS;
-    show(&table, 1, &index[..37], &[9], 1);
+    show(&table, 1, &index[0..37], &[9], 1);
     show(&table, 1, &[], &[9], 1);
 }
 
 // The five-row table with one word of its index changed.
 fn changed(at: usize, word: u32) {
-    let mut index = FIVE;
+    let mut index = five_index();
     let table = FIVE_ROWS;
     if at < 38 {
         index[at] = word;

@@ -12,7 +12,7 @@ use lib.ListN.{length}
 use lib.Seq.{paste}
 use mathlib.Core.Bool.{Bool, cond, false, true}
 use mathlib.Core.List.{List}
-use mathlib.Core.Path.{_∙_, _≡_, ap, refl, sym}
+use mathlib.Core.Path.{_∙_, _≡_, refl, sym}
 use native.Mathlib.Omega.{arith}
 
 -- ---- nothing is wrong with the row
@@ -24,6 +24,7 @@ pub record Fits (columns rows put n room : ℕ) : Type 0 where
   pub space : put + n ≤ room
 
 module _ (columns rows put n room : ℕ) (z : n ≡ 0 → ⊥) where
+  -- a row in which nothing is wrong fits
   pub row-fits : rowTrouble columns rows put n room ≡ 0 → Fits columns rows put n room
   unfolding rowTrouble
   row-fits e = go (eqb n 0) (ltb 16 n) (differs columns n) (leb 65_536 rows) (ltb room (put + n)) refl refl refl refl refl e
@@ -43,8 +44,8 @@ module _ (columns rows put n room : ℕ) (z : n ≡ 0 → ⊥) where
             space = ltb-false room (put + n) g;
           }
 
--- and where it is so, nothing is wrong
 module _ (columns rows put n room : ℕ) where
+  -- and in one that fits nothing is wrong
   pub fits-row : Fits columns rows put n room → rowTrouble columns rows put n room ≡ 0
   unfolding rowTrouble
   fits-row f = go (eqb n 0)
@@ -59,9 +60,11 @@ module _ (columns rows put n room : ℕ) where
 
 -- ---- the room, told with no sum
 module _ (room put n : ℕ) where
+  -- what was put is already more than the room has
   pub lacks-front : room < put → true ≡ ltb room (put + n)
   lacks-front h = sym (lt-ltb room (put + n) (omega arith))
 
+  -- or the rest of the room is compared
   pub lacks-behind : put ≤ room → ltb (room - put) n ≡ ltb room (put + n)
   lacks-behind h = go (ltb (room - put) n) refl
     where
@@ -78,6 +81,7 @@ wrong-told k n e = go (eqb k 0) refl e
     go true q e = omega arith
     go false q e = eqb-false k 0 q e
 
+-- where nothing is wrong with the line, nothing is wrong with its row
 trouble-none : (p : Place) (n : ℕ) → troubleAt p n ≡ 0 → n ≡ 0
 trouble-none Gap n e = e
 trouble-none (Inside v) n e = e
@@ -90,21 +94,24 @@ pub trouble-told : (p : Place) (k n : ℕ) → p ≡ Wrong k → (k ≡ 0 → �
 trouble-told p k n e z = rw (e, ne-eqb k 0 z)
 
 module _ (r : Reader) (l : Line) (room : ℕ) (e : lineTrouble r l room ≡ 0) where
-  pub line-both : (r .line + 1 ≤ 18_446_744_073_709_551_615) × (rowTrouble (r .columns) (r .rows) (r .put) (rowSize l) room ≡ 0)
+  -- the lines can be counted, and nothing is wrong inside the line nor with its row
+  pub line-both : (r .line + 1 ≤ 18_446_744_073_709_551_615)
+      × (troubleAt (l .place) (rowTrouble (r .columns) (r .rows) (r .put) (rowSize l) room) ≡ 0)
   unfolding lineTrouble
   line-both = go (leb 18_446_744_073_709_551_615 (r .line)) refl e
     where
       go : (b : Bool) → leb 18_446_744_073_709_551_615 (r .line) ≡ b
           → cond b 7 (troubleAt (l .place) (rowTrouble (r .columns) (r .rows) (r .put) (rowSize l) room)) ≡ 0
-          → (r .line + 1 ≤ 18_446_744_073_709_551_615) × (rowTrouble (r .columns) (r .rows) (r .put) (rowSize l) room ≡ 0)
+          → (r .line + 1 ≤ 18_446_744_073_709_551_615)
+          × (troubleAt (l .place) (rowTrouble (r .columns) (r .rows) (r .put) (rowSize l) room) ≡ 0)
       go true p e = absurd (omega arith)
-      go false p e = (
-        omega (arith, leb-false 18_446_744_073_709_551_615 (r .line) p),
-        trouble-none (l .place) (rowTrouble (r .columns) (r .rows) (r .put) (rowSize l) room) e,
-      )
+      go false p e = (omega (arith, leb-false 18_446_744_073_709_551_615 (r .line) p), e)
 
+  -- so its row fits, where it has one
   pub line-fits : (n : ℕ) → n ≡ rowSize l → (n ≡ 0 → ⊥) → Fits (r .columns) (r .rows) (r .put) n room
-  line-fits n q z = row-fits (r .columns) (r .rows) (r .put) n room z (rw q (line-both .1))
+  line-fits n q z =
+      row-fits (r .columns) (r .rows) (r .put) n room z
+      (rw q (trouble-none (l .place) (rowTrouble (r .columns) (r .rows) (r .put) (rowSize l) room) (line-both .1)))
 
 -- ---- the three ways on
 module _ (r : Reader) (table : List ℕ) (l : Line) (k : ℕ) (q : l ≡ settled (r .here)) (e : k ≡ lineTrouble r l (length table)) where
@@ -113,14 +120,31 @@ module _ (r : Reader) (table : List ℕ) (l : Line) (k : ℕ) (q : l ≡ settled
   unfolding closed
   closed-is = rw (e, q)
 
+  -- something is wrong
   pub closed-failed : (k ≡ 0 → ⊥) → closed r table ≡ (failed r l k, table)
   unfolding decided
   closed-failed z = closed-is ∙ rw (ne-eqb k 0 z)
 
+  -- the line is no row
   pub closed-skipped : k ≡ 0 → rowSize l ≡ 0 → closed r table ≡ (skipped r, table)
   unfolding decided accepted
   closed-skipped z y = closed-is ∙ rw (z, y)
 
+  -- the line is a row
   pub closed-taken : (n : ℕ) → k ≡ 0 → n ≡ rowSize l → (n ≡ 0 → ⊥) → closed r table ≡ (taken r n, paste table (r .put) (l .row) n)
   unfolding decided accepted
   closed-taken n z y x = closed-is ∙ rw (z, ← y, ne-eqb n 0 x)
+
+-- a fact of each of the three is one of what the line leads to
+pub decided-cases : (r : Reader) (l : Line) (k : ℕ) (table : List ℕ) (P : Reader × List ℕ → Type 0)
+    → (k ≡ 0 → rowSize l ≡ 0 → P (skipped r, table))
+    → (k ≡ 0 → (rowSize l ≡ 0 → ⊥) → P (taken r (rowSize l), paste table (r .put) (l .row) (rowSize l)))
+    → ((k ≡ 0 → ⊥) → P (failed r l k, table)) → P (decided r l k table)
+unfolding decided accepted
+decided-cases r l k table P skip take fail = go (eqb k 0) (eqb (rowSize l) 0) refl refl
+  where
+    go : (a b : Bool) → eqb k 0 ≡ a → eqb (rowSize l) 0 ≡ b
+        → P (cond a (cond b (skipped r, table) (taken r (rowSize l), paste table (r .put) (l .row) (rowSize l))) (failed r l k, table))
+    go true true p q = skip (eqb-true k 0 p) (eqb-true (rowSize l) 0 q)
+    go true false p q = take (eqb-true k 0 p) (eqb-false (rowSize l) 0 q)
+    go false b p q = fail (eqb-false k 0 p)

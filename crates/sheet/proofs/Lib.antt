@@ -1,12 +1,13 @@
-pub mod Putting
 pub mod Runs
-pub mod Closings
 pub mod Kinded
 pub mod LineRuns
+pub mod Closings
 pub mod LineEnds
 pub mod Sheets
 pub mod Tidying
 pub mod Stopping
+pub mod LineLost
 pub mod LineTold
 pub mod LineNames
+pub mod LineWays
 pub mod Heard

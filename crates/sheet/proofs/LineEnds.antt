@@ -28,6 +28,7 @@ abbrev pub within : Reader → Line → Reader
 within r l = record { line = r .line; columns = r .columns; rows = r .rows; put = r .put; fault = r .fault; here = l }
 
 -- ---- up to the end of the line
+-- bytes that are no newline lead along the line
 pub plain-runs : {l : List ℕ} → Plain l → (r : Reader) (table t : List ℕ) → r .fault ≡ 0
     → run (r, table) (l ++ t) ≡ run (within r (through (eqb (r .line) 1) (r .here) l), table) t
 unfolding run through advanced
@@ -41,17 +42,20 @@ pub data Good : Place → Type 0 where
   in-gap : Good Gap
   at-return : Good Ending
 
+-- no numbers are no trouble
 none-fits : (columns rows put room : ℕ) → rowTrouble columns rows put 0 room ≡ 0
 unfolding rowTrouble
 none-fits columns rows put room = refl
 
 module _ (r : Reader) (table : List ℕ) (m : r .line + 1 ≤ 18_446_744_073_709_551_615) where
+  -- a line whose row is no trouble is none
   no-trouble : (l : Line) {p : Place} (n : ℕ) (row : List ℕ) → Good p → rowTrouble (r .columns) (r .rows) (r .put) n (length table) ≡ 0
       → 0 ≡ lineTrouble (within r l) (at p n row) (length table)
   unfolding lineTrouble
   no-trouble l n row in-gap e = rw (lt-leb 18_446_744_073_709_551_615 (r .line) (omega arith), e)
   no-trouble l n row at-return e = rw (lt-leb 18_446_744_073_709_551_615 (r .line) (omega arith), e)
 
+  -- nor is a line of names
   no-trouble-named : (l : Line) (n : ℕ) (row : List ℕ) → 0 ≡ lineTrouble (within r l) (at InNames n row) (length table)
   unfolding lineTrouble
   no-trouble-named l n row =
@@ -61,7 +65,8 @@ module _ (r : Reader) (table : List ℕ) (m : r .line + 1 ≤ 18_446_744_073_709
   none-closed : (l : Line) (p : Place) (row : List ℕ) → at p 0 row ≡ settled l → Good p → closed (within r l) table ≡ (skipped r, table)
   unfolding skipped
   none-closed l p row q g =
-      closed-skipped (within r l) table (at p 0 row) 0 q (no-trouble l 0 row g (none-fits (r .columns) (r .rows) (r .put) (length table))) refl (size g)
+      closed-skipped (within r l) table (at p 0 row) 0 q (no-trouble l 0 row g (none-fits (r .columns) (r .rows) (r .put) (length table))) refl
+      (size g)
     where
       size : {p : Place} → Good p → rowSize (at p 0 row) ≡ 0
       size in-gap = refl
@@ -78,10 +83,12 @@ module _ (r : Reader) (table : List ℕ) (m : r .line + 1 ≤ 18_446_744_073_709
       → Fits (r .columns) (r .rows) (r .put) n (length table) → closed (within r l) table ≡ (taken r n, paste table (r .put) row n)
   unfolding taken
   row-closed l p n row q g e z f =
-      closed-taken (within r l) table (at p n row) 0 q (no-trouble l n row g (fits-row (r .columns) (r .rows) (r .put) n (length table) f)) n refl (sym e) z
+      closed-taken (within r l) table (at p n row) 0 q (no-trouble l n row g (fits-row (r .columns) (r .rows) (r .put) n (length table) f)) n
+      refl (sym e) z
 
   -- ---- a line of numbers, with a newline or a carriage return and a newline
   module _ (z : r .fault ≡ 0) (l : Line) (n : ℕ) (row : List ℕ) (q : settled l ≡ at Gap n row) where
+    -- the carriage return leaves the numbers as they are
     returned : along (eqb (r .line) 1) l Return ≡ at Ending n row
     unfolding along
     returned = rw q
@@ -102,6 +109,7 @@ module _ (r : Reader) (table : List ℕ) (m : r .line + 1 ≤ 18_446_744_073_709
 abbrev pub laid : List ℕ → ℕ → List ℕ → List ℕ
 laid table p xs = take p table ++ xs ++ drop (p + length xs) table
 
+-- a line's numbers stand in its row
 line-kept : {l ns : List ℕ} (first : Bool) → Numbers l ns → length ns ≤ 16
     → settled (through first emptied l) ≡ at Gap (length ns) (filled (replicate 16 0) 0 ns)
 unfolding emptied
@@ -110,16 +118,19 @@ line-kept {ns = ns} first x h =
     numbers-kept first 0 (replicate 16 0) x (omega arith) ∙ ap (λ (j : ℕ). at Gap j (filled (replicate 16 0) 0 ns)) e
 
 module _ (r : Reader) (table : List ℕ) (z : r .fault ≡ 0) (f : r .here ≡ emptied) (m : r .line + 1 ≤ 18_446_744_073_709_551_615) (t : List ℕ) where
+  -- so do those of the line that begins here
   kept : {l ns : List ℕ} → Numbers l ns → length ns ≤ 16
       → settled (through (eqb (r .line) 1) (r .here) l) ≡ at Gap (length ns) (filled (replicate 16 0) 0 ns)
   kept {l} x h = ap (λ (y : Line). settled (through (eqb (r .line) 1) y l)) f ∙ line-kept (eqb (r .line) 1) x h
 
+  -- a line without numbers
   pub skip-line : {l e : List ℕ} → Numbers l [] → Ends e → run (r, table) (l ++ (e ++ t)) ≡ run (skipped r, table) t
   skip-line {l} {e} x y =
       plain-runs (numbers-plain x) r table (e ++ t) z
       ∙ ends-run r table m z (through (eqb (r .line) 1) (r .here) l) 0 (replicate 16 0) (kept x (omega arith)) (skipped r, table) t y
       (λ l′ p q g s. none-closed r table m l′ p (replicate 16 0) q g)
 
+  -- a row
   pub take-line : {l e ns : List ℕ} → Numbers l ns → Ends e → (length ns ≡ 0 → ⊥) → Fits (r .columns) (r .rows) (r .put) (length ns) (length table)
       → run (r, table) (l ++ (e ++ t)) ≡ run (taken r (length ns), laid table (r .put) ns) t
   take-line {l} {e} {ns} x y n g =

@@ -22,19 +22,24 @@ use native.Mathlib.Nat.{add-zero}
 use native.Mathlib.Omega.{arith}
 
 -- ---- numbers laid into the table
+-- none
 pub laid-none : (table : List ℕ) (p : ℕ) → table ≡ laid table p []
 laid-none table p = rw (add-zero, append-nil, take-append-drop)
 
 module _ (table a : List ℕ) (p : ℕ) (h : p + length a ≤ length table) where
+  -- what stands in front of the rest is p and a
   front : length (take p table ++ a) ≡ p + length a
   front = length-append (take p table) a ∙ ap (λ (k : ℕ). k + length a) (length-take-le p table (omega arith))
 
+  -- the table is as long as it was
   pub laid-long : length (laid table p a) ≡ length table
   laid-long = length-append (take p table ++ a) (drop (p + length a) table) ∙ omega (arith, front, length-drop (p + length a) table)
 
+  -- its front is what stood before p, and a
   laid-front : take (p + length a) (laid table p a) ≡ take p table ++ a
   laid-front = take-at (take p table ++ a) (drop (p + length a) table) (p + length a) front
 
+  -- the rest is as it was
   laid-rest : (k : ℕ) → drop (p + length a + k) (laid table p a) ≡ drop (p + length a + k) table
   laid-rest k =
       rw (← drop-drop k (p + length a) (laid table p a), ← drop-drop k (p + length a) table)
@@ -62,15 +67,18 @@ record Stood (c : ℕ) (r : Reader) (table : List ℕ) (rs : List (List ℕ)) (s
   put : s .0 .put ≡ r .put + length (joined rs)
   content : s .1 ≡ laid table (r .put) (joined rs)
 
+-- rows of c numbers are as wide as each other
 same-even : (c : ℕ) → differs c c ≡ false
 unfolding differs
 same-even c = and-none (not (eqb c 0)) (not (eqb c c)) (λ e. rw (eq-eqb c c refl))
 
+-- the end of a line is a byte or two
 some-end : {e : List ℕ} → Ends e → 1 ≤ length e
 some-end newline = omega arith
 some-end return = omega arith
 
 module _ (c : ℕ) (p : 1 ≤ c) (q : c ≤ 16) where
+  -- lines that say rows leave these behind the rows above
   lines-read : {t : List ℕ} {rs : List (List ℕ)} → Lines c t rs → (r : Reader) (table : List ℕ) → Ready c r
       → r .line + length t ≤ 18_446_744_073_709_551_615 → r .rows + length rs ≤ 65_536 → r .put + length (joined rs) ≤ length table
       → Stood c r table rs (run (r, table) t)
@@ -80,13 +88,15 @@ module _ (c : ℕ) (p : 1 ≤ c) (q : c ≤ 16) where
   lines-read (blank {l} {e} {t} {rs} x y ls) r table h m f s =
       let long : length (l ++ (e ++ t)) ≡ length l + (length e + length t) = simp length-append in
       rw (skip-line r table (h .fine) (h .fresh) (omega (arith, some-end y)) t x y)
-      (let i = lines-read ls (skipped r) table (record { fine = h .fine; fresh = refl; even = h .even; told = h .told }) (omega (arith, some-end y)) f s in
+      (let i =
+      lines-read ls (skipped r) table (record { fine = h .fine; fresh = refl; even = h .even; told = h .told }) (omega (arith, some-end y)) f s in
       record { fault = i .fault; columns = i .columns; rows = i .rows; put = i .put; content = i .content })
   lines-read (row {l} {e} {t} {ns} {rs} x w y ls) r table h m f s =
       let long : length (l ++ (e ++ t)) ≡ length l + (length e + length t) = simp length-append in
       let all : length (joined (ns ∷ rs)) ≡ length ns + length (joined rs) = length-append ns (joined rs) in
       let room : r .put + length ns ≤ length table = omega arith in
-      let fits : Fits (r .columns) (r .rows) (r .put) (length ns) (length table) = record { narrow = omega arith; even = rw w (h .even); few = omega arith; space = room } in
+      let fits : Fits (r .columns) (r .rows) (r .put) (length ns) (length table) =
+      record { narrow = omega arith; even = rw w (h .even); few = omega arith; space = room } in
       rw (take-line r table (h .fine) (h .fresh) (omega (arith, some-end y)) t x y (λ (g : length ns ≡ 0). omega arith) fits)
       (let i =
       lines-read ls (taken r (length ns)) (laid table (r .put) ns) (record { fine = h .fine; fresh = refl; even = rw w (same-even c); told = λ g. w })
@@ -100,15 +110,18 @@ module _ (c : ℕ) (p : 1 ≤ c) (q : c ≤ 16) where
       })
 
 -- ---- the whole text
+-- the reader is ready before the first byte
 begun-ready : (c : ℕ) → Ready c begun
 unfolding begun differs
 begun-ready c = record { fine = refl; fresh = refl; even = refl; told = λ (h : 1 ≤ 0). absurd (omega arith) }
 
+-- and behind a line of names
 skipped-ready : (c : ℕ) → Ready c (skipped begun)
 unfolding begun differs skipped
 skipped-ready c = record { fine = refl; fresh = refl; even = refl; told = λ (h : 1 ≤ 0). absurd (omega arith) }
 
 module _ (c : ℕ) (p : 1 ≤ c) (q : c ≤ 16) (table : List ℕ) where
+  -- a text that says rows leaves these
   whole-read : {t : List ℕ} {rs : List (List ℕ)} → Whole c t rs → 1 + length t ≤ 18_446_744_073_709_551_615 → length rs ≤ 65_536
       → length (joined rs) ≤ length table → Stood c begun table rs (run (begun, table) t)
   unfolding begun skipped

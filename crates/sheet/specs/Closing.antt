@@ -17,7 +17,8 @@ use mathlib.Core.List.{List}
 unfoldable pub differs : ℕ → ℕ → Bool
 differs columns count = not (eqb columns 0) && not (eqb columns count)
 
--- a row of `count` numbers behind those that were put: more than 16 (3), not as many as the rows above have (4), more than 65,536 rows (5), no room (6)
+-- a row of `count` numbers behind those that were put: more than 16 (3), not as many as the rows above have (4), more than 65,536 rows (5), no
+-- room (6)
 unfoldable pub rowTrouble : ℕ → ℕ → ℕ → ℕ → ℕ → ℕ
 rowTrouble columns rows put count room =
     cond (eqb count 0) 0
@@ -32,6 +33,7 @@ sizeAt Ending n = n
 sizeAt Names n = 0
 sizeAt (Wrong k) n = n
 
+-- how many numbers of a line that has ended are put
 abbrev pub rowSize : Line → ℕ
 rowSize l = sizeAt (l .place) (l .count)
 
@@ -74,5 +76,6 @@ accepted r l n table = cond (eqb n 0) (skipped r, table) (taken r n, paste table
 unfoldable pub decided : Reader → Line → ℕ → List ℕ → Reader × List ℕ
 decided r l k table = cond (eqb k 0) (accepted r l (rowSize l) table) (failed r l k, table)
 
+-- a newline: what becomes of the reader and the table
 unfoldable pub closed : Reader → List ℕ → Reader × List ℕ
 closed r table = decided r (settled (r .here)) (lineTrouble r (settled (r .here)) (length table)) table

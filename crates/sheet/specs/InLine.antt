@@ -46,6 +46,7 @@ otherAt false Ending = Wrong 1
 otherAt false Names = Names
 otherAt false (Wrong k) = Wrong k
 
+-- a byte that is no newline, by its kind
 abbrev pub moved : Bool → Place → Kind → Place
 moved first p (Digit d) = digitAt p d
 moved first p Parting = partedAt p
@@ -66,6 +67,7 @@ settledAt Ending l = l
 settledAt Names l = l
 settledAt (Wrong k) l = l
 
+-- the same, of the reader that the line has
 abbrev pub settled : Line → Line
 settled l = settledAt (l .place) l
 

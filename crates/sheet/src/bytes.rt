@@ -34,6 +34,7 @@ fn parts(b: u8) -> bool
     b == TAB
 }
 
+// What a byte is that is no newline.
 pub fn kind_of(b: u8) -> Kind
     ensures { λ r. ⌜ r ≡ kindOf b ⌝ }
 {

@@ -52,6 +52,7 @@ fn grow(v: u16, d: u8) -> Place
     Place::Wrong(TOO_GREAT)
 }
 
+// A digit begins a number, or goes behind one.
 fn at_digit(place: Place, d: u8) -> Place
     ensures { λ r. ⌜ r ≡ digitAt place d ⌝ }
 {
@@ -64,6 +65,7 @@ fn at_digit(place: Place, d: u8) -> Place
     }
 }
 
+// A byte that parts leaves a gap.
 fn at_parting(place: Place) -> Place
     ensures { λ r. ⌜ r ≡ partedAt place ⌝ }
 {
@@ -76,6 +78,7 @@ fn at_parting(place: Place) -> Place
     }
 }
 
+// Behind a carriage return only the newline may come.
 fn at_return(place: Place) -> Place
     ensures { λ r. ⌜ r ≡ returnAt place ⌝ }
 {
@@ -88,7 +91,7 @@ fn at_return(place: Place) -> Place
     }
 }
 
-// Any other byte makes the text's first line one of names.
+// Any other byte makes the text's first line one of names, and is a fault in another.
 fn at_other(place: Place, first: bool) -> Place
     ensures { λ r. ⌜ r ≡ otherAt first place ⌝ }
 {
@@ -104,6 +107,7 @@ fn at_other(place: Place, first: bool) -> Place
     }
 }
 
+// The place behind one more byte.
 fn go_on(place: Place, kind: Kind, first: bool) -> Place
     ensures { λ r. ⌜ r ≡ moved first place kind ⌝ }
 {

@@ -38,16 +38,19 @@ pub data Opens : Place → Type 0 where
   at-start : Opens Start
   at-line : Opens Line
 
+-- there a byte begins a number or loses the reader
 pub open-step : {p : Place} (b : ℕ) → Opens p → stepped p b ≡ begun b
 open-step b at-start = refl
 open-step b at-line = refl
 
 -- ---- a digit
 module _ (d : ℕ) (h : d < 10) where
+  -- it begins a number
   pub begun-digit : begun (48 + d) ≡ Inside d
   unfolding begun
   begun-digit = rw (both-within 48 57 (48 + d) (omega arith) (omega arith)) (ap Inside (omega arith))
 
+  -- it goes behind the number that the reader is in
   pub onward-digit : (v : ℕ) → onward v (48 + d) ≡ grown v d
   unfolding onward
   onward-digit v =
@@ -68,7 +71,7 @@ pub grown-fits : (v d : ℕ) → 1 ≤ v → 10 * v + d ≤ 65_535 → grown v d
 unfolding grown
 grown-fits v d p q = rw (le-leb 1 v p, le-leb (10 * v + d) 65_535 q)
 
--- and the reader is lost where it is
+-- a digit behind 0, and one that makes too great a number, lose the reader
 pub grown-or-lost : (v d : ℕ) → ((1 ≤ v) × (10 * v + d ≤ 65_535)) ⊎ (grown v d ≡ Lost)
 unfolding grown
 grown-or-lost v d = go (leb 1 v) (leb (10 * v + d) 65_535) refl refl
@@ -92,11 +95,12 @@ unfolding onward
 onward-parted v space = at-start
 onward-parted v newline = at-line
 
+-- behind a number a newline ends the line
 pub onward-newline : (v : ℕ) → onward v 10 ≡ Line
 unfolding onward
 onward-newline v = refl
 
--- and the number ends
+-- the number that the reader is in, if any, ends there
 pub parted-ends : {b : ℕ} (p : Place) → Parts b → endedBy p b ≡ ended p
 unfolding endedBy parting
 parted-ends p space = refl
@@ -104,10 +108,12 @@ parted-ends p newline = refl
 
 -- ---- any other byte loses the reader
 module _ (b : ℕ) (p : eqb b 32 ≡ false) (q : eqb b 10 ≡ false) (r : within 48 57 b ≡ false) where
+  -- where a number must start
   pub begun-other : begun b ≡ Lost
   unfolding begun
   begun-other = rw r
 
+  -- and inside one
   pub onward-other : (v : ℕ) → onward v b ≡ Lost
   unfolding onward
   onward-other v = rw (p, q, r)

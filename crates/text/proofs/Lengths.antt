@@ -3,7 +3,6 @@ use Prim.Native.Nat.{_*_, _<_, _≤_, suc, zero, ℕ}
 use Rattle.text.proofs.Readings.{said-what-is-read}
 use Rattle.text.specs.Reading.{numbers, readable}
 use Rattle.text.specs.Text.{Decimal, Readable, Says, digit, followed, last, last-line, more}
-use denote.Triple.Walked.{says}
 use lib.ListN.{length, length-append}
 use mathlib.Core.Bool.{Bool, false, true}
 use mathlib.Core.List.{List}

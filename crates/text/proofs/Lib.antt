@@ -1,3 +1,5 @@
+pub mod Never
+pub mod Copying
 pub mod Bytes
 pub mod Putting
 pub mod Passes

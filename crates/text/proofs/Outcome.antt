@@ -1,5 +1,6 @@
 -- The outcomes of the reading: what each number says of the text, and that no second outcome fits. Assumes nothing.
 use Prim.Native.Nat.{_≤_, ℕ}
+use Rattle.text.proofs.Never.{never}
 use Rattle.text.proofs.Readings.{reads-what-is-said, said-what-is-read}
 use Rattle.text.specs.Calls.{Reads, saidRead}
 use Rattle.text.specs.Reading.{numbers, readable}
@@ -57,7 +58,4 @@ module _ (t room room′ : List ℕ) (number count : ℕ) (h : Reads t room room
   -- ON 18 THE TEXT IS READABLE AS NO NUMBERS
   pub refused-unreadable : number ≡ 18 → (ns : List ℕ) → Readable t ns → ⊥
   refused-unreadable z ns g =
-      let unread : readable t ≡ false = not-read t (length room) (sym (h .said) ∙ z) in
-      let read : readable t ≡ true = reads-what-is-said t ns g .0 in
-      let never : _≡_ {A = ℕ} 0 1 = cc in
-      omega arith
+      never (sym (not-read t (length room) (sym (h .said) ∙ z)) ∙ reads-what-is-said t ns g .0)

@@ -24,21 +24,26 @@ none-inside (Inside v) h = absurd (⊎-elim (λ e. omega (arith, e)) (λ g. ⊎-
 none-inside Lost h = refl
 
 module _ (p : Place) (b : ℕ) where
+  -- a byte that parts nothing ends no number
   pub not-parted : parting b ≡ false → endedBy p b ≡ []
   unfolding endedBy
   not-parted e = rw e
 
+  -- a byte that parts ends the number that the reader is in
   pub parted : parting b ≡ true → endedBy p b ≡ ended p
   unfolding endedBy
   parted e = rw e
 
--- what `put_ended` says of the room, for a number that ends here and for none
+-- ---- what `put_ended` leaves in the room
 module _ (e : List ℕ) (at : ℕ) (room : List ℕ) where
+  -- where no number ends, what was there
   pub put-none : e ≡ [] → (at ≡ at + length e) × (room ≡ take at room ++ e ++ drop at room)
   put-none q = (rw (q, add-zero), rw (q, append-nil, take-append-drop))
 
+  -- where one ends, that number at its place
   pub put-one : (v : ℕ) → e ≡ v ∷ [] → at < length room → (at + 1 ≡ at + length e) × (set room at v ≡ take at room ++ e ++ drop (at + 1) room)
   put-one v q h = (rw q, rw (q, add-one, append-assoc) (set-split room at v h))
 
-  pub fits-one : (v n : ℕ) → e ≡ v ∷ [] → at + length e ≤ n → at < n
-  fits-one v n q h = omega (arith, rw q at h)
+-- where there is room for one number, there is a place for it
+pub fits-one : (e : List ℕ) (at v n : ℕ) → e ≡ v ∷ [] → at + length e ≤ n → at < n
+fits-one e at v n q h = omega (arith, rw q at h)

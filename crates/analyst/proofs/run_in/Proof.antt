@@ -6,7 +6,6 @@ use Rattle.sheet.proofs.Tidying.{part-fits}
 use borrow.Author.Needs.{needs}
 use lib.Seq.{length-take-le}
 use mathlib.Core.Path.{sym}
-use native.Mathlib.Omega.{arith}
 
 read-rows-requires : tie.Need-read-rows-requires
 read-rows-requires c κs = search needs
@@ -32,32 +31,20 @@ same-length-2 c = search needs
 returns-2 : tie.Need-returns-2
 returns-2 c = search needs
 
-slice-reshare-prefix-part : tie.Need-slice-reshare-prefix-part
-slice-reshare-prefix-part c = search needs
+slice-reshare-prefix-answer : tie.Need-slice-reshare-prefix-answer
+slice-reshare-prefix-answer c = search needs
 
-slice-aggregate-part : tie.Need-slice-aggregate-part
-slice-aggregate-part c = sym (length-take-le _ _ (c .before .before .before .before .before .before .before .before .read-rows .ensures .space))
+slice-aggregate-answer : tie.Need-slice-aggregate-answer
+slice-aggregate-answer c =
+    sym (length-take-le _ _ (c .before .before .before .before .before .before .before .before .read-rows .ensures .space))
 
 answer-requires : tie.Need-answer-requires
-answer-requires c κs = let t = c .before .before .before .before .before .before .before .before .before .before .before .before .before .read-rows .ensures in (t .wide, part-fits _ (c .before .before .before .before .before .before .before .before .before .before .before .before .before .read-rows .last .1 .0) t, omega (arith, t .few, c .before .before .before .before .before .before .before .before .before .before .before .before .before .before .before .before .before .before .before .before .before .before .pre))
+answer-requires c κs =
+    let read = c .before .before .before .before .before .before .before .before .read-rows in
+    (read .ensures .wide, part-fits _ (read .last .1 .0) (read .ensures), read .ensures .few)
 
 same-length-3 : tie.Need-same-length-3
 same-length-3 c = search needs
-
-same-length-4 : tie.Need-same-length-4
-same-length-4 c = search needs
-
-same-length-5 : tie.Need-same-length-5
-same-length-5 c = search needs
-
-same-length-6 : tie.Need-same-length-6
-same-length-6 c = search needs
-
-same-length-7 : tie.Need-same-length-7
-same-length-7 c = search needs
-
-same-length-8 : tie.Need-same-length-8
-same-length-8 c = search needs
 
 returns-3 : tie.Need-returns-3
 returns-3 c = search needs
@@ -74,13 +61,8 @@ run-in-spec =
     say-fault-requires
     same-length-2
     returns-2
-    slice-reshare-prefix-part
-    slice-aggregate-part
+    slice-reshare-prefix-answer
+    slice-aggregate-answer
     answer-requires
     same-length-3
-    same-length-4
-    same-length-5
-    same-length-6
-    same-length-7
-    same-length-8
     returns-3)

@@ -1,9 +1,10 @@
 -- `lister::keep` meets its contract: a turn copies one byte, and n of them fit.
 -- Assumes nothing.
 use Prim.Native.Nat.{_-_}
-use Rattle.lister.proofs.Copying.{Copied, copied-all, copied-long, copied-next, copied-start}
+use Rattle.lister.proofs.Keeping.{kept-all, kept-start}
 use Rattle.lister.proofs.keep.Statement.{statement}
 use Rattle.lister.proofs.keep.Tie as tie
+use Rattle.text.proofs.Copying.{Copied, copied-long, copied-next}
 use borrow.Author.Needs.{needs}
 use native.Mathlib.Omega.{arith}
 
@@ -20,7 +21,7 @@ least-requires : tie.Need-least-requires Inv-loop μ-loop
 least-requires c κs = search needs
 
 loop-holds : tie.Need-loop-holds Inv-loop μ-loop
-loop-holds c = copied-start _ _ _ _ (c .before .before .before .pre) (c .least .ensures)
+loop-holds c = kept-start _ _ _ _ (c .least .ensures) (c .before .before .before .pre)
 
 shared-slice-read-text : tie.Need-shared-slice-read-text Inv-loop μ-loop
 shared-slice-read-text c = search needs
@@ -47,7 +48,7 @@ same-length : tie.Need-same-length Inv-loop μ-loop
 same-length c = copied-long _ _ _ _ _ _ (c .before .loop .inv)
 
 returns : tie.Need-returns Inv-loop μ-loop
-returns c = copied-all _ _ _ _ _ _ (c .before .loop .inv) (c .before .before .least .ensures) (c .loop-test .left)
+returns c = kept-all _ _ _ _ (c .before .before .least .ensures) _ _ (c .before .loop .inv) (c .loop-test .left)
 
 pub keep-spec : {M : Type 1} → statement M
 keep-spec =

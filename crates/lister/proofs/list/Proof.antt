@@ -49,7 +49,9 @@ returns : tie.Need-returns
 returns c = build-low _ _ _ _ _ _ _ (c .before .before .before .before .before .before .build .ensures .said)
 
 print-index-requires : tie.Need-print-index-requires
-print-index-requires c κs = built-there _ _ _ _ _ _ _ _ _ _ _ (c .before .before .before .before .before .before .build .ensures) (c .before .if1 .left)
+print-index-requires c κs =
+    let made = c .before .before .before .before .before .before in
+    built-there _ _ _ _ _ _ _ _ _ _ _ (made .build .ensures) (c .before .if1 .left)
 
 same-length-3 : tie.Need-same-length-3
 same-length-3 c = search needs

@@ -36,10 +36,14 @@ slice-reshare-prefix-list : tie.Need-slice-reshare-prefix-list
 slice-reshare-prefix-list c = zero-reads _ _ _ _ _ (c .before .before .before .read-numbers .ensures) (c .if1 .left) .1
 
 slice-aggregate-list : tie.Need-slice-aggregate-list
-slice-aggregate-list c = sym (length-take-le _ _ (zero-reads _ _ _ _ _ (c .before .before .before .before .read-numbers .ensures) (c .before .if1 .left) .1))
+slice-aggregate-list c =
+    let read = c .before .before .before .before in
+    sym (length-take-le _ _ (zero-reads _ _ _ _ _ (read .read-numbers .ensures) (c .before .if1 .left) .1))
 
 list-requires : tie.Need-list-requires
-list-requires c κs = zero-reads _ _ _ _ _ (c .before .before .before .before .before .before .read-numbers .ensures) (c .before .before .before .if1 .left) .0 .enough
+list-requires c κs =
+    let going = c .before .before .before in
+    zero-reads _ _ _ _ _ (going .before .before .before .read-numbers .ensures) (going .if1 .left) .0 .enough
 
 same-length-3 : tie.Need-same-length-3
 same-length-3 c = search needs

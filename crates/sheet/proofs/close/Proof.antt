@@ -17,28 +17,53 @@ fail-requires : tie.Need-fail-requires
 fail-requires c κs = search needs
 
 returns : tie.Need-returns
-returns c = let e = closed-failed _ _ _ _ (c .before .before .before .settle .ensures) (c .before .before .line-trouble .ensures) (c .before .if1 .taken) in (c .fail .ensures ∙ sym (ap (λ s. s .0) e), sym (ap (λ s. s .1) e))
+returns c =
+    let e = closed-failed _ _ _ _ (c .before .before .before .settle .ensures) (c .before .before .line-trouble .ensures) (c .before .if1 .taken) in
+    (c .fail .ensures ∙ sym (ap (λ s. s .0) e), sym (ap (λ s. s .1) e))
 
 row-size-requires : tie.Need-row-size-requires
 row-size-requires c κs = search needs
 
 skip-requires : tie.Need-skip-requires
-skip-requires c κs = line-both _ _ _ (sym (c .before .before .before .line-trouble .ensures) ∙ c .before .before .if1 .left) .0
+skip-requires c κs =
+    let going = c .before .before in
+    line-both _ _ _ (sym (going .before .line-trouble .ensures) ∙ going .if1 .left) .0
 
 returns-2 : tie.Need-returns-2
-returns-2 c = let e = closed-skipped _ _ _ _ (c .before .before .before .before .before .settle .ensures) (c .before .before .before .before .line-trouble .ensures) (c .before .before .before .if1 .left) (sym (c .before .before .row-size .ensures) ∙ c .before .if2 .taken) in (c .skip .ensures ∙ sym (ap (λ s. s .0) e), sym (ap (λ s. s .1) e))
+returns-2 c =
+    let going = c .before .before .before in
+    let e =
+    closed-skipped _ _ _ _ (going .before .before .settle .ensures) (going .before .line-trouble .ensures) (going .if1 .left)
+    (sym (c .before .before .row-size .ensures) ∙ c .before .if2 .taken) in
+    (c .skip .ensures ∙ sym (ap (λ s. s .0) e), sym (ap (λ s. s .1) e))
 
 put-row-requires : tie.Need-put-row-requires
-put-row-requires c κs = let f = line-fits _ _ _ (sym (c .before .before .before .before .before .line-trouble .ensures) ∙ c .before .before .before .before .if1 .left) _ (c .before .before .before .row-size .ensures) (c .before .before .if2 .left) in (f .narrow, f .space)
+put-row-requires c κs =
+    let row = c .before .before in
+    let going = row .before .before in
+    let f =
+    line-fits _ _ _ (sym (going .before .line-trouble .ensures) ∙ going .if1 .left) _ (row .before .row-size .ensures) (row .if2 .left) in
+    (f .narrow, f .space)
 
 take-row-requires : tie.Need-take-row-requires
-take-row-requires c κs = let f = line-fits _ _ _ (sym (c .before .before .before .before .before .before .before .before .line-trouble .ensures) ∙ c .before .before .before .before .before .before .before .if1 .left) _ (c .before .before .before .before .before .before .row-size .ensures) (c .before .before .before .before .before .if2 .left) in (line-both _ _ _ (sym (c .before .before .before .before .before .before .before .before .line-trouble .ensures) ∙ c .before .before .before .before .before .before .before .if1 .left) .0, omega (arith, f .few), f .space)
+take-row-requires c κs =
+    let row = c .before .before .before .before .before in
+    let going = row .before .before in
+    let fine = sym (going .before .line-trouble .ensures) ∙ going .if1 .left in
+    let f = line-fits _ _ _ fine _ (row .before .row-size .ensures) (row .if2 .left) in
+    (line-both _ _ _ fine .0, omega (arith, f .few), f .space)
 
 same-length : tie.Need-same-length
 same-length c = search needs
 
 returns-3 : tie.Need-returns-3
-returns-3 c = let e = closed-taken _ _ _ _ (c .before .before .before .before .before .before .before .before .before .before .settle .ensures) (c .before .before .before .before .before .before .before .before .before .line-trouble .ensures) _ (c .before .before .before .before .before .before .before .before .if1 .left) (c .before .before .before .before .before .before .before .row-size .ensures) (c .before .before .before .before .before .before .if2 .left) in (c .take-row .ensures ∙ sym (ap (λ s. s .0) e), c .before .before .before .put-row .ensures ∙ sym (ap (λ s. s .1) e))
+returns-3 c =
+    let row = c .before .before .before .before .before .before in
+    let going = row .before .before in
+    let e =
+    closed-taken _ _ _ _ (going .before .before .settle .ensures) (going .before .line-trouble .ensures) _ (going .if1 .left)
+    (row .before .row-size .ensures) (row .if2 .left) in
+    (c .take-row .ensures ∙ sym (ap (λ s. s .0) e), c .before .before .before .put-row .ensures ∙ sym (ap (λ s. s .1) e))
 
 pub close-spec : {M : Type 1} → statement M
 close-spec =

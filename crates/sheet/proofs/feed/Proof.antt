@@ -30,7 +30,10 @@ loop-less : tie.Need-loop-less Inv-loop μ-loop
 loop-less c = search needs
 
 loop-again : tie.Need-loop-again Inv-loop μ-loop
-loop-again c = fed-next _ _ _ _ _ _ (c .before .before .before .before .before .before .loop .inv) _ _ (c .before .before .before .before .before .loop-test .taken) (c .before .before .step .ensures .0) (c .before .before .step .ensures .1) (search needs)
+loop-again c =
+    let read = c .before .before .step .ensures in
+    let turn = c .before .before .before .before .before in
+    fed-next _ _ _ _ _ _ (turn .before .loop .inv) _ _ (turn .loop-test .taken) (read .0) (read .1) (search needs)
 
 same-length : tie.Need-same-length Inv-loop μ-loop
 same-length c = c .before .loop .inv .long

@@ -12,13 +12,17 @@ same-length : tie.Need-same-length
 same-length c = search needs
 
 returns : tie.Need-returns
-returns c = (finish-fault _ _ (c .before .before .before .before .step .ensures .0) (c .if1 .taken), finish-table _ _ (c .before .before .before .before .step .ensures .0) _ (c .before .before .before .before .step .ensures .1))
+returns c =
+    let last = c .before .before .before .before .step .ensures in
+    (finish-fault _ _ (last .0) (c .if1 .taken), finish-table _ _ (last .0) _ (last .1))
 
 same-length-2 : tie.Need-same-length-2
 same-length-2 c = search needs
 
 returns-2 : tie.Need-returns-2
-returns-2 c = (finish-rows _ _ (c .before .before .before .before .before .before .step .ensures .0) (c .before .before .if1 .left) (c .if2 .taken), finish-table _ _ (c .before .before .before .before .before .before .step .ensures .0) _ (c .before .before .before .before .before .before .step .ensures .1))
+returns-2 c =
+    let last = c .before .before .before .before .before .before .step .ensures in
+    (finish-rows _ _ (last .0) (c .before .before .if1 .left) (c .if2 .taken), finish-table _ _ (last .0) _ (last .1))
 
 fail-requires : tie.Need-fail-requires
 fail-requires c κs = search needs
@@ -27,7 +31,11 @@ same-length-3 : tie.Need-same-length-3
 same-length-3 c = search needs
 
 returns-3 : tie.Need-returns-3
-returns-3 c = (finish-none _ _ (c .before .before .before .before .before .before .before .step .ensures .0) _ (c .fail .ensures) (c .before .before .before .if1 .left) (c .before .if2 .left), finish-table _ _ (c .before .before .before .before .before .before .before .step .ensures .0) _ (c .before .before .before .before .before .before .before .step .ensures .1))
+returns-3 c =
+    let last = c .before .before .before .before .before .before .before .step .ensures in (
+      finish-none _ _ (last .0) _ (c .fail .ensures) (c .before .before .before .if1 .left) (c .before .if2 .left),
+      finish-table _ _ (last .0) _ (last .1),
+    )
 
 pub finish-spec : {M : Type 1} → statement M
 finish-spec =

@@ -1,20 +1,20 @@
 -- `sheet::put_row` meets its contract: a turn puts one number, and n of them fit.
 -- Assumes nothing.
 use Prim.Native.Nat.{_-_}
-use Rattle.sheet.proofs.Putting.{Put, put-all, put-long, put-next, put-start}
 use Rattle.sheet.proofs.put_row.Statement.{statement}
 use Rattle.sheet.proofs.put_row.Tie as tie
+use Rattle.text.proofs.Copying.{Copied, copied-all, copied-long, copied-next, copied-start}
 use borrow.Author.Needs.{needs}
 use native.Mathlib.Omega.{arith}
 
 abbrev Inv-loop : tie.InvT-loop
-Inv-loop n table₀ at row i₀ table i = Put row table₀ at n table i
+Inv-loop n table₀ at row i₀ table i = Copied row table₀ at n table i
 
 abbrev μ-loop : tie.MeasureT-loop
 μ-loop n table₀ at row i₀ table i = n - i
 
 loop-holds : tie.Need-loop-holds Inv-loop μ-loop
-loop-holds c = put-start _ _ _ _ (c .pre .1) (omega arith)
+loop-holds c = copied-start _ _ _ _ (c .pre .1) (omega arith)
 
 mul-table : tie.Need-mul-table Inv-loop μ-loop
 mul-table c = search needs
@@ -29,7 +29,7 @@ mul-table-2 : tie.Need-mul-table-2 Inv-loop μ-loop
 mul-table-2 c = search needs
 
 slice-write-table : tie.Need-slice-write-table Inv-loop μ-loop
-slice-write-table c = omega (arith, put-long _ _ _ _ _ _ (c .before .loop .inv))
+slice-write-table c = omega (arith, copied-long _ _ _ _ _ _ (c .before .loop .inv))
 
 add-i : tie.Need-add-i Inv-loop μ-loop
 add-i c = search needs
@@ -38,13 +38,13 @@ loop-less : tie.Need-loop-less Inv-loop μ-loop
 loop-less c = search needs
 
 loop-again : tie.Need-loop-again Inv-loop μ-loop
-loop-again c = put-next _ _ _ _ _ _ (c .before .loop .inv) (c .loop-test .taken)
+loop-again c = copied-next _ _ _ _ _ _ (c .before .loop .inv) (c .loop-test .taken)
 
 same-length : tie.Need-same-length Inv-loop μ-loop
-same-length c = put-long _ _ _ _ _ _ (c .before .loop .inv)
+same-length c = copied-long _ _ _ _ _ _ (c .before .loop .inv)
 
 returns : tie.Need-returns Inv-loop μ-loop
-returns c = put-all _ _ _ _ _ _ (c .before .loop .inv) (c .loop-test .left)
+returns c = copied-all _ _ _ _ _ _ (c .before .loop .inv) (c .loop-test .left)
 
 pub put-row-spec : {M : Type 1} → statement M
 put-row-spec =

@@ -20,22 +20,50 @@ uneven-requires c κs = search needs
 
 returns-3 : tie.Need-returns-3
 unfolding rowTrouble
-returns-3 c = rw (ne-eqb _ _ (c .before .before .before .if1 .left), le-ltb _ _ (c .before .before .if2 .left), sym (c .before .uneven .ensures) ∙ c .if3 .taken)
+returns-3 c =
+    rw (
+      ne-eqb _ _ (c .before .before .before .if1 .left),
+      le-ltb _ _ (c .before .before .if2 .left),
+      sym (c .before .uneven .ensures) ∙ c .if3 .taken,
+    )
 
 returns-4 : tie.Need-returns-4
 unfolding rowTrouble
-returns-4 c = rw (ne-eqb _ _ (c .before .before .before .before .if1 .left), le-ltb _ _ (c .before .before .before .if2 .left), sym (c .before .before .uneven .ensures) ∙ c .before .if3 .left, le-leb _ _ (c .if4 .taken))
+returns-4 c =
+    let even = c .before in
+    rw (
+      ne-eqb _ _ (even .before .before .before .if1 .left),
+      le-ltb _ _ (even .before .before .if2 .left),
+      sym (even .before .uneven .ensures) ∙ even .if3 .left,
+      le-leb _ _ (c .if4 .taken),
+    )
 
 lacks-requires : tie.Need-lacks-requires
 lacks-requires c κs = search needs
 
 returns-5 : tie.Need-returns-5
 unfolding rowTrouble
-returns-5 c = rw (ne-eqb _ _ (c .before .before .before .before .before .before .if1 .left), le-ltb _ _ (c .before .before .before .before .before .if2 .left), sym (c .before .before .before .before .uneven .ensures) ∙ c .before .before .before .if3 .left, lt-leb _ _ (c .before .before .if4 .left), sym (c .before .lacks .ensures) ∙ c .if5 .taken)
+returns-5 c =
+    let even = c .before .before .before in
+    rw (
+      ne-eqb _ _ (even .before .before .before .if1 .left),
+      le-ltb _ _ (even .before .before .if2 .left),
+      sym (even .before .uneven .ensures) ∙ even .if3 .left,
+      lt-leb _ _ (c .before .before .if4 .left),
+      sym (c .before .lacks .ensures) ∙ c .if5 .taken,
+    )
 
 returns-6 : tie.Need-returns-6
 unfolding rowTrouble
-returns-6 c = rw (ne-eqb _ _ (c .before .before .before .before .before .before .if1 .left), le-ltb _ _ (c .before .before .before .before .before .if2 .left), sym (c .before .before .before .before .uneven .ensures) ∙ c .before .before .before .if3 .left, lt-leb _ _ (c .before .before .if4 .left), sym (c .before .lacks .ensures) ∙ c .if5 .left)
+returns-6 c =
+    let even = c .before .before .before in
+    rw (
+      ne-eqb _ _ (even .before .before .before .if1 .left),
+      le-ltb _ _ (even .before .before .if2 .left),
+      sym (even .before .uneven .ensures) ∙ even .if3 .left,
+      lt-leb _ _ (c .before .before .if4 .left),
+      sym (c .before .lacks .ensures) ∙ c .if5 .left,
+    )
 
 pub row-trouble-spec : {M : Type 1} → statement M
 row-trouble-spec =

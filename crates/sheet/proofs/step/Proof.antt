@@ -16,7 +16,10 @@ same-length : tie.Need-same-length
 same-length c = search needs
 
 returns-2 : tie.Need-returns-2
-returns-2 c = let e = next-newline _ _ _ (c .before .before .before .before .before .if1 .left) (c .before .before .before .before .if2 .taken) in (c .before .before .close .ensures .0 ∙ sym (ap (λ s. s .0) e), c .before .before .close .ensures .1 ∙ sym (ap (λ s. s .1) e))
+returns-2 c =
+    let done = c .before .before .close .ensures in
+    let e = next-newline _ _ _ (c .before .before .before .before .before .if1 .left) (c .before .before .before .before .if2 .taken) in
+    (done .0 ∙ sym (ap (λ s. s .0) e), done .1 ∙ sym (ap (λ s. s .1) e))
 
 kind-of-requires : tie.Need-kind-of-requires
 kind-of-requires c κs = search needs
@@ -25,7 +28,9 @@ advance-requires : tie.Need-advance-requires
 advance-requires c κs = search needs
 
 returns-3 : tie.Need-returns-3
-returns-3 c = let e = next-other _ _ _ _ (c .before .before .before .if1 .left) (c .before .before .if2 .left) (c .before .kind-of .ensures) in (c .advance .ensures ∙ sym (ap (λ s. s .0) e), sym (ap (λ s. s .1) e))
+returns-3 c =
+    let e = next-other _ _ _ _ (c .before .before .before .if1 .left) (c .before .before .if2 .left) (c .before .kind-of .ensures) in
+    (c .advance .ensures ∙ sym (ap (λ s. s .0) e), sym (ap (λ s. s .1) e))
 
 pub step-spec : {M : Type 1} → statement M
 step-spec =

@@ -1,6 +1,6 @@
 -- `text::count` meets its contract: a turn passes one byte, and what ends there is counted.
 -- Assumes nothing.
-use Prim.Native.Nat.{_+_, _-_}
+use Prim.Native.Nat.{_+_, _-_, ℕ}
 use Rattle.laws.proofs.Tests.{no, yes}
 use Rattle.limits.specs.Limits.{within}
 use Rattle.text.proofs.Answers.{all-counted, none-counted, not-counted}
@@ -12,6 +12,7 @@ use Rattle.text.specs.declared.Place.the-variants.{Start}
 use borrow.Author.Needs.{needs}
 use denote.Ref.{now}
 use lib.ListN.{length}
+use mathlib.Core.List.{List}
 use mathlib.Core.Path.{_∙_, _≡_, ap, sym}
 use native.Mathlib.Omega.{arith}
 
@@ -43,7 +44,9 @@ loop-less : tie.Need-loop-less Inv-loop μ-loop
 loop-less c = omega arith
 
 loop-again : tie.Need-loop-again Inv-loop μ-loop
-loop-again c = counted-step _ _ _ _ (c .before .before .before .before .loop .inv) _ _ (c .before .before .before .loop-test .taken) (c .step .ensures) (c .before .ended .ensures)
+loop-again c =
+    let turn = c .before .before .before in
+    counted-step _ _ _ _ (turn .before .loop .inv) _ _ (turn .loop-test .taken) (c .step .ensures) (c .before .ended .ensures)
 
 ended-requires-2 : tie.Need-ended-requires-2 Inv-loop μ-loop
 ended-requires-2 c κs = search needs
@@ -54,10 +57,12 @@ add-count-2 c = omega (arith, ended-few _ _ (c .ended2 .ensures))
 may-end-requires : tie.Need-may-end-requires Inv-loop μ-loop
 may-end-requires c κs = search needs
 
--- behind the loop all is counted, and the place is the one behind the text
+-- behind the loop all of the text is counted, and the place is the one behind it
+abbrev text : tie.After-ended2 Inv-loop μ-loop → List ℕ
+text c = now (c .before .before .before .before .args .text)
+
 whole : (c : tie.After-ended2 Inv-loop μ-loop)
-    → (c .before .before .loop .count + c .ended2 .result ≡ length (numbers (now (c .before .before .before .before .args .text))))
-    × (c .before .before .loop .place ≡ behind Start (now (c .before .before .before .before .args .text)))
+    → (c .before .before .loop .count + c .ended2 .result ≡ length (numbers (text c))) × (c .before .before .loop .place ≡ behind Start (text c))
 whole c = counted-done _ _ _ _ (c .before .before .loop .inv) _ (c .before .loop-test .left) (c .ended2 .ensures)
 
 returns : tie.Need-returns Inv-loop μ-loop
@@ -67,12 +72,16 @@ is-within-requires : tie.Need-is-within-requires Inv-loop μ-loop
 is-within-requires c κs = search needs
 
 returns-2 : tie.Need-returns-2 Inv-loop μ-loop
-returns-2 c = not-counted _ (ap (within 3 1_027) (sym (whole (c .before .before .before .before) .0)) ∙ no (c .before .is-within .ensures) (c .if2 .taken))
+returns-2 c =
+    let w = whole (c .before .before .before .before) in
+    not-counted _ (ap (within 3 1_027) (sym (w .0)) ∙ no (c .before .is-within .ensures) (c .if2 .taken))
 
 returns-3 : tie.Need-returns-3 Inv-loop μ-loop
 returns-3 c =
     let w = whole (c .before .before .before .before) in
-    w .0 ∙ all-counted _ (ap ends (sym (w .1)) ∙ yes (c .before .before .before .may-end .ensures) (c .before .before .if1 .left)) (ap (within 3 1_027) (sym (w .0)) ∙ yes (c .before .is-within .ensures) (c .if2 .left))
+    w .0
+    ∙ all-counted _ (ap ends (sym (w .1)) ∙ yes (c .before .before .before .may-end .ensures) (c .before .before .if1 .left))
+    (ap (within 3 1_027) (sym (w .0)) ∙ yes (c .before .is-within .ensures) (c .if2 .left))
 
 pub count-spec : {M : Type 1} → statement M
 count-spec =

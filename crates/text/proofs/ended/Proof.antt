@@ -16,7 +16,11 @@ enum-told : tie.Need-enum-told
 enum-told c = search needs
 
 returns-2 : tie.Need-returns-2
-returns-2 c = rw (parted _ _ (yes (c .before .before .parts .ensures) (c .before .if1 .left)), none-inside (c .before .before .before .args .place) (c .match .keys2))
+returns-2 c =
+    rw (
+      parted _ _ (yes (c .before .before .parts .ensures) (c .before .if1 .left)),
+      none-inside (c .before .before .before .args .place) (c .match .keys2),
+    )
 
 returns-3 : tie.Need-returns-3
 returns-3 c = rw (parted _ _ (yes (c .before .before .before .parts .ensures) (c .before .before .if1 .left))) (cc)

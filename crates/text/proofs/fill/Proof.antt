@@ -21,7 +21,9 @@ shared-slice-read-b : tie.Need-shared-slice-read-b Inv-loop μ-loop
 shared-slice-read-b c = search needs
 
 put-ended-requires : tie.Need-put-ended-requires Inv-loop μ-loop
-put-ended-requires c κs = room-next _ _ _ _ _ _ (c .before .before .before .loop .inv) (c .before .before .before .before .before .before .pre) (c .before .before .loop-test .taken)
+put-ended-requires c κs =
+    let loop = c .before .before .before in
+    room-next _ _ _ _ _ _ (loop .loop .inv) (loop .before .before .before .pre) (c .before .before .loop-test .taken)
 
 step-requires : tie.Need-step-requires Inv-loop μ-loop
 step-requires c κs = search needs
@@ -34,22 +36,33 @@ loop-less c = omega arith
 
 loop-again : tie.Need-loop-again Inv-loop μ-loop
 loop-again c =
-    filled-step _ _ _ _ _ _ (c .before .before .before .before .before .before .before .loop .inv) (c .before .before .before .before .before .before .before .before .before .before .pre) _ _ _ (c .before .before .before .before .before .before .loop-test .taken) (c .step .ensures)
-    (c .before .before .before .put-ended .ensures .0)
-    (c .before .before .before .put-ended .ensures .1)
+    let put = c .before .before .before in
+    let turn = put .before .before .before in
+    filled-step _ _ _ _ _ _ (turn .before .loop .inv) (turn .before .before .before .before .pre) _ _ _ (turn .loop-test .taken)
+    (c .step .ensures)
+    (put .put-ended .ensures .0)
+    (put .put-ended .ensures .1)
 
 put-ended-requires-2 : tie.Need-put-ended-requires-2 Inv-loop μ-loop
-put-ended-requires-2 c κs = room-end _ _ _ _ _ _ (c .before .before .loop .inv) (c .before .before .before .before .before .pre) (c .before .loop-test .left)
+put-ended-requires-2 c κs =
+    let loop = c .before .before in
+    room-end _ _ _ _ _ _ (loop .loop .inv) (loop .before .before .before .pre) (c .before .loop-test .left)
 
 same-length : tie.Need-same-length Inv-loop μ-loop
 same-length c =
-    filled-done _ _ _ _ _ _ (c .before .before .before .before .before .loop .inv) (c .before .before .before .before .before .before .before .before .pre) _ _ (c .before .before .before .before .loop-test .left) (c .before .before .put-ended2 .ensures .0)
-    (c .before .before .put-ended2 .ensures .1) .1
+    let put = c .before .before in
+    let left = put .before .before in
+    filled-done _ _ _ _ _ _ (left .before .loop .inv) (left .before .before .before .before .pre) _ _ (left .loop-test .left)
+    (put .put-ended2 .ensures .0)
+    (put .put-ended2 .ensures .1) .1
 
 returns : tie.Need-returns Inv-loop μ-loop
 returns c =
-    filled-done _ _ _ _ _ _ (c .before .before .before .before .before .loop .inv) (c .before .before .before .before .before .before .before .before .pre) _ _ (c .before .before .before .before .loop-test .left) (c .before .before .put-ended2 .ensures .0)
-    (c .before .before .put-ended2 .ensures .1) .0
+    let put = c .before .before in
+    let left = put .before .before in
+    filled-done _ _ _ _ _ _ (left .before .loop .inv) (left .before .before .before .before .pre) _ _ (left .loop-test .left)
+    (put .put-ended2 .ensures .0)
+    (put .put-ended2 .ensures .1) .0
 
 pub fill-spec : {M : Type 1} → statement M
 fill-spec =

@@ -27,11 +27,23 @@ grow-requires c κs = search needs
 
 returns-3 : tie.Need-returns-3
 unfolding onward
-returns-3 c = rw (ne-eqb _ _ (c .before .before .before .before .if1 .left), ne-eqb _ _ (c .before .before .before .if2 .left), sym (c .before .before .is-within .ensures) ∙ c .before .if3 .taken) (c .grow .ensures)
+returns-3 c =
+    let tested = c .before in
+    rw (
+      ne-eqb _ _ (tested .before .before .before .if1 .left),
+      ne-eqb _ _ (tested .before .before .if2 .left),
+      sym (tested .before .is-within .ensures) ∙ tested .if3 .taken,
+    )
+    (c .grow .ensures)
 
 returns-4 : tie.Need-returns-4
 unfolding onward
-returns-4 c = rw (ne-eqb _ _ (c .before .before .before .if1 .left), ne-eqb _ _ (c .before .before .if2 .left), sym (c .before .is-within .ensures) ∙ c .if3 .left)
+returns-4 c =
+    rw (
+      ne-eqb _ _ (c .before .before .before .if1 .left),
+      ne-eqb _ _ (c .before .before .if2 .left),
+      sym (c .before .is-within .ensures) ∙ c .if3 .left,
+    )
 
 pub go-on-spec : {M : Type 1} → statement M
 go-on-spec =

@@ -1,5 +1,6 @@
 -- `text::put_ended` meets its contract: as `ended`, with the number stored where one ends.
 -- Assumes nothing.
+use Prim.Native.Nat.{ℕ}
 use Rattle.laws.proofs.Tests.{no, yes}
 use Rattle.text.proofs.Putting.{fits-one, none-inside, not-parted, parted, put-none, put-one}
 use Rattle.text.proofs.put_ended.Statement.{statement}
@@ -19,17 +20,26 @@ enum-known-place : tie.Need-enum-known-place
 enum-known-place c = search needs
 
 returns-2 : tie.Need-returns-2
-returns-2 c = put-none _ _ _ (parted _ _ (yes (c .before .before .parts .ensures) (c .before .if1 .left)) ∙ none-inside (c .before .before .before .before .args .place) (c .match .keys2))
+returns-2 c =
+    put-none _ _ _
+    (parted _ _ (yes (c .before .before .parts .ensures) (c .before .if1 .left))
+    ∙ none-inside (c .before .before .before .before .args .place) (c .match .keys2))
 
 mul-room : tie.Need-mul-room
 mul-room c = search needs
 
--- a number ends here
-one : (c : tie.After-known-told) → endedBy (c .before .before .before .before .before .before .args .place) (c .before .before .before .before .before .before .args .b) ≡ c .before .place .given .0 .0 ∷ []
+-- the start, and the number that ends here
+abbrev start : tie.After-known-told → tie.Start
+start c = c .before .before .before .before .before .before
+
+abbrev value : tie.After-known-told → ℕ
+value c = c .before .place .given .0 .0
+
+one : (c : tie.After-known-told) → endedBy (start c .args .place) (start c .args .b) ≡ value c ∷ []
 one c = parted _ _ (yes (c .before .before .before .before .parts .ensures) (c .before .before .before .if1 .left)) ∙ cc
 
 slice-write-room : tie.Need-slice-write-room
-slice-write-room c = fits-one _ _ [] (c .before .place .given .0 .0) _ (one c) (c .before .before .before .before .before .before .pre)
+slice-write-room c = fits-one _ _ (value c) _ (one c) (start c .pre)
 
 add-result : tie.Need-add-result
 add-result c = search needs
@@ -38,7 +48,7 @@ same-length : tie.Need-same-length
 same-length c = search needs
 
 returns-3 : tie.Need-returns-3
-returns-3 c = put-one _ _ _ (c .before .place .given .0 .0) (one c) (fits-one _ _ [] (c .before .place .given .0 .0) _ (one c) (c .before .before .before .before .before .before .pre))
+returns-3 c = put-one _ _ _ (value c) (one c) (fits-one _ _ (value c) _ (one c) (start c .pre))
 
 pub put-ended-spec : {M : Type 1} → statement M
 put-ended-spec =

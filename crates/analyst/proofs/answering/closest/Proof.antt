@@ -6,50 +6,60 @@ use Rattle.measure.proofs.Rows.{row-ends}
 use borrow.Author.Needs.{needs}
 use native.Mathlib.Omega.{arith}
 
+index-room-requires : tie.Need-index-room-requires
+index-room-requires c κs = search needs
+
+workspace-requires : tie.Need-workspace-requires
+workspace-requires c κs = search needs
+
+byte-room-requires : tie.Need-byte-room-requires
+byte-room-requires c κs = search needs
+
+answer-room-requires : tie.Need-answer-room-requires
+answer-room-requires c κs = search needs
+
+answer-room-requires-2 : tie.Need-answer-room-requires-2
+answer-room-requires-2 c κs = search needs
+
+slice-aggregate-find-nearest : tie.Need-slice-aggregate-find-nearest
+slice-aggregate-find-nearest c = search needs
+
+slice-aggregate-find-nearest-2 : tie.Need-slice-aggregate-find-nearest-2
+slice-aggregate-find-nearest-2 c = search needs
+
+slice-aggregate-find-nearest-3 : tie.Need-slice-aggregate-find-nearest-3
+slice-aggregate-find-nearest-3 c = search needs
+
+slice-aggregate-find-nearest-4 : tie.Need-slice-aggregate-find-nearest-4
+slice-aggregate-find-nearest-4 c = search needs
+
+slice-aggregate-find-nearest-5 : tie.Need-slice-aggregate-find-nearest-5
+slice-aggregate-find-nearest-5 c = search needs
+
 find-nearest-requires : tie.Need-find-nearest-requires
-find-nearest-requires c κs = omega (arith, c .before .before .before .before .before .before .before .before .before .before .before .pre .0, row-ends (c .before .before .before .before .before .before .before .before .before .before .before .args .c) (c .before .before .before .before .before .before .before .before .before .before .before .args .n) (c .before .before .before .before .before .before .before .before .before .before .before .args .row) (c .before .before .before .before .before .before .before .before .before .before .before .pre .1))
+find-nearest-requires c κs =
+    let start = c .before .before .before .before .before .before .before .before .before .before .before in
+    omega (arith, start .pre .0, row-ends (start .args .c) (start .args .n) (start .args .row) (start .pre .1))
 
 say-refused-requires : tie.Need-say-refused-requires
 say-refused-requires c κs = search needs
 
-same-length : tie.Need-same-length
-same-length c = search needs
-
-same-length-2 : tie.Need-same-length-2
-same-length-2 c = search needs
-
-same-length-3 : tie.Need-same-length-3
-same-length-3 c = search needs
-
-same-length-4 : tie.Need-same-length-4
-same-length-4 c = search needs
-
-same-length-5 : tie.Need-same-length-5
-same-length-5 c = search needs
-
 returns : tie.Need-returns
 returns c = search needs
 
+slice-aggregate-say-answers : tie.Need-slice-aggregate-say-answers
+slice-aggregate-say-answers c = search needs
+
+slice-aggregate-say-answers-2 : tie.Need-slice-aggregate-say-answers-2
+slice-aggregate-say-answers-2 c = search needs
+
 say-answers-requires : tie.Need-say-answers-requires
-say-answers-requires c κs = c .before .before .before .before .before .before .before .before .before .before .before .before .before .find-nearest .ensures .few (c .before .before .if1 .left)
+say-answers-requires c κs =
+    let going = c .before .before in
+    going .before .before .before .before .before .before .find-nearest .ensures .few (going .if1 .left)
 
 say-found-requires : tie.Need-say-found-requires
 say-found-requires c κs = search needs
-
-same-length-6 : tie.Need-same-length-6
-same-length-6 c = search needs
-
-same-length-7 : tie.Need-same-length-7
-same-length-7 c = search needs
-
-same-length-8 : tie.Need-same-length-8
-same-length-8 c = search needs
-
-same-length-9 : tie.Need-same-length-9
-same-length-9 c = search needs
-
-same-length-10 : tie.Need-same-length-10
-same-length-10 c = search needs
 
 returns-2 : tie.Need-returns-2
 returns-2 c = search needs
@@ -58,19 +68,21 @@ pub closest-spec : {M : Type 1} → statement M
 closest-spec =
     tie.close
     (tie.spec
+    index-room-requires
+    workspace-requires
+    byte-room-requires
+    answer-room-requires
+    answer-room-requires-2
+    slice-aggregate-find-nearest
+    slice-aggregate-find-nearest-2
+    slice-aggregate-find-nearest-3
+    slice-aggregate-find-nearest-4
+    slice-aggregate-find-nearest-5
     find-nearest-requires
     say-refused-requires
-    same-length
-    same-length-2
-    same-length-3
-    same-length-4
-    same-length-5
     returns
+    slice-aggregate-say-answers
+    slice-aggregate-say-answers-2
     say-answers-requires
     say-found-requires
-    same-length-6
-    same-length-7
-    same-length-8
-    same-length-9
-    same-length-10
     returns-2)

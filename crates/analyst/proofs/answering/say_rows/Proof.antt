@@ -20,7 +20,13 @@ shared-slice-read-say-marked : tie.Need-shared-slice-read-say-marked Inv-loop μ
 shared-slice-read-say-marked c = search needs
 
 say-marked-requires : tie.Need-say-marked-requires Inv-loop μ-loop
-say-marked-requires c κs = (c .before .before .before .before .before .before .pre .0, omega (arith, c .before .before .before .before .before .before .pre .1, row-ends (c .before .before .before .before .before .before .args .c) (c .before .before .before .before .before .before .args .n) (c .before .before .loop .i) (c .before .loop-test .taken)), c .before .before .before .before .before .before .pre .2)
+say-marked-requires c κs =
+    let turn = c .before in
+    let start = turn .before .before .before .before .before in (
+      start .pre .0,
+      omega (arith, start .pre .1, row-ends (start .args .c) (start .args .n) (turn .before .loop .i) (turn .loop-test .taken)),
+      start .pre .2,
+    )
 
 add-i : tie.Need-add-i Inv-loop μ-loop
 add-i c = search needs

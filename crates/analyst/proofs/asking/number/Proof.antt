@@ -33,10 +33,14 @@ loop-less : tie.Need-loop-less Inv-loop μ-loop
 loop-less c = search needs
 
 loop-again : tie.Need-loop-again Inv-loop μ-loop
-loop-again c = counted-next _ _ _ (c .before .before .before .loop .inv) _ (c .before .before .loop-test .taken) (c .digit-behind .ensures .0) (c .digit-behind .ensures .1)
+loop-again c =
+    let read = c .digit-behind .ensures in
+    counted-next _ _ _ (c .before .before .before .loop .inv) _ (c .before .before .loop-test .taken) (read .0) (read .1)
 
 returns-2 : tie.Need-returns-2 Inv-loop μ-loop
-returns-2 c = (counted-end (c .before .before .before .before .args .word .now) _ _ (c .before .loop .inv) (c .loop-test .left) (c .before .before .if1 .left), c .before .loop .inv .few)
+returns-2 c =
+    let some = c .before .before in
+    (counted-end (some .before .before .args .word .now) _ _ (c .before .loop .inv) (c .loop-test .left) (some .if1 .left), c .before .loop .inv .few)
 
 pub number-spec : {M : Type 1} → statement M
 number-spec =

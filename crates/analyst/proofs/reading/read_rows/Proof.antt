@@ -48,7 +48,10 @@ same-length-2 : tie.Need-same-length-2 Inv-loop μ-loop
 same-length-2 c = search needs
 
 returns-2 : tie.Need-returns-2 Inv-loop μ-loop
-returns-2 c = finish-tidy _ _ (c .before .before .before .before .before .before .before .before .before .before .before .before .before .loop .table) (c .before .before .finish .last .1 .0) (c .before .before .before .before .before .before .before .before .before .before .before .before .before .loop .inv .0) (search needs) (c .before .before .finish .ensures .0)
+returns-2 c =
+    let ended = c .before .before .finish in
+    let turn = c .before .before .before .before .before .before .before .before .before .before .before .before .before .loop in
+    finish-tidy _ _ (turn .table) (ended .last .1 .0) (turn .inv .0) (search needs) (ended .ensures .0)
 
 array-share-prefix-chunk : tie.Need-array-share-prefix-chunk Inv-loop μ-loop
 array-share-prefix-chunk c = search needs
@@ -66,7 +69,10 @@ loop-less : tie.Need-loop-less Inv-loop μ-loop
 loop-less c = search needs
 
 loop-again : tie.Need-loop-again Inv-loop μ-loop
-loop-again c = (feed-tidy _ _ (c .before .before .before .before .before .before .before .before .before .before .before .before .before .before .loop .table) (c .before .before .feed .last .1 .1 .0) (c .before .before .before .before .before .before .before .before .before .before .before .before .before .before .loop .inv .0) (search needs) _ (c .before .before .feed .ensures .0), search needs)
+loop-again c =
+    let fed = c .before .before .feed in
+    let turn = c .before .before .before .before .before .before .before .before .before .before .before .before .before .before .loop in
+    (feed-tidy _ _ (turn .table) (fed .last .1 .1 .0) (turn .inv .0) (search needs) _ (fed .ensures .0), search needs)
 
 same-length-3 : tie.Need-same-length-3 Inv-loop μ-loop
 same-length-3 c = search needs

@@ -1,4 +1,4 @@
--- `analyst::rooms::table_room` meets its contract.
+-- `analyst::rooms::table_room` meets its contract: the length of what repeats one number is how often it does.
 -- Assumes nothing.
 use Prim.Native.Nat.{ℕ}
 use Rattle.analyst.proofs.rooms.table_room.Statement.{statement}

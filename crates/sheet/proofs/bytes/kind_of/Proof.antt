@@ -23,15 +23,29 @@ parts-requires c κs = search needs
 
 returns-2 : tie.Need-returns-2
 unfolding kindOf
-returns-2 c = rw (sym (c .before .before .before .is-within .ensures) ∙ c .before .before .if1 .left, sym (c .before .parts .ensures) ∙ c .if2 .taken)
+returns-2 c =
+    rw (
+      sym (c .before .before .before .is-within .ensures) ∙ c .before .before .if1 .left,
+      sym (c .before .parts .ensures) ∙ c .if2 .taken,
+    )
 
 returns-3 : tie.Need-returns-3
 unfolding kindOf
-returns-3 c = rw (sym (c .before .before .before .before .is-within .ensures) ∙ c .before .before .before .if1 .left, sym (c .before .before .parts .ensures) ∙ c .before .if2 .left, eq-eqb _ _ (c .if3 .taken))
+returns-3 c =
+    rw (
+      sym (c .before .before .before .before .is-within .ensures) ∙ c .before .before .before .if1 .left,
+      sym (c .before .before .parts .ensures) ∙ c .before .if2 .left,
+      eq-eqb _ _ (c .if3 .taken),
+    )
 
 returns-4 : tie.Need-returns-4
 unfolding kindOf
-returns-4 c = rw (sym (c .before .before .before .before .is-within .ensures) ∙ c .before .before .before .if1 .left, sym (c .before .before .parts .ensures) ∙ c .before .if2 .left, ne-eqb _ _ (c .if3 .left))
+returns-4 c =
+    rw (
+      sym (c .before .before .before .before .is-within .ensures) ∙ c .before .before .before .if1 .left,
+      sym (c .before .before .parts .ensures) ∙ c .before .if2 .left,
+      ne-eqb _ _ (c .if3 .left),
+    )
 
 pub kind-of-spec : {M : Type 1} → statement M
 kind-of-spec =

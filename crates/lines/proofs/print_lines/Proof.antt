@@ -1,8 +1,8 @@
--- `lister::print_lines` meets its contract: each turn prints one word.
+-- `lines::print_lines` meets its contract: each turn prints one word, and all are printed.
 -- Assumes nothing.
 use Prim.Native.Nat.{_-_, _≤_}
-use Rattle.lister.proofs.print_lines.Statement.{statement}
-use Rattle.lister.proofs.print_lines.Tie as tie
+use Rattle.lines.proofs.print_lines.Statement.{statement}
+use Rattle.lines.proofs.print_lines.Tie as tie
 use borrow.Author.Needs.{needs}
 use lib.ListN.{length}
 

@@ -1,9 +1,9 @@
--- `analyst::answering::mark_like` meets its contract: the index is the one just built, so the search on it is exact.
+-- `finder::mark_like` meets its contract: the index is the one just built, so the search on it is exact.
 -- Assumes nothing.
 use Prim.Native.Nat.{ℕ}
-use Rattle.analyst.proofs.Indexed.{marked-exact, small, words-there}
-use Rattle.analyst.proofs.answering.mark_like.Statement.{statement}
-use Rattle.analyst.proofs.answering.mark_like.Tie as tie
+use Rattle.finder.proofs.Indexed.{built-accepted, marked-exact, words-there}
+use Rattle.finder.proofs.mark_like.Statement.{statement}
+use Rattle.finder.proofs.mark_like.Tie as tie
 use borrow.Author.Needs.{needs}
 use lib.Seq.{length-take-le}
 use mathlib.Core.Path.{sym}
@@ -28,7 +28,9 @@ slice-reshare-prefix-radius : tie.Need-slice-reshare-prefix-radius
 slice-reshare-prefix-radius c = words-there (c .before .before .before .before .before .build .ensures) (c .if1 .left)
 
 slice-aggregate-radius : tie.Need-slice-aggregate-radius
-slice-aggregate-radius c = sym (length-take-le _ _ (words-there (c .before .before .before .before .before .before .build .ensures) (c .before .if1 .left)))
+slice-aggregate-radius c =
+    let made = c .before .before .before .before .before .before in
+    sym (length-take-le _ _ (words-there (made .build .ensures) (c .before .if1 .left)))
 
 radius-requires : tie.Need-radius-requires
 radius-requires c κs = search needs
@@ -43,7 +45,14 @@ same-length-5 : tie.Need-same-length-5
 same-length-5 c = search needs
 
 returns-2 : tie.Need-returns-2
-returns-2 c = marked-exact (c .before .before .before .before .before .before .before .before .before .before .build .ensures) (c .before .before .before .before .before .if1 .left) (small (c .before .before .before .before .before .before .before .before .before .before .before .before .before .before .before .before .before .before .args .table .now) (λ (i : ℕ). omega (arith, c .before .before .before .before .before .before .before .before .before .before .before .before .before .before .before .before .before .shared-slice-known .given i))) (c .before .before .radius .ensures) (c .before .before .before .before .before .before .before .before .before .before .before .before .before .row-of .ensures .0)
+returns-2 c =
+    let going = c .before .before .before .before .before in
+    let made = going .before .before .before .before .before in
+    let asked = made .before .before .before in
+    let lent = asked .before .before .before .before in
+    marked-exact (built-accepted (made .build .ensures) (going .if1 .left) (λ (i : ℕ). omega (arith, lent .shared-slice-known .given i)))
+    (c .before .before .radius .ensures)
+    (asked .row-of .ensures .0)
 
 pub mark-like-spec : {M : Type 1} → statement M
 mark-like-spec =
