@@ -1,11 +1,11 @@
 -- The pass for 11: leaf by leaf, the least of the firsts. Assumes nothing.
 use Prim.Native.Nat.{_+_, _<_, _≤_, min, ℕ}
-use Rattle.audit.proofs.Pairing.{in-here}
 use Rattle.audit.proofs.Searches.{least-more, run-end, run-stop}
 use Rattle.audit.specs.Passes.{leafWrong}
 use Rattle.laws.proofs.First.{first-none, first-same, search-on}
 use Rattle.laws.specs.First.{First}
 use Rattle.laws.specs.Lists.{any, range}
+use Rattle.tree.proofs.NoFaults.{in-run}
 use Rattle.tree.specs.Check.{inRun, wrongDist}
 use Rattle.words.specs.Shape.{inner}
 use Rattle.words.specs.Words.{N#, count#, dist#, first#, n#, row#, start#}
@@ -41,7 +41,7 @@ module _ (d : ℕ → ℕ → ℕ) (w : List ℕ) where
         (ea : a ≡ d f (row# w p)) where
       -- the test at p is whether the two differ
       wrong-is : leafWrong d w k p ≡ not (eqb s a)
-      wrong-is = leaf-here k p leaf (in-here w p k (F .from) inside) ∙ rw (es, ea, ef)
+      wrong-is = leaf-here k p leaf (in-run w p k (F .from) inside) ∙ rw (es, ea, ef)
 
       -- they are the same: the search goes on
       pub leaf-on : s ≡ a → First (leafWrong d w k) (start# w k) (p + 1) (p + 1)

@@ -46,10 +46,6 @@ module _ (w : List ℕ) (p k : ℕ) where
   pub no-more : start# w k + count# w k ≤ p → inRun w p k ≡ false
   no-more h = rw (le-ltb p (start# w k + count# w k) h) (and-false (leb (start# w k) p))
 
-  -- it stands in the run
-  pub in-here : start# w k ≤ p → p < start# w k + count# w k → inRun w p k ≡ true
-  in-here h q = rw (le-leb (start# w k) p h, lt-ltb p (start# w k + count# w k) q)
-
 -- ---- a child
 -- child a of inner node k, whose first child is read as ch: all m children are nodes, and its run lies in node k's
 pub record Kid (w : List ℕ) (k a ch : ℕ) : Type 0 where

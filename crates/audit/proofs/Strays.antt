@@ -1,12 +1,12 @@
 -- The pass for 13: in each node, child by child, the least of the firsts. Assumes nothing.
 use Prim.Native.Nat.{_+_, _-_, _<_, _≤_, min, ℕ}
-use Rattle.audit.proofs.Pairing.{in-here}
 use Rattle.audit.proofs.Searches.{least-more, run-end, run-stop}
 use Rattle.audit.specs.Passes.{FirstIn, allStrays, closer, kidStrays, nodeStrays}
 use Rattle.laws.proofs.First.{first-at-end, first-empty, first-kept, first-none, first-same, range-on, range-over, search-on}
 use Rattle.laws.specs.First.{First}
 use Rattle.laws.specs.Lists.{any, each, keep, range}
 use Rattle.limits.specs.Said.{Said, said}
+use Rattle.tree.proofs.NoFaults.{in-run}
 use Rattle.tree.specs.Check.{inRun, strays}
 use Rattle.words.specs.Shape.{inner}
 use Rattle.words.specs.Words.{N#, child#, count#, first#, m#, row#, run#, start#}
@@ -47,7 +47,7 @@ module _ (d : ℕ → ℕ → ℕ) (w : List ℕ) where
       -- the test at p is b
       strays-is : kidStrays d w k j p ≡ b
       strays-is =
-          kid-here k j p (in-here w p j (F .from) inside)
+          kid-here k j p (in-run w p j (F .from) inside)
           ∙ sym (eb ∙ ap₂ (λ y i. any (closer d w p y) (range i (m# w))) (ex ∙ ap (λ i. d i (row# w p)) ef) ec)
 
       -- none is closer: the search goes on

@@ -4,8 +4,7 @@ use Prim.Native.Nat.{_*_, _≤_, min, ℕ}
 use Rattle.audit.proofs.Theorems.{check-exact}
 use Rattle.audit.specs.Calls.{Checks, Passed}
 use Rattle.laws.specs.Lists.{last}
-use Rattle.limits.proofs.Numbers.{by-length, none-of-length}
-use Rattle.limits.specs.Limits.{columnsOk, maxColumns}
+use Rattle.limits.proofs.Sized.{sized-none, sized-of}
 use Rattle.limits.specs.Said.{said, tableFaults}
 use Rattle.measure.specs.Table.{rowsOf}
 use Rattle.nearest.proofs.Contract.{same-answers}
@@ -19,7 +18,6 @@ use Rattle.tree.specs.Nearest.{answers, lastDistance}
 use Rattle.words.proofs.Index.{none-wrong}
 use Rattle.words.specs.Calls.{indexFaults}
 use Rattle.words.specs.Words.{n#}
-use borrow.Author.Tests.{le-leb}
 use lib.ListN.{drop, length, length-map, take, take-append-drop}
 use lib.Seq.{take-at}
 use mathlib.Core.Bool.{true}
@@ -35,9 +33,7 @@ module _ {t : List ℕ} {c : ℕ} {w work₀ work₁ : List ℕ} {place second :
 
   -- no search refuses the table, nor the index
   table-right : 0 ≡ said (tableFaults (length t) c) .0
-  table-right =
-      let right : columnsOk c ≡ true = rw (le-leb 1 c (passed .columns .0), le-leb c maxColumns (passed .columns .1)) in
-      none-of-length (length t) c (passed .multiple) (passed .few) ∙ by-length (length t) c right
+  table-right = sized-none (length t) c (sized-of (length t) c (passed .columns) (passed .multiple) (passed .few))
 
   -- the index is not refused
   index-right : 0 ≡ said (indexFaults w (rowsOf t c) c) .0

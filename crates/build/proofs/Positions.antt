@@ -15,11 +15,6 @@ use mathlib.Core.List.{List, [], _++_, _∷_, append-nil, foldr, map}
 use mathlib.Core.Path.{_∙_, _≡_, ap, refl, sym}
 use native.Mathlib.Omega.{arith}
 
--- two words a position
-pub pairs-long : (es : List (ℕ × ℕ)) → length (each pairWords es) ≡ 2 * length es
-pairs-long [] = refl
-pairs-long (e ∷ es) = omega (arith, pairs-long es)
-
 -- the pairs in the entries of the rows xs, before other entries
 pairs-under : (f : ℕ → ℕ) (a : ℕ) (xs ys : List ℕ)
     → pairsIn (each (λ i. i ∷ f i ∷ a ∷ []) xs ++ ys) ≡ each pairWords (map (λ i. (i, f i)) xs) ++ pairsIn ys

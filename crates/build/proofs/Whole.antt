@@ -3,7 +3,7 @@ use Prim.Native.Nat.{_*_, _+_, _-_, _≤_, suc, zero, ℕ}
 use Rattle.buffers.proofs.Whole.{wiped-whole}
 use Rattle.buffers.specs.Wiped.{wiped}
 use Rattle.build.proofs.Numbering.{numbered-levels}
-use Rattle.build.proofs.Positions.{entries-leaves, pairs-laid, pairs-long, pairsOf}
+use Rattle.build.proofs.Positions.{entries-leaves, pairs-laid, pairsOf}
 use Rattle.build.proofs.Rooting.{root-run}
 use Rattle.build.specs.Filled.{Filled, Grown, Layered, headerOf, pairsIn, rootItem}
 use Rattle.build.specs.Levels.{allNodes, leaves}
@@ -16,6 +16,7 @@ use Rattle.limits.specs.Limits.{maxDepth}
 use Rattle.measure.specs.Table.{between}
 use Rattle.split.specs.Groups.{stretch}
 use Rattle.split.specs.Runs.{laid}
+use Rattle.tree.proofs.Good.{pairs-length}
 use Rattle.tree.proofs.Grow.{grown-tally}
 use Rattle.tree.proofs.Written.{each-words}
 use Rattle.tree.specs.Build.{plant}
@@ -35,7 +36,7 @@ use native.Mathlib.Omega.{arith}
 pub encode-words : (c m l : ℕ) (g : Grove) → length (encode c m l g) ≡ nodeAt (length (numbered g)) + 2 * length (entries g)
 unfolding encode
 encode-words c m l g =
-    omega (arith, length-append (each nodeWords (numbered g)) (each pairWords (entries g)), each-words (numbered g), pairs-long (entries g))
+    omega (arith, length-append (each nodeWords (numbered g)) (each pairWords (entries g)), each-words (numbered g), pairs-length (entries g))
 
 -- ---- the tree of n rows
 module _ (d : ℕ → ℕ → ℕ) (m l : ℕ) (m1 : 1 ≤ m) (ml : m ≤ l) where

@@ -16,6 +16,7 @@ use Rattle.items.proofs.Ranks.{due-passes, lastAt, passes-is}
 use Rattle.items.specs.Fits.{Fits, homeBound}
 use Rattle.items.specs.Items.{Item, measuredBy, node, openedBy, rootOf, spaceOf, waitsOf}
 use Rattle.items.specs.Run.{Ran, Run, inOrder}
+use Rattle.laws.proofs.Tests.{or-r}
 use Rattle.tree.proofs.Sorted.{best-of}
 use Rattle.tree.specs.Nearest.{answers, candidates, passes, sort}
 use Rattle.words.specs.InShape.{InShape, Root}
@@ -47,11 +48,6 @@ test-same : (a b : Bool) → (a ≡ true → b ≡ true) → (b ≡ true → a �
 test-same true b f g = sym (f refl)
 test-same false true f g = g refl
 test-same false false f g = refl
-
--- two tests, of which the second passes
-or-right : (a b : Bool) → b ≡ true → (a || b) ≡ true
-or-right true b e = refl
-or-right false b e = e
 
 module _ (w : List ℕ) (S : InShape w) (filled : 1 ≤ n# w) (wanted : ℕ) (some : 1 ≤ wanted) (x x′ : ℕ → ℕ) (F : Fits w wanted x x′) where
   -- a row's home bound, of the rows that the index fits
@@ -123,7 +119,7 @@ module _ (w : List ℕ) (S : InShape w) (filled : 1 ≤ n# w) (wanted : ℕ) (so
     near-measured : (r : ℕ) → r < n# w → x′ r ≤ lastAt x′ (n# w) wanted → ltb 0 (m r) ≡ true
     near-measured r h l =
         measured-passes r h ∙ passes-is x′ (n# w) wanted (hb r)
-        ∙ or-right (ltb (n# w) wanted) (leb (hb r) (lastAt x′ (n# w) wanted))
+        ∙ or-r (ltb (n# w) wanted) (leb (hb r) (lastAt x′ (n# w) wanted))
         (le-leb (hb r) (lastAt x′ (n# w) wanted) (omega (arith, F .under r h)))
 
     -- THE FIRST OF THE ROWS MEASURED ARE THE ANSWERS

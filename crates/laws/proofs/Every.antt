@@ -90,11 +90,6 @@ module _ {A B : Type 0} where
   every-unmap P f [] h = tt
   every-unmap P f (x ∷ xs) h = (h .0, every-unmap P f xs (h .1))
 
--- functions that agree at every element map alike
-pub map-same : {A B : Type 0} (f g : A → B) (xs : List A) → Every (λ a. f a ≡ g a) xs → map f xs ≡ map g xs
-map-same f g [] h = refl
-map-same f g (x ∷ xs) h = ap₂ (λ y ys. y ∷ ys) (h .0) (map-same f g xs (h .1))
-
 -- a fact of every element is one of the head, where there is one
 pub every-head : (P : ℕ → Type 0) (xs : List ℕ) → 1 ≤ length xs → Every P xs → P (head xs)
 every-head P [] w h = absurd (not-suc-le-zero w)

@@ -1,4 +1,5 @@
 pub mod Tests
+pub mod Never
 pub mod Lists
 pub mod Maps
 pub mod Keeping
@@ -13,6 +14,7 @@ pub mod Sums
 pub mod Bags
 pub mod Outside
 pub mod Parts
+pub mod Copying
 pub mod First
 pub mod Joins
 pub mod Ones

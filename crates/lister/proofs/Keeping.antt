@@ -1,7 +1,7 @@
 -- What is kept of the bytes that came: as many as fit, copied one a turn. Assumes nothing.
 use Prim.Native.Nat.{_+_, _≤_, ℕ}
 use Rattle.lister.specs.Keeps.{Keeps, fitting}
-use Rattle.text.proofs.Copying.{Copied, copied-all, copied-start}
+use Rattle.laws.proofs.Copying.{Copied, copied-all, copied-start}
 use lib.ListN.{length}
 use lib.Seq.{paste}
 use mathlib.Core.List.{List}

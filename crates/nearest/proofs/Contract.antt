@@ -9,6 +9,7 @@ use Rattle.items.proofs.Ranks.{all-pass}
 use Rattle.nearest.proofs.Refusals.{fits}
 use Rattle.nearest.specs.Calls.{Answered, Found, Lent, Serves, Settled}
 use Rattle.items.specs.Fits.{Fits, homeBound}
+use Rattle.laws.proofs.Maps.{map-same}
 use Rattle.tree.proofs.Accepted.{each-once, shape-of}
 use Rattle.tree.proofs.Answers.{near-at, passes-all}
 use Rattle.tree.proofs.Rows.{rows-tree}
@@ -27,10 +28,6 @@ use native.Mathlib.Decide.{decLt}
 use native.Mathlib.Omega.{arith}
 
 -- two functions that agree at every element of a list map it to the same list
-map-same : (f g : ℕ → ℕ) (is : List ℕ) → Every (λ i. f i ≡ g i) is → map f is ≡ map g is
-map-same f g [] h = refl
-map-same f g (i ∷ is) h = ap₂ {C = List ℕ} (λ a l. a ∷ l) (h .0) (map-same f g is (h .1))
-
 -- ---- more wanted than there are rows is all of them
 module _ (x : ℕ → ℕ) (n wanted k : ℕ) (ek : k ≡ min wanted n) where
   -- as many are given where k are wanted

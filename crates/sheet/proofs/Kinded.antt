@@ -5,7 +5,7 @@ use Rattle.limits.specs.Limits.{within}
 use Rattle.sheet.specs.Kinds.{kindOf, parting}
 use Rattle.sheet.specs.Says.{Parts, Strange, comma, space, tab}
 use Rattle.sheet.specs.declared.bytes.Kind.the-variants.{Digit, Other, Parting, Return}
-use Rattle.text.proofs.Never.{never}
+use Rattle.laws.proofs.Never.{never}
 use borrow.Author.Tests.{eqb-false, eqb-true, ne-eqb}
 use lib.Dec.{eqb}
 use mathlib.Core.Bool.{Bool, false, true}

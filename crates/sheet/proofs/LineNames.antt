@@ -10,7 +10,7 @@ use Rattle.sheet.specs.declared.bytes.Kind.the-variants.{Digit, Other, P
 use Rattle.sheet.specs.declared.line.Line.{Line}
 use Rattle.sheet.specs.declared.line.Place.the-variants.{Ending, Gap, Inside, Names as InNames, Wrong}
 use Rattle.sheet.specs.declared.line.Place.{Place}
-use Rattle.text.proofs.Never.{never}
+use Rattle.laws.proofs.Never.{never}
 use lib.Dec.{leb}
 use mathlib.Core.Bool.{Bool, cond, false, true}
 use mathlib.Core.List.{List, [], _∷_}

@@ -8,7 +8,7 @@ use Rattle.sheet.specs.Kinds.{kindOf}
 use Rattle.sheet.specs.Says.{Numbers, Plain, byte, gap, last, more, nothing}
 use Rattle.sheet.specs.declared.line.Line.{Line}
 use Rattle.sheet.specs.declared.line.Place.the-variants.{Ending, Gap, Inside}
-use Rattle.text.proofs.Never.{never}
+use Rattle.laws.proofs.Never.{never}
 use Rattle.text.specs.Text.{Decimal, digit, followed}
 use borrow.Author.Tests.{leb-false, leb-true}
 use lib.Dec.{leb}

@@ -15,7 +15,7 @@ use Rattle.sheet.specs.declared.Reader.{Reader}
 use Rattle.sheet.specs.declared.line.Line.{Line}
 use Rattle.sheet.specs.declared.line.Place.the-variants.{Ending, Gap, Inside, Names as InNames, Wrong}
 use Rattle.sheet.specs.declared.line.Place.{Place}
-use Rattle.text.proofs.Never.{never}
+use Rattle.laws.proofs.Never.{never}
 use lib.Dec.{eqb}
 use lib.ListN.{length, replicate}
 use lib.Seq.{paste}

@@ -13,7 +13,7 @@ use Rattle.sheet.specs.declared.bytes.Kind.{Kind}
 use Rattle.sheet.specs.declared.line.Line.{Line}
 use Rattle.sheet.specs.declared.line.Place.the-variants.{Ending, Gap, Inside, Names, Wrong}
 use Rattle.sheet.specs.declared.line.Place.{Place}
-use Rattle.text.proofs.Never.{never}
+use Rattle.laws.proofs.Never.{never}
 use borrow.Author.Tests.{eqb-true}
 use lib.Dec.{eqb}
 use lib.ListN.{length, length-set, take}

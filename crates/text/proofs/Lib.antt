@@ -1,5 +1,3 @@
-pub mod Never
-pub mod Copying
 pub mod Bytes
 pub mod Putting
 pub mod Passes

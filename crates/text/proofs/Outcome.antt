@@ -1,6 +1,6 @@
 -- The outcomes of the reading: what each number says of the text, and that no second outcome fits. Assumes nothing.
 use Prim.Native.Nat.{_≤_, ℕ}
-use Rattle.text.proofs.Never.{never}
+use Rattle.laws.proofs.Never.{never}
 use Rattle.text.proofs.Readings.{reads-what-is-said, said-what-is-read}
 use Rattle.text.specs.Calls.{Reads, saidRead}
 use Rattle.text.specs.Reading.{numbers, readable}

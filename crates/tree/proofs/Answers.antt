@@ -1,6 +1,7 @@
 -- The nearest search's answers and how-bytes, by row. Assumes nothing.
 use Prim.Native.Nat.{_<_, _≤_, min, suc, ℕ}
-use Rattle.laws.proofs.Every.{every-of, map-same}
+use Rattle.laws.proofs.Every.{every-of}
+use Rattle.laws.proofs.Maps.{map-same}
 use Rattle.laws.proofs.Ranges.{getD-range, range-length}
 use Rattle.laws.proofs.Tests.{or-l, or-r}
 use Rattle.laws.proofs.Times.{lefts}

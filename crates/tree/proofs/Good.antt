@@ -101,7 +101,7 @@ header-ok n c m l N hn hc hs a b =
     (nodes-test n N a b)) tt) tt
 
 -- two words for each position
-pairs-length : (es : List (ℕ × ℕ)) → length (each pairWords es) ≡ 2 * length es
+pub pairs-length : (es : List (ℕ × ℕ)) → length (each pairWords es) ≡ 2 * length es
 pairs-length [] = refl
 pairs-length (e ∷ es) = omega (arith, pairs-length es)
 

@@ -50,7 +50,7 @@ no-faults d w e =
     }
 
 -- a position between a run's ends lies in it
-in-run : (w : List ℕ) (p k : ℕ) → start# w k ≤ p → p < start# w k + count# w k → inRun w p k ≡ true
+pub in-run : (w : List ℕ) (p k : ℕ) → start# w k ≤ p → p < start# w k + count# w k → inRun w p k ≡ true
 in-run w p k h h′ = rw (le-leb (start# w k) p h, lt-ltb p (start# w k + count# w k) h′)
 
 -- WITH NO FAULT, DISTANCES, RADII AND CENTRES ARE RIGHT

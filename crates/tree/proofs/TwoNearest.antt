@@ -2,8 +2,9 @@
 -- distances of those rows alone. Nothing is asked of the tree. Assumes nothing.
 use Prim.Native.Nat.{_+_, _<_, _≤_, max, ℕ}
 use Rattle.laws.proofs.Empty.{keep-none}
-use Rattle.laws.proofs.Every.{every-all, every-append, every-left, every-map, every-of, every-right, has-every, map-same}
+use Rattle.laws.proofs.Every.{every-all, every-append, every-left, every-map, every-of, every-right, has-every}
 use Rattle.laws.proofs.Joins.{keep-append}
+use Rattle.laws.proofs.Maps.{map-same}
 use Rattle.laws.specs.Every.{Every}
 use Rattle.laws.specs.Lists.{gap, has, head, keep, least, look, range, rest, times}
 use Rattle.tree.proofs.TwoRadius.{all-firsts}

@@ -1,7 +1,8 @@
 -- The statement on two tables, for the radius search: where the distances agree in every row that is measured, the marks are the same.
 -- Nothing is asked of the tree. Assumes nothing.
 use Prim.Native.Nat.{_+_, ℕ}
-use Rattle.laws.proofs.Every.{every-left, every-of, every-right, map-same}
+use Rattle.laws.proofs.Every.{every-left, every-of, every-right}
+use Rattle.laws.proofs.Maps.{map-same}
 use Rattle.laws.specs.Every.{Every}
 use Rattle.laws.specs.Lists.{gap, head, least, rest}
 use Rattle.tree.specs.Grove.{Grove, bare, first, firsts, fork, leaf, rowsIn}

@@ -4,7 +4,7 @@ use Prim.Native.Nat.{_-_}
 use Rattle.lister.proofs.Keeping.{kept-all, kept-start}
 use Rattle.lister.proofs.keep.Statement.{statement}
 use Rattle.lister.proofs.keep.Tie as tie
-use Rattle.text.proofs.Copying.{Copied, copied-long, copied-next}
+use Rattle.laws.proofs.Copying.{Copied, copied-long, copied-next}
 use borrow.Author.Needs.{needs}
 use native.Mathlib.Omega.{arith}
 

@@ -3,7 +3,7 @@
 use Prim.Native.Nat.{_-_}
 use Rattle.samples.proofs.put.Statement.{statement}
 use Rattle.samples.proofs.put.Tie as tie
-use Rattle.text.proofs.Copying.{Copied, copied-all, copied-long, copied-next, copied-start}
+use Rattle.laws.proofs.Copying.{Copied, copied-all, copied-long, copied-next, copied-start}
 use borrow.Author.Needs.{needs}
 use lib.ListN.{length}
 use native.Mathlib.Omega.{arith}

@@ -3,7 +3,7 @@
 use Prim.Native.Nat.{_-_}
 use Rattle.sheet.proofs.put_row.Statement.{statement}
 use Rattle.sheet.proofs.put_row.Tie as tie
-use Rattle.text.proofs.Copying.{Copied, copied-all, copied-long, copied-next, copied-start}
+use Rattle.laws.proofs.Copying.{Copied, copied-all, copied-long, copied-next, copied-start}
 use borrow.Author.Needs.{needs}
 use native.Mathlib.Omega.{arith}
 
