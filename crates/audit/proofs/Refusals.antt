@@ -29,6 +29,7 @@ pub record Clear (T : List ℕ) (c : ℕ) (w : List ℕ) (room : ℕ) : Type 0 w
   pub words : 6 * rowsOf T c ≤ room
 
 module _ (T : List ℕ) (c : ℕ) (w : List ℕ) (room : ℕ) where
+  -- how many rows there are
   abbrev n : ℕ
   n = rowsOf T c
 
@@ -36,16 +37,19 @@ module _ (T : List ℕ) (c : ℕ) (w : List ℕ) (room : ℕ) where
   abbrev all : List Said
   all = refusals T c w room
 
-  -- the faults of the table, and those after it, and after the workspace
+  -- the table's faults
   abbrev first : List Said
   first = tableFaults (length T) c
 
+  -- the index's faults
   abbrev last : List Said
   last = indexFaults w n c
 
+  -- the workspace's and the index's
   abbrev next : List Said
   next = fault 5 (ltb room (6 * n)) ++ last
 
+  -- one after the other they are all
   in-turn : first ++ next ≡ all
   unfolding refusals
   in-turn = sym (append-assoc first (fault 5 (ltb room (6 * n))) last)
@@ -56,6 +60,7 @@ module _ (T : List ℕ) (c : ℕ) (w : List ℕ) (room : ℕ) where
   by-table e h = e ∙ ap numberOf (says-first first next (λ z. h (e ∙ z)) ∙ ap said in-turn)
 
   module _ {v : ℕ} (e : v ≡ said first .0) (z : v ≡ 0) where
+    -- past the table the others decide
     after-table : said next ≡ said all
     after-table = says-next first next (table-numbered (length T) c) (sym e ∙ z) ∙ ap said in-turn
 
@@ -97,5 +102,6 @@ module _ (T : List ℕ) (c : ℕ) (w : List ℕ) (room : ℕ) where
       (every-append Early first short (table-early (length T) c) (fault-early 5 (ltb room (6 * n)) (omega arith) (omega arith)))
       (index-early w n c)
 
+  -- none of them has the number 0
   pub refusals-numbered : Numbered all
   refusals-numbered = early-numbered all refusals-early

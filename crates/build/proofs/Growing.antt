@@ -85,6 +85,7 @@ growing-start t c m l n origin room work s =
     }
 
 module _ {t : List ℕ} {c m l n : ℕ} {origin room work : List ℕ} {lo hi depth : ℕ} (inv : Growing t c m l n origin room work lo hi depth) where
+  -- how far two rows are apart
   abbrev d : ℕ → ℕ → ℕ
   d = between t c
 

@@ -61,6 +61,7 @@ module _ {t : List ℕ} {c m l n : ℕ} {room₀ work₀ : List ℕ} {lo hi : �
   -- ---- the node of item q, which is the next
   module _ {done : List Item} {q : Item} {rest : List Item} {past ahead : List (List ℕ)} {room work : List ℕ} {made k : ℕ}
       (half : Half done (q ∷ rest) past ahead room work made k) where
+    -- how far two rows are apart
     abbrev d : ℕ → ℕ → ℕ
     d = between t c
 

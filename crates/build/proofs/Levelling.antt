@@ -20,6 +20,7 @@ abbrev pub Turn : List ℕ → ℕ → ℕ → ℕ → ℕ → List ℕ → List
 Turn t c m l n room₀ work₀ lo hi room work made k = (g : Level t c m l n room₀ work₀ lo hi) → Levelling g room work made k
 
 module _ {t : List ℕ} {c m l n : ℕ} {room₀ work₀ : List ℕ} {lo hi : ℕ} (g : Level t c m l n room₀ work₀ lo hi) where
+  -- how far two rows are apart
   abbrev d : ℕ → ℕ → ℕ
   d = between t c
 

@@ -29,6 +29,7 @@ use native.Mathlib.Omega.{arith}
 module _ {t : List ℕ} {c m l n : ℕ} {room₀ work₀ : List ℕ} {lo hi : ℕ} (g : Level t c m l n room₀ work₀ lo hi)
     {done : List Item} {q : Item} {rest : List Item} {past ahead : List (List ℕ)} {room work : List ℕ} {made k : ℕ}
     (half : Half g done (q ∷ rest) past ahead room work made k) where
+  -- how far two rows are apart
   abbrev d : ℕ → ℕ → ℕ
   d = between t c
 

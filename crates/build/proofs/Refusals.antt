@@ -41,6 +41,7 @@ pub record Clear (T : List ℕ) (c m l room work : ℕ) : Type 0 where
   pub words : 6 * rowsOf T c ≤ work
 
 module _ (T : List ℕ) (c m l room work : ℕ) where
+  -- how many rows there are
   abbrev n : ℕ
   n = rowsOf T c
 
@@ -48,13 +49,15 @@ module _ (T : List ℕ) (c m l room work : ℕ) where
   abbrev says : Said
   says = saidBuild T c m l room work
 
-  -- the faults after the columns, and after m and l
+  -- the faults after m and l
   abbrev last : List Said
   last = lengthFaults (length T) c ++ fault 5 (shortOf n room work)
 
+  -- and after the columns
   abbrev next : List Said
   next = fault 2 (not (shareOk m l)) ++ last
 
+  -- one after the other they decide what is said
   in-turn : said (columnsFault c ++ next) ≡ says
   unfolding saidBuild
   in-turn = simp append-assoc
@@ -65,6 +68,7 @@ module _ (T : List ℕ) (c m l room work : ℕ) where
   one e = ap numberOf (fault-first 1 next (ap not e) ∙ in-turn)
 
   module _ (e : columnsOk c ≡ true) where
+    -- past the columns the others decide
     after-columns : said next ≡ says
     after-columns = fault-next 1 next (ap not e) ∙ in-turn
 

@@ -54,6 +54,7 @@ root-laid d zero h = absurd (omega arith)
 root-laid d (suc n) h = refl
 
 module _ {t : List ℕ} {c m l n : ℕ} {room work : List ℕ} (asked : Room t c m l n room work) (some : 1 ≤ n) where
+  -- how far two rows are apart
   abbrev d : ℕ → ℕ → ℕ
   d = between t c
 

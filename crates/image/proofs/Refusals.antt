@@ -23,16 +23,19 @@ named b = (15, b, 0)
 
 module _ (i : List ℕ) where
   -- ---- 16 and 17: what the blocks hold
-  -- the header's test, the block count's, and that of the words after the last
+  -- the header's test
   abbrev header : Bool
   header = headerOk (imageWords i 8)
 
+  -- the block count's
   abbrev counted : Bool
   counted = eqb (length i / 512) (blocksFor (imageTotal i))
 
+  -- and that of the words after the last
   abbrev zeros : Bool
   zeros = restZero i (imageTotal i)
 
+  -- one of the first two fails
   sixteen : (not header || not counted) ≡ true → said (heldFaults i) ≡ (16, 0, 0)
   sixteen e = sym (fault-first 16 (fault 17 (not zeros)) e)
 
@@ -63,6 +66,7 @@ module _ (i : List ℕ) where
   abbrev ragged : Bool
   ragged = eqb (length i) 0 || not (eqb (length i % 512) 0)
 
+  -- the blocks whose check word is wrong
   abbrev wrongs : List ℕ
   wrongs = wrongBlocks i 0 (length i / 512)
 
@@ -70,12 +74,14 @@ module _ (i : List ℕ) where
   abbrev next : List Said
   next = map named wrongs ++ heldFaults i
 
+  -- one after the other they are all faults
   in-turn : fault 14 ragged ++ next ≡ imageFaults i
   unfolding imageFaults
   in-turn =
       let bad = map named wrongs in
       sym (append-assoc (fault 14 ragged ++ bad) (fault 16 (not header || not counted)) (fault 17 (not zeros)) ∙ append-assoc (fault 14 ragged) bad (heldFaults i))
 
+  -- the image is empty, or its length no multiple of 512
   fourteen : ragged ≡ true → said (imageFaults i) ≡ (14, 0, 0)
   fourteen e = sym (fault-first 14 next e ∙ ap said in-turn)
 
@@ -88,6 +94,7 @@ module _ (i : List ℕ) where
   fourteen-ragged h = fourteen (or-r (eqb (length i) 0) (not (eqb (length i % 512) 0)) (ap not (ne-eqb (length i % 512) 0 h)))
 
   module _ (some : length i ≡ 0 → ⊥) (whole : length i % 512 ≡ 0) where
+    -- the length is right
     even : ragged ≡ false
     even = or-none (eqb (length i) 0) (not (eqb (length i % 512) 0)) (ne-eqb (length i) 0 some) (ap not (eq-eqb (length i % 512) 0 whole))
 
@@ -104,6 +111,7 @@ module _ (i : List ℕ) where
   blocks-numbered : Numbered (map named wrongs)
   blocks-numbered = every-map (λ f. 1 ≤ f .0) named wrongs (every-all (λ b. 1 ≤ 15) (λ b. omega arith) wrongs)
 
+  -- no fault of an image has the number 0
   faults-numbered : Numbered (imageFaults i)
   faults-numbered =
       let P : Said → Type 0 = λ f. 1 ≤ f .0 in

@@ -1,19 +1,19 @@
 -- A search begins soundly on an index in shape in which each row stands once. Assumes nothing.
 use Prim.Native.Nat.{_+_, _-_, _<_, _≤_, min, suc, ℕ}
 use Rattle.best.specs.Search.{Due, Kept, closer}
-use Rattle.laws.proofs.Bags.{times-total, total-append, total-map, total-range}
-use Rattle.laws.specs.Every.{Every}
-use Rattle.laws.proofs.Sums.{sum-below-zero}
-use Rattle.laws.proofs.Times.{lefts, look-every, times-every}
-use Rattle.laws.specs.Bags.{is, total}
-use Rattle.laws.specs.Lists.{gap, look, range, times}
-use Rattle.laws.specs.Upto.{sumTo}
-use Rattle.limits.specs.Limits.{maxDepth}
 use Rattle.items.proofs.Below.{below}
 use Rattle.items.proofs.Laws.{badOf, homesOf, off}
 use Rattle.items.proofs.Opening.{run-parts}
 use Rattle.items.specs.Fits.{homeBound}
 use Rattle.items.specs.Items.{rootOf, spaceOf, waitsNode}
+use Rattle.laws.proofs.Bags.{times-total, total-append, total-map, total-range}
+use Rattle.laws.proofs.Sums.{sum-below-zero}
+use Rattle.laws.proofs.Times.{lefts, look-every, times-every}
+use Rattle.laws.specs.Bags.{is, total}
+use Rattle.laws.specs.Every.{Every}
+use Rattle.laws.specs.Lists.{gap, look, range, times}
+use Rattle.laws.specs.Upto.{sumTo}
+use Rattle.limits.specs.Limits.{maxDepth}
 use Rattle.tree.proofs.Homes.{homes-rows}
 use Rattle.tree.proofs.Members.{firsts-at}
 use Rattle.tree.proofs.Rows.{by-root, full-tree, rows-low, rows-tree}

@@ -1,14 +1,14 @@
 -- The home bounds below a node, added up by any weight: in a leaf over its positions; in an inner node over its centres but the first, and
 -- below its children. Assumes nothing.
 use Prim.Native.Nat.{_+_, _-_, _<_, _≤_, min, suc, zero, ℕ}
+use Rattle.items.proofs.Leasts.{least-all}
+use Rattle.items.specs.Items.{leastTo, placeBound}
 use Rattle.laws.proofs.Bags.{total-append, total-map, total-range}
 use Rattle.laws.proofs.Sums.{sum-below-same, sum-from, sum-none}
 use Rattle.laws.specs.Bags.{total}
 use Rattle.laws.specs.Lists.{head, range, rest}
 use Rattle.laws.specs.Upto.{sumTo}
 use Rattle.limits.specs.Limits.{maxDepth}
-use Rattle.items.proofs.Leasts.{least-all}
-use Rattle.items.specs.Items.{leastTo, placeBound}
 use Rattle.tree.proofs.Forks.{as-fork, as-leaf, forkNode, kids-first, kidsAt, leafNode, no-levels}
 use Rattle.tree.proofs.Members.{kids-firsts, run-first}
 use Rattle.tree.specs.Grove.{Grove, bare, first, firsts, fork, leaf, members#, treeAt}

@@ -4,11 +4,6 @@ use Prim.Native.Nat.{_+_, _<_, _≤_, min, ℕ}
 use Rattle.best.proofs.Keeps.{search-keeps}
 use Rattle.best.proofs.Local.{measured-on-both, search-back}
 use Rattle.best.specs.Search.{Due, Homes, Kept, Lawful, Reach}
-use Rattle.laws.proofs.Every.{every-map}
-use Rattle.laws.specs.Every.{Every}
-use Rattle.laws.proofs.Ranges.{at-every}
-use Rattle.laws.specs.Bags.{SameBag}
-use Rattle.laws.specs.Lists.{keep, range}
 use Rattle.items.proofs.Begin.{begins, root-due}
 use Rattle.items.proofs.Laws.{badOf, homesOf, known, lawful, shares}
 use Rattle.items.proofs.Opening.{item-local}
@@ -16,7 +11,12 @@ use Rattle.items.proofs.Ranks.{due-passes, lastAt, passes-is}
 use Rattle.items.specs.Fits.{Fits, homeBound}
 use Rattle.items.specs.Items.{Item, measuredBy, node, openedBy, rootOf, spaceOf, waitsOf}
 use Rattle.items.specs.Run.{Ran, Run, inOrder}
+use Rattle.laws.proofs.Every.{every-map}
+use Rattle.laws.proofs.Ranges.{at-every}
 use Rattle.laws.proofs.Tests.{or-r}
+use Rattle.laws.specs.Bags.{SameBag}
+use Rattle.laws.specs.Every.{Every}
+use Rattle.laws.specs.Lists.{keep, range}
 use Rattle.tree.proofs.Sorted.{best-of}
 use Rattle.tree.specs.Nearest.{answers, candidates, passes, sort}
 use Rattle.words.specs.InShape.{InShape, Root}

@@ -2,16 +2,16 @@
 use Prim.Native.Nat.{_+_, _-_, _<_, _≤_, suc, zero, ℕ}
 use Rattle.best.proofs.Low.{bound-below-homes}
 use Rattle.best.specs.Search.{Homes, Lawful}
+use Rattle.items.proofs.Below.{below, fork-below, kidBound, leaf-below, nearestTo}
+use Rattle.items.proofs.Leasts.{least-same}
+use Rattle.items.proofs.Opening.{InTree, inner-not, inner-some, item-falls, item-rises, item-split, kid-in, sizeOf}
+use Rattle.items.specs.Items.{Item, boundOf, centreAt, childOf, measuredBy, measuresAt, nearestAt, node, openedBy, opensAt, place, placeBound, placeOf, spaceOf, waitsOf}
 use Rattle.laws.proofs.Bags.{total-upto}
 use Rattle.laws.proofs.Ones.{is-not, sum-each-none}
 use Rattle.laws.proofs.Sums.{sum-below-zero}
 use Rattle.laws.specs.Bags.{is, total, upto}
 use Rattle.laws.specs.Lists.{gap}
 use Rattle.laws.specs.Upto.{sumTo}
-use Rattle.items.proofs.Below.{below, fork-below, kidBound, leaf-below, nearestTo}
-use Rattle.items.proofs.Leasts.{least-same}
-use Rattle.items.proofs.Opening.{InTree, inner-not, inner-some, item-falls, item-rises, item-split, kid-in, sizeOf}
-use Rattle.items.specs.Items.{Item, boundOf, centreAt, childOf, measuredBy, measuresAt, nearestAt, node, openedBy, opensAt, place, placeBound, placeOf, spaceOf, waitsOf}
 use Rattle.tree.specs.Homes.{childBound}
 use Rattle.words.specs.InShape.{InShape}
 use Rattle.words.specs.Shape.{inner}

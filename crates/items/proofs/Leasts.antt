@@ -1,7 +1,7 @@
 -- Laws of the least of the numbers f 0, f 1, .. f c. Assumes nothing.
 use Prim.Native.Nat.{_+_, _-_, _≤_, min, suc, zero, ℕ}
-use Rattle.laws.specs.Lists.{head, range}
 use Rattle.items.specs.Items.{leastTo}
+use Rattle.laws.specs.Lists.{head, range}
 use mathlib.Core.List.{foldr, map}
 use mathlib.Core.Path.{_∙_, _≡_, ap, refl}
 use native.Mathlib.Nat.{not-suc-le-zero}

@@ -3,10 +3,10 @@
 use Prim.Native.Nat.{_+_, _-_, _<_, _≤_, ℕ}
 use Rattle.best.proofs.Keeps.{closer-le}
 use Rattle.best.specs.Search.{Ended, both, found, step}
-use Rattle.laws.proofs.Bags.{total-append, total-none}
-use Rattle.laws.specs.Bags.{SameBag, total}
 use Rattle.items.specs.Items.{Item, boundOf, measuredBy, openedBy, spaceOf}
 use Rattle.items.specs.Run.{Ran, Running}
+use Rattle.laws.proofs.Bags.{total-append, total-none}
+use Rattle.laws.specs.Bags.{SameBag, total}
 use Rattle.words.specs.Words.{n#}
 use mathlib.Core.List.{List, _++_, _∷_}
 use mathlib.Core.Path.{_≡_}

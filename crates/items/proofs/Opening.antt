@@ -1,12 +1,12 @@
 -- What taking an item does, by the shape alone: the rows under it are shared out, its bound does not fall, its size does. Assumes nothing.
 use Prim.Native.Nat.{_+_, _-_, _<_, _≤_, suc, zero, ℕ}
+use Rattle.items.proofs.Leasts.{least-same}
+use Rattle.items.specs.Items.{Item, boundOf, centreAt, childOf, measuredBy, measuresAt, node, openedBy, opensAt, place, placeOf, waitsNode, waitsOf}
 use Rattle.laws.proofs.Bags.{total-upto, upto-same}
 use Rattle.laws.proofs.Ones.{is-self}
 use Rattle.laws.proofs.Sums.{sum-add, sum-below-same, sum-below-zero, sum-from, sum-front, sum-none, sum-ones, sum-part, sum-split}
 use Rattle.laws.specs.Bags.{is, total, upto}
 use Rattle.laws.specs.Upto.{sumTo}
-use Rattle.items.proofs.Leasts.{least-same}
-use Rattle.items.specs.Items.{Item, boundOf, centreAt, childOf, measuredBy, measuresAt, node, openedBy, opensAt, place, placeOf, waitsNode, waitsOf}
 use Rattle.words.proofs.Levels.{inner-is}
 use Rattle.words.proofs.Tiles.{tile-head, tile-none, tile-tail}
 use Rattle.words.specs.InShape.{InShape, Kids}

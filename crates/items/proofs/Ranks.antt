@@ -4,10 +4,10 @@ use Rattle.best.proofs.Keeps.{closer-le}
 use Rattle.best.specs.Search.{closer}
 use Rattle.laws.proofs.Bags.{total-map, total-range}
 use Rattle.laws.proofs.Every.{every-of}
-use Rattle.laws.specs.Every.{Every}
 use Rattle.laws.proofs.Ones.{is-self}
 use Rattle.laws.proofs.Sums.{sum-add, sum-below-le, sum-below-same, sum-ones, sum-part}
 use Rattle.laws.specs.Bags.{is, total}
+use Rattle.laws.specs.Every.{Every}
 use Rattle.laws.specs.Lists.{range}
 use Rattle.laws.specs.Upto.{sumTo}
 use Rattle.tree.proofs.Sorted.{Le, Sorted, sort-sorted}

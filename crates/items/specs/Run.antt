@@ -1,9 +1,9 @@
 -- A run of the search over the items of an index, and what it has found. Assumes nothing.
 use Prim.Native.Nat.{_<_, ℕ}
 use Rattle.best.specs.Search.{Ended, Reach}
+use Rattle.items.specs.Items.{Item, rootOf, spaceOf}
 use Rattle.laws.specs.Bags.{is}
 use Rattle.laws.specs.Lists.{keep}
-use Rattle.items.specs.Items.{Item, rootOf, spaceOf}
 use Rattle.tree.specs.Nearest.{candidates, sort}
 use Rattle.words.specs.Words.{first#, n#}
 use lib.Dec.{ltb}

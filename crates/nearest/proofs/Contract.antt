@@ -1,15 +1,15 @@
 -- What the code did is what the contract says: a refusal, and a search. Assumes nothing.
 use Prim.Native.Nat.{_<_, _≤_, min, ℕ}
-use Rattle.laws.specs.Every.{Every}
+use Rattle.items.proofs.Ranks.{all-pass}
+use Rattle.items.specs.Fits.{Fits, homeBound}
+use Rattle.laws.proofs.Maps.{map-same}
 use Rattle.laws.proofs.Ranges.{at-every}
+use Rattle.laws.specs.Every.{Every}
 use Rattle.laws.specs.Lists.{has, look, range, times}
 use Rattle.measure.proofs.Metric.{query-point}
 use Rattle.measure.specs.Table.{between, from}
-use Rattle.items.proofs.Ranks.{all-pass}
 use Rattle.nearest.proofs.Refusals.{fits}
 use Rattle.nearest.specs.Calls.{Answered, Found, Lent, Serves, Settled}
-use Rattle.items.specs.Fits.{Fits, homeBound}
-use Rattle.laws.proofs.Maps.{map-same}
 use Rattle.tree.proofs.Accepted.{each-once, shape-of}
 use Rattle.tree.proofs.Answers.{near-at, passes-all}
 use Rattle.tree.proofs.Rows.{rows-tree}

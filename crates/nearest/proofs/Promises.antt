@@ -1,6 +1,7 @@
 -- What the contract of the nearest call says, in 01's words: it is exact on an accepted index, it measures the rows whose home bound is at most D,
 -- it rests on the rows that it measures, and no second outcome fits. Assumes nothing.
 use Prim.Native.Nat.{_<_, _≤_, min, ℕ}
+use Rattle.items.specs.Fits.{homeBound}
 use Rattle.laws.proofs.Every.{every-both, every-map, every-take, has-every}
 use Rattle.laws.proofs.Lists.{tally-take}
 use Rattle.laws.proofs.Ranges.{at-every}
@@ -12,7 +13,6 @@ use Rattle.nearest.proofs.Contract.{byte-measured, same-answers}
 use Rattle.nearest.proofs.HowBytes.{near-length}
 use Rattle.nearest.proofs.Refusals.{clear}
 use Rattle.nearest.specs.Calls.{Answered, Serves, Settled}
-use Rattle.items.specs.Fits.{homeBound}
 use Rattle.tree.proofs.Answers.{answers-length, near-at, passes-all, passes-near}
 use Rattle.tree.proofs.Sorted.{sort-every, sort-sorted, sorted-take, under-last}
 use Rattle.tree.proofs.Theorems.{home-below}

@@ -31,6 +31,7 @@ pub record Clear (t : List ℕ) (c : ℕ) (w q : List ℕ) (wanted room how work
   pub some : wanted ≢ 0
 
 module _ (t : List ℕ) (c : ℕ) (w q : List ℕ) (wanted room how work : ℕ) where
+  -- how many rows there are
   abbrev n : ℕ
   n = rowsOf t c
 
@@ -38,32 +39,39 @@ module _ (t : List ℕ) (c : ℕ) (w q : List ℕ) (wanted room how work : ℕ) 
   abbrev says : Said
   says = saidNearest t c w q wanted room how work
 
-  -- the rooms for answers, how-bytes and words are too short
+  -- the room for answers is too short
   abbrev no-answers : Bool
   no-answers = ltb room (min wanted n)
 
+  -- the how-bytes are too few
   abbrev no-bytes : Bool
   no-bytes = ltb how n
 
+  -- the workspace is too short
   abbrev no-words : Bool
   no-words = ltb work (6 * n)
 
-  -- the faults of the table, and those after it, after the rooms, after the query, and after what is wanted
+  -- the table's faults
   abbrev first : List Said
   first = tableFaults (length t) c
 
+  -- the index's faults
   abbrev last : List Said
   last = indexFaults w n c
 
+  -- what is wanted, and the index's
   abbrev latest : List Said
   latest = fault 7 (eqb wanted 0) ++ last
 
+  -- the query's, and those after it
   abbrev later : List Said
   later = fault 6 (not (eqb (length q) c)) ++ latest
 
+  -- the rooms', and those after them
   abbrev next : List Said
   next = fault 5 (no-answers || no-bytes || no-words) ++ later
 
+  -- one after the other they decide what is said
   in-turn : said (first ++ next) ≡ says
   unfolding saidNearest
   in-turn = simp append-assoc
@@ -74,9 +82,11 @@ module _ (t : List ℕ) (c : ℕ) (w q : List ℕ) (wanted room how work : ℕ) 
   by-table e h = e ∙ ap numberOf (says-first first next (λ z. h (e ∙ z)) ∙ in-turn)
 
   module _ {v : ℕ} (e : v ≡ said first .0) (z : v ≡ 0) where
+    -- past the table the others decide
     after-table : said next ≡ says
     after-table = says-next first next (table-numbered (length t) c) (sym e ∙ z) ∙ in-turn
 
+    -- one of the rooms is too short
     five : (no-answers || no-bytes || no-words) ≡ true → 5 ≡ says .0
     five h = ap numberOf (fault-first 5 later h ∙ after-table)
 
@@ -93,6 +103,7 @@ module _ (t : List ℕ) (c : ℕ) (w q : List ℕ) (wanted room how work : ℕ) 
     five-words h = five (or-r (no-answers || no-bytes) no-words (lt-ltb work (6 * n) h))
 
     module _ {m : ℕ} (em : m ≡ min wanted n) (a : m ≤ room) (b : n ≤ how) (d : 6 * n ≤ work) where
+      -- past the rooms the others decide
       after-rooms : said later ≡ says
       after-rooms =
           fault-next 5 later
@@ -104,6 +115,7 @@ module _ (t : List ℕ) (c : ℕ) (w q : List ℕ) (wanted room how work : ℕ) 
       pub six : (length q ≡ c → ⊥) → 6 ≡ says .0
       six p = ap numberOf (fault-first 6 latest (ap not (ne-eqb (length q) c p)) ∙ after-rooms)
 
+      -- past the query the others decide
       after-query : length q ≡ c → said latest ≡ says
       after-query p = fault-next 6 latest (ap not (eq-eqb (length q) c p)) ∙ after-rooms
 

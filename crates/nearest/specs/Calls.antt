@@ -1,8 +1,8 @@
 -- What the nearest calls promise. Assumes nothing.
 use Prim.Native.Nat.{_*_, _<_, _≤_, min, ℕ}
+use Rattle.items.specs.Fits.{Fits}
 use Rattle.limits.specs.Limits.{maxColumns}
 use Rattle.measure.specs.Table.{between, from, row, rowsOf}
-use Rattle.items.specs.Fits.{Fits}
 use Rattle.tree.specs.Calls.{saidNearest}
 use Rattle.tree.specs.Check.{Accepted}
 use Rattle.tree.specs.Grove.{treeOf}

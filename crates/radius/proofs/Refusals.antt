@@ -26,6 +26,7 @@ pub record Clear (T : List ℕ) (c : ℕ) (w q : List ℕ) (room : ℕ) : Type 0
   pub query : length q ≡ c
 
 module _ (T : List ℕ) (c : ℕ) (w q : List ℕ) (room : ℕ) where
+  -- how many rows there are
   abbrev n : ℕ
   n = rowsOf T c
 
@@ -33,19 +34,23 @@ module _ (T : List ℕ) (c : ℕ) (w q : List ℕ) (room : ℕ) where
   abbrev says : Said
   says = saidRadius T c w q room
 
-  -- the faults of the table, and those after it, after the how-bytes, and after the query
+  -- the table's faults
   abbrev first : List Said
   first = tableFaults (length T) c
 
+  -- the index's faults
   abbrev last : List Said
   last = indexFaults w n c
 
+  -- the query's and the index's
   abbrev later : List Said
   later = fault 6 (not (eqb (length q) c)) ++ last
 
+  -- the how-bytes', and those after them
   abbrev next : List Said
   next = fault 5 (ltb room n) ++ later
 
+  -- one after the other they decide what is said
   in-turn : said (first ++ next) ≡ says
   unfolding saidRadius
   in-turn = simp append-assoc
@@ -56,6 +61,7 @@ module _ (T : List ℕ) (c : ℕ) (w q : List ℕ) (room : ℕ) where
   by-table e h = e ∙ ap numberOf (says-first first next (λ z. h (e ∙ z)) ∙ in-turn)
 
   module _ {v : ℕ} (e : v ≡ said first .0) (z : v ≡ 0) where
+    -- past the table the others decide
     after-table : said next ≡ says
     after-table = says-next first next (table-numbered (length T) c) (sym e ∙ z) ∙ in-turn
 
@@ -63,6 +69,7 @@ module _ (T : List ℕ) (c : ℕ) (w q : List ℕ) (room : ℕ) where
     pub five : room < n → 5 ≡ says .0
     five h = ap numberOf (fault-first 5 later (lt-ltb room n h) ∙ after-table)
 
+    -- past the how-bytes the others decide
     after-how : n ≤ room → said later ≡ says
     after-how h = fault-next 5 later (le-ltb room n h) ∙ after-table
 

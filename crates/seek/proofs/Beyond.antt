@@ -1,16 +1,16 @@
 -- Laws of bounds at most the last distance and of those above it, and of entries that are queued where theirs is at most that. Assumes nothing.
 use Prim.Native.Nat.{_+_, _-_, _<_, _≤_, suc, ℕ}
 use Rattle.laws.proofs.Bags.{total-upto}
+use Rattle.laws.proofs.Keeping.{total-keep, total-parted}
 use Rattle.laws.proofs.Outside.{outside-more, outside-same, outside-then}
 use Rattle.laws.proofs.Sums.{sum-below-same}
 use Rattle.laws.specs.Bags.{total, upto}
 use Rattle.laws.specs.Lists.{keep}
-use Rattle.laws.proofs.Keeping.{total-keep, total-parted}
-use Rattle.seek.specs.Answers.{distanceOf, greatestWord, lastOf}
-use Rattle.seek.specs.Frontier.{More, atMost}
 use Rattle.queue.proofs.Entries.{key-packed}
 use Rattle.queue.specs.Entry.{entryAt, keyOf, packed}
 use Rattle.queue.specs.Queue.{Pushed, Queue, entries}
+use Rattle.seek.specs.Answers.{distanceOf, greatestWord, lastOf}
+use Rattle.seek.specs.Frontier.{More, atMost}
 use borrow.Author.Tests.{le-leb, le-ltb, leb-false, lt-leb, lt-ltb}
 use lib.Dec.{leb}
 use mathlib.Core.Bool.{Bool, cond, false, not, true}

@@ -1,25 +1,25 @@
 -- The search, round by round: what a round keeps, and how it ends. Assumes nothing.
 use Prim.Native.Nat.{_*_, _+_, _-_, _<_, _≤_, suc, ℕ}
 use Rattle.best.specs.Search.{Ended, found}
+use Rattle.items.proofs.Exact.{taken-new}
+use Rattle.items.proofs.Leaving.{all-bag, leaves, leaves-off}
+use Rattle.items.specs.Fits.{Fits}
+use Rattle.items.specs.Items.{Item, boundOf, openedBy, spaceOf, weight}
+use Rattle.items.specs.Run.{Running}
 use Rattle.laws.proofs.Bags.{same-map, total-append, total-le, total-map, total-neither, total-none}
 use Rattle.laws.specs.Bags.{SameBag, total}
 use Rattle.measure.specs.Table.{from}
+use Rattle.queue.proofs.Queued.{entries-count}
+use Rattle.queue.specs.Entry.{keyOf}
+use Rattle.queue.specs.Queue.{Popped, entries}
 use Rattle.seek.proofs.Beyond.{above, above-last, parts-above}
-use Rattle.items.proofs.Exact.{taken-new}
-use Rattle.items.proofs.Leaving.{all-bag, leaves, leaves-off}
 use Rattle.seek.proofs.Reading.{item-bound}
 use Rattle.seek.proofs.Staying.{held-stay, ready-on, since-then, since-work, stands-stay}
 use Rattle.seek.proofs.Stopping.{goes-on}
 use Rattle.seek.proofs.Weights.{amiss-on, cost, opened-amiss, opened-cost, opened-weight, some-weight}
 use Rattle.seek.specs.Answers.{Held, greatestWord, lastOf}
-use Rattle.items.specs.Fits.{Fits}
 use Rattle.seek.specs.Frontier.{Searched, State, Taken, Takes, amiss, atMost, itemOf, items}
-use Rattle.items.specs.Items.{Item, boundOf, openedBy, spaceOf, weight}
-use Rattle.items.specs.Run.{Running}
 use Rattle.seek.specs.Standing.{Since, Stands}
-use Rattle.queue.proofs.Queued.{entries-count}
-use Rattle.queue.specs.Entry.{keyOf}
-use Rattle.queue.specs.Queue.{Popped, entries}
 use Rattle.words.specs.InShape.{InShape}
 use Rattle.words.specs.Words.{at, n#}
 use lib.ListN.{getD}

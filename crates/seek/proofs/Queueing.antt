@@ -2,11 +2,11 @@
 use Prim.Native.Nat.{_*_, _+_, _-_, _<_, _≤_, max, suc, ℕ}
 use Rattle.laws.specs.Lists.{gap}
 use Rattle.limits.specs.Limits.{maxRows}
+use Rattle.queue.specs.Entry.{packed}
+use Rattle.queue.specs.Queue.{Queue}
 use Rattle.seek.proofs.Beyond.{more-none, more-one}
 use Rattle.seek.specs.Frontier.{More, Room, noded, placed}
 use Rattle.seek.specs.Standing.{kept}
-use Rattle.queue.specs.Entry.{packed}
-use Rattle.queue.specs.Queue.{Queue}
 use Rattle.tree.specs.Homes.{childBound}
 use Rattle.words.specs.InShape.{InShape}
 use Rattle.words.specs.Words.{N#, count#, dist#, first#, n#, nodeAt, pairAt, radius#, start#}

@@ -1,15 +1,15 @@
 -- Entries of the frontier read as items, and the items that wait when entries are queued. Assumes nothing.
 use Prim.Native.Nat.{_*_, _+_, _-_, _<_, _≤_, ℕ}
+use Rattle.items.specs.Items.{Item, boundOf, node, place}
 use Rattle.laws.proofs.Bags.{total-append, total-map, total-upto}
 use Rattle.laws.proofs.Sums.{sum-below-zero}
 use Rattle.laws.specs.Bags.{SameBag, total, upto}
-use Rattle.seek.proofs.Beyond.{parts-same}
-use Rattle.seek.specs.Answers.{greatestWord}
-use Rattle.seek.specs.Frontier.{More, atMost, itemBy, itemOf, items}
-use Rattle.items.specs.Items.{Item, boundOf, node, place}
 use Rattle.queue.proofs.Entries.{id-packed, key-packed}
 use Rattle.queue.specs.Entry.{idOf, keyOf, packed}
 use Rattle.queue.specs.Queue.{entries}
+use Rattle.seek.proofs.Beyond.{parts-same}
+use Rattle.seek.specs.Answers.{greatestWord}
+use Rattle.seek.specs.Frontier.{More, atMost, itemBy, itemOf, items}
 use Rattle.words.specs.Words.{first#, n#}
 use borrow.Author.Tests.{le-ltb, lt-ltb}
 use lib.Dec.{ltb}

@@ -4,12 +4,12 @@ use Rattle.laws.proofs.Outside.{outside-more}
 use Rattle.laws.specs.Bags.{total}
 use Rattle.laws.specs.Outside.{Outside}
 use Rattle.measure.specs.Table.{from}
-use Rattle.seek.specs.Answers.{Held, distanceOf, greatestWord, lastOf}
-use Rattle.seek.specs.Standing.{Ready, Since, Stands, stray}
 use Rattle.queue.proofs.Entries.{entries-stay}
 use Rattle.queue.proofs.Queued.{queue-stays}
 use Rattle.queue.specs.Entry.{entryAt, packed}
 use Rattle.queue.specs.Queue.{Queue, entries}
+use Rattle.seek.specs.Answers.{Held, distanceOf, greatestWord, lastOf}
+use Rattle.seek.specs.Standing.{Ready, Since, Stands, stray}
 use Rattle.words.specs.Words.{n#}
 use lib.Dec.{ltb}
 use lib.ListN.{getD, length}

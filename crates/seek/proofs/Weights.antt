@@ -1,13 +1,13 @@
 -- What an item opens is sound where the item is, and stands for no more positions than it does. Assumes nothing.
 use Prim.Native.Nat.{_+_, _-_, _<_, _≤_, suc, zero, ℕ}
+use Rattle.items.proofs.Opening.{inner-some, kid-in, kid-some, kids-count}
+use Rattle.items.specs.Items.{Item, childOf, measuredBy, measuresAt, node, openedBy, opensAt, place, placeOf, weight}
 use Rattle.laws.proofs.Bags.{total-upto}
 use Rattle.laws.proofs.Ones.{is-self}
 use Rattle.laws.proofs.Sums.{sum-add, sum-below-same, sum-below-zero, sum-ones, sum-part}
 use Rattle.laws.specs.Bags.{is, total, upto}
 use Rattle.laws.specs.Upto.{sumTo}
-use Rattle.items.proofs.Opening.{inner-some, kid-in, kid-some, kids-count}
 use Rattle.seek.specs.Frontier.{amiss}
-use Rattle.items.specs.Items.{Item, childOf, measuredBy, measuresAt, node, openedBy, opensAt, place, placeOf, weight}
 use Rattle.words.specs.InShape.{InShape}
 use Rattle.words.specs.Shape.{inner}
 use Rattle.words.specs.Words.{N#, at, child#, count#, first#, m#, n#, row#, start#}

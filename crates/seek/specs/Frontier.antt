@@ -1,16 +1,16 @@
 -- The frontier in the workspace, as a queue of items, and what taking one does to it. Assumes nothing.
 use Prim.Native.Nat.{_*_, _+_, _-_, _<_, _≤_, suc, ℕ}
+use Rattle.items.specs.Fits.{Fits}
+use Rattle.items.specs.Items.{Item, boundOf, leastTo, measuredBy, node, openedBy, place, placeBound, weight}
+use Rattle.items.specs.Run.{Ran, Running}
 use Rattle.laws.specs.Bags.{SameBag, total, upto}
 use Rattle.laws.specs.Lists.{keep}
 use Rattle.laws.specs.Outside.{Outside}
 use Rattle.measure.specs.Table.{from}
-use Rattle.seek.specs.Answers.{Held, greatestWord, lastOf}
-use Rattle.items.specs.Fits.{Fits}
-use Rattle.items.specs.Items.{Item, boundOf, leastTo, measuredBy, node, openedBy, place, placeBound, weight}
-use Rattle.items.specs.Run.{Ran, Running}
-use Rattle.seek.specs.Standing.{Grew, Ready, Since, Stands, kept}
 use Rattle.queue.specs.Entry.{idOf, keyOf, packed}
 use Rattle.queue.specs.Queue.{Queue, entries}
+use Rattle.seek.specs.Answers.{Held, greatestWord, lastOf}
+use Rattle.seek.specs.Standing.{Grew, Ready, Since, Stands, kept}
 use Rattle.tree.specs.Homes.{childBound}
 use Rattle.words.specs.InShape.{InShape}
 use Rattle.words.specs.Words.{N#, at, first#, n#, radius#}

@@ -5,8 +5,8 @@ use Rattle.laws.specs.Bags.{total}
 use Rattle.laws.specs.Lists.{gap}
 use Rattle.limits.specs.Limits.{maxColumns, maxDistance, maxRows}
 use Rattle.measure.specs.Table.{from}
-use Rattle.seek.specs.Answers.{Held, rowOf, turned}
 use Rattle.queue.specs.Queue.{Queue, entries}
+use Rattle.seek.specs.Answers.{Held, rowOf, turned}
 use Rattle.words.specs.Words.{at}
 use lib.ListN.{getD, length}
 use mathlib.Core.List.{List}

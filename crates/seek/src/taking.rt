@@ -1,10 +1,10 @@
 // Taking what waits: a row is measured, a leaf is opened, an inner node is opened.
 ghost use Prim.Native.Nat.{_+_, _-_, _*_, _<_, _≤_, suc, ℕ};
+ghost use Rattle.items.specs.Items.{node};
 ghost use Rattle.laws.specs.Bags.{is};
 ghost use Rattle.laws.specs.Upto.{sumTo};
 ghost use Rattle.measure.specs.Table.{from};
 ghost use Rattle.seek.specs.Frontier.{Taken, Takes, itemOf};
-ghost use Rattle.items.specs.Items.{node};
 ghost use Rattle.seek.specs.Standing.{Ready, Took};
 ghost use Rattle.words.specs.InShape.{InShape};
 ghost use Rattle.words.specs.Words.{N#, child#, first#, n#};

@@ -1,9 +1,9 @@
 // The frontier: what waits, under its bounds.
 ghost use Prim.Native.Nat.{_+_, _-_, _*_, _<_, _≤_, suc, ℕ};
-ghost use Rattle.seek.specs.Frontier.{More, Room, leastKept, noded, placed};
-ghost use Rattle.seek.specs.Standing.{kept};
 ghost use Rattle.queue.specs.Entry.{packed};
 ghost use Rattle.queue.specs.Queue.{Queue};
+ghost use Rattle.seek.specs.Frontier.{More, Room, leastKept, noded, placed};
+ghost use Rattle.seek.specs.Standing.{kept};
 ghost use Rattle.words.specs.InShape.{InShape};
 ghost use Rattle.words.specs.Words.{N#, count#, first#, n#, start#};
 ghost use lib.ListN.{length};

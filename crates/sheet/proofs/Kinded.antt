@@ -40,12 +40,15 @@ module _ (b : ℕ) (s : Strange b) where
       go true e = let h = within-both 48 57 b e in absurd (s .no-digit (b - 48) (omega (arith, h .1)) (omega (arith, h .0)))
       go false e = refl
 
+  -- it is no comma
   no-comma : eqb b 44 ≡ false
   no-comma = ne-eqb b 44 (λ e. s .no-parts (subst Parts (sym e) comma))
 
+  -- it is no space
   no-space : eqb b 32 ≡ false
   no-space = ne-eqb b 32 (λ e. s .no-parts (subst Parts (sym e) space))
 
+  -- it is no tab
   no-tab : eqb b 9 ≡ false
   no-tab = ne-eqb b 9 (λ e. s .no-parts (subst Parts (sym e) tab))
 

@@ -29,6 +29,7 @@ abbrev pub withPart : List ℕ → ℕ → ℕ → List ℕ → List ℕ
 withPart work s count ys = putMid (3 * s) (3 * s + 3 * count - 3 * s) work ys
 
 module _ {t : List ℕ} {c m n : ℕ} {room work : List ℕ} {s count made : ℕ} (asked : Splittable t c m n room work s count made) where
+  -- how far two rows are apart
   abbrev d : ℕ → ℕ → ℕ
   d = between t c
 

@@ -1,9 +1,9 @@
 -- `nearest::refusal` meets its contract: the parts are asked in 01's order, so that the first that refuses gives the number.
 -- Assumes nothing.
+use Rattle.limits.proofs.Sized.{sized}
 use Rattle.nearest.proofs.Refusals.{by-index, by-table, five-answers, five-bytes, five-words, seven, six}
 use Rattle.nearest.proofs.refusal.Statement.{statement}
 use Rattle.nearest.proofs.refusal.Tie as tie
-use Rattle.limits.proofs.Sized.{sized}
 use borrow.Author.Needs.{needs}
 use mathlib.Core.Path.{_∙_, sym}
 use native.Mathlib.Omega.{arith}

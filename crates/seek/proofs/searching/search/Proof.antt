@@ -2,6 +2,7 @@
 -- Assumes nothing.
 use Rattle.laws.specs.Bags.{total}
 use Rattle.measure.specs.Table.{from}
+use Rattle.queue.proofs.Queued.{empty-queue}
 use Rattle.seek.proofs.Progress.{ends, round, round-less, round-since, stops, takes}
 use Rattle.seek.proofs.Starting.{begins-since, begins-state}
 use Rattle.seek.proofs.Staying.{ready-at, since-none}
@@ -10,7 +11,6 @@ use Rattle.seek.proofs.searching.search.Statement.{statement}
 use Rattle.seek.proofs.searching.search.Tie as tie
 use Rattle.seek.specs.Frontier.{State, items}
 use Rattle.seek.specs.Standing.{Since}
-use Rattle.queue.proofs.Queued.{empty-queue}
 use Rattle.words.specs.Words.{n#}
 use borrow.Author.Needs.{needs}
 use mathlib.Core.Path.{_∙_}
