@@ -2,7 +2,7 @@
 use Prim.Native.Nat.{_≤_, min, ℕ}
 use Rattle.laws.specs.Lists.{each, least}
 use Rattle.split.specs.Entries.{nearAll, nearOne}
-use Rattle.tree.proofs.Grow.{closest-least}
+use Rattle.tree.proofs.Centres.{closest-least}
 use Rattle.tree.specs.Build.{closer, closest, nearness}
 use borrow.Author.Tests.{le-ltb, leb-false, leb-true, lt-leb, lt-ltb, ltb-false, ltb-true}
 use lib.Dec.{leb, ltb}
