@@ -14,7 +14,7 @@ word-requires : tie.Need-word-requires
 word-requires c κs = search needs
 
 returns : tie.Need-returns
-returns c = bad-edition _ (λ e. c .if1 .taken (c .before .word .ensures .0 ∙ e))
+returns c = bad-edition _ (omega arith)
 
 word-requires-2 : tie.Need-word-requires-2
 word-requires-2 c κs = search needs
@@ -60,7 +60,7 @@ word-requires-7 : tie.Need-word-requires-7
 word-requires-7 c κs = search needs
 
 returns-6 : tie.Need-returns-6
-returns-6 c = bad-kind _ (λ e. c .if6 .taken (c .before .word7 .ensures .0 ∙ e))
+returns-6 c = bad-kind _ (omega arith)
 
 word-requires-8 : tie.Need-word-requires-8
 word-requires-8 c κs = search needs
@@ -75,12 +75,12 @@ returns-7 c =
     let at1 = at2 .before .before in
     let n = at2 .before .word2 .ensures .0 in
     rw (c .word8 .ensures .0)
-    (good-header _ (sym (at1 .before .word .ensures .0) ∙ at1 .if1 .left) (omega (arith, n, at2 .if2 .left))
+    (good-header _ (omega (arith, at1 .before .word .ensures .0, at1 .if1 .left)) (omega (arith, n, at2 .if2 .left))
     (yes (at3 .before .columns-ok .ensures ∙ ap columnsOk (at3 .before .before .word3 .ensures .0)) (at3 .if3 .left))
     (yes-at shareOk (at4 .before .share-ok .ensures) (at4 .before .before .before .word4 .ensures .0) (at4 .before .before .word5 .ensures .0)
     (at4 .if4 .left))
     (yes-at nodesOk (at5 .before .nodes-ok .ensures) n (at5 .before .before .word6 .ensures .0) (at5 .if5 .left))
-    (sym (at6 .before .word7 .ensures .0) ∙ at6 .if6 .left))
+    (omega (arith, at6 .before .word7 .ensures .0, at6 .if6 .left)))
 
 pub header-ok-spec : {M : Type 1} → statement M
 header-ok-spec =
