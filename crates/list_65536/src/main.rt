@@ -1,4 +1,0 @@
-// A number too great, where the columns are wrong too.
-fn main() {
-    lister::run();
-}

@@ -1,4 +1,0 @@
-// An empty text.
-fn main() {
-    lister::run();
-}

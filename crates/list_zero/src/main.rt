@@ -1,4 +1,0 @@
-// A leading zero.
-fn main() {
-    lister::run();
-}
