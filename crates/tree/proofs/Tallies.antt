@@ -1,13 +1,13 @@
 -- Laws of the counts of how-bytes. Assumes nothing.
-use Prim.Native.Nat.{_+_, _<_, _≤_, ℕ}
+use Prim.Native.Nat.{_+_, _-_, _<_, _≤_, ℕ}
 use Rattle.laws.proofs.Lists.{tally-append}
 use Rattle.laws.proofs.Shares.{bit}
 use Rattle.laws.specs.Lists.{tally}
 use Rattle.tree.specs.Nearest.{isMeasured}
 use borrow.Author.Tests.{le-leb, lt-leb, ne-eqb}
 use lib.Dec.{leb}
-use lib.ListN.{getD, length, take}
-use lib.Seq.{take-suc}
+use lib.ListN.{drop, getD, length, take}
+use lib.Seq.{take-add, take-suc}
 use mathlib.Core.Bool.{Bool, _||_, false, true}
 use mathlib.Core.List.{List, [], _∷_}
 use mathlib.Core.Path.{_∙_, _≡_, ap, ap₂, sym}
@@ -26,6 +26,14 @@ pub tally-next : (f : ℕ → Bool) (l : List ℕ) (i : ℕ) {a v : ℕ} → i <
 tally-next f l i h p q =
     ap₂ (λ (a v : ℕ). a + v) p (q ∙ sym (add-zero (bit (f (getD l i 0))))) ∙ sym (tally-append f (take i l) (getD l i 0 ∷ []))
     ∙ ap (tally f) (sym (ap (λ (n : ℕ). take n l) (add-one i) ∙ take-suc l i 0 h))
+
+-- a block of bytes counted: a is the count of the first i, v that of those from i to e
+pub tally-part : (f : ℕ → Bool) (l : List ℕ) (i e : ℕ) {a v : ℕ} → i ≤ e → a ≡ tally f (take i l) → v ≡ tally f (take (e - i) (drop i l))
+    → a + v ≡ tally f (take e l)
+tally-part f l i e h p q =
+    let w : i + (e - i) ≡ e = omega arith in
+    ap₂ (λ (a v : ℕ). a + v) p q ∙ sym (tally-append f (take i l) (take (e - i) (drop i l))) ∙ ap (tally f) (sym (take-add i (e - i) l))
+    ∙ ap (λ (k : ℕ). tally f (take k l)) w
 
 -- ---- the tests on one byte
 module _ (h : ℕ) where
