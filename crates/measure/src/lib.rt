@@ -27,18 +27,42 @@ fn column(x: u16, y: u16) -> u32
     }
 }
 
-// The distance of two rows.
-pub fn distance(a: &[u16], b: &[u16]) -> u32
-    requires { ⌜ (length (now a) ≡ length (now b)) × (length (now a) ≤ maxColumns) ⌝ }
-    ensures { λ r. ⌜ (r ≡ l1 (length (now (a .entry))) (now (a .entry)) (now (b .entry))) × (r ≤ maxDistance) ⌝ }
+// The distance of two rows over their first c columns, from that over the first `from`.
+fn columns(a: &[u16], b: &[u16], before: u32, from: usize, c: usize) -> u32
+    requires { ⌜ (c ≤ length (now a)) × (c ≤ length (now b)) × (c ≤ maxColumns) ⌝ }
+    requires { ⌜ (from ≤ c) × (before ≤ 65535 * from) × (before ≡ l1 from (now a) (now b)) ⌝ }
+    ensures { λ r. ⌜ (r ≡ l1 c (now (a .entry)) (now (b .entry))) × (r ≤ 65535 * c) ⌝ }
 {
-    let mut sum: u32 = 0;
-    let mut i = 0;
-    while i < a.len() {
+    let mut sum = before;
+    let mut i = from;
+    while i < c {
         sum += column(a[i], b[i]);
         i += 1;
     }
     sum
+}
+
+// The distance of two rows. Four to six columns, which questions about a minute have, come first: a loop to a constant is compiled
+// without a loop. Each takes the sum of the one before, so that all of it is small enough to stand where it is called.
+pub fn distance(a: &[u16], b: &[u16]) -> u32
+    requires { ⌜ (length (now a) ≡ length (now b)) × (length (now a) ≤ maxColumns) ⌝ }
+    ensures { λ r. ⌜ (r ≡ l1 (length (now (a .entry))) (now (a .entry)) (now (b .entry))) × (r ≤ maxDistance) ⌝ }
+{
+    let c = a.len();
+    if 4 <= c {
+        if c <= 6 {
+            let four = columns(a, b, 0, 0, 4);
+            if c == 4 {
+                return four;
+            }
+            let five = columns(a, b, four, 4, 5);
+            if c == 5 {
+                return five;
+            }
+            return columns(a, b, five, 5, 6);
+        }
+    }
+    columns(a, b, 0, 0, c)
 }
 
 // The distance of rows i and j.

@@ -1,7 +1,6 @@
--- `measure::distance` meets its contract: the sum so far is the distance over the columns passed. The measure is what is left of them.
+-- `measure::distance` meets its contract: each way goes on, column by column, to the last of the row.
 -- Assumes nothing.
-use Prim.Native.Nat.{_*_, _-_, _≤_}
-use Rattle.measure.proofs.Rows.{l1-next, l1-none}
+use Rattle.measure.proofs.Rows.{l1-none}
 use Rattle.measure.proofs.distance.Statement.{statement}
 use Rattle.measure.proofs.distance.Tie as tie
 use Rattle.measure.specs.Distance.{l1}
@@ -10,68 +9,52 @@ use lib.ListN.{length}
 use mathlib.Core.Path.{_∙_, _≡_, ap, sym}
 use native.Mathlib.Omega.{arith}
 
-abbrev Inv-loop : tie.InvT-loop
-Inv-loop a b sum₀ i₀ sum i = (i ≤ length a) × (sum ≤ 65535 * i) × (sum ≡ l1 i a b)
+columns-requires : tie.Need-columns-requires
+columns-requires c κs =
+    let a = c .before .before .before .before .args in
+    (search needs, (search needs, search needs, sym (l1-none (a .a .now) (a .b .now))))
 
-abbrev μ-loop : tie.MeasureT-loop
-μ-loop a b sum₀ i₀ sum i = length a - i
-
-loop-holds : tie.Need-loop-holds Inv-loop μ-loop
-loop-holds c =
-    let a = c .before .before .args in
-    (search needs, search needs, sym (l1-none (a .a .now) (a .b .now)))
-
-mul-column : tie.Need-mul-column Inv-loop μ-loop
-mul-column c = search needs
-
-shared-slice-read-column : tie.Need-shared-slice-read-column Inv-loop μ-loop
-shared-slice-read-column c = search needs
-
-mul-column-2 : tie.Need-mul-column-2 Inv-loop μ-loop
-mul-column-2 c = search needs
-
-shared-slice-read-column-2 : tie.Need-shared-slice-read-column-2 Inv-loop μ-loop
-shared-slice-read-column-2 c = search needs
-
-column-requires : tie.Need-column-requires Inv-loop μ-loop
-column-requires c κs = search needs
-
-add-sum : tie.Need-add-sum Inv-loop μ-loop
-add-sum c = search needs
-
-add-i : tie.Need-add-i Inv-loop μ-loop
-add-i c = search needs
-
-loop-less : tie.Need-loop-less Inv-loop μ-loop
-loop-less c = search needs
-
-loop-again : tie.Need-loop-again Inv-loop μ-loop
-loop-again c =
-    let at-loop = c .before .before .before .before in
-    let a = at-loop .before .before .before .args in
-    (search needs, search needs, omega (arith, c .column .ensures .0, at-loop .loop .inv .2, l1-next (a .a .now) (a .b .now) (at-loop .loop .i)))
-
-returns : tie.Need-returns Inv-loop μ-loop
+returns : tie.Need-returns
 returns c =
-    let at-loop = c .before in
-    let a = at-loop .before .before .before .args in
-    let e : at-loop .loop .i ≡ length (a .a .now) = omega arith in
-    (at-loop .loop .inv .2 ∙ ap (λ k. l1 k (a .a .now) (a .b .now)) e, omega arith)
+    let a = c .before .before .before .before .before .before .args in
+    let e : 4 ≡ length (a .a .now) = omega arith in
+    (c .before .columns .ensures .0 ∙ ap (λ k. l1 k (a .a .now) (a .b .now)) e, omega arith)
+
+columns-requires-2 : tie.Need-columns-requires-2
+columns-requires-2 c κs = search needs
+
+returns-2 : tie.Need-returns-2
+returns-2 c =
+    let a = c .before .before .before .before .before .before .before .before .args in
+    let e : 5 ≡ length (a .a .now) = omega arith in
+    (c .before .columns2 .ensures .0 ∙ ap (λ k. l1 k (a .a .now) (a .b .now)) e, omega arith)
+
+columns-requires-3 : tie.Need-columns-requires-3
+columns-requires-3 c κs = search needs
+
+returns-3 : tie.Need-returns-3
+returns-3 c =
+    let a = c .before .before .before .before .before .before .before .before .before .args in
+    let e : 6 ≡ length (a .a .now) = omega arith in
+    (c .columns3 .ensures .0 ∙ ap (λ k. l1 k (a .a .now) (a .b .now)) e, omega arith)
+
+columns-requires-4 : tie.Need-columns-requires-4
+columns-requires-4 c κs =
+    let a = c .before .before .before .args in
+    (search needs, (search needs, search needs, sym (l1-none (a .a .now) (a .b .now))))
+
+returns-4 : tie.Need-returns-4
+returns-4 c = search needs
 
 pub distance-spec : {M : Type 1} → statement M
 distance-spec =
     tie.close
     (tie.spec
-    Inv-loop
-    μ-loop
-    loop-holds
-    mul-column
-    shared-slice-read-column
-    mul-column-2
-    shared-slice-read-column-2
-    column-requires
-    add-sum
-    add-i
-    loop-less
-    loop-again
-    returns)
+    columns-requires
+    returns
+    columns-requires-2
+    returns-2
+    columns-requires-3
+    returns-3
+    columns-requires-4
+    returns-4)

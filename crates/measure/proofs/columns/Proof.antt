@@ -1,0 +1,74 @@
+-- `measure::columns` meets its contract: the sum so far is the distance over the columns passed. The measure is what is left of them.
+-- Assumes nothing.
+use Prim.Native.Nat.{_*_, _-_, _≤_}
+use Rattle.measure.proofs.Rows.{l1-next}
+use Rattle.measure.proofs.columns.Statement.{statement}
+use Rattle.measure.proofs.columns.Tie as tie
+use Rattle.measure.specs.Distance.{l1}
+use borrow.Author.Needs.{needs}
+use mathlib.Core.Path.{_∙_, _≡_, ap}
+use native.Mathlib.Omega.{arith}
+
+abbrev Inv-loop : tie.InvT-loop
+Inv-loop a b before from c sum₀ i₀ sum i = (i ≤ c) × (sum ≤ 65535 * i) × (sum ≡ l1 i a b)
+
+abbrev μ-loop : tie.MeasureT-loop
+μ-loop a b before from c sum₀ i₀ sum i = c - i
+
+loop-holds : tie.Need-loop-holds Inv-loop μ-loop
+loop-holds c = search needs
+
+mul-column : tie.Need-mul-column Inv-loop μ-loop
+mul-column c = search needs
+
+shared-slice-read-column : tie.Need-shared-slice-read-column Inv-loop μ-loop
+shared-slice-read-column c = search needs
+
+mul-column-2 : tie.Need-mul-column-2 Inv-loop μ-loop
+mul-column-2 c = search needs
+
+shared-slice-read-column-2 : tie.Need-shared-slice-read-column-2 Inv-loop μ-loop
+shared-slice-read-column-2 c = search needs
+
+column-requires : tie.Need-column-requires Inv-loop μ-loop
+column-requires c κs = search needs
+
+add-sum : tie.Need-add-sum Inv-loop μ-loop
+add-sum c = search needs
+
+add-i : tie.Need-add-i Inv-loop μ-loop
+add-i c = search needs
+
+loop-less : tie.Need-loop-less Inv-loop μ-loop
+loop-less c = search needs
+
+loop-again : tie.Need-loop-again Inv-loop μ-loop
+loop-again c =
+    let at-loop = c .before .before .before .before in
+    let a = at-loop .before .before .before .args in
+    (search needs, search needs, omega (arith, c .column .ensures .0, at-loop .loop .inv .2, l1-next (a .a .now) (a .b .now) (at-loop .loop .i)))
+
+returns : tie.Need-returns Inv-loop μ-loop
+returns c =
+    let at-loop = c .before in
+    let a = at-loop .before .before .before .args in
+    let e : at-loop .loop .i ≡ a .c = omega arith in
+    (at-loop .loop .inv .2 ∙ ap (λ k. l1 k (a .a .now) (a .b .now)) e, omega arith)
+
+pub columns-spec : {M : Type 1} → statement M
+columns-spec =
+    tie.close
+    (tie.spec
+    Inv-loop
+    μ-loop
+    loop-holds
+    mul-column
+    shared-slice-read-column
+    mul-column-2
+    shared-slice-read-column-2
+    column-requires
+    add-sum
+    add-i
+    loop-less
+    loop-again
+    returns)
