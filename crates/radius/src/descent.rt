@@ -65,7 +65,8 @@ fn open_inner(
     ds
 }
 
-// The descent at node k, whose first is at x and which has this bound, with `levels` left below it to depth 24.
+// The descent at node k, whose first is at x and which has this bound, with `levels` left below it to depth 24. A child is swept or
+// closed without a call of its own.
 pub fn descend(
     table: &[u16],
     c: usize,
@@ -100,8 +101,16 @@ pub fn descend(
     let mut j = 0;
     while j < m {
         let d = ds[j];
-        let b = child_bound(bound, y, d, node_radius(index, ch + j));
-        descend(table, c, index, query, ch + j, d, b, r, levels - 1, how);
+        let kid = ch + j;
+        let radius = node_radius(index, kid);
+        let b = child_bound(bound, y, d, radius);
         j += 1;
+        if d + radius <= r {
+            sweep(index, kid, how);
+        } else {
+            if b <= r {
+                descend(table, c, index, query, kid, d, b, r, levels - 1, how);
+            }
+        }
     }
 }

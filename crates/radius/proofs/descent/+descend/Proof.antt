@@ -1,5 +1,5 @@
 -- `radius::descent::descend` meets its contract: each way out writes the marks of the node's tree (swept, closed, an opened leaf's, or
--- the centres' and then each child's), and a child has a level less left.
+-- the centres' and then each child's, which is swept, closed or descended into), and a child has a level less left.
 -- Assumes nothing.
 use Prim.Native.Nat.{_+_, _-_, _<_, _≤_, ℕ}
 use Rattle.measure.specs.Table.{from}
@@ -157,8 +157,8 @@ descend-mul-d t c = search needs
 descend-array-read-d : (t : ℕ) → descend-lts.Need-array-read-d (claims t) (descend-at t) descend.Post descend-Inv-loop descend-μ-loop
 descend-array-read-d t c = search needs
 
-descend-add-node-radius : (t : ℕ) → descend-lts.Need-add-node-radius (claims t) (descend-at t) descend.Post descend-Inv-loop descend-μ-loop
-descend-add-node-radius t c = search needs
+descend-add-kid : (t : ℕ) → descend-lts.Need-add-kid (claims t) (descend-at t) descend.Post descend-Inv-loop descend-μ-loop
+descend-add-kid t c = search needs
 
 descend-node-radius-requires-2 : (t : ℕ) → descend-lts.Need-node-radius-requires-2 (claims t) (descend-at t) descend.Post descend-Inv-loop descend-μ-loop
 descend-node-radius-requires-2 t c κs = search needs
@@ -166,34 +166,31 @@ descend-node-radius-requires-2 t c κs = search needs
 descend-child-bound-requires : (t : ℕ) → descend-lts.Need-child-bound-requires (claims t) (descend-at t) descend.Post descend-Inv-loop descend-μ-loop
 descend-child-bound-requires t c κs = search needs
 
-descend-add-descend : (t : ℕ) → descend-lts.Need-add-descend (claims t) (descend-at t) descend.Post descend-Inv-loop descend-μ-loop
-descend-add-descend t c =
-    let l = c .before .before .before .loop in
-    omega (arith, l .inv .0 .shape .whole .words, l .inv .1 .inside)
-
-descend-sub-descend : (t : ℕ) → descend-lts.Need-sub-descend (claims t) (descend-at t) descend.Post descend-Inv-loop descend-μ-loop
-descend-sub-descend t c = omega (arith, c .before .before .before .loop .inv .1 .deeper)
-
-descend-descend-requires : (t : ℕ) → descend-lts.Need-descend-requires (claims t) (descend-at t) descend.Post descend-Inv-loop descend-μ-loop
-descend-descend-requires t c κs =
-    let s = c .before .before .before .before .before .before .before .before .before .before .before .before .before .before .before .before .before .before .before .before in
-    let l = c .before .before .before .before .loop in
-    let kids = l .inv .1 in
-    (omega (arith, s .pre .0, kids .deeper), (l .inv .0, (kids .left (l .j), omega (arith, kids .inside), l .inv .5 .near _ (omega arith), l .inv .5 .at _ (omega arith))))
-
 descend-add-j : (t : ℕ) → descend-lts.Need-add-j (claims t) (descend-at t) descend.Post descend-Inv-loop descend-μ-loop
 descend-add-j t c = search needs
+
+descend-add-if4 : (t : ℕ) → descend-lts.Need-add-if4 (claims t) (descend-at t) descend.Post descend-Inv-loop descend-μ-loop
+descend-add-if4 t c =
+    let s = c .before .before .before .before .before .before .before .before .before .before .before .before .before .before .before .before .before .before .before in
+    let l = c .before .before .before .loop in
+    omega (arith, l .inv .0 .shape .node (c .before .before .before .before .before .before .before .before .before .before .before .node-child .result + l .j) (omega (arith, l .inv .1 .inside)) .near, l .inv .5 .near (l .j) (omega arith), c .before .node-radius2 .ensures)
+
+descend-sweep-requires-2 : (t : ℕ) → descend-lts.Need-sweep-requires-2 (claims t) (descend-at t) descend.Post descend-Inv-loop descend-μ-loop
+descend-sweep-requires-2 t c κs =
+    let l = c .before .before .before .before .before .loop in
+    (l .inv .0 .shape, (omega (arith, l .inv .1 .inside), l .inv .0 .how))
 
 descend-loop-less : (t : ℕ) → descend-lts.Need-loop-less (claims t) (descend-at t) descend.Post descend-Inv-loop descend-μ-loop
 descend-loop-less t c = search needs
 
 descend-loop-again : (t : ℕ) → descend-lts.Need-loop-again (claims t) (descend-at t) descend.Post descend-Inv-loop descend-μ-loop
 descend-loop-again t c =
-    let s = c .before .before .before .before .before .before .before .before .before .before .before .before .before .before .before .before .before .before .before .before .before .before .before in
-    let l = c .before .before .before .before .before .before .before .loop in
-    let child = c .before .before .descend in
-    let kept = child .kept .1 .1 .1 .1 .1 .1 .1 .1 .1 .0 in
-    let bound = bound-is (s .args .bound) (c .before .before .before .before .child-bound .ensures) (l .inv .6) (l .inv .5 .at (l .j) (omega arith)) (c .before .before .before .before .before .node-radius2 .ensures) in (
+    let s = c .before .before .before .before .before .before .before .before .before .before .before .before .before .before .before .before .before .before .before .before .before .before .before .before in
+    let l = c .before .before .before .before .before .before .before .before .loop in
+    let child = c .before .before .sweep2 in
+    let kept = child .kept .1 .1 .0 in
+    let at = l .inv .5 .at (l .j) (omega arith) in
+    let bound = bound-is (s .args .bound) (c .before .before .before .before .before .child-bound .ensures) (l .inv .6) at (c .before .before .before .before .before .before .node-radius2 .ensures) in (
       lent-same (l .inv .0) _ kept,
       l .inv .1,
       kept ∙ l .inv .2,
@@ -203,7 +200,62 @@ descend-loop-again t c =
       l .inv .6,
       marked-next _ 0 (l .j) _ (omega arith) (l .inv .7)
           (child .ensures
-          ∙ ap (λ (b : ℕ). write (nodeMarks (from (s .args .table .now) (s .args .c) (s .args .query .now)) (s .args .r) (s .args .index .now) (s .args .levels - 1) (c .before .before .before .before .before .before .before .before .before .before .before .before .before .before .before .node-child .result + l .j) b) (l .how)) bound),
+          ∙ swept-did (from (s .args .table .now) (s .args .c) (s .args .query .now)) (s .args .r) (s .args .index .now) (l .inv .0 .shape) (s .args .levels - 1) (c .before .before .before .before .before .before .before .before .before .before .before .before .before .before .before .before .node-child .result + l .j) _ (omega (arith, l .inv .1 .inside)) (l .how) at (c .before .before .before .before .before .before .node-radius2 .ensures) (omega arith)
+          ∙ ap (λ (b : ℕ). write (nodeMarks (from (s .args .table .now) (s .args .c) (s .args .query .now)) (s .args .r) (s .args .index .now) (s .args .levels - 1) (c .before .before .before .before .before .before .before .before .before .before .before .before .before .before .before .before .node-child .result + l .j) b) (l .how)) bound),
+    )
+
+descend-sub-descend : (t : ℕ) → descend-lts.Need-sub-descend (claims t) (descend-at t) descend.Post descend-Inv-loop descend-μ-loop
+descend-sub-descend t c = omega (arith, c .before .before .before .before .before .loop .inv .1 .deeper)
+
+descend-descend-requires : (t : ℕ) → descend-lts.Need-descend-requires (claims t) (descend-at t) descend.Post descend-Inv-loop descend-μ-loop
+descend-descend-requires t c κs =
+    let s = c .before .before .before .before .before .before .before .before .before .before .before .before .before .before .before .before .before .before .before .before .before .before in
+    let l = c .before .before .before .before .before .before .loop in
+    let kids = l .inv .1 in
+    (omega (arith, s .pre .0, kids .deeper), (l .inv .0, (kids .left (l .j), omega (arith, kids .inside), l .inv .5 .near _ (omega arith), l .inv .5 .at _ (omega arith))))
+
+descend-loop-less-2 : (t : ℕ) → descend-lts.Need-loop-less-2 (claims t) (descend-at t) descend.Post descend-Inv-loop descend-μ-loop
+descend-loop-less-2 t c = search needs
+
+descend-loop-again-2 : (t : ℕ) → descend-lts.Need-loop-again-2 (claims t) (descend-at t) descend.Post descend-Inv-loop descend-μ-loop
+descend-loop-again-2 t c =
+    let s = c .before .before .before .before .before .before .before .before .before .before .before .before .before .before .before .before .before .before .before .before .before .before .before .before .before in
+    let l = c .before .before .before .before .before .before .before .before .before .loop in
+    let child = c .before .before .descend in
+    let kept = child .kept .1 .1 .1 .1 .1 .1 .1 .1 .1 .0 in
+    let at = l .inv .5 .at (l .j) (omega arith) in
+    let bound = bound-is (s .args .bound) (c .before .before .before .before .before .before .child-bound .ensures) (l .inv .6) at (c .before .before .before .before .before .before .before .node-radius2 .ensures) in (
+      lent-same (l .inv .0) _ kept,
+      l .inv .1,
+      kept ∙ l .inv .2,
+      omega arith,
+      l .inv .4,
+      l .inv .5,
+      l .inv .6,
+      marked-next _ 0 (l .j) _ (omega arith) (l .inv .7)
+          (child .ensures
+          ∙ ap (λ (b : ℕ). write (nodeMarks (from (s .args .table .now) (s .args .c) (s .args .query .now)) (s .args .r) (s .args .index .now) (s .args .levels - 1) (c .before .before .before .before .before .before .before .before .before .before .before .before .before .before .before .before .before .node-child .result + l .j) b) (l .how)) bound),
+    )
+
+descend-loop-less-3 : (t : ℕ) → descend-lts.Need-loop-less-3 (claims t) (descend-at t) descend.Post descend-Inv-loop descend-μ-loop
+descend-loop-less-3 t c = search needs
+
+descend-loop-again-3 : (t : ℕ) → descend-lts.Need-loop-again-3 (claims t) (descend-at t) descend.Post descend-Inv-loop descend-μ-loop
+descend-loop-again-3 t c =
+    let s = c .before .before .before .before .before .before .before .before .before .before .before .before .before .before .before .before .before .before .before .before .before in
+    let l = c .before .before .before .before .before .loop in
+    let at = l .inv .5 .at (l .j) (omega arith) in
+    let bound = bound-is (s .args .bound) (c .before .before .child-bound .ensures) (l .inv .6) at (c .before .before .before .node-radius2 .ensures) in (
+      l .inv .0,
+      l .inv .1,
+      l .inv .2,
+      omega arith,
+      l .inv .4,
+      l .inv .5,
+      l .inv .6,
+      marked-next _ 0 (l .j) _ (omega arith) (l .inv .7)
+          (closed-did (from (s .args .table .now) (s .args .c) (s .args .query .now)) (s .args .r) (s .args .index .now) (l .inv .0 .shape) (s .args .levels - 1) (c .before .before .before .before .before .before .before .before .before .before .before .before .before .node-child .result + l .j) _ (omega (arith, l .inv .1 .inside)) (l .how) at (c .before .before .before .node-radius2 .ensures) (omega arith) (omega arith)
+          ∙ ap (λ (b : ℕ). write (nodeMarks (from (s .args .table .now) (s .args .c) (s .args .query .now)) (s .args .r) (s .args .index .now) (s .args .levels - 1) (c .before .before .before .before .before .before .before .before .before .before .before .before .before .node-child .result + l .j) b) (l .how)) bound),
     )
 
 descend-same-length-3 : (t : ℕ) → descend-lts.Need-same-length-3 (claims t) (descend-at t) descend.Post descend-Inv-loop descend-μ-loop
@@ -240,14 +292,19 @@ pub +descend-spec : {M : Type 1} → statement M
     (descend-loop-holds t)
     (descend-mul-d t)
     (descend-array-read-d t)
-    (descend-add-node-radius t)
+    (descend-add-kid t)
     (descend-node-radius-requires-2 t)
     (descend-child-bound-requires t)
-    (descend-add-descend t)
-    (descend-sub-descend t)
-    (descend-descend-requires t)
     (descend-add-j t)
+    (descend-add-if4 t)
+    (descend-sweep-requires-2 t)
     (descend-loop-less t)
     (descend-loop-again t)
+    (descend-sub-descend t)
+    (descend-descend-requires t)
+    (descend-loop-less-2 t)
+    (descend-loop-again-2 t)
+    (descend-loop-less-3 t)
+    (descend-loop-again-3 t)
     (descend-same-length-3 t)
     (descend-returns-4 t)
