@@ -1,8 +1,8 @@
 // Reading the index words, and what is wrong with an image.
-ghost use Prim.Native.Nat.{_*_, _/_, _≤_};
+ghost use Prim.Native.Nat.{_*_, _+_, _/_, _<_, _≤_, min};
 ghost use Rattle.image.specs.Sound.{Sound, heldFaults, restZero};
 ghost use Rattle.words.specs.Image.{imageFaults, imageWords};
-ghost use lib.ListN.{drop, length};
+ghost use lib.ListN.{drop, length, take};
 ghost use mathlib.Core.List.{_++_};
 ghost use mathlib.Core.Path.{_≡_};
 use crate::Read;
@@ -10,19 +10,49 @@ use crate::check::first_wrong;
 use crate::word::BLOCK;
 use crate::word::HELD;
 use crate::word::blocks_for;
+use crate::word::get_word;
 use crate::word::image_word;
 use crate::word::words_of;
 use words::header::header_ok;
 
-// The first t index words to the front of the room.
+// Where block b's words end, of t index words.
+fn block_end(b: usize, t: usize) -> usize
+    requires { ⌜ 127 * b < t ⌝ }
+    ensures { λ e. ⌜ e ≡ min (127 * b + 127) t ⌝ }
+{
+    if t - HELD * b < HELD {
+        t
+    } else {
+        HELD * b + HELD
+    }
+}
+
+// The index words of block b up to `end`, after those of the blocks before it.
+fn get_block(image: &[u8], b: usize, end: usize, room: &mut [u32])
+    requires { ⌜ (127 * b ≤ end) × (end ≤ 127 * b + 127) × (end ≤ 127 * (length (now image) / 512)) × (end ≤ length (now room)) ⌝ }
+    requires { ⌜ take (127 * b) (now room) ≡ imageWords (now image) (127 * b) ⌝ }
+    ensures { λ _. ⌜ now (room .exit) ≡ imageWords (now (image .entry)) end ++ drop end (now (room .entry)) ⌝ }
+{
+    let checks = 4 * b;
+    let mut j = HELD * b;
+    while j < end {
+        room[j] = get_word(image, 4 * j + checks);
+        j += 1;
+    }
+}
+
+// The first t index words to the front of the room, block by block: a word's place then takes no division.
 pub fn get_words(image: &[u8], t: usize, room: &mut [u32])
     requires { ⌜ (t ≤ 127 * (length (now image) / 512)) × (t ≤ length (now room)) ⌝ }
     ensures { λ _. ⌜ now (room .exit) ≡ imageWords (now (image .entry)) t ++ drop t (now (room .entry)) ⌝ }
 {
+    let mut b = 0;
     let mut j = 0;
     while j < t {
-        room[j] = image_word(image, j);
-        j += 1;
+        let end = block_end(b, t);
+        get_block(image, b, end, room);
+        b += 1;
+        j = end;
     }
 }
 

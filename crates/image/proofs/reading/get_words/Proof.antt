@@ -1,28 +1,27 @@
--- `image::reading::get_words` meets its contract: after j turns the first j index words stand at the room's front.
+-- `image::reading::get_words` meets its contract: after b turns the index words of the first b blocks stand at the room's front.
 -- Assumes nothing.
-use Prim.Native.Nat.{_-_, _<_, _≤_, ℕ}
-use Rattle.image.proofs.Places.{image-length, image-more, inside}
+use Prim.Native.Nat.{_*_, _-_, _≤_, min, ℕ}
+use Rattle.image.proofs.InBlocks.{front-read, read-on}
 use Rattle.image.proofs.reading.get_words.Statement.{statement}
 use Rattle.image.proofs.reading.get_words.Tie as tie
-use Rattle.laws.proofs.Parts.{store-more}
 use Rattle.words.specs.Image.{imageWords}
 use borrow.Author.Needs.{needs}
-use lib.ListN.{drop, length, length-set}
+use lib.ListN.{drop, length, take}
 use mathlib.Core.List.{List, _++_}
-use mathlib.Core.Path.{_∙_, _≡_, ap}
+use mathlib.Core.Path.{_∙_, _≡_, ap, refl, subst}
 use native.Mathlib.Omega.{arith}
 
--- the first j index words are read, and the rest is as it was
-record Filled (image : List ℕ) (t : ℕ) (room₀ room : List ℕ) (j : ℕ) : Type 0 where
-  bound : j ≤ t
+-- the first j index words are read, which are those of b blocks, and the rest is as it was
+record Filled (image : List ℕ) (t : ℕ) (room₀ room : List ℕ) (b j : ℕ) : Type 0 where
+  bound : j ≡ min (127 * b) t
   long : length room ≡ length room₀
   read : room ≡ imageWords image j ++ drop j room₀
 
 abbrev Inv-loop : tie.InvT-loop
-Inv-loop image t room₀ j₀ room j = Filled image t room₀ room j
+Inv-loop image t room₀ b₀ j₀ room b j = Filled image t room₀ room b j
 
 abbrev μ-loop : tie.MeasureT-loop
-μ-loop image t room₀ j₀ room j = t - j
+μ-loop image t room₀ b₀ j₀ room b j = t - j
 
 -- the start, seen from the loop
 abbrev start : tie.At-loop Inv-loop μ-loop → tie.Start Inv-loop μ-loop
@@ -30,36 +29,38 @@ start l = l .before .before .before
 
 loop-holds : tie.Need-loop-holds Inv-loop μ-loop
 unfolding imageWords
-loop-holds c = search needs
+loop-holds c = record { bound = omega arith; long = refl; read = refl }
 
-image-word-requires : tie.Need-image-word-requires Inv-loop μ-loop
-image-word-requires c κs = inside _ _ (omega arith)
+block-end-requires : tie.Need-block-end-requires Inv-loop μ-loop
+block-end-requires c κs = search needs
 
-mul-room : tie.Need-mul-room Inv-loop μ-loop
-mul-room c = search needs
+get-block-requires : tie.Need-get-block-requires Inv-loop μ-loop
+get-block-requires c κs =
+    let l = c .before .before .before in
+    let a = start l .args in
+    let i = l .loop .inv in
+    let e : l .loop .j ≡ 127 * l .loop .b = omega arith in (
+      (omega arith, omega arith, omega arith, omega (arith, i .long)),
+      subst (λ (j : ℕ). take j (l .loop .room) ≡ imageWords (a .image .now) j) e (front-read (a .image .now) (a .room .now) (l .loop .room) (l .loop .j) (i .read)),
+    )
 
-slice-write-room : tie.Need-slice-write-room Inv-loop μ-loop
-slice-write-room c = search needs
-
-add-j : tie.Need-add-j Inv-loop μ-loop
-add-j c = search needs
+add-b : tie.Need-add-b Inv-loop μ-loop
+add-b c = search needs
 
 loop-less : tie.Need-loop-less Inv-loop μ-loop
 loop-less c = search needs
 
 loop-again : tie.Need-loop-again Inv-loop μ-loop
 loop-again c =
-    let l = c .before .before in
-    let image = start l .args .image .now in
-    let room₀ = start l .args .room .now in
-    let j = l .loop .j in
-    let more : j < length room₀ = omega arith in
+    let block = c .before .before .get-block in
+    let end = c .before .before .before .before .block-end in
+    let l = c .before .before .before .before .before .before in
+    let a = start l .args in
+    let i = l .loop .inv in
     record {
-      bound = search needs;
-      long = simp length-set (l .loop .inv .long);
-      read =
-          store-more (imageWords image j) room₀ (l .loop .room) j (c .image-word .result) (image-length image j) more (l .loop .inv .read)
-          ∙ rw (image-more image j, ← c .image-word .ensures);
+      bound = omega arith;
+      long = search needs;
+      read = read-on (a .image .now) (a .room .now) (l .loop .room) (l .loop .j) (i .read) (end .result) (omega arith) (block .ensures);
     }
 
 same-length : tie.Need-same-length Inv-loop μ-loop
@@ -79,10 +80,9 @@ get-words-spec =
     Inv-loop
     μ-loop
     loop-holds
-    image-word-requires
-    mul-room
-    slice-write-room
-    add-j
+    block-end-requires
+    get-block-requires
+    add-b
     loop-less
     loop-again
     same-length
