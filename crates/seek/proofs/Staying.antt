@@ -33,7 +33,7 @@ module _ (n : ℕ) (work work′ : List ℕ) where
     pub last-stays : (w held : ℕ) → lastOf work′ (3 * n) w held ≡ lastOf work (3 * n) w held
     unfolding entryAt lastOf
     last-stays w held =
-        ap₂ (λ (a b : ℕ). cond (ltb held w) greatestWord (distanceOf (packed a b))) (same (3 * n) (omega arith)) (same (3 * n + 1) (omega arith))
+        ap₂ (λ (a b : ℕ). cond (ltb held w) greatestWord (distanceOf (packed a b))) (same (3 * n + 1) (omega arith)) (same (3 * n) (omega arith))
 
   -- ---- the words from 2n on stay
   -- all that a search knows stays: the frontier alone has changed
