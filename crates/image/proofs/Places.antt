@@ -3,8 +3,7 @@ use Prim.Native.Nat.{_*_, _+_, _/_, _<_, _≤_, suc, zero, ℕ}
 use Rattle.image.proofs.Checks.{check-append}
 use Rattle.words.specs.Image.{blocksFor, checkFrom, imageWord, imageWords, step, wordAt, wordsAt}
 use Rattle.words.specs.Words.{at}
-use lib.ListN.{length, length-append, take}
-use lib.Seq.{take-suc}
+use lib.ListN.{length, length-append}
 use mathlib.Core.List.{List, [], _++_, _∷_}
 use mathlib.Core.Path.{_≡_, ap, refl}
 use native.Mathlib.Nat.{add-zero}
@@ -24,11 +23,11 @@ pub words-more : (i : List ℕ) (p k : ℕ) → wordsAt i p (k + 1) ≡ wordsAt 
 unfolding wordsAt
 words-more i p k = ap (wordsAt i p) (add-one k)
 
--- the check of the first k words of a list, one word further: s is that check from s₀ on, and r the check one step further
-pub take-check : (ws : List ℕ) (s₀ s k r : ℕ) → k < length ws → s ≡ checkFrom s₀ (take k ws) → r ≡ step s (at ws k)
-    → r ≡ checkFrom s₀ (take (k + 1) ws)
+-- the check of the first k of them, one word further: s is that check from s₀ on, x the next word, and r the check one step further
+pub words-check : (i : List ℕ) (p s₀ s k x r : ℕ) → s ≡ checkFrom s₀ (wordsAt i p k) → x ≡ wordAt i (p + 4 * k) → r ≡ step s x
+    → r ≡ checkFrom s₀ (wordsAt i p (k + 1))
 unfolding checkFrom
-take-check ws s₀ s k r h e g = rw (add-one k, take-suc ws k 0 h, check-append, ← e) g
+words-check i p s₀ s k x r e f g = rw (words-more i p k, check-append, ← e, ← f) g
 
 -- ---- the words of an image
 -- one index word more

@@ -29,33 +29,19 @@ pub fn check_start(b: usize) -> u32
     ((b % 0x1_0000_0000 + 1) % 0x1_0000_0000) as u32
 }
 
-// The check word of block b with these 127 words.
-fn check_words(held: &[u32], b: usize) -> u32
-    requires { ⌜ length (now held) ≡ 127 ⌝ }
-    ensures { λ r. ⌜ r ≡ checkWord b (now (held .entry)) ⌝ }
-{
-    let mut check = check_start(b);
-    let mut i = 0;
-    while i < HELD {
-        check = stepped(check, held[i]);
-        i += 1;
-    }
-    check
-}
-
-// What the check word of the image's block b should be. The block's words are copied first.
+// What the check word of the image's block b should be, from the bytes as they stand.
 fn block_check(image: &[u8], b: usize) -> u32
     requires { ⌜ 512 * b + 512 ≤ length (now image) ⌝ }
     ensures { λ r. ⌜ r ≡ checkWord b (wordsAt (now (image .entry)) (512 * b) 127) ⌝ }
 {
     let from = BLOCK * b;
-    let mut held = [0u32; 127];
+    let mut check = check_start(b);
     let mut i = 0;
     while i < HELD {
-        held[i] = get_word(image, from + 4 * i);
+        check = stepped(check, get_word(image, from + 4 * i));
         i += 1;
     }
-    check_words(&held, b)
+    check
 }
 
 // Block b's check word is right.
