@@ -9,7 +9,7 @@ use Rattle.laws.specs.First.{First}
 use Rattle.laws.specs.Lists.{each, keep, range}
 use Rattle.limits.specs.Limits.{maxRows}
 use Rattle.limits.specs.Said.{Said, said}
-use Rattle.tree.specs.Check.{again, faults, strays, wrongDist, wrongRadius}
+use Rattle.tree.specs.Check.{again, faults, strays, wrongDist, wrongReach}
 use Rattle.words.specs.InShape.{InShape}
 use Rattle.words.specs.Words.{N#, count#, n#, start#}
 use mathlib.Core.Bool.{Bool}
@@ -42,7 +42,7 @@ module _ (d : ℕ → ℕ → ℕ) (w : List ℕ) where
 
   -- 12, of all nodes
   abbrev radiusFaults : List Said
-  radiusFaults = map (λ k. (12, k, 0)) (keep (wrongRadius d w) (range 0 (N# w)))
+  radiusFaults = map (λ k. (12, k, 0)) (keep (wrongReach d w) (range 0 (N# w)))
 
   -- 10 comes first, then what distances show
   faults-are : faults d w ≡ againFaults w ++ measuredFaults d w
@@ -69,7 +69,7 @@ module _ (d : ℕ → ℕ → ℕ) (w : List ℕ) where
     distance-found h = sym (pass-found (wrongDist d w) (λ p. (11, p, 0)) (n# w) p (radiusFaults ++ allStrays d w) F h)
 
     -- there is none, and k is the lowest node with a wrong radius, or N
-    module _ (k : ℕ) (G : First (wrongRadius d w) 0 (N# w) k) (past : n# w ≤ p) where
+    module _ (k : ℕ) (G : First (wrongReach d w) 0 (N# w) k) (past : n# w ≤ p) where
       -- what the passes after the first say
       distance-none : said (measuredFaults d w) ≡ said (radiusFaults ++ allStrays d w)
       unfolding measuredFaults
@@ -77,11 +77,11 @@ module _ (d : ℕ → ℕ → ℕ) (w : List ℕ) where
 
       -- there is such a node: 12 is said, at k
       pub radius-found : k < N# w → (12, k, 0) ≡ said (measuredFaults d w)
-      radius-found h = sym (distance-none ∙ pass-found (wrongRadius d w) (λ k. (12, k, 0)) (N# w) k (allStrays d w) G h)
+      radius-found h = sym (distance-none ∙ pass-found (wrongReach d w) (λ k. (12, k, 0)) (N# w) k (allStrays d w) G h)
 
       -- there is none: what 13 finds is said
       pub radius-none : N# w ≤ k → said (allStrays d w) ≡ said (measuredFaults d w)
-      radius-none h = sym (distance-none ∙ pass-none (wrongRadius d w) (λ k. (12, k, 0)) (N# w) k (allStrays d w) G h)
+      radius-none h = sym (distance-none ∙ pass-none (wrongReach d w) (λ k. (12, k, 0)) (N# w) k (allStrays d w) G h)
 
 -- ---- a fact P of every fault
 module _ {A B : Type 0} where
@@ -108,7 +108,7 @@ module _ (P : Said → Type 0) where
       (every-append P (againFaults w) (measuredFaults d w) (from-zero (λ p. (10, p, 0)) (again w) (n# w) (λ p h. at-place p h .0))
       (every-append P (distanceFaults d w) (radiusFaults d w ++ allStrays d w)
       (from-zero (λ p. (11, p, 0)) (wrongDist d w) (n# w) (λ p h. at-place p h .1))
-      (every-append P (radiusFaults d w) (allStrays d w) (from-zero (λ k. (12, k, 0)) (wrongRadius d w) (N# w) at-node)
+      (every-append P (radiusFaults d w) (allStrays d w) (from-zero (λ k. (12, k, 0)) (wrongReach d w) (N# w) at-node)
       (every-each P (nodeStrays d w) (range 0 (N# w))
       (at-every (λ k. Every P (nodeStrays d w k)) (N# w)
       (λ k h. one-pass (λ p. (13, k, p)) (strays d w k) (start# w k) (count# w k) (λ i l. at-member k i h l)))))))

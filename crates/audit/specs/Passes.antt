@@ -4,7 +4,7 @@ use Rattle.audit.specs.declared.Checked.{Checked}
 use Rattle.laws.specs.First.{First}
 use Rattle.laws.specs.Lists.{any, each, greatest, keep, range}
 use Rattle.limits.specs.Said.{Said}
-use Rattle.tree.specs.Check.{inRun, strays, wrongDist, wrongRadius}
+use Rattle.tree.specs.Check.{inRun, strays, wrongDist, wrongReach}
 use Rattle.words.specs.Shape.{inner}
 use Rattle.words.specs.Words.{N#, child#, count#, dist#, first#, m#, n#, row#, run#, start#}
 use lib.Dec.{eqb, ltb}
@@ -48,4 +48,4 @@ module _ (d : ℕ → ℕ → ℕ) (w : List ℕ) where
   unfoldable pub measuredFaults : List Said
   measuredFaults =
       map (λ p. (11, p, 0)) (keep (wrongDist d w) (range 0 (n# w)))
-      ++ (map (λ k. (12, k, 0)) (keep (wrongRadius d w) (range 0 (N# w))) ++ allStrays)
+      ++ (map (λ k. (12, k, 0)) (keep (wrongReach d w) (range 0 (N# w))) ++ allStrays)

@@ -20,7 +20,7 @@ use buffers::clear_words;
 use leaves::first_wrong_distance;
 use limits::table_number;
 use nearness::closeness;
-use radii::first_wrong_radius;
+use radii::first_wrong_reach;
 use repeats::first_again;
 use words::listing::index_number;
 use words::places::nodes;
@@ -61,7 +61,7 @@ fn measured_fault(table: &[u16], c: usize, index: &[u32]) -> Checked
             second: 0,
         };
     }
-    let k = first_wrong_radius(table, c, index);
+    let k = first_wrong_reach(table, c, index);
     if k < nodes(index) {
         return Checked {
             number: 12,

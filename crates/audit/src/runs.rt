@@ -2,8 +2,8 @@
 ghost use Prim.Native.Nat.{_+_, _<_, min};
 ghost use Rattle.audit.specs.Refusals.{Paired};
 ghost use Rattle.measure.specs.Table.{between};
-ghost use Rattle.words.specs.Words.{count#, n#, nodeAt, row#, start#};
-ghost use lib.ListN.{length};
+ghost use Rattle.words.specs.InShape.{Whole};
+ghost use Rattle.words.specs.Words.{N#, count#, n#, row#, start#};
 ghost use mathlib.Core.Path.{_≡_};
 use measure::row_distance;
 use words::places::node_count;
@@ -19,7 +19,8 @@ pub fn lesser(a: usize, b: usize) -> usize
 
 // The position after the last of node k's run.
 pub fn node_end(index: &[u32], k: usize) -> usize
-    requires { ⌜ nodeAt k + 3 < length (now index) ⌝ }
+    requires { ⌜ Whole (now index) ⌝ }
+    requires { ⌜ k < N# (now index) ⌝ }
     ensures { λ r. ⌜ r ≡ start# (now (index .entry)) k + count# (now (index .entry)) k ⌝ }
 {
     node_start(index, k) + node_count(index, k)

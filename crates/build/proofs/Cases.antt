@@ -19,8 +19,8 @@ use mathlib.Core.List.{List, [], _++_, _∷_, map}
 use mathlib.Core.Path.{_∙_, _≡_, ap, ap₂, refl}
 
 -- a table whose words are known and whose rooms are long enough
-comes : (T ws : List ℕ) → build T 1 2 2 ≡ ws → rowsOf T 1 ≡ length T
-    → ((room work : ℕ) → ltb room (10 * length T + 8) ≡ false → ltb work (6 * length T) ≡ false → saidBuild T 1 2 2 room work .0 ≡ 0) → Comes (T, ws)
+comes : (T ws : List ℕ) → build T 1 1 2 2 ≡ ws → rowsOf T 1 ≡ length T
+    → ((room work : ℕ) → ltb room (10 * length T + 8) ≡ false → ltb work (6 * length T) ≡ false → saidBuild T 1 1 2 2 room work .0 ≡ 0) → Comes (T, ws)
 comes T ws e n said room work room′ work′ number words count hr hw b =
     let z : number ≡ 0 =
     b .said ∙ said (length room) (length work) (le-ltb (length room) (10 * length T + 8) hr) (le-ltb (length work) (6 * length T) hw) in

@@ -7,9 +7,9 @@ use Rattle.build.specs.Levels.{Item, leafNode, levelOut, nextLevel, open
 use Rattle.build.specs.Stages.{Level, Tiled, withNodes}
 use Rattle.laws.specs.Lists.{each, joined, keep}
 use Rattle.measure.specs.Table.{between}
-use Rattle.tree.specs.Build.{radius}
+use Rattle.tree.specs.Build.{reach}
 use Rattle.tree.specs.Encode.{Node}
-use Rattle.words.specs.Words.{count#, nodeAt, start#}
+use Rattle.split.specs.Places.{count#, nodeAt, start#}
 use lib.Dec.{leb}
 use lib.ListN.{length, length-append, length-map}
 use mathlib.Core.Bool.{Bool, cond, not, true}
@@ -103,13 +103,13 @@ module _ {t : List ℕ} {c m l n : ℕ} {room₀ work₀ : List ℕ} {lo hi : �
     pub start-is : start# room k ≡ q .0
     start-is =
         ap₂ start# (half .nodes) (sym fore-long)
-        ∙ read-start (g .origin) header-fits (fore done) (q .0) (length (q .1)) 0 (radius d (q .1)) (rear done rest)
+        ∙ read-start (g .origin) header-fits (fore done) (q .0) (length (q .1)) 0 (reach d (q .1)) (rear done rest)
 
     -- and its count
     pub count-is : count# room k ≡ length (q .1)
     count-is =
         ap₂ count# (half .nodes) (sym fore-long)
-        ∙ read-count (g .origin) header-fits (fore done) (q .0) (length (q .1)) 0 (radius d (q .1)) (rear done rest)
+        ∙ read-count (g .origin) header-fits (fore done) (q .0) (length (q .1)) 0 (reach d (q .1)) (rear done rest)
 
     -- ---- it has at most l rows, and stays a leaf
     pub half-small : leb (length (q .1)) l ≡ true → Half (done ++ q ∷ []) rest past ahead room work made (k + 1)

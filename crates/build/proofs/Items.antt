@@ -3,7 +3,7 @@ use Prim.Native.Nat.{_+_, _≤_, suc, ℕ}
 use Rattle.build.specs.Levels.{Item, leafNode, levelOut, nextLevel, parts, placed}
 use Rattle.laws.proofs.Joins.{each-append}
 use Rattle.tree.proofs.Grow.{split-length}
-use Rattle.tree.specs.Build.{radius, split}
+use Rattle.tree.specs.Build.{reach, split}
 use Rattle.tree.specs.Encode.{Node}
 use lib.Dec.{leb}
 use lib.ListN.{length, length-append}
@@ -41,7 +41,7 @@ out-long d m l next [] = refl
 out-long d m l next (q ∷ qs) = go (leb (length (q .1)) l) (λ k. out-long d m l k qs)
   where
     go : (b : Bool) → ((k : ℕ) → length (levelOut d m l k qs) ≡ length qs)
-        → length (cond b (leafNode d m l q ∷ levelOut d m l next qs) ((q .0, length (q .1), next, radius d (q .1)) ∷ levelOut d m l (next + m) qs))
+        → length (cond b (leafNode d m l q ∷ levelOut d m l next qs) ((q .0, length (q .1), next, reach d (q .1)) ∷ levelOut d m l (next + m) qs))
         ≡ suc (length qs)
     go true ih = ap suc (ih next)
     go false ih = ap suc (ih (next + m))
@@ -49,7 +49,7 @@ out-long d m l next (q ∷ qs) = go (leb (length (q .1)) l) (λ k. out-long d m 
 module _ (d : ℕ → ℕ → ℕ) (m l : ℕ) (m1 : 1 ≤ m) (ml : m ≤ l) where
   -- an item's node once it has children, the first of them `next`
   abbrev inner : ℕ → Item → Node
-  inner next q = (q .0, length (q .1), next, radius d (q .1))
+  inner next q = (q .0, length (q .1), next, reach d (q .1))
 
   -- of two stretches of items, the second numbers its children after the first's
   pub out-append : (next : ℕ) (ps qs : List Item)
@@ -87,5 +87,5 @@ module _ (d : ℕ → ℕ → ℕ) (m l : ℕ) (m1 : 1 ≤ m) (ml : m ≤ l) whe
     -- any other has its first child's number
     pub out-large : leb (length (q .1)) l ≡ false
         → levelOut d m l next (done ++ q ∷ [])
-        ≡ levelOut d m l next done ++ (q .0, length (q .1), next + length (nextLevel d m l done), radius d (q .1)) ∷ []
+        ≡ levelOut d m l next done ++ (q .0, length (q .1), next + length (nextLevel d m l done), reach d (q .1)) ∷ []
     out-large e = out-last false e

@@ -9,7 +9,7 @@ use Rattle.laws.specs.Every.{Every}
 use Rattle.laws.specs.Lists.{each, head}
 use Rattle.limits.specs.Limits.{maxDepth}
 use Rattle.tree.proofs.Grow.{forest-span, forest-tally, split-length, split-runs, split-tally}
-use Rattle.tree.specs.Build.{Run, grow, leafOf, radius, split}
+use Rattle.tree.specs.Build.{Run, grow, leafOf, reach, split}
 use Rattle.tree.specs.Encode.{Node, below, broods, family, levelNodes, members, nodes, numbered, span}
 use Rattle.tree.specs.Grove.{Grove, bare, entries, fork, rowsIn}
 use borrow.Author.Tests.{leb-false}
@@ -51,7 +51,7 @@ module _ (d : ℕ → ℕ → ℕ) (m l : ℕ) (m1 : 1 ≤ m) (ml : m ≤ l) whe
   family-last : (next s : ℕ) (rs : List (List ℕ)) → family next s (forest zero rs) ≡ map (leafNode d m l) (placed s rs)
   unfolding family grow
   family-last next s [] = refl
-  family-last next s (r ∷ rs) = rw length-map (ap (λ (ns : List Node). (s, length r, 0, radius d r) ∷ ns) (family-last next (s + length r) rs))
+  family-last next s (r ∷ rs) = rw length-map (ap (λ (ns : List Node). (s, length r, 0, reach d r) ∷ ns) (family-last next (s + length r) rs))
 
   -- else they are the nodes of the level
   family-more : (deep next s : ℕ) (rs : List (List ℕ)) → Every Run rs → family next s (forest (suc deep) rs) ≡ levelOut d m l next (placed s rs)
@@ -60,13 +60,13 @@ module _ (d : ℕ → ℕ → ℕ) (m l : ℕ) (m1 : 1 ≤ m) (ml : m ≤ l) whe
   family-more deep next s (r ∷ rs) h = go (leb (length r) l) refl (λ k a. family-more deep k a rs (h .1))
     where
       go : (b : Bool) → leb (length r) l ≡ b → ((k a : ℕ) → family k a (forest (suc deep) rs) ≡ levelOut d m l k (placed a rs))
-          → family next s (cond b (leafOf d r (forest (suc deep) rs)) (fork (radius d r) (forest deep (split d m r)) (forest (suc deep) rs)))
-          ≡ cond b ((s, length r, 0, radius d r) ∷ levelOut d m l next (placed (s + length r) rs))
-          ((s, length r, next, radius d r) ∷ levelOut d m l (next + m) (placed (s + length r) rs))
-      go true e ih = rw length-map (ap (λ (ns : List Node). (s, length r, 0, radius d r) ∷ ns) (ih next (s + length r)))
+          → family next s (cond b (leafOf d r (forest (suc deep) rs)) (fork (reach d r) (forest deep (split d m r)) (forest (suc deep) rs)))
+          ≡ cond b ((s, length r, 0, reach d r) ∷ levelOut d m l next (placed (s + length r) rs))
+          ((s, length r, next, reach d r) ∷ levelOut d m l (next + m) (placed (s + length r) rs))
+      go true e ih = rw length-map (ap (λ (ns : List Node). (s, length r, 0, reach d r) ∷ ns) (ih next (s + length r)))
       go false e ih =
           rw (inner-long deep r (h .0) e, inner-span deep r)
-          (ap (λ (ns : List Node). (s, length r, next, radius d r) ∷ ns) (ih (next + m) (s + length r)))
+          (ap (λ (ns : List Node). (s, length r, next, reach d r) ∷ ns) (ih (next + m) (s + length r)))
 
   -- ---- the children's families
   -- a family's nodes
@@ -85,7 +85,7 @@ module _ (d : ℕ → ℕ → ℕ) (m l : ℕ) (m1 : 1 ≤ m) (ml : m ≤ l) whe
   broods-more deep s (r ∷ rs) h = go (leb (length r) l) refl (λ a. broods-more deep a rs (h .1))
     where
       go : (b : Bool) → leb (length r) l ≡ b → ((a : ℕ) → broods a (forest (suc deep) rs) ≡ map (famOf deep) (broodsOf a rs))
-          → broods s (cond b (leafOf d r (forest (suc deep) rs)) (fork (radius d r) (forest deep (split d m r)) (forest (suc deep) rs)))
+          → broods s (cond b (leafOf d r (forest (suc deep) rs)) (fork (reach d r) (forest deep (split d m r)) (forest (suc deep) rs)))
           ≡ map (famOf deep) (cond b (broodsOf (s + length r) rs) ((s, split d m r) ∷ broodsOf (s + length r) rs))
       go true e ih =
           let pair : ℕ → ℕ × ℕ = λ i. (i, d (head r) i) in

@@ -15,9 +15,9 @@ use Rattle.measure.specs.Table.{between}
 use Rattle.split.proofs.Laid.{split-joined}
 use Rattle.split.specs.Runs.{Splittable, Splitted}
 use Rattle.tree.proofs.Grow.{split-length}
-use Rattle.tree.specs.Build.{radius, split}
+use Rattle.tree.specs.Build.{reach, split}
 use Rattle.tree.specs.Encode.{Node}
-use Rattle.words.specs.Words.{count#, nodeAt, start#}
+use Rattle.split.specs.Places.{count#, nodeAt, start#}
 use borrow.Author.Tests.{leb-false, leb-true, lt-leb}
 use lib.Dec.{leb}
 use lib.ListN.{length, length-append, length-map, set}
@@ -136,7 +136,7 @@ module _ {t : List ℕ} {c m l n : ℕ} {room₀ work₀ : List ℕ} {lo hi : �
 
       -- ---- its node has its first child's number
       node : Node
-      node = (q .0, length (q .1), made, radius d (q .1))
+      node = (q .0, length (q .1), made, reach d (q .1))
 
       -- the nodes then
       abbrev nodes : List Node
@@ -147,7 +147,7 @@ module _ {t : List ℕ} {c m l n : ℕ} {room₀ work₀ : List ℕ} {lo hi : �
       unfolding node
       set-is =
           ap₂ (λ (x : List ℕ) (j : ℕ). set x (nodeAt j + 2) made) (half .nodes) (sym (fore-long g half))
-          ∙ child-set (g .origin) (header-fits g half) (fore g done) (q .0) (length (q .1)) 0 (radius d (q .1)) (rear g done rest) made
+          ∙ child-set (g .origin) (header-fits g half) (fore g done) (q .0) (length (q .1)) 0 (reach d (q .1)) (rear g done rest) made
 
       -- ---- its children
       -- their items
@@ -182,7 +182,7 @@ module _ {t : List ℕ} {c m l n : ℕ} {room₀ work₀ : List ℕ} {lo hi : �
       unfolding node
       out-is =
           out-large d m l (one g) (g .fit .leafy) hi done q large
-          ∙ ap (λ (j : ℕ). levelOut d m l hi done ++ (q .0, length (q .1), j, radius d (q .1)) ∷ []) (sym (half .count))
+          ∙ ap (λ (j : ℕ). levelOut d m l hi done ++ (q .0, length (q .1), j, reach d (q .1)) ∷ []) (sym (half .count))
 
       -- so that the nodes are those of the level with one item more opened
       nodes-are : nodes ++ new ≡ fore g (done ++ q ∷ []) ++ rear g (done ++ q ∷ []) rest

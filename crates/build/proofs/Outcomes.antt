@@ -16,7 +16,7 @@ use Rattle.measure.specs.Table.{rowsOf}
 use Rattle.tree.specs.Build.{build}
 use Rattle.tree.specs.Calls.{saidBuild}
 use Rattle.tree.specs.Encode.{encode}
-use Rattle.words.specs.Words.{nodeAt}
+use Rattle.split.specs.Places.{nodeAt}
 use borrow.Author.Tests.{ne-eqb}
 use lib.Dec.{eqb}
 use lib.ListN.{drop, length, take}
@@ -39,7 +39,7 @@ answer-refused m l e q = refused-is m l (ap told (sym e) ∙ q)
 -- ---- a refusal
 -- both rooms are as they were, and the counts are 0: the contract is met
 pub refused-builds : {T : List ℕ} {c m l : ℕ} {room work : List ℕ} {k number words nodes : ℕ}
-    → k ≡ saidBuild T c m l (length room) (length work) .0 → k ≢ 0 → (number ≡ k) × (words ≡ 0) × (nodes ≡ 0)
+    → k ≡ saidBuild T c 1 m l (length room) (length work) .0 → k ≢ 0 → (number ≡ k) × (words ≡ 0) × (nodes ≡ 0)
     → Builds T c m l room work room work number words nodes
 refused-builds {number = number} e h r =
     let f : eqb number 0 ≡ false = ne-eqb number 0 (λ q. h (sym (r .0) ∙ q)) in
@@ -53,7 +53,7 @@ refused-builds {number = number} e h r =
 -- ---- the index
 -- nothing is refused, and m′ and l′ are what the parameters hold
 pub record Passed (T : List ℕ) (c m l : ℕ) (room work : List ℕ) (m′ l′ : ℕ) : Type 0 where
-  pub none : saidBuild T c m l (length room) (length work) .0 ≡ 0
+  pub none : saidBuild T c 1 m l (length room) (length work) .0 ≡ 0
   pub centres : m′ ≡ m
   pub leaf : l′ ≡ l
 

@@ -5,7 +5,7 @@ use Rattle.build.specs.Levels.{leaves}
 use Rattle.laws.proofs.Joins.{each-append}
 use Rattle.laws.specs.Lists.{each, head}
 use Rattle.split.specs.Runs.{laid}
-use Rattle.tree.specs.Build.{grow, leafOf, radius, split}
+use Rattle.tree.specs.Build.{grow, leafOf, reach, split}
 use Rattle.tree.specs.Encode.{pairWords}
 use Rattle.tree.specs.Grove.{Grove, bare, entries, fork}
 use lib.Dec.{leb}
@@ -51,7 +51,7 @@ module _ (d : ℕ → ℕ → ℕ) (m l : ℕ) where
   entries-leaves (suc deep) run g = go (leb (length run) l) (entries-forest deep (λ r k. entries-leaves deep r k) (split d m run))
     where
       go : (b : Bool) → entries (foldr (grow d m l deep) bare (split d m run)) ≡ each (pairsOf d) (each (leaves d m l deep) (split d m run))
-          → entries (cond b (leafOf d run g) (fork (radius d run) (foldr (grow d m l deep) bare (split d m run)) g))
+          → entries (cond b (leafOf d run g) (fork (reach d run) (foldr (grow d m l deep) bare (split d m run)) g))
           ≡ each (pairsOf d) (cond b (run ∷ []) (each (leaves d m l deep) (split d m run))) ++ entries g
       go true h = ap (λ (es : List (ℕ × ℕ)). es ++ entries g) (sym (append-nil (pairsOf d run)))
       go false h = ap (λ (es : List (ℕ × ℕ)). es ++ entries g) h

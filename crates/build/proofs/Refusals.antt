@@ -12,7 +12,7 @@ use Rattle.tree.specs.Calls.{saidBuild}
 use borrow.Author.Tests.{ltb-false, not-false}
 use lib.Dec.{ltb}
 use lib.ListN.{length}
-use mathlib.Core.Bool.{Bool, false, not, true}
+use mathlib.Core.Bool.{Bool, and-true, false, not, true}
 use mathlib.Core.List.{List, _++_, append-assoc}
 use mathlib.Core.Path.{_∙_, _≡_, ap, sym}
 use native.Mathlib.Omega.{arith}
@@ -47,7 +47,7 @@ module _ (T : List ℕ) (c m l room work : ℕ) where
 
   -- what is said
   abbrev says : Said
-  says = saidBuild T c m l room work
+  says = saidBuild T c 1 m l room work
 
   -- the faults after m and l
   abbrev last : List Said
@@ -60,7 +60,7 @@ module _ (T : List ℕ) (c m l room work : ℕ) where
   -- one after the other they decide what is said
   in-turn : said (columnsFault c ++ next) ≡ says
   unfolding saidBuild
-  in-turn = simp append-assoc
+  in-turn = simp (append-assoc, and-true)
 
   -- ---- the returns in the code's order
   -- the columns are wrong

@@ -81,7 +81,7 @@ module _ {t : List ℕ} {c m l n : ℕ} {room work : List ℕ} (asked : Room t c
       → Rooted (between t c) m l n room (putMid 8 (length room - 8) room ys) work′
   root-stands {r} {work′} {ys} same told put =
       let fits : 8 ≤ length room = omega (arith, asked .space) in
-      let w : 0 ∷ n ∷ 0 ∷ r ∷ [] ≡ nodeWords (leafNode d m l (rootItem n)) =
+      let w : 0 ∷ n ∷ 0 ∷ r ∷ [] ≡ nodeWords 1 (leafNode d m l (rootItem n)) =
       ap₂ (λ (x y : ℕ). 0 ∷ x ∷ 0 ∷ y ∷ []) (sym (range-length 0 n)) (told .0 ∙ sym (root-radius d n some)) in
       record {
         nodes =

@@ -130,14 +130,14 @@ module _ (d : ℕ → ℕ → ℕ) (m l : ℕ) (m2 : 2 ≤ m) (ml : m ≤ l) whe
 
 module _ (T : List ℕ) (c m l : ℕ) (room work : List ℕ) where
   -- number 0: the numbers are in range
-  fit : saidBuild T c m l (length room) (length work) .0 ≡ 0 → Fit T c m l (rowsOf T c)
+  fit : saidBuild T c 1 m l (length room) (length work) .0 ≡ 0 → Fit T c m l (rowsOf T c)
   fit z =
       let passed : Passed T c m l room work m l = record { none = z; centres = refl; leaf = refl } in
       built-fit passed
 
   -- the index of any table that is not refused
-  built-small : saidBuild T c m l (length room) (length work) .0 ≡ 0
-      → (length (build T c m l) ≤ 10 * maxRows + 8) × (N# (build T c m l) ≤ 2 * maxRows)
+  built-small : saidBuild T c 1 m l (length room) (length work) .0 ≡ 0
+      → (length (build T c 1 m l) ≤ 10 * maxRows + 8) × (N# (build T c 1 m l) ≤ 2 * maxRows)
   unfolding build encode
   built-small z =
       let f = fit z in
@@ -150,7 +150,7 @@ pub build-small : {T : List ℕ} {c m l : ℕ} {room work room′ work′ : List
     → (words ≤ 10 * maxRows + 8) × (nodes ≤ 2 * maxRows)
 build-small {T} {c} {m} {l} {room} {work} {number = number} {words} {nodes} b = go (eqb number 0) refl (b .counted .0) (b .counted .1)
   where
-    go : (t : Bool) → eqb number 0 ≡ t → words ≡ cond t (length (build T c m l)) 0 → nodes ≡ cond t (N# (build T c m l)) 0
+    go : (t : Bool) → eqb number 0 ≡ t → words ≡ cond t (length (build T c 1 m l)) 0 → nodes ≡ cond t (N# (build T c 1 m l)) 0
         → (words ≤ 10 * maxRows + 8) × (nodes ≤ 2 * maxRows)
     go true e w k =
         let s = built-small T c m l room work (sym (b .said) ∙ eqb-true number 0 e) in

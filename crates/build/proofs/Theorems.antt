@@ -25,14 +25,14 @@ use native.Mathlib.Omega.{arith}
 -- ---- the definition's words
 module _ (T : List ℕ) (c m l : ℕ) where
   -- the header has the table's rows and columns
-  headed : shareOk m l ≡ true → (n# (build T c m l) ≡ rowsOf T c) × (c# (build T c m l) ≡ c)
+  headed : shareOk m l ≡ true → (n# (build T c 1 m l) ≡ rowsOf T c) × (c# (build T c 1 m l) ≡ c)
   unfolding build encode
   headed e =
       let s = shared m l e in
       (positions (between T c) m l (omega (arith, s .two)) (s .leafy) (rowsOf T c), refl)
 
   -- and asks for just the words that there are
-  just-words : length (build T c m l) ≡ wordsOf (build T c m l)
+  just-words : length (build T c 1 m l) ≡ wordsOf (build T c 1 m l)
   unfolding build encode
   just-words = encode-words c m l (plant (between T c) m l (rowsOf T c))
 
@@ -40,11 +40,11 @@ module _ (T : List ℕ) (c m l : ℕ) where
 module _ (T : List ℕ) (c m l : ℕ) (room work : List ℕ) where
   -- the index stands at the front of the room
   index-there : {room′ work′ : List ℕ} {number words nodes : ℕ} → Builds T c m l room work room′ work′ number words nodes → number ≡ 0
-      → take words room′ ≡ build T c m l
+      → take words room′ ≡ build T c 1 m l
   index-there {number = number} b z =
       let q : eqb number 0 ≡ true = eq-eqb number 0 z in
       ap₂ take (rw q at (b .counted .0)) (rw q at (b .index))
-      ∙ take-at (build T c m l) (drop (length (build T c m l)) room) (length (build T c m l)) refl
+      ∙ take-at (build T c 1 m l) (drop (length (build T c 1 m l)) room) (length (build T c 1 m l)) refl
 
   -- WHAT THE CALL WROTE IS ACCEPTED BY THE FULL CHECK
   pub build-accepted : (room′ work′ : List ℕ) (number words nodes : ℕ) → Builds T c m l room work room′ work′ number words nodes → number ≡ 0
@@ -53,7 +53,7 @@ module _ (T : List ℕ) (c m l : ℕ) (room work : List ℕ) where
   build-accepted room′ work′ number words nodes b z small =
       let C = clear T c m l (length room) (length work) (sym (b .said) ∙ z) in
       subst (Accepted (between T c)) (sym (index-there b z))
-      (words-accepted T c m l (sized-columns (length T) c (C .table)) (C .share) (C .table .rows) small)
+      (words-accepted T c 1 m l refl (sized-columns (length T) c (C .table)) (C .share) (C .table .rows) small)
 
   -- WHAT THE CALL WROTE IS THE TABLE'S INDEX: NO CALL REFUSES SUCH A TABLE, THE HEADER HAS ITS ROWS AND COLUMNS, AND ASKS FOR JUST THESE WORDS
   pub build-headed : {room′ work′ : List ℕ} {number words nodes : ℕ} → Builds T c m l room work room′ work′ number words nodes → number ≡ 0
@@ -70,7 +70,7 @@ module _ (T : List ℕ) (c m l : ℕ) (room work : List ℕ) where
       → (number₁ ≡ number₂) × (words₁ ≡ words₂) × (nodes₁ ≡ nodes₂) × (room₁ ≡ room₂) × (work₁ ≡ work₂)
   build-only room₁ work₁ room₂ work₂ number₁ words₁ nodes₁ number₂ words₂ nodes₂ a b =
       let n : number₁ ≡ number₂ = a .said ∙ sym (b .said) in
-      let B : List ℕ = build T c m l in
+      let B : List ℕ = build T c 1 m l in
       let k : ℕ = 6 * rowsOf T c in (
         n,
         a .counted .0 ∙ ap (λ (i : ℕ). cond (eqb i 0) (length B) 0) n ∙ sym (b .counted .0),

@@ -22,7 +22,7 @@ use Rattle.tree.proofs.Written.{each-words}
 use Rattle.tree.specs.Build.{plant}
 use Rattle.tree.specs.Encode.{Node, broods, encode, family, levelNodes, nodeWords, nodes, numbered, pairWords}
 use Rattle.tree.specs.Grove.{Grove, bare, entries, rowsIn}
-use Rattle.words.specs.Words.{nodeAt}
+use Rattle.split.specs.Places.{nodeAt}
 use borrow.Rule.Slice.PartMut.{midOf, putMid}
 use lib.ListN.{drop, length, length-append, length-map, replicate, take, take-append-drop}
 use lib.Seq.{drop-at, length-take-le}
@@ -33,10 +33,10 @@ use native.Mathlib.Nat.{add-zero}
 use native.Mathlib.Omega.{arith}
 
 -- 8 + 4N + 2n words, whatever the tree
-pub encode-words : (c m l : ℕ) (g : Grove) → length (encode c m l g) ≡ nodeAt (length (numbered g)) + 2 * length (entries g)
+pub encode-words : (c m l : ℕ) (g : Grove) → length (encode 1 c m l g) ≡ nodeAt (length (numbered g)) + 2 * length (entries g)
 unfolding encode
 encode-words c m l g =
-    omega (arith, length-append (each nodeWords (numbered g)) (each pairWords (entries g)), each-words (numbered g), pairs-length (entries g))
+    omega (arith, length-append (each (nodeWords 1) (numbered g)) (each pairWords (entries g)), each-words 1 (numbered g) (omega arith, omega arith), pairs-length (entries g))
 
 -- ---- the tree of n rows
 module _ (d : ℕ → ℕ → ℕ) (m l : ℕ) (m1 : 1 ≤ m) (ml : m ≤ l) where
@@ -68,7 +68,7 @@ module _ {t : List ℕ} {c m l n : ℕ} (fit : Fit t c m l n) where
 
   -- its index has 8 + 4N + 2n words
   pub encode-long : {made : ℕ} → made ≡ length (numbered (plant (between t c) m l n))
-      → length (encode c m l (plant (between t c) m l n)) ≡ nodeAt made + 2 * n
+      → length (encode 1 c m l (plant (between t c) m l n)) ≡ nodeAt made + 2 * n
   encode-long e = omega (arith, encode-words c m l (plant (between t c) m l n), positions (between t c) m l one (fit .leafy) n, e)
 
   -- THE LEVELS ARE THE TREE OF 01
@@ -101,27 +101,27 @@ module _ {t : List ℕ} {c m l n : ℕ} (fit : Fit t c m l n) {origin room work 
 
   -- the words before the positions
   abbrev front : List ℕ
-  front = headerOf n c m l made ++ each nodeWords ns
+  front = headerOf n c m l made ++ each (nodeWords 1) ns
 
   -- as far as the nodes' end
   front-long : length front ≡ nodeAt made
-  front-long = length-append (headerOf n c m l made) (each nodeWords ns) ∙ omega (arith, each-words ns, grown .count)
+  front-long = length-append (headerOf n c m l made) (each (nodeWords 1) ns) ∙ omega (arith, each-words 1 ns (omega arith, omega arith), grown .count)
 
   -- the header is written
   headed : {room₂ : List ℕ} → room₂ ≡ headerOf n c m l made ++ drop 8 room → room₂ ≡ front ++ drop (nodeAt made) origin
   headed e =
-      let behind : drop 8 room ≡ each nodeWords ns ++ drop (nodeAt (length ns)) origin =
+      let behind : drop 8 room ≡ each (nodeWords 1) ns ++ drop (nodeAt (length ns)) origin =
       ap (drop 8) (grown .nodes)
-      ∙ drop-at (take 8 origin) (each nodeWords ns ++ drop (nodeAt (length ns)) origin) 8 (length-take-le 8 origin (omega arith)) in
-      e ∙ ap (λ (x : List ℕ). headerOf n c m l made ++ x) (behind ∙ ap (λ (k : ℕ). each nodeWords ns ++ drop (nodeAt k) origin) (sym (grown .count)))
-      ∙ sym (append-assoc (headerOf n c m l made) (each nodeWords ns) (drop (nodeAt made) origin))
+      ∙ drop-at (take 8 origin) (each (nodeWords 1) ns ++ drop (nodeAt (length ns)) origin) 8 (length-take-le 8 origin (omega arith)) in
+      e ∙ ap (λ (x : List ℕ). headerOf n c m l made ++ x) (behind ∙ ap (λ (k : ℕ). each (nodeWords 1) ns ++ drop (nodeAt k) origin) (sym (grown .count)))
+      ∙ sym (append-assoc (headerOf n c m l made) (each (nodeWords 1) ns) (drop (nodeAt made) origin))
 
   -- with the positions they are the words of 01
-  words-are : front ++ each pairWords (entries tree) ≡ encode c m l tree
+  words-are : front ++ each pairWords (entries tree) ≡ encode 1 c m l tree
   unfolding encode
   words-are =
-      append-assoc (headerOf n c m l made) (each nodeWords ns) (each pairWords (entries tree))
-      ∙ ap₂ (λ (i j : ℕ). headerOf i c m l j ++ (each nodeWords ns ++ each pairWords (entries tree)))
+      append-assoc (headerOf n c m l made) (each (nodeWords 1) ns) (each pairWords (entries tree))
+      ∙ ap₂ (λ (i j : ℕ). headerOf i c m l j ++ (each (nodeWords 1) ns ++ each pairWords (entries tree)))
       (sym (positions (between t c) m l (one fit) (fit .leafy) n)) (grown .count)
 
   -- THE WHOLE INDEX STANDS IN THE ROOM

@@ -13,7 +13,7 @@ use mathlib.Core.Path.{_≡_}
 -- For every input: the number is the lowest that applies. On 0 the index of 01 stands at the front of the room and the first 6n words
 -- of the workspace are zero, both as they were beyond that; on a refusal both are as they were and the counts are 0
 pub record Builds (T : List ℕ) (c m l : ℕ) (room work room′ work′ : List ℕ) (number words nodes : ℕ) : Type 0 where
-  pub said : number ≡ saidBuild T c m l (length room) (length work) .0
-  pub counted : (words ≡ cond (eqb number 0) (length (build T c m l)) 0) × (nodes ≡ cond (eqb number 0) (N# (build T c m l)) 0)
-  pub index : room′ ≡ cond (eqb number 0) (build T c m l ++ drop (length (build T c m l)) room) room
+  pub said : number ≡ saidBuild T c 1 m l (length room) (length work) .0
+  pub counted : (words ≡ cond (eqb number 0) (length (build T c 1 m l)) 0) × (nodes ≡ cond (eqb number 0) (N# (build T c 1 m l)) 0)
+  pub index : room′ ≡ cond (eqb number 0) (build T c 1 m l ++ drop (length (build T c 1 m l)) room) room
   pub cleared : work′ ≡ cond (eqb number 0) (replicate (6 * rowsOf T c) 0 ++ drop (6 * rowsOf T c) work) work

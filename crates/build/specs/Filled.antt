@@ -75,7 +75,7 @@ pub record Grown (t : List ℕ) (c m l n : ℕ) (origin room work : List ℕ) (m
 
 -- the index stands in the room, and the workspace is cleared
 pub record Filled (t : List ℕ) (c m l n : ℕ) (room room′ work′ : List ℕ) (nodes : ℕ) : Type 0 where
-  pub index : room′ ≡ encode c m l (plant (between t c) m l n) ++ drop (length (encode c m l (plant (between t c) m l n))) room
+  pub index : room′ ≡ encode 1 c m l (plant (between t c) m l n) ++ drop (length (encode 1 c m l (plant (between t c) m l n))) room
   pub count : nodes ≡ length (numbered (plant (between t c) m l n))
   pub few : nodes ≤ 2 * n
   pub cleared : work′ ≡ replicate (6 * n) 0

@@ -1,7 +1,7 @@
 -- The tree level by level, as the code makes it: rows of runs, each where it stands. Assumes nothing.
 use Prim.Native.Nat.{_+_, suc, zero, ℕ}
 use Rattle.laws.specs.Lists.{each}
-use Rattle.tree.specs.Build.{radius, split}
+use Rattle.tree.specs.Build.{reach, split}
 use Rattle.tree.specs.Encode.{Node}
 use lib.Dec.{leb}
 use lib.ListN.{length}
@@ -24,7 +24,7 @@ waits l q = not (leb (length (q .1)) l)
 module _ (d : ℕ → ℕ → ℕ) (m l : ℕ) where
   -- an item's node while it has no children
   abbrev pub leafNode : Item → Node
-  leafNode q = (q .0, length (q .1), 0, radius d (q .1))
+  leafNode q = (q .0, length (q .1), 0, reach d (q .1))
 
   -- the items that an item is split into: none where it stays a leaf
   abbrev pub parts : Item → List Item
@@ -39,7 +39,7 @@ module _ (d : ℕ → ℕ → ℕ) (m l : ℕ) where
   levelOut next [] = []
   levelOut next (q ∷ qs) =
       let stays : List Node = leafNode q ∷ levelOut next qs in
-      let splits : List Node = (q .0, length (q .1), next, radius d (q .1)) ∷ levelOut (next + m) qs in
+      let splits : List Node = (q .0, length (q .1), next, reach d (q .1)) ∷ levelOut (next + m) qs in
       cond (leb (length (q .1)) l) stays splits
 
   -- the items of the level below

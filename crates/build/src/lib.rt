@@ -19,14 +19,13 @@ use limits::Params;
 use limits::columns_ok;
 use limits::length_number;
 use measure::row_distance;
+use split::groups::WIDTH;
 use split::groups::greater;
 use split::groups::put_node;
 use split::groups::split_run;
 use split::rounds::put_entry;
 use words::places::HEADER;
-use words::places::WIDTH;
-use words::places::node_count;
-use words::places::node_start;
+use words::places::word;
 
 // What the build says: the number, how many words were written, and how many nodes they hold.
 pub struct Built {
@@ -79,8 +78,8 @@ fn open_node(
     requires { ⌜ Openable (now table) c m l n (now room) (now work) k made ⌝ }
     ensures { λ r. ⌜ Opened (now (table .entry)) c m l n (now (room .entry)) (now (work .entry)) k made (now (room .exit)) (now (work .exit)) r ⌝ }
 {
-    let s = node_start(room, k);
-    let count = node_count(room, k);
+    let s = word(room, HEADER + WIDTH * k);
+    let count = word(room, HEADER + WIDTH * k + 1);
     if count <= l {
         return made;
     }

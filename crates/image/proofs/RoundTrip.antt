@@ -12,7 +12,7 @@ use Rattle.image.specs.Sound.{restZero}
 use Rattle.laws.proofs.Tests.{and-l, and-r, holds, is-true}
 use Rattle.laws.specs.Lists.{all, range}
 use Rattle.limits.specs.Said.{Said, fault, said}
-use Rattle.words.proofs.InShape.{whole}
+use Rattle.words.proofs.InShape.{header-possible, whole}
 use Rattle.words.specs.Image.{blocks, blocksFor, image, imageFaults, imageTotal, imageWord, imageWords, saidWrite}
 use Rattle.words.specs.Words.{at, headerOk, wordsOf, wordsOk}
 use borrow.Author.Tests.{le-ltb, leb-false, leb-true}
@@ -34,15 +34,7 @@ header-take w =
 
 -- the number of words that a header asks for is told by the first eight words
 total-take : (w : List ℕ) → wordsOf (take 8 w) ≡ wordsOf w
-total-take w = rw (getD-take 8 w 1 0 (lit< tt), getD-take 8 w 5 0 (lit< tt))
-
--- an index's words have a possible header
-header-is : (w : List ℕ) → wordsOk w ≡ true → headerOk w ≡ true
-unfolding wordsOk
-header-is w e =
-    let a = leb 8 (length w) in
-    let b = leb (wordsOf w) (length w) in
-    is-true (headerOk w) (and-r a (headerOk w) (and-l (a && headerOk w) b (holds (a && headerOk w && b) e)))
+total-take w = rw (getD-take 8 w 0 0 (lit< tt), getD-take 8 w 1 0 (lit< tt), getD-take 8 w 5 0 (lit< tt))
 
 -- the first entries of words are words
 below-take : (n k : ℕ) (l : List ℕ) → 1 ≤ k → Below k l → Below k (take n l)
@@ -117,7 +109,7 @@ module _ (w : List ℕ) (ok : wordsOk w ≡ true) (small : Below (2 ^ 32) w) whe
   image-sound =
       let l = image-size in
       by-held (image w) (λ e. omega (arith, some)) (omega arith) (ap₂ (λ i n. wrongBlocks i 0 n) image-is size-blocks ∙ none-wrong ws k low)
-      ∙ none-held (image w) (ap headerOk heads ∙ header-take w ∙ header-is w ok) (size-blocks ∙ ap blocksFor (sym total-is)) rest-is
+      ∙ none-held (image w) (ap headerOk heads ∙ header-take w ∙ header-possible w ok) (size-blocks ∙ ap blocksFor (sym total-is)) rest-is
 
   -- AND ITS WORDS ARE THE INDEX'S
   pub image-words : imageWords (image w) (imageTotal (image w)) ≡ take (wordsOf w) w

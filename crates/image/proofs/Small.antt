@@ -9,10 +9,11 @@ use Rattle.image.specs.Sound.{restZero}
 use Rattle.laws.proofs.Tests.{holds}
 use Rattle.limits.specs.Limits.{maxRows}
 use Rattle.limits.specs.Said.{Said, fault, said}
-use Rattle.words.proofs.Headers.{bad-nodes, bad-rows}
+use Rattle.words.proofs.Headers.{bad-nodes, bad-rows, nodes-words}
 use Rattle.words.proofs.InShape.{nodes-are, whole}
+use Rattle.words.proofs.Strides.{words-few as few-words}
 use Rattle.words.specs.Image.{blocksFor, imageFaults, imageTotal, imageWords, saidRead}
-use Rattle.words.specs.Words.{N#, headerOk, n#, nodesOk, wordsOf, wordsOk}
+use Rattle.words.specs.Words.{N#, edition#, headerOk, n#, nodesOk, width, wordsOf, wordsOk}
 use borrow.Author.Tests.{eqb-true}
 use lib.Dec.{eqb, ltb}
 use lib.ListN.{length}
@@ -25,7 +26,7 @@ use native.Mathlib.Omega.{arith}
 
 -- ---- writing
 -- the greatest index needs no more blocks than the most rows
-blocks-few : (t : ℕ) → t ≤ 10 * maxRows + 8 → blocksFor t ≤ maxRows
+blocks-few : (t : ℕ) → t ≤ 12 * maxRows + 8 → blocksFor t ≤ maxRows
 unfolding blocksFor
 blocks-few t h = omega arith
 
@@ -42,7 +43,7 @@ write-small {w} {before} {after} {number} {blocks} r = by-words (wordsOk w) refl
     by-words : (b : Bool) → wordsOk w ≡ b → blocks ≤ maxRows
     by-words true e =
         let W = whole w e in
-        counted (eqb number 0) (r .counted) (blocks-few (wordsOf w) (omega (arith, W .rows, W .nodes)))
+        counted (eqb number 0) (r .counted) (blocks-few (wordsOf w) (omega (arith, W .rows, few-words w W)))
     by-words false e = omega (arith, write-only w before after before number 16 blocks 0 r (writes-sixteen w before e) .1)
 
 -- WRITING: 0 says that no word of the index is missing
@@ -51,8 +52,8 @@ write-whole {w} {before} r = whole w (written-ok w (length before) (sym (r .said
 
 -- ---- reading
 -- a possible header asks for no more words than the greatest index has
-words-few : (w : List ℕ) → headerOk w ≡ true → wordsOf w ≤ 10 * maxRows + 8
-words-few w e = omega (arith, rows, nodes (nodesOk (n# w) (N# w)) refl)
+words-few : (w : List ℕ) → headerOk w ≡ true → wordsOf w ≤ 12 * maxRows + 8
+words-few w e = omega (arith, rows, nodes (nodesOk (n# w) (N# w)) refl, nodes-words w {a = width (edition# w)} {b = N# w} e refl refl .1)
   where
     -- no more rows than there may be
     rows : n# w ≤ maxRows
@@ -98,14 +99,14 @@ read-placed {i} {before} r h =
     go false [] false false false h = refl
 
 -- an image with a possible header asks for no more either
-total-few : (i : List ℕ) → headerOk (imageWords i 8) ≡ true → imageTotal i ≤ 10 * maxRows + 8
+total-few : (i : List ℕ) → headerOk (imageWords i 8) ≡ true → imageTotal i ≤ 12 * maxRows + 8
 unfolding imageTotal
 total-few i h = words-few (imageWords i 8) h
 
 -- READING: no more words than the greatest index has, so that 32 bits hold their number
-pub read-small : {i before after : List ℕ} {number place words : ℕ} → Reads i before after number place words → words ≤ 10 * maxRows + 8
+pub read-small : {i before after : List ℕ} {number place words : ℕ} → Reads i before after number place words → words ≤ 12 * maxRows + 8
 read-small {i} {before} {number = number} {words = words} r = go (eqb number 0) refl (r .counted)
   where
-    go : (b : Bool) → eqb number 0 ≡ b → words ≡ cond b (imageTotal i) 0 → words ≤ 10 * maxRows + 8
+    go : (b : Bool) → eqb number 0 ≡ b → words ≡ cond b (imageTotal i) 0 → words ≤ 12 * maxRows + 8
     go true e q = omega (arith, total-few i (read-header i (length before) (sym (r .said) ∙ eqb-true number 0 e)))
     go false e q = omega arith

@@ -1,14 +1,15 @@
 // A word and its four bytes, the lowest first, and where the index words stand in the blocks.
 ghost use Prim.Native.Nat.{_*_, _+_, _/_, _<_, _≤_};
 ghost use Rattle.words.specs.Image.{blocksFor, bytes, imageWord, wordAt};
-ghost use Rattle.words.specs.Words.{at, wordsOf};
+ghost use Rattle.words.specs.Words.{at, headerOk, wordsOf};
 ghost use lib.ListN.{drop, length};
+ghost use mathlib.Core.Bool.{true};
 ghost use mathlib.Core.List.{_++_};
 ghost use mathlib.Core.Path.{_≡_};
 use words::places::HEADER;
-use words::places::WIDTH;
 use words::places::nodes;
 use words::places::rows;
+use words::places::width;
 
 // The bytes of a block.
 pub const BLOCK: usize = 512;
@@ -16,12 +17,12 @@ pub const BLOCK: usize = 512;
 // How many index words a block holds.
 pub const HELD: usize = 127;
 
-// How many words the header at the front of these asks for: below 2^35, whatever its numbers are.
+// How many words the header at the front of these asks for: below 2^35.
 pub fn words_of(header: &[u32]) -> usize
-    requires { ⌜ 8 ≤ length (now header) ⌝ }
+    requires { ⌜ (8 ≤ length (now header)) × (headerOk (now header) ≡ true) ⌝ }
     ensures { λ r. ⌜ (r ≡ wordsOf (now (header .entry))) × (r < 34359738368) ⌝ }
 {
-    HEADER + WIDTH * nodes(header) + 2 * rows(header)
+    HEADER + width(header) * nodes(header) + 2 * rows(header)
 }
 
 // How many blocks hold t words: below 2^32.

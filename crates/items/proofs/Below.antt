@@ -11,12 +11,12 @@ use Rattle.laws.specs.Upto.{sumTo}
 use Rattle.limits.specs.Limits.{maxDepth}
 use Rattle.tree.proofs.Forks.{as-fork, as-leaf, forkNode, kids-first, kidsAt, leafNode, no-levels}
 use Rattle.tree.proofs.Members.{kids-firsts, run-first}
-use Rattle.tree.specs.Grove.{Grove, bare, first, firsts, fork, leaf, members#, treeAt}
+use Rattle.tree.specs.Grove.{Grove, Reach, bare, first, firsts, fork, leaf, members#, reach#, treeAt}
 use Rattle.tree.specs.Homes.{childBound, homesIn, nearestOf, rowBound}
 use Rattle.words.proofs.InShape.{left-root}
 use Rattle.words.specs.InShape.{InShape, Kids, Left}
 use Rattle.words.specs.Shape.{inner}
-use Rattle.words.specs.Words.{N#, child#, count#, dist#, first#, m#, radius#, row#, start#}
+use Rattle.words.specs.Words.{N#, child#, count#, dist#, first#, m#, row#, start#}
 use mathlib.Core.Bool.{Bool, false, true}
 use mathlib.Core.List.{List, _++_, foldr, map}
 use mathlib.Core.Path.{_∙_, _≡_, ap, ap₂, refl, subst, sym}
@@ -36,12 +36,12 @@ total-rest f g j (suc k) =
 -- ---- the homes of nodes side by side
 module _ (x : ℕ → ℕ) (f : ℕ × ℕ → ℕ) where
   -- where there is no node there is no home
-  bare-total : (β : ℕ → ℕ → ℕ) → total f (homesIn x β bare) ≡ 0
+  bare-total : (β : ℕ → Reach → ℕ) → total f (homesIn x β bare) ≡ 0
   unfolding homesIn
   bare-total β = refl
 
   -- a leaf and those after it: its rows but the first, each under its own bound, and theirs
-  leaf-total : (β : ℕ → ℕ → ℕ) (R : ℕ) (es : List (ℕ × ℕ)) (g : Grove) → total f (homesIn x β (leaf R es g))
+  leaf-total : (β : ℕ → Reach → ℕ) (R : Reach) (es : List (ℕ × ℕ)) (g : Grove) → total f (homesIn x β (leaf R es g))
       ≡ total f (map (λ e. (e .0, rowBound x (β (x (head (map (λ e. e .0) es))) R) (head (map (λ e. e .0) es)) e)) (rest es))
       + total f (homesIn x β g)
   unfolding homesIn
@@ -49,7 +49,7 @@ module _ (x : ℕ → ℕ) (f : ℕ × ℕ → ℕ) where
       total-append f (map (λ e. (e .0, rowBound x (β (x (head (map (λ e. e .0) es))) R) (head (map (λ e. e .0) es)) e)) (rest es)) (homesIn x β g)
 
   -- an inner node and those after it: its centres but the first under its own bound, what is below its children, and theirs
-  fork-total : (β : ℕ → ℕ → ℕ) (R : ℕ) (ks g : Grove) → total f (homesIn x β (fork R ks g))
+  fork-total : (β : ℕ → Reach → ℕ) (R : Reach) (ks g : Grove) → total f (homesIn x β (fork R ks g))
       ≡ total f (map (λ r. (r, β (x (first ks)) R)) (rest (firsts ks))) + total f (homesIn x (childBound (β (x (first ks)) R) (nearestOf x ks)) ks)
       + total f (homesIn x β g)
   unfolding homesIn
@@ -59,17 +59,17 @@ module _ (x : ℕ → ℕ) (f : ℕ × ℕ → ℕ) where
       omega (arith, total-append f (a ++ b) (homesIn x β g), total-append f a b)
 
   -- a leaf, and those after it: the leaf stands alone under the bound that it has
-  leaf-alone : (β : ℕ → ℕ → ℕ) (R : ℕ) (es : List (ℕ × ℕ)) (g : Grove) → total f (homesIn x β (leaf R es g))
+  leaf-alone : (β : ℕ → Reach → ℕ) (R : Reach) (es : List (ℕ × ℕ)) (g : Grove) → total f (homesIn x β (leaf R es g))
       ≡ total f (homesIn x (λ u v. β (x (head (map (λ e. e .0) es))) R) (leaf R es bare)) + total f (homesIn x β g)
   leaf-alone β R es g =
-      let γ : ℕ → ℕ → ℕ = λ u v. β (x (head (map (λ e. e .0) es))) R in
+      let γ : ℕ → Reach → ℕ = λ u v. β (x (head (map (λ e. e .0) es))) R in
       omega (arith, leaf-total β R es g, leaf-total γ R es bare, bare-total γ)
 
   -- an inner node, and those after it: it stands alone under the bound that it has
-  fork-alone : (β : ℕ → ℕ → ℕ) (R : ℕ) (ks g : Grove)
+  fork-alone : (β : ℕ → Reach → ℕ) (R : Reach) (ks g : Grove)
       → total f (homesIn x β (fork R ks g)) ≡ total f (homesIn x (λ u v. β (x (first ks)) R) (fork R ks bare)) + total f (homesIn x β g)
   fork-alone β R ks g =
-      let γ : ℕ → ℕ → ℕ = λ u v. β (x (first ks)) R in
+      let γ : ℕ → Reach → ℕ = λ u v. β (x (first ks)) R in
       omega (arith, fork-total β R ks g, fork-total γ R ks bare, bare-total γ)
 
 -- ---- node k as a grove
@@ -95,7 +95,7 @@ module _ (w : List ℕ) where
             let K : Kids w k = S .node k h .kids e in
             let z : suc deep - 1 ≡ deep = omega arith in
             as-fork w deep k g e
-            ∙ ap (λ (ks : Grove). fork (radius# w k) ks g)
+            ∙ ap (λ (ks : Grove). fork (reach# w k) ks g)
             (fold-same (treeAt w deep) (treeAt w (suc deep)) (child# w k) (m# w)
             (λ i f q. ih (child# w k + i) f (omega (arith, K .inside)) (subst (λ (d : ℕ). Left w d (child# w k + i)) z (K .down (suc deep) i l))))
             ∙ sym (as-fork w (suc deep) k g e)
@@ -108,7 +108,7 @@ module _ (w : List ℕ) where
 
     -- the bound of its i-th child, its own being b
     abbrev pub kidBound : ℕ → ℕ → ℕ → ℕ
-    kidBound k b i = childBound b (nearestTo k) (x (first# w (child# w k + i))) (radius# w (child# w k + i))
+    kidBound k b i = childBound b (nearestTo k) (x (first# w (child# w k + i))) (reach# w (child# w k + i))
 
   module _ (x : ℕ → ℕ) (f : ℕ × ℕ → ℕ) where
     -- the rows at home below node k, whose bound is b, by their weight, where it is read as at most `deep` levels
@@ -121,40 +121,40 @@ module _ (w : List ℕ) where
 
     module _ (S : InShape w) where
       -- A NODE'S PART OF THE TOTAL: what is below it under the bound that it has
-      node-total : (deep k : ℕ) (β : ℕ → ℕ → ℕ) (g : Grove) → k < N# w
-          → total f (homesIn x β (treeAt w deep k g)) ≡ belowAt deep k (β (x (first# w k)) (radius# w k)) + total f (homesIn x β g)
+      node-total : (deep k : ℕ) (β : ℕ → Reach → ℕ) (g : Grove) → k < N# w
+          → total f (homesIn x β (treeAt w deep k g)) ≡ belowAt deep k (β (x (first# w k)) (reach# w k)) + total f (homesIn x β g)
       unfolding belowAt
       node-total deep k β g h = go deep
         where
           by-leaf : (deep : ℕ) → ((g : Grove) → treeAt w deep k g ≡ leafNode w k g)
-              → total f (homesIn x β (treeAt w deep k g)) ≡ belowAt deep k (β (x (first# w k)) (radius# w k)) + total f (homesIn x β g)
+              → total f (homesIn x β (treeAt w deep k g)) ≡ belowAt deep k (β (x (first# w k)) (reach# w k)) + total f (homesIn x β g)
           by-leaf deep e =
-              ap (λ (t : Grove). total f (homesIn x β t)) (e g) ∙ leaf-alone x f β (radius# w k) (members# w k) g
+              ap (λ (t : Grove). total f (homesIn x β t)) (e g) ∙ leaf-alone x f β (reach# w k) (members# w k) g
               ∙ ap (λ (z : ℕ). z + total f (homesIn x β g))
-              (ap (λ (i : ℕ). total f (homesIn x (λ u v. β (x i) (radius# w k)) (leafNode w k bare)))
+              (ap (λ (i : ℕ). total f (homesIn x (λ u v. β (x i) (reach# w k)) (leafNode w k bare)))
               (run-first w S (start# w k) (count# w k) (S .node k h .some))
-              ∙ ap (λ (t : Grove). total f (homesIn x (λ u v. β (x (first# w k)) (radius# w k)) t)) (sym (e bare)))
+              ∙ ap (λ (t : Grove). total f (homesIn x (λ u v. β (x (first# w k)) (reach# w k)) t)) (sym (e bare)))
 
           by-fork : (deep : ℕ) → inner w k ≡ true
-              → total f (homesIn x β (treeAt w (suc deep) k g)) ≡ belowAt (suc deep) k (β (x (first# w k)) (radius# w k)) + total f (homesIn x β g)
+              → total f (homesIn x β (treeAt w (suc deep) k g)) ≡ belowAt (suc deep) k (β (x (first# w k)) (reach# w k)) + total f (homesIn x β g)
           by-fork deep e =
-              ap (λ (t : Grove). total f (homesIn x β t)) (as-fork w deep k g e) ∙ fork-alone x f β (radius# w k) (kidsAt w deep k) g
+              ap (λ (t : Grove). total f (homesIn x β t)) (as-fork w deep k g e) ∙ fork-alone x f β (reach# w k) (kidsAt w deep k) g
               ∙ ap (λ (z : ℕ). z + total f (homesIn x β g))
-              (ap (λ (i : ℕ). total f (homesIn x (λ u v. β (x i) (radius# w k)) (forkNode w deep k bare))) (kids-first w S deep k h e)
-              ∙ ap (λ (t : Grove). total f (homesIn x (λ u v. β (x (first# w k)) (radius# w k)) t)) (sym (as-fork w deep k bare e)))
+              (ap (λ (i : ℕ). total f (homesIn x (λ u v. β (x i) (reach# w k)) (forkNode w deep k bare))) (kids-first w S deep k h e)
+              ∙ ap (λ (t : Grove). total f (homesIn x (λ u v. β (x (first# w k)) (reach# w k)) t)) (sym (as-fork w deep k bare e)))
 
           at : (deep : ℕ) (b : Bool) → inner w k ≡ b
-              → total f (homesIn x β (treeAt w (suc deep) k g)) ≡ belowAt (suc deep) k (β (x (first# w k)) (radius# w k)) + total f (homesIn x β g)
+              → total f (homesIn x β (treeAt w (suc deep) k g)) ≡ belowAt (suc deep) k (β (x (first# w k)) (reach# w k)) + total f (homesIn x β g)
           at deep true e = by-fork deep e
           at deep false e = by-leaf (suc deep) (λ g. as-leaf w (suc deep) k g e)
 
-          go : (deep : ℕ) → total f (homesIn x β (treeAt w deep k g)) ≡ belowAt deep k (β (x (first# w k)) (radius# w k)) + total f (homesIn x β g)
+          go : (deep : ℕ) → total f (homesIn x β (treeAt w deep k g)) ≡ belowAt deep k (β (x (first# w k)) (reach# w k)) + total f (homesIn x β g)
           go zero = by-leaf zero (no-levels w k)
           go (suc deep) = at deep (inner w k) refl
 
       -- nodes side by side: what is below each under the bound that it has
-      kids-total : (deep j m : ℕ) (β : ℕ → ℕ → ℕ) → j + m ≤ N# w → total f (homesIn x β (foldr (treeAt w deep) bare (range j m)))
-          ≡ sumTo (λ (i : ℕ). belowAt deep (j + i) (β (x (first# w (j + i))) (radius# w (j + i)))) m
+      kids-total : (deep j m : ℕ) (β : ℕ → Reach → ℕ) → j + m ≤ N# w → total f (homesIn x β (foldr (treeAt w deep) bare (range j m)))
+          ≡ sumTo (λ (i : ℕ). belowAt deep (j + i) (β (x (first# w (j + i))) (reach# w (j + i)))) m
       unfolding sumTo
       kids-total deep j zero β h = bare-total x f β
       kids-total deep j (suc m) β h =
@@ -162,7 +162,7 @@ module _ (w : List ℕ) where
             arith,
             node-total deep j β (foldr (treeAt w deep) bare (range (suc j) m)) (omega arith),
             kids-total deep (suc j) m β (omega arith),
-            sum-from (λ (k : ℕ). belowAt deep k (β (x (first# w k)) (radius# w k))) j m,
+            sum-from (λ (k : ℕ). belowAt deep k (β (x (first# w k)) (reach# w k))) j m,
           )
 
       -- BELOW A LEAF: its rows but the first, each under its own bound
@@ -172,7 +172,7 @@ module _ (w : List ℕ) where
       leaf-below k b h e =
           let home : ℕ → ℕ × ℕ → ℕ × ℕ = λ i e. (e .0, rowBound x b i e) in
           let es : List (ℕ × ℕ) = members# w k in
-          ap (λ (t : Grove). total f (homesIn x (λ u v. b) t)) (as-leaf w maxDepth k bare e) ∙ leaf-total x f (λ u v. b) (radius# w k) es bare
+          ap (λ (t : Grove). total f (homesIn x (λ u v. b) t)) (as-leaf w maxDepth k bare e) ∙ leaf-total x f (λ u v. b) (reach# w k) es bare
           ∙ ap₂ (λ (a c : ℕ). a + c)
           (ap (λ (i : ℕ). total f (map (home i) (rest es))) (run-first w S (start# w k) (count# w k) (S .node k h .some))
           ∙ total-map f (home (first# w k)) (rest es)
@@ -204,7 +204,7 @@ module _ (w : List ℕ) where
           + sumTo (λ (i : ℕ). belowAt 23 (child# w k + i) (kidBound x k b i)) (m# w)
       unfolding below
       fork-parts k b h e =
-          ap (λ (t : Grove). total f (homesIn x (λ u v. b) t)) (as-fork w 23 k bare e) ∙ fork-total x f (λ u v. b) (radius# w k) (kidsAt w 23 k) bare
+          ap (λ (t : Grove). total f (homesIn x (λ u v. b) t)) (as-fork w 23 k bare e) ∙ fork-total x f (λ u v. b) (reach# w k) (kidsAt w 23 k) bare
           ∙ ap₂ (λ (a c : ℕ). a + c) (ap₂ (λ (a c : ℕ). a + c) centres kids) (bare-total x f (λ u v. b))
           ∙ omega arith
         where

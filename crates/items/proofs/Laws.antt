@@ -12,10 +12,11 @@ use Rattle.laws.proofs.Sums.{sum-below-zero}
 use Rattle.laws.specs.Bags.{is, total, upto}
 use Rattle.laws.specs.Lists.{gap}
 use Rattle.laws.specs.Upto.{sumTo}
+use Rattle.tree.specs.Grove.{reach#}
 use Rattle.tree.specs.Homes.{childBound}
 use Rattle.words.specs.InShape.{InShape}
 use Rattle.words.specs.Shape.{inner}
-use Rattle.words.specs.Words.{N#, child#, count#, first#, m#, n#, radius#, row#, start#}
+use Rattle.words.specs.Words.{N#, child#, count#, first#, m#, n#, row#, start#}
 use mathlib.Core.Bool.{false, true}
 use mathlib.Core.List.{List}
 use mathlib.Core.Path.{_∙_, _≡_, ap, ap₂, refl, subst, sym}
@@ -123,7 +124,7 @@ module _ (w : List ℕ) (hb : ℕ → ℕ) where
 
                   bounds : below w x off (q + j) (boundOf (childOf w x q b u j)) ≡ 0
                   bounds =
-                      sym (ap (below w x off (q + j)) (ap₂ (λ (v z : ℕ). childBound b z v (radius# w (q + j))) (sym (true-centre j)) near)) ∙ part
+                      sym (ap (below w x off (q + j)) (ap₂ (λ (v z : ℕ). childBound b z v (reach# w (q + j))) (sym (true-centre j)) near)) ∙ part
 
         -- a row that it measures has its bound as home bound, q being its first child's number
         home-at : (r q : ℕ) → child# w k ≡ q → 0 < measuresAt w q r → off (r, b) ≡ 0

@@ -1,5 +1,5 @@
 -- What taking an item does, by the shape alone: the rows under it are shared out, its bound does not fall, its size does. Assumes nothing.
-use Prim.Native.Nat.{_+_, _-_, _<_, _≤_, suc, zero, ℕ}
+use Prim.Native.Nat.{_+_, _-_, _<_, _≤_, max, suc, zero, ℕ}
 use Rattle.items.proofs.Leasts.{least-same}
 use Rattle.items.specs.Items.{Item, boundOf, centreAt, childOf, measuredBy, measuresAt, node, openedBy, opensAt, place, placeOf, waitsNode, waitsOf}
 use Rattle.laws.proofs.Bags.{total-upto, upto-same}
@@ -35,6 +35,10 @@ tile-from w j (suc m) s e (suc i) t h =
 tile-whole : (w : List ℕ) (j m s e : ℕ) → T (tile w j m s e) → s + sumTo (λ (u : ℕ). count# w (j + u)) m ≡ e
 tile-whole w j zero s e t = omega (arith, tile-none w j s e t, sum-none (λ (u : ℕ). count# w (j + u)))
 tile-whole w j (suc m) s e t = omega (arith, sum-from (count# w) j m, tile-whole w (suc j) m (s + count# w j) e (tile-tail w j m s e t))
+
+-- the greater of two is no less than the first
+rises : (b z : ℕ) → b - max b z ≡ 0
+rises b z = omega arith
 
 module _ (w : List ℕ) where
   -- ---- a node's run
@@ -164,7 +168,7 @@ module _ (w : List ℕ) where
             ∙ sum-below-zero (λ (j : ℕ). b - boundOf (placeOf w k b x j)) (count# w k - 1) (λ j l. omega arith)
         go (suc q) =
             total-upto (λ (j : Item). b - boundOf j) (childOf w d (suc q) b x) (m# w)
-            ∙ sum-below-zero (λ (j : ℕ). b - boundOf (childOf w d (suc q) b x j)) (m# w) (λ j l. omega arith)
+            ∙ sum-below-zero (λ (j : ℕ). b - boundOf (childOf w d (suc q) b x j)) (m# w) (λ j l. rises b _)
     item-rises (place p b) = refl
 
     module _ (S : InShape w) where

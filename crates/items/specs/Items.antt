@@ -5,8 +5,9 @@ use Rattle.best.specs.Search.{Space}
 use Rattle.laws.specs.Bags.{is, upto}
 use Rattle.laws.specs.Lists.{gap}
 use Rattle.laws.specs.Upto.{sumTo}
+use Rattle.tree.specs.Grove.{reach#}
 use Rattle.tree.specs.Homes.{childBound}
-use Rattle.words.specs.Words.{child#, count#, dist#, first#, m#, n#, radius#, row#, start#}
+use Rattle.words.specs.Words.{child#, count#, dist#, first#, m#, n#, row#, start#}
 use mathlib.Core.List.{List, []}
 
 -- What waits: node k under the bound b, with its first at x; or position p of an opened leaf under its own bound b.
@@ -37,7 +38,7 @@ module _ (w : List ℕ) where
 
   -- child j waits with its first's distance, under the bound that follows from b, its parent's
   abbrev pub childOf : (ℕ → ℕ) → ℕ → ℕ → ℕ → ℕ → Item
-  childOf d q b x j = node (q + j) (childBound b (nearestAt d q x) (centreAt d q x j) (radius# w (q + j))) (centreAt d q x j)
+  childOf d q b x j = node (q + j) (childBound b (nearestAt d q x) (centreAt d q x j) (reach# w (q + j))) (centreAt d q x j)
 
   -- ---- a leaf's rows but its first, where the leaf has the bound b and its first is at x
   -- the bound of the row at position p

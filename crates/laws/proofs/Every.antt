@@ -1,8 +1,8 @@
 -- Laws of a fact of every element. Assumes nothing.
-use Prim.Native.Nat.{_≤_, suc, zero, ℕ}
+use Prim.Native.Nat.{_≤_, min, suc, zero, ℕ}
 use Rattle.laws.proofs.Tests.{and-l, and-of, and-r}
 use Rattle.laws.specs.Every.{Every}
-use Rattle.laws.specs.Lists.{all, greatest, has, head, keep, rest}
+use Rattle.laws.specs.Lists.{all, greatest, has, head, keep, least, lowest, rest}
 use borrow.Author.Tests.{eqb-true}
 use lib.Dec.{T, eqb}
 use lib.ListN.{drop, length, take}
@@ -104,6 +104,33 @@ greatest-le (x ∷ xs) = (omega arith, every-of (λ a. a ≤ greatest xs) (λ a.
 pub greatest-under : (b : ℕ) (xs : List ℕ) → Every (λ a. a ≤ b) xs → greatest xs ≤ b
 greatest-under b [] h = omega arith
 greatest-under b (x ∷ xs) h = omega (arith, greatest-under b xs (h .1), h .0)
+
+-- no number is below the least
+least-le : (v : ℕ) (xs : List ℕ) → (least v xs ≤ v) × Every (λ x. least v xs ≤ x) xs
+least-le v [] = (omega arith, tt)
+least-le v (x ∷ xs) =
+    let p = least-le v xs in
+    (omega (arith, p .0), (omega arith, every-of (λ z. least v xs ≤ z) (λ z. min x (least v xs) ≤ z) (λ z h. omega arith) xs (p .1)))
+
+-- nor below the lowest
+pub lowest-le : (xs : List ℕ) → Every (λ x. lowest xs ≤ x) xs
+lowest-le [] = tt
+lowest-le (x ∷ xs) = least-le x xs
+
+-- what is at most every number is at most the least
+least-over : (b v : ℕ) (xs : List ℕ) → b ≤ v → Every (λ x. b ≤ x) xs → b ≤ least v xs
+least-over b v [] h hs = h
+least-over b v (x ∷ xs) h hs = omega (arith, least-over b v xs h (hs .1), hs .0)
+
+-- and, where there is one, the lowest
+pub lowest-over : (b : ℕ) (xs : List ℕ) → 1 ≤ length xs → Every (λ x. b ≤ x) xs → b ≤ lowest xs
+lowest-over b [] h hs = absurd (not-suc-le-zero h)
+lowest-over b (x ∷ xs) h hs = least-over b x xs (hs .0) (hs .1)
+
+-- the lowest is at most what every number is
+pub lowest-under : (b : ℕ) (xs : List ℕ) → Every (λ x. x ≤ b) xs → lowest xs ≤ b
+lowest-under b [] h = omega arith
+lowest-under b (x ∷ xs) h = omega (arith, least-le x xs .0, h .0)
 
 -- a fact of every element is one of each that the list has
 pub has-every : (P : ℕ → Type 0) (i : ℕ) (xs : List ℕ) → Every P xs → has i xs ≡ true → P i

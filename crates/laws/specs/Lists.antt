@@ -81,6 +81,11 @@ greatest xs = foldr max 0 xs
 abbrev pub least : ℕ → List ℕ → ℕ
 least x xs = foldr min x xs
 
+-- the least number, 0 where there is none
+abbrev pub lowest : List ℕ → ℕ
+lowest [] = 0
+lowest (x ∷ xs) = least x xs
+
 -- the two lists are equal
 abbrev pub same : List ℕ → List ℕ → Bool
 same [] [] = true

@@ -1,5 +1,5 @@
 -- The index that the build leaves in the room: its nodes and positions are there to be printed. Assumes nothing.
-use Prim.Native.Nat.{_≤_, ℕ}
+use Prim.Native.Nat.{_*_, _+_, _≤_, ℕ}
 use Rattle.build.specs.Calls.{Builds}
 use Rattle.laws.specs.Lists.{each}
 use Rattle.measure.specs.Table.{between, rowsOf}
@@ -7,7 +7,7 @@ use Rattle.tree.proofs.Written.{each-words}
 use Rattle.tree.specs.Build.{build, plant}
 use Rattle.tree.specs.Encode.{encode, nodeWords, numbered, pairWords}
 use Rattle.tree.specs.Grove.{Grove, entries}
-use Rattle.words.specs.Words.{N#, nodeAt}
+use Rattle.words.specs.Words.{N#, width}
 use lib.Dec.{eqb}
 use lib.ListN.{drop, length, length-append}
 use mathlib.Core.Bool.{cond}
@@ -16,21 +16,21 @@ use mathlib.Core.Path.{_∙_, _≡_, ap}
 use native.Mathlib.Omega.{arith}
 
 -- an index has the words of all its nodes
-encode-nodes : (c m l : ℕ) (t : Grove) → nodeAt (N# (encode c m l t)) ≤ length (encode c m l t)
+encode-nodes : (c m l : ℕ) (t : Grove) → 8 + width 1 * N# (encode 1 c m l t) ≤ length (encode 1 c m l t)
 unfolding encode
 encode-nodes c m l t =
-    omega (arith, length-append (each nodeWords (numbered t)) (each pairWords (entries t)), each-words (numbered t))
+    omega (arith, length-append (each (nodeWords 1) (numbered t)) (each pairWords (entries t)), each-words 1 (numbered t) (omega arith, omega arith))
 
 -- so has the one that a build writes
-build-nodes : (T : List ℕ) (c m l : ℕ) → nodeAt (N# (build T c m l)) ≤ length (build T c m l)
+build-nodes : (T : List ℕ) (c m l : ℕ) → 8 + width 1 * N# (build T c 1 m l) ≤ length (build T c 1 m l)
 unfolding build
 build-nodes T c m l = encode-nodes c m l (plant (between T c) m l (rowsOf T c))
 
 -- on 0 the nodes' words end where the positions' words begin, and these end in the room
 pub built-there : (T : List ℕ) (c m l : ℕ) (room work room′ work′ : List ℕ) (number words nodes : ℕ)
-    → Builds T c m l room work room′ work′ number words nodes → number ≡ 0 → (nodeAt nodes ≤ words) × (words ≤ length room′)
+    → Builds T c m l room work room′ work′ number words nodes → number ≡ 0 → (8 + width 1 * nodes ≤ words) × (words ≤ length room′)
 built-there T c m l room work room′ work′ number words nodes b z =
-    let w : List ℕ = build T c m l in
+    let w : List ℕ = build T c 1 m l in
     let long : words ≡ length w = b .counted .0 ∙ ap (λ (x : ℕ). cond (eqb x 0) (length w) 0) z in
     let made : nodes ≡ N# w = b .counted .1 ∙ ap (λ (x : ℕ). cond (eqb x 0) (N# w) 0) z in
     let there : room′ ≡ w ++ drop (length w) room = b .index ∙ ap (λ (x : ℕ). cond (eqb x 0) (w ++ drop (length w) room) room) z in

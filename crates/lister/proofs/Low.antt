@@ -8,7 +8,8 @@ use Rattle.text.specs.Reading.{numbers, readable}
 use Rattle.tree.specs.Calls.{saidBuild}
 use lib.Dec.{eqb, ltb}
 use lib.ListN.{length}
-use mathlib.Core.Bool.{Bool, _||_, cond, false, not, true}
+use Rattle.words.specs.Words.{editionOk}
+use mathlib.Core.Bool.{Bool, _&&_, _||_, cond, false, not, true}
 use mathlib.Core.List.{List, _++_}
 use mathlib.Core.Path.{_≡_, subst, sym}
 use native.Mathlib.Omega.{arith}
@@ -23,11 +24,11 @@ five-low false false false false true = omega arith
 five-low false false false false false = omega arith
 
 -- the number of a build
-pub build-low : (T : List ℕ) (c m l room work number : ℕ) → number ≡ saidBuild T c m l room work .0 → number ≤ 18
+pub build-low : (T : List ℕ) (c m l room work number : ℕ) → number ≡ saidBuild T c 1 m l room work .0 → number ≤ 18
 unfolding saidBuild
 build-low T c m l room work number e =
     subst (λ n. n ≤ 18) (sym e)
-    (five-low (not (columnsOk c)) (not (shareOk m l)) (not (eqb (length T % c) 0)) (ltb maxRows (rowsOf T c))
+    (five-low (not (columnsOk c)) (not (shareOk m l && editionOk 1)) (not (eqb (length T % c) 0)) (ltb maxRows (rowsOf T c))
     (ltb room (10 * rowsOf T c + 8) || ltb work (6 * rowsOf T c)))
 
 -- 18, 5 or 0

@@ -1,14 +1,16 @@
 // The listing program: the text of standard input, read as c, m, l and a table; the table's index; its nodes and positions as lines of numbers.
-ghost use Prim.Native.Nat.{_≤_, min};
+ghost use Prim.Native.Nat.{_*_, _+_, _≤_, min};
 ghost use Rattle.lister.specs.Keeps.{Keeps};
-ghost use Rattle.words.specs.Words.{nodeAt};
+ghost use Rattle.words.specs.Words.{width};
 ghost use lib.ListN.{length};
 ghost use mathlib.Core.Path.{_≡_};
 use libc::STDIN_FILENO;
 use libc::STDOUT_FILENO;
 use lines::print_lines;
 use words::places::HEADER;
-use words::places::WIDTH;
+
+// How many words a node has in edition 1, which the program builds.
+const WIDTH: usize = 4;
 
 // One byte more than the longest readable text has, so that a text which fills it is unreadable whatever comes after.
 const TEXT: usize = 6_163;
@@ -64,7 +66,7 @@ fn read_text(text: &mut [u8]) -> usize
 
 // Prints an index: a line for each node, and then one for each position.
 fn print_index(index: &[u32], nodes: usize, words: usize)
-    requires { ⌜ (nodeAt nodes ≤ words) × (words ≤ length (now index)) ⌝ }
+    requires { ⌜ (8 + width 1 * nodes ≤ words) × (words ≤ length (now index)) ⌝ }
 {
     let at = HEADER + WIDTH * nodes;
     print_lines(&index[HEADER..at], WIDTH);

@@ -5,6 +5,7 @@ use Rattle.laws.proofs.Maps.{map-shift}
 use Rattle.laws.proofs.Ranges.{range-append}
 use Rattle.laws.specs.Lists.{least, range}
 use Rattle.radius.specs.Descent.{Distances, firstAt, leastFrom}
+use Rattle.tree.specs.Grove.{Reach}
 use Rattle.tree.specs.Homes.{childBound}
 use Rattle.words.specs.Words.{m#}
 use lib.ListN.{getD, length, set, take}
@@ -68,5 +69,5 @@ least-is x w ch m ds e l k D =
     ∙ ap₂ (λ a n. map (firstAt x w) (range a n)) (add-zero ch) e)
 
 -- the bound that the code computes from equal parts
-pub bound-is : (b : ℕ) {v y d R y′ d′ R′ : ℕ} → v ≡ childBound b y d R → y ≡ y′ → d ≡ d′ → R ≡ R′ → v ≡ childBound b y′ d′ R′
-bound-is b {y′ = y′} {R′ = R′} e p q u = cc
+pub bound-is : (b : ℕ) (R : Reach) {v y d y′ d′ : ℕ} → v ≡ childBound b y d R → y ≡ y′ → d ≡ d′ → v ≡ childBound b y′ d′ R
+bound-is b R {y′ = y′} e p q = cc

@@ -8,12 +8,12 @@ use Rattle.radius.specs.Descent.{centreAt, decision, firstAt, kidMarks, 
 use Rattle.radius.specs.declared.leaf.Verdict.the-variants.{In, Measure, Out}
 use Rattle.tree.proofs.Forks.{as-fork, as-leaf, forkNode, kids-first, kids-rows, kidsAt, leafNode, no-levels}
 use Rattle.tree.proofs.Members.{kids-firsts, run-first}
-use Rattle.tree.specs.Grove.{Grove, bare, first, firsts, leaf, members#, rowsIn, treeAt}
+use Rattle.tree.specs.Grove.{Grove, Reach, bare, first, firsts, leaf, members#, rowsIn, reach#, treeAt}
 use Rattle.tree.specs.Homes.{childBound, nearestOf}
 use Rattle.tree.specs.Radius.{byDistance, inLeaf, marksIn, visit}
 use Rattle.words.specs.InShape.{InShape}
 use Rattle.words.specs.Shape.{inner}
-use Rattle.words.specs.Words.{N#, child#, count#, dist#, first#, m#, radius#, row#, start#}
+use Rattle.words.specs.Words.{N#, child#, count#, dist#, first#, m#, row#, start#}
 use lib.Dec.{leb, ltb}
 use mathlib.Core.Bool.{Bool, cond, false, true}
 use mathlib.Core.List.{List, [], _++_, _∷_, append-nil, foldr, map}
@@ -69,7 +69,7 @@ module _ (w : List ℕ) where
 module _ (x : ℕ → ℕ) (r : ℕ) (w : List ℕ) where
   -- swept, closed, or `opened`
   abbrev pub visitAt : ℕ → ℕ → List (ℕ × ℕ) → List (ℕ × ℕ)
-  visitAt k b opened = visit x r (firstAt x w k) (radius# w k) b (map (row# w) (rest# w k)) opened
+  visitAt k b opened = visit x r (firstAt x w k) (reach# w k) b (map (row# w) (rest# w k)) opened
 
   -- the marks of an opened leaf
   abbrev pub leafOpened : ℕ → List (ℕ × ℕ)
@@ -90,41 +90,41 @@ module _ (x : ℕ → ℕ) (r : ℕ) (w : List ℕ) (S : InShape w) where
 
   -- ---- the marks at a node, and those of the nodes after it
   -- one node with the first f and the marks `here` by its bound: f is the row at the start of its run
-  one-node : (β : ℕ → ℕ → ℕ) (k f : ℕ) (here : ℕ → List (ℕ × ℕ)) (after node : List (ℕ × ℕ)) → f ≡ first# w k
-      → node ≡ here (β (firstAt x w k) (radius# w k)) ++ []
-      → here (β (x f) (radius# w k)) ++ after ≡ node ++ after
+  one-node : (β : ℕ → Reach → ℕ) (k f : ℕ) (here : ℕ → List (ℕ × ℕ)) (after node : List (ℕ × ℕ)) → f ≡ first# w k
+      → node ≡ here (β (firstAt x w k) (reach# w k)) ++ []
+      → here (β (x f) (reach# w k)) ++ after ≡ node ++ after
   one-node β k f here after node e p =
-      ap (λ (i : ℕ). here (β (x i) (radius# w k)) ++ after) e
-      ∙ ap (λ l. l ++ after) (sym (p ∙ append-nil (here (β (firstAt x w k) (radius# w k)))))
+      ap (λ (i : ℕ). here (β (x i) (reach# w k)) ++ after) e
+      ∙ ap (λ l. l ++ after) (sym (p ∙ append-nil (here (β (firstAt x w k) (reach# w k)))))
 
   -- a node's marks come before those of the nodes after it
-  marks-at : (β : ℕ → ℕ → ℕ) (deep k : ℕ) (g : Grove) → k < N# w
-      → marksIn x r β (treeAt w deep k g) ≡ nodeMarks x r w deep k (β (firstAt x w k) (radius# w k)) ++ marksIn x r β g
+  marks-at : (β : ℕ → Reach → ℕ) (deep k : ℕ) (g : Grove) → k < N# w
+      → marksIn x r β (treeAt w deep k g) ≡ nodeMarks x r w deep k (β (firstAt x w k) (reach# w k)) ++ marksIn x r β g
   unfolding marksIn nodeMarks
   marks-at β deep k g h =
-      let b : ℕ = β (firstAt x w k) (radius# w k) in
+      let b : ℕ = β (firstAt x w k) (reach# w k) in
       by-node w deep k
       (λ t.
       let es : List (ℕ × ℕ) = members# w k in
       let f : ℕ = head (lefts es) in
       ap (marksIn x r β) (t g)
-      ∙ one-node β k f (λ b. visit x r (x f) (radius# w k) b (rest (lefts es)) (map (λ e. (e .0, inLeaf x r f e)) (rest es)))
+      ∙ one-node β k f (λ b. visit x r (x f) (reach# w k) b (rest (lefts es)) (map (λ e. (e .0, inLeaf x r f e)) (rest es)))
       (marksIn x r β g) (marksIn x r (λ x R. b) (treeAt w deep k bare)) (run-first w S (start# w k) (count# w k) (S .node k h .some)) (ap (marksIn x r (λ x R. b)) (t bare)))
       (λ e t.
       let ks : Grove = kidsAt w (deep - 1) k in
       ap (marksIn x r β) (t g)
       ∙ one-node β k (first ks)
-      (λ b. visit x r (x (first ks)) (radius# w k) b (rest (rowsIn ks)) (map (λ i. (i, byDistance x r i)) (rest (firsts ks)) ++ marksIn x r (childBound b (nearestOf x ks)) ks))
+      (λ b. visit x r (x (first ks)) (reach# w k) b (rest (rowsIn ks)) (map (λ i. (i, byDistance x r i)) (rest (firsts ks)) ++ marksIn x r (childBound b (nearestOf x ks)) ks))
       (marksIn x r β g) (marksIn x r (λ x R. b) (treeAt w deep k bare)) (kids-first w S (deep - 1) k h e) (ap (marksIn x r (λ x R. b)) (t bare)))
 
   -- the marks of nodes side by side are theirs one after the other
-  kids-marks : (β : ℕ → ℕ → ℕ) (deep j m : ℕ) → j + m ≤ N# w
-      → marksIn x r β (foldr (treeAt w deep) bare (range j m)) ≡ each (λ i. nodeMarks x r w deep i (β (firstAt x w i) (radius# w i))) (range j m)
+  kids-marks : (β : ℕ → Reach → ℕ) (deep j m : ℕ) → j + m ≤ N# w
+      → marksIn x r β (foldr (treeAt w deep) bare (range j m)) ≡ each (λ i. nodeMarks x r w deep i (β (firstAt x w i) (reach# w i))) (range j m)
   unfolding marksIn
   kids-marks β deep j zero h = refl
   kids-marks β deep j (suc m) h =
       marks-at β deep j (foldr (treeAt w deep) bare (range (suc j) m)) (omega arith)
-      ∙ ap (λ l. nodeMarks x r w deep j (β (firstAt x w j) (radius# w j)) ++ l) (kids-marks β deep (suc j) m (omega arith))
+      ∙ ap (λ l. nodeMarks x r w deep j (β (firstAt x w j) (reach# w j)) ++ l) (kids-marks β deep (suc j) m (omega arith))
 
   -- ---- the marks at a node, by its words
   -- a node that is a leaf
@@ -133,7 +133,7 @@ module _ (x : ℕ → ℕ) (r : ℕ) (w : List ℕ) (S : InShape w) where
   unfolding marksIn nodeMarks leafMark
   leaf-by deep k b h t =
       let es : List (ℕ × ℕ) = members# w k in
-      let vis : ℕ → List ℕ → List (ℕ × ℕ) → List (ℕ × ℕ) = λ f o q. visit x r (x f) (radius# w k) b o q in
+      let vis : ℕ → List ℕ → List (ℕ × ℕ) → List (ℕ × ℕ) = λ f o q. visit x r (x f) (reach# w k) b o q in
       let q : ℕ → List (ℕ × ℕ) = λ f. map (λ e. (e .0, inLeaf x r f e)) (rest es) in
       ap (marksIn x r (λ x R. b)) (t bare) ∙ append-nil (vis (head (lefts es)) (rest (lefts es)) (q (head (lefts es))))
       ∙ ap (λ (f : ℕ). vis f (rest (lefts es)) (q f)) (run-first w S (start# w k) (count# w k) (S .node k h .some))
@@ -154,7 +154,7 @@ module _ (x : ℕ → ℕ) (r : ℕ) (w : List ℕ) (S : InShape w) where
       let K = S .node k h .kids i in
       let f : first ks ≡ first# w k = kids-first w S (deep - 1) k h i in
       let fs : firsts ks ≡ map (first# w) (range ch (m# w)) = kids-firsts w S (deep - 1) ch (m# w) (K .inside) in
-      let vis : ℕ → List ℕ → List (ℕ × ℕ) → List (ℕ × ℕ) = λ f o q. visit x r (x f) (radius# w k) b o q in
+      let vis : ℕ → List ℕ → List (ℕ × ℕ) → List (ℕ × ℕ) = λ f o q. visit x r (x f) (reach# w k) b o q in
       let cs : List ℕ → List (ℕ × ℕ) = λ l. map (λ i. (i, byDistance x r i)) (rest l) in
       let us : ℕ → List (ℕ × ℕ) = λ y. marksIn x r (childBound b y) ks in
       let near : nearestOf x ks ≡ leastFrom x w ch =

@@ -4,10 +4,10 @@ use Rattle.laws.specs.Lists.{gap, least, range}
 use Rattle.limits.specs.Limits.{maxDistance}
 use Rattle.radius.specs.declared.leaf.Verdict.the-variants.{In, Measure, Out}
 use Rattle.radius.specs.declared.leaf.Verdict.{Verdict}
-use Rattle.tree.specs.Grove.{bare, treeAt}
+use Rattle.tree.specs.Grove.{bare, reach#, treeAt}
 use Rattle.tree.specs.Homes.{childBound}
 use Rattle.tree.specs.Radius.{byDistance, marksIn}
-use Rattle.words.specs.Words.{dist#, first#, m#, radius#, row#}
+use Rattle.words.specs.Words.{dist#, first#, m#, row#}
 use lib.Dec.{leb, ltb}
 use lib.ListN.{getD}
 use mathlib.Core.Bool.{cond}
@@ -49,7 +49,7 @@ module _ (x : ℕ → ℕ) (r : ℕ) (w : List ℕ) where
 
   -- those of node i as one of the children ch, ch + 1, .. of a node with the bound b
   abbrev pub kidMarks : ℕ → ℕ → ℕ → ℕ → List (ℕ × ℕ)
-  kidMarks levels b ch i = nodeMarks levels i (childBound b (leastFrom x w ch) (firstAt x w i) (radius# w i))
+  kidMarks levels b ch i = nodeMarks levels i (childBound b (leastFrom x w ch) (firstAt x w i) (reach# w i))
 
   -- a position of an opened leaf whose first is at xf
   unfoldable pub leafMark : ℕ → ℕ → ℕ

@@ -12,7 +12,7 @@ ghost use mathlib.Core.Path.{_≡_};
 use crate::centres::least_of;
 use crate::leaf::open_leaf;
 use crate::marking::measure_row;
-use tree::bounds::child_bound;
+use tree::bounds::kid_bound;
 use words::places::centres;
 use words::places::node_child;
 use words::places::node_count;
@@ -103,7 +103,7 @@ pub fn descend(
         let d = ds[j];
         let kid = ch + j;
         let radius = node_radius(index, kid);
-        let b = child_bound(bound, y, d, radius);
+        let b = kid_bound(index, kid, bound, y, d);
         j += 1;
         if d + radius <= r {
             sweep(index, kid, how);

@@ -16,10 +16,11 @@ use Rattle.seek.proofs.Staying.{front-alone, frontier-stays, last-then,
 use Rattle.seek.specs.Answers.{lastOf}
 use Rattle.seek.specs.Frontier.{More, Room, Taken, Takes, atMost, itemOf, items, leastKept, noded}
 use Rattle.seek.specs.Standing.{Ready, Took, kept}
+use Rattle.tree.specs.Grove.{reach#}
 use Rattle.tree.specs.Homes.{childBound}
 use Rattle.words.specs.InShape.{InShape}
 use Rattle.words.specs.Shape.{inner}
-use Rattle.words.specs.Words.{N#, at, child#, count#, first#, m#, n#, radius#, row#, start#}
+use Rattle.words.specs.Words.{N#, at, child#, count#, first#, m#, n#, row#, start#}
 use mathlib.Core.Bool.{true}
 use mathlib.Core.List.{List, _++_, map}
 use mathlib.Core.Path.{_∙_, _≡_, ap, ap₂, refl, subst, sym}
@@ -150,10 +151,10 @@ module _ (t : List ℕ) (c : ℕ) (q w : List ℕ) (wanted : ℕ) (how work : Li
       child-read : (i : ℕ) → i < m# w → itemOf w x (noded w work₁ b y (a + i)) ≡ childOf w x a b u i
       child-read i l =
           let j : ℕ = a + i in
-          item-node w x (childBound b y (kept work₁ (n# w) (first# w j)) (radius# w j)) j (omega (arith, kids-there, S .whole .nodes))
+          item-node w x (childBound b y (kept work₁ (n# w) (first# w j)) (reach# w j)) j (omega (arith, kids-there, S .whole .nodes))
           (id-small t c q w wanted how work len held k b T j (omega (arith, kids-there, S .whole .nodes)))
-          ∙ ap₂ (λ (v z : ℕ). node j (childBound b z v (radius# w j)) (x (first# w j))) (centre-kept i l ∙ sym (centre-is i)) nearest-is
-          ∙ ap (λ (v : ℕ). node j (childBound b (nearestAt w x a u) (centreAt w x a u i) (radius# w j)) v) (sym (centre-is i))
+          ∙ ap₂ (λ (v z : ℕ). node j (childBound b z v (reach# w j)) (x (first# w j))) (centre-kept i l ∙ sym (centre-is i)) nearest-is
+          ∙ ap (λ (v : ℕ). node j (childBound b (nearestAt w x a u) (centreAt w x a u i) (reach# w j)) v) (sym (centre-is i))
 
       -- AN INNER NODE IS TAKEN: its centres are measured, and its children wait
       taken-inner : (work₂ : List ℕ) (kids last len′ : ℕ) → kids ≡ m# w → last ≡ lastOf work₁ (3 * n) wanted held′

@@ -7,9 +7,10 @@ use Rattle.queue.specs.Queue.{Queue}
 use Rattle.seek.proofs.Beyond.{more-none, more-one}
 use Rattle.seek.specs.Frontier.{More, Room, noded, placed}
 use Rattle.seek.specs.Standing.{kept}
+use Rattle.tree.specs.Grove.{reach#}
 use Rattle.tree.specs.Homes.{childBound}
-use Rattle.words.specs.InShape.{InShape}
-use Rattle.words.specs.Words.{N#, count#, dist#, first#, n#, nodeAt, pairAt, radius#, start#}
+use Rattle.words.specs.InShape.{InShape, Whole}
+use Rattle.words.specs.Words.{N#, count#, dist#, first#, n#, pairAt, start#}
 use lib.ListN.{getD, length}
 use mathlib.Core.List.{List}
 use mathlib.Core.Path.{_∙_, _≡_, ap, ap₂, subst, sym}
@@ -33,8 +34,8 @@ pub place-words : (w : List ℕ) (p : ℕ) → InShape w → p < n# w → pairAt
 place-words w p S h = omega (arith, S .whole .words)
 
 -- node k's words can be read
-pub node-words : (w : List ℕ) (k : ℕ) → InShape w → k < N# w → nodeAt k + 3 < length w
-node-words w k S h = omega (arith, S .whole .words)
+pub node-words : (w : List ℕ) (k : ℕ) → InShape w → k < N# w → Whole w × (k < N# w)
+node-words w k S h = (S .whole, h)
 
 -- ---- entries queued one by one, for the numbers lo up to e
 -- the entries g 0, g 1, .. of the numbers before j are queued where their key is at most the last distance, j being next
@@ -86,14 +87,14 @@ place-entry w work n len k s b x p stored key R l es ek =
     ap₂ (λ (key n : ℕ). packed key (2 * n + p)) (ek ∙ ap (λ (z : ℕ). max b (gap x z)) es) (R .rows) ∙ ap (placed w b x) here
 
 -- that of node j, of the children from number a on: x is what is kept for its first, r
-pub node-entry : (w work work₁ : List ℕ) (n len a e b y last j size r x R′ key : ℕ) → Room w work n len (e - a)
+pub node-entry : (w work work₁ : List ℕ) (n len a e b y last j size r x key : ℕ) → Room w work n len (e - a)
     → QueuedTo work work₁ len a e (λ (i : ℕ). noded w work b y (a + i)) last j size → r ≡ first# w j → x ≡ getD work₁ (2 * n + r) 0
-    → R′ ≡ radius# w j → key ≡ childBound b y x R′ → packed key j ≡ noded w work b y (a + (j - a))
-node-entry w work work₁ n len a e b y last j size r x R′ key R T er ex eR ek =
+    → key ≡ childBound b y x (reach# w j) → packed key j ≡ noded w work b y (a + (j - a))
+node-entry w work work₁ n len a e b y last j size r x key R T er ex ek =
     let here : j ≡ a + (j - a) = omega (arith, T .low) in
     let at-x : x ≡ kept work (n# w) (first# w j) =
     ex ∙ T .more .outside .over (2 * n + r) (omega (arith, R .fits, T .low, T .high)) ∙ ap₂ (λ (n r : ℕ). kept work n r) (R .rows) er in
-    ap (λ (key : ℕ). packed key j) (ek ∙ ap₂ (λ (x R′ : ℕ). childBound b y x R′) at-x eR) ∙ ap (noded w work b y) here
+    ap (λ (key : ℕ). packed key j) (ek ∙ ap (λ (x : ℕ). childBound b y x (reach# w j)) at-x) ∙ ap (noded w work b y) here
 
 -- ---- a leaf, as the code reads it: s is its start, c its count, f its first
 module _ (w work : List ℕ) (n len k s c f : ℕ) (R : Room w work n len (count# w k)) (h : k < N# w) (es : s ≡ start# w k) (ec : c ≡ count# w k)

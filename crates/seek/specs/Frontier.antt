@@ -11,9 +11,10 @@ use Rattle.queue.specs.Entry.{idOf, keyOf, packed}
 use Rattle.queue.specs.Queue.{Queue, entries}
 use Rattle.seek.specs.Answers.{Held, greatestWord, lastOf}
 use Rattle.seek.specs.Standing.{Grew, Ready, Since, Stands, kept}
+use Rattle.tree.specs.Grove.{reach#}
 use Rattle.tree.specs.Homes.{childBound}
 use Rattle.words.specs.InShape.{InShape}
-use Rattle.words.specs.Words.{N#, at, first#, n#, radius#}
+use Rattle.words.specs.Words.{N#, at, first#, n#}
 use lib.Dec.{leb, ltb}
 use lib.ListN.{length}
 use mathlib.Core.Bool.{cond}
@@ -39,7 +40,7 @@ placed w b x p = packed (placeBound w b x p) (2 * n# w + p)
 
 -- the entry of node j, of a parent with the bound b and centres at y at least, by the distances that are kept
 abbrev pub noded : List ℕ → List ℕ → ℕ → ℕ → ℕ → ℕ
-noded w work b y j = packed (childBound b y (kept work (n# w) (first# w j)) (radius# w j)) j
+noded w work b y j = packed (childBound b y (kept work (n# w) (first# w j)) (reach# w j)) j
 
 -- of things with bounds, those whose bound is at most the last distance
 abbrev pub atMost : {A : Type 0} → (A → ℕ) → ℕ → List A → List A

@@ -10,12 +10,11 @@ ghost use lib.ListN.{length};
 ghost use mathlib.Core.Path.{_≡_};
 use queue::pack;
 use queue::push;
-use tree::bounds::child_bound;
+use tree::bounds::kid_bound;
 use tree::bounds::place_bound;
 use tree::bounds::smaller;
 use words::places::node_count;
 use words::places::node_first;
-use words::places::node_radius;
 use words::places::node_start;
 use words::places::stored_at;
 
@@ -115,7 +114,7 @@ pub fn queue_children(
     while j < e {
         let r = node_first(index, j);
         let x = work[2 * n + r];
-        let key = child_bound(b, y, x, node_radius(index, j));
+        let key = kid_bound(index, j, b, y, x);
         size = push_due(work, size, last, key, j as u32);
         j += 1;
     }

@@ -4,7 +4,7 @@ use Rattle.laws.proofs.Parts.{put-more}
 use Rattle.split.proofs.Gathered.{group-size}
 use Rattle.split.proofs.Parts.{read-front, stretch-front}
 use Rattle.split.specs.Groups.{Gatherable, Gathered, Sharable, Shared, centres, group, groupNodes, groupWords, shared, sharedNodes, size, stretch, waiting, widest}
-use Rattle.words.specs.Words.{nodeAt}
+use Rattle.split.specs.Places.{nodeAt}
 use borrow.Rule.Slice.PartMut.{midOf, putMid}
 use lib.ListN.{drop, getD, length, length-append, length-drop, take, take-append-drop}
 use lib.Seq.{drop-append-add, drop-at, drop-drop, length-take-le, take-add, take-all, take-at}

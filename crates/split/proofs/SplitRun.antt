@@ -12,7 +12,7 @@ use Rattle.split.specs.Entries.{Entries, InTable, roundsOf}
 use Rattle.split.specs.Groups.{Sharable, Shared, groupNodes, groupWords, stretch}
 use Rattle.split.specs.Runs.{Splittable, Splitted, laid, runAt, runNodes}
 use Rattle.tree.specs.Build.{split}
-use Rattle.words.specs.Words.{nodeAt}
+use Rattle.split.specs.Places.{nodeAt}
 use borrow.Rule.Slice.PartMut.{mid-len, midOf, post-is, putMid}
 use lib.ListN.{drop, length, length-append, length-drop, take}
 use lib.Seq.{drop-at, length-take-le, take-append-add, take-append-le, take-at, take-take}

@@ -3,7 +3,7 @@ use Prim.Native.Nat.{_%_, _*_, _+_, _-_, _≤_, max, suc, zero, ℕ}
 use Rattle.laws.specs.Lists.{each}
 use Rattle.limits.specs.Limits.{maxRows}
 use Rattle.split.specs.Entries.{own}
-use Rattle.words.specs.Words.{nodeAt}
+use Rattle.split.specs.Places.{nodeAt}
 use lib.Dec.{eqb}
 use lib.ListN.{drop, getD, length, take}
 use mathlib.Core.Bool.{cond}

@@ -1,3 +1,4 @@
+pub mod Places
 pub mod Entries
 pub mod Groups
 pub mod Runs

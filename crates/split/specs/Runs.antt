@@ -6,7 +6,7 @@ use Rattle.limits.specs.Limits.{maxColumns, maxRows}
 use Rattle.measure.specs.Table.{between}
 use Rattle.split.specs.Groups.{stretch}
 use Rattle.tree.specs.Build.{radius, split}
-use Rattle.words.specs.Words.{nodeAt}
+use Rattle.split.specs.Places.{nodeAt}
 use lib.ListN.{drop, length, take}
 use mathlib.Core.List.{List, [], _++_, _∷_}
 use mathlib.Core.Path.{_≡_}

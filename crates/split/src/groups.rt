@@ -8,7 +8,9 @@ ghost use mathlib.Core.Path.{_≡_};
 use crate::rounds::choose;
 use crate::rounds::put_entry;
 use words::places::HEADER;
-use words::places::WIDTH;
+
+// How many words a node has as the build writes it: those of edition 1.
+pub const WIDTH: usize = 4;
 
 // A group: how many members, and the greatest distance to its centre.
 pub struct Group {

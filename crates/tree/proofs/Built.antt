@@ -13,13 +13,13 @@ use Rattle.measure.specs.Space.{Space}
 use Rattle.measure.specs.Table.{between, rowsOf}
 use Rattle.tree.proofs.Full.{Full}
 use Rattle.tree.proofs.Good.{Good, empty-accepted, encode-accepted}
-use Rattle.tree.proofs.Grow.{forest-span, grown-even, grown-fine, grown-span, grown-tally, split-length, split-runs}
-use Rattle.tree.specs.Build.{Run, build, grow, leafOf, plant, radius, split}
+use Rattle.tree.proofs.Grow.{grown-even, grown-fine, grown-full, grown-span, grown-tally}
+use Rattle.tree.specs.Build.{Run, build, grow, leafOf, plant, reach, split}
 use Rattle.tree.proofs.Grown.{grown-sound}
 use Rattle.tree.specs.Check.{Accepted}
 use Rattle.tree.specs.Encode.{encode}
 use Rattle.tree.specs.Grove.{Grove, bare, entries, fork, rowsIn}
-use borrow.Author.Tests.{leb-false}
+use Rattle.words.specs.Words.{editionOk}
 use lib.Dec.{eqb, leb}
 use lib.ListN.{length, length-map}
 use mathlib.Core.Bool.{Bool, cond, false, true}
@@ -29,27 +29,6 @@ use native.Mathlib.Nat.{add-zero, zero-add}
 use native.Mathlib.Omega.{arith}
 
 module _ (d : ℕ → ℕ → ℕ) (S : Space d) (D : (i j : ℕ) → d i j ≤ maxDistance) (m l : ℕ) (m1 : 1 ≤ m) (ml : m ≤ l) where
-  -- no leaf is empty and no inner node is childless
-  grown-full : (deep : ℕ) (run : List ℕ) (g : Grove) → Run run → Full g → Full (grow d m l deep run g)
-  unfolding grow
-  grown-full zero run g r h = (rw length-map (r .0), h)
-  grown-full (suc deep) run g r h = go (λ q f k u. grown-full deep q f k u) (leb (length run) l) refl
-    where
-      forest : ((run : List ℕ) (g : Grove) → Run run → Full g → Full (grow d m l deep run g)) → (gs : List (List ℕ)) → Every Run gs
-          → Full (foldr (grow d m l deep) bare gs)
-      forest ih [] h = tt
-      forest ih (q ∷ gs) h = ih q (foldr (grow d m l deep) bare gs) (h .0) (forest ih gs (h .1))
-
-      go : ((run : List ℕ) (g : Grove) → Run run → Full g → Full (grow d m l deep run g)) → (b : Bool) → leb (length run) l ≡ b
-          → Full (cond b (leafOf d run g) (fork (radius d run) (foldr (grow d m l deep) bare (split d m run)) g))
-      go ih true e = (rw length-map (r .0), h)
-      go ih false e =
-          let k : m ≤ length run = omega (arith, leb-false (length run) l e) in (
-            omega (arith, forest-span d m l m1 ml deep (split d m run), split-length d m l m1 ml run),
-            forest ih (split d m run) (split-runs d m l m1 ml run r k),
-            h,
-          )
-
   -- the stored distances are in range
   abbrev InRange : Grove → Type 0
   InRange g = Every (λ e. e .1 ≤ maxDistance) (entries g)
@@ -73,7 +52,7 @@ module _ (d : ℕ → ℕ → ℕ) (S : Space d) (D : (i j : ℕ) → d i j ≤ 
       forest ih (q ∷ gs) = ih q (foldr (grow d m l deep) bare gs) (forest ih gs)
 
       go : ((run : List ℕ) (g : Grove) → InRange g → InRange (grow d m l deep run g)) → (b : Bool)
-          → InRange (cond b (leafOf d run g) (fork (radius d run) (foldr (grow d m l deep) bare (split d m run)) g))
+          → InRange (cond b (leafOf d run g) (fork (reach d run) (foldr (grow d m l deep) bare (split d m run)) g))
       go ih true = leaf-dists run g h
       go ih false =
           every-append (λ e. e .1 ≤ maxDistance) (entries (foldr (grow d m l deep) bare (split d m run))) (entries g) (forest ih (split d m run)) h
@@ -91,7 +70,7 @@ module _ (d : ℕ → ℕ → ℕ) (S : Space d) (D : (i j : ℕ) → d i j ≤ 
         len,
         record {
           one = grown-span d m l m1 ml maxDepth run bare;
-          full = grown-full maxDepth run bare r tt;
+          full = grown-full d m l m1 ml maxDepth run bare r tt;
           even = grown-even d m l m1 ml maxDepth run bare tt;
           fine = grown-fine d m l m1 ml D maxDepth run bare r tt;
           sound = st .0;
@@ -104,14 +83,14 @@ module _ (d : ℕ → ℕ → ℕ) (S : Space d) (D : (i j : ℕ) → d i j ≤ 
       )
 
 -- WHAT THE BUILD WRITES IS ACCEPTED
-pub build-accepted : (T : List ℕ) (c m l : ℕ) → columnsOk c ≡ true → shareOk m l ≡ true → rowsOf T c ≤ maxRows → Every (λ v. v ≤ 65535) T
-    → Accepted (between T c) (build T c m l)
+pub build-accepted : (T : List ℕ) (c e m l : ℕ) → editionOk e ≡ true → columnsOk c ≡ true → shareOk m l ≡ true → rowsOf T c ≤ maxRows → Every (λ v. v ≤ 65535) T
+    → Accepted (between T c) (build T c e m l)
 unfolding build
-build-accepted T c m l hc hs hn small = go (rowsOf T c) hn
+build-accepted T c e m l he hc hs hn small = go (rowsOf T c) hn
   where
-    go : (n : ℕ) → n ≤ maxRows → Accepted (between T c) (encode c m l (plant (between T c) m l n))
-    go zero h = empty-accepted (between T c) c m l hc hs
+    go : (n : ℕ) → n ≤ maxRows → Accepted (between T c) (encode e c m l (plant (between T c) m l n))
+    go zero h = empty-accepted (between T c) e c m l he hc hs
     go (suc n) h =
         let s = shared m l hs in
         let p = planted (between T c) (metric T c) (between-most T c (columns-are c hc .1) small) m l (omega (arith, s .two)) (s .leafy) n in
-        encode-accepted (between T c) c m l (plant (between T c) m l (suc n)) hc hs (omega (arith, p .0)) (p .1)
+        encode-accepted (between T c) e c m l (plant (between T c) m l (suc n)) he hc hs (omega (arith, p .0)) (p .1)

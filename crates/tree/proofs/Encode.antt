@@ -3,10 +3,10 @@ use Prim.Native.Nat.{_+_, _≤_, suc, zero, ℕ}
 use Rattle.laws.proofs.Every.{every-append}
 use Rattle.laws.specs.Every.{Every}
 use Rattle.tree.specs.Encode.{Node, below, broods, family, levelNodes, members, nodes, span}
-use Rattle.tree.specs.Grove.{Grove, bare, entries, fork, leaf}
+use Rattle.tree.specs.Grove.{Grove, Reach, bare, entries, fork, leaf}
 use Rattle.words.proofs.Levels.{born-inner, born-leaf, inner-is}
 use Rattle.words.specs.Shape.{born, inner, tile}
-use Rattle.words.specs.Words.{child#, count#, m#, radius#, start#}
+use Rattle.words.specs.Words.{child#, count#, edition#, inner#, kept, m#, radius#, start#}
 use borrow.Author.Tests.{eq-eqb}
 use lib.Dec.{T, eqb, eqb-refl}
 use lib.ListN.{length, length-append}
@@ -16,10 +16,14 @@ use mathlib.Core.Path.{_∙_, _≡_, ap, refl, subst, sym}
 use native.Mathlib.Nat.{add-assoc, add-suc, add-zero, suc-add}
 use native.Mathlib.Omega.{arith}
 
+-- node j's reach is what the edition keeps of this one
+abbrev pub Reached : List ℕ → ℕ → Reach → Type 0
+Reached w j R = (radius# w j ≡ R .outer) × (inner# w j ≡ kept (edition# w) (R .inner))
+
 -- the node words from number j on are these
 abbrev pub Holds : List ℕ → ℕ → List Node → Type 0
 Holds w j [] = Unit {0}
-Holds w j (v ∷ vs) = (start# w j ≡ v .0) × (count# w j ≡ v .1) × (child# w j ≡ v .2) × (radius# w j ≡ v .3) × Holds w (suc j) vs
+Holds w j (v ∷ vs) = (start# w j ≡ v .0) × (count# w j ≡ v .1) × (child# w j ≡ v .2) × Reached w j (v .3) × Holds w (suc j) vs
 
 -- words that hold two lists of nodes hold the first
 pub holds-left : (w : List ℕ) (j : ℕ) (us vs : List Node) → Holds w j (us ++ vs) → Holds w j us

@@ -6,8 +6,9 @@ use Rattle.laws.specs.Every.{Every}
 use Rattle.laws.proofs.Times.{lefts}
 use Rattle.laws.specs.Lists.{gap, head, rest}
 use Rattle.measure.specs.Space.{Point}
+use Rattle.tree.proofs.Full.{Full}
 use Rattle.tree.proofs.Sound.{Sound, Valid, valid-under, valid-zero}
-use Rattle.tree.specs.Grove.{Grove, bare, first, firsts, fork, leaf, rowsIn}
+use Rattle.tree.specs.Grove.{Grove, Reach, bare, first, firsts, fork, leaf, rowsIn}
 use Rattle.tree.specs.Homes.{childBound, nearestOf}
 use Rattle.tree.specs.Radius.{byDistance, inLeaf, marks, marksIn, visit}
 use borrow.Author.Tests.{leb-false, leb-true, ltb-true}
@@ -31,15 +32,15 @@ module _ (x : ℕ → ℕ) (r : ℕ) where
       go false e = omega (arith, leb-false (x i) r e)
 
   -- swept, closed or opened
-  visit-exact : (xf R b : ℕ) (others : List ℕ) (opened : List (ℕ × ℕ))
-      → Every (λ i. x i ≤ xf + R) others → Every (λ i. b ≤ x i) others → Every Exact opened → Every Exact (visit x r xf R b others opened)
-  visit-exact xf R b others opened hu hb ho = go (leb (xf + R) r) (ltb r b) refl refl
+  visit-exact : (xf : ℕ) (R : Reach) (b : ℕ) (others : List ℕ) (opened : List (ℕ × ℕ))
+      → Every (λ i. x i ≤ xf + R .outer) others → Every (λ i. b ≤ x i) others → Every Exact opened → Every Exact (visit x r xf R b others opened)
+  visit-exact xf R b others opened hu hb ho = go (leb (xf + R .outer) r) (ltb r b) refl refl
     where
-      go : (s t : Bool) → leb (xf + R) r ≡ s → ltb r b ≡ t
+      go : (s t : Bool) → leb (xf + R .outer) r ≡ s → ltb r b ≡ t
           → Every Exact (cond s (map (λ i. (i, 2)) others) (cond t (map (λ i. (i, 0)) others) opened))
       go true t e k =
           every-map Exact (λ i. (i, 2)) others
-          (every-of (λ i. x i ≤ xf + R) (λ i. Exact (i, 2)) (λ i h. omega (arith, leb-true (xf + R) r e)) others hu)
+          (every-of (λ i. x i ≤ xf + R .outer) (λ i. Exact (i, 2)) (λ i h. omega (arith, leb-true (xf + R .outer) r e)) others hu)
       go false true e k =
           every-map Exact (λ i. (i, 0)) others
           (every-of (λ i. b ≤ x i) (λ i. Exact (i, 0)) (λ i h. omega (arith, ltb-true r b k)) others hb)
@@ -61,37 +62,37 @@ module _ (d : ℕ → ℕ → ℕ) (x : ℕ → ℕ) (r : ℕ) (M : Point d x) w
   reach-up f R is h = every-of (λ i. d f i ≤ R) (λ i. x i ≤ x f + R) (λ i k. omega (arith, M .up f i)) is h
 
   -- every mark below a node is right, where no row is closer than the node's bound
-  marksIn-exact : (β : ℕ → ℕ → ℕ) (g : Grove) → Sound d g → Valid x β g → Every (Exact x r) (marksIn x r β g)
+  marksIn-exact : (β : ℕ → Reach → ℕ) (g : Grove) → Full g → Sound d g → Valid x β g → Every (Exact x r) (marksIn x r β g)
   unfolding marksIn
-  marksIn-exact β bare hs hv = tt
-  marksIn-exact β (leaf R es g) hs hv =
+  marksIn-exact β bare w hs hv = tt
+  marksIn-exact β (leaf R es g) w hs hv =
       let f : ℕ = head (lefts es) in
       every-append (Exact x r) (visit x r (x f) R (β (x f) R) (rest (lefts es)) (map (λ e. (e .0, inLeaf x r f e)) (rest es))) (marksIn x r β g)
       (visit-exact x r (x f) R (β (x f) R) (rest (lefts es)) (map (λ e. (e .0, inLeaf x r f e)) (rest es))
-      (every-rest (λ i. x i ≤ x f + R) (lefts es) (reach-up f R (lefts es) (hs .1)))
-      (every-rest (λ i. β (x f) R ≤ x i) (lefts es) (hv .0))
+      (every-rest (λ i. x i ≤ x f + R .outer) (lefts es) (reach-up f (R .outer) (lefts es) (hs .1 .up)))
+      (hv .0)
       (every-map (Exact x r) (λ e. (e .0, inLeaf x r f e)) (rest es)
       (every-rest (λ e. Exact x r (e .0, inLeaf x r f e)) es
       (every-of (λ e. d f (e .0) ≡ e .1) (λ e. Exact x r (e .0, inLeaf x r f e)) (λ e h. leaf-exact f e h) es (hs .0)))))
-      (marksIn-exact β g (hs .2) (hv .1))
-  marksIn-exact β (fork R ks g) hs hv =
+      (marksIn-exact β g (w .1) (hs .2) (hv .1))
+  marksIn-exact β (fork R ks g) w hs hv =
       let f : ℕ = first ks in
       let opened : List (ℕ × ℕ) = map (λ i. (i, byDistance x r i)) (rest (firsts ks)) ++ marksIn x r (childBound (β (x f) R) (nearestOf x ks)) ks in
       every-append (Exact x r) (visit x r (x f) R (β (x f) R) (rest (rowsIn ks)) opened) (marksIn x r β g)
       (visit-exact x r (x f) R (β (x f) R) (rest (rowsIn ks)) opened
-      (every-rest (λ i. x i ≤ x f + R) (rowsIn ks) (reach-up f R (rowsIn ks) (hs .1)))
-      (every-rest (λ i. β (x f) R ≤ x i) (rowsIn ks) (hv .0))
+      (every-rest (λ i. x i ≤ x f + R .outer) (rowsIn ks) (reach-up f (R .outer) (rowsIn ks) (hs .1 .up)))
+      (hv .0)
       (every-append (Exact x r) (map (λ i. (i, byDistance x r i)) (rest (firsts ks))) (marksIn x r (childBound (β (x f) R) (nearestOf x ks)) ks)
       (every-map (Exact x r) (λ i. (i, byDistance x r i)) (rest (firsts ks))
       (every-all (λ i. Exact x r (i, byDistance x r i)) (distance-exact x r) (rest (firsts ks))))
-      (marksIn-exact (childBound (β (x f) R) (nearestOf x ks)) ks (hs .2) (valid-under d x M (β (x f) R) ks (hv .0) (hs .0) (hs .2)))))
-      (marksIn-exact β g (hs .3) (hv .1))
+      (marksIn-exact (childBound (β (x f) R) (nearestOf x ks)) ks (w .1) (hs .2) (valid-under d x M (β (x f) R) ks (w .1) (hv .0) (hs .0) (hs .2)))))
+      (marksIn-exact β g (w .2) (hs .3) (hv .1))
 
   -- every mark that the search makes is right
-  pub marks-exact : (t : Grove) → Sound d t → Every (Exact x r) (marks x r t)
+  pub marks-exact : (t : Grove) → Full t → Sound d t → Every (Exact x r) (marks x r t)
   unfolding marks
-  marks-exact t hs =
+  marks-exact t w hs =
       every-append (Exact x r) (map (λ f. (f, byDistance x r f)) (firsts t)) (marksIn x r (λ x R. 0) t)
       (every-map (Exact x r) (λ i. (i, byDistance x r i)) (firsts t) (every-all (λ i. Exact x r (i, byDistance x r i)) (distance-exact x r)
       (firsts t)))
-      (marksIn-exact (λ x R. 0) t hs (valid-zero x t))
+      (marksIn-exact (λ x R. 0) t w hs (valid-zero x t))

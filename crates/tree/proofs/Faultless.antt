@@ -10,12 +10,12 @@ use Rattle.laws.proofs.Times.{zero-any}
 use Rattle.laws.specs.Lists.{any, each, greatest, keep, range, times}
 use Rattle.limits.specs.Said.{Said}
 use Rattle.tree.proofs.Right.{Right}
-use Rattle.tree.specs.Check.{again, faults, inRun, strays, wrongDist, wrongRadius}
+use Rattle.tree.specs.Check.{again, faults, inRun, nearest#, strays, wrongDist, wrongInner, wrongRadius}
 use Rattle.words.specs.Shape.{inner}
-use Rattle.words.specs.Words.{N#, child#, count#, dist#, first#, m#, n#, radius#, row#, run#, start#}
+use Rattle.words.specs.Words.{N#, at, child#, count#, dist#, edition#, first#, m#, n#, nodeAt, radius#, row#, run#, start#}
 use borrow.Author.Tests.{eq-eqb, le-ltb}
 use lib.Dec.{eqb, leb, leb→le, ltb, ltb→lt}
-use mathlib.Core.Bool.{Bool, _&&_, cond, false, not, true}
+use mathlib.Core.Bool.{Bool, _&&_, _||_, cond, false, not, true}
 use mathlib.Core.List.{List, [], _++_, _∷_, map}
 use mathlib.Core.Path.{_∙_, _≡_, ap, refl, subst}
 use native.Mathlib.Nat.{zero-add}
@@ -79,6 +79,20 @@ module _ (d : ℕ → ℕ → ℕ) (w : List ℕ) (once : (i : ℕ) → times i 
   unfolding wrongRadius
   not-radius k h = ap not (eq-eqb (radius# w k) (greatest (map (λ p. d (first# w k) (row# w p)) (run# w k))) (right k h .radius))
 
+  -- nor the inner reach
+  not-inner : (k : ℕ) → k < N# w → wrongInner d w k ≡ false
+  unfolding wrongInner
+  not-inner k h = go (eqb (edition# w) 2) (right k h .inner-reach)
+    where
+      go : (b : Bool) → cond b (at w (nodeAt w k + 4)) 0 ≡ cond b (nearest# d w k) 0
+          → (b && not (eqb (cond b (at w (nodeAt w k + 4)) 0) (nearest# d w k))) ≡ false
+      go true e = ap not (eq-eqb (at w (nodeAt w k + 4)) (nearest# d w k) e)
+      go false e = refl
+
+  -- neither
+  not-reach : (k : ℕ) → k < N# w → (wrongRadius d w k || wrongInner d w k) ≡ false
+  not-reach k h = rw (not-radius k h) (not-inner k h)
+
   -- 13
   not-stray : (k p : ℕ) → k < N# w → strays d w k p ≡ false
   unfolding strays
@@ -109,12 +123,13 @@ module _ (d : ℕ → ℕ → ℕ) (w : List ℕ) (once : (i : ℕ) → times i 
       let ns : List ℕ = range 0 (N# w) in
       let a = keep-none (again w) ps (at-every (λ p. again w p ≡ false) (n# w) (λ p h. not-again w once p h)) in
       let b = keep-none (wrongDist d w) ps (at-every (λ p. wrongDist d w p ≡ false) (n# w) (λ p h. not-dist p)) in
-      let c = keep-none (wrongRadius d w) ns (at-every (λ k. wrongRadius d w k ≡ false) (N# w) (λ k h. not-radius k h)) in
+      let o : ℕ → Bool = λ k. wrongRadius d w k || wrongInner d w k in
+      let c = keep-none o ns (at-every (λ k. o k ≡ false) (N# w) (λ k h. not-reach k h)) in
       let f : ℕ → List Said = λ k. map (λ p. (13, k, p)) (keep (strays d w k) (run# w k)) in
       let e : each f ns ≡ [] = each-none f ns (at-every (λ k. f k ≡ []) (N# w)
       (λ k h. ap (map (λ p. (13, k, p))) (keep-none (strays d w k) (run# w k)
       (range-every (λ p. strays d w k p ≡ false) (start# w k) (count# w k) (λ i q. not-stray k (start# w k + i) h))))) in
       let g : List ℕ → List ℕ → List ℕ → List Said → List Said =
       λ x y z r. map (λ p. (10, p, 0)) x ++ map (λ p. (11, p, 0)) y ++ map (λ k. (12, k, 0)) z ++ r in
-      ap (λ x. g x (keep (wrongDist d w) ps) (keep (wrongRadius d w) ns) (each f ns)) a ∙ ap (λ y. g [] y (keep (wrongRadius d w) ns) (each f ns)) b
+      ap (λ x. g x (keep (wrongDist d w) ps) (keep o ns) (each f ns)) a ∙ ap (λ y. g [] y (keep o ns) (each f ns)) b
       ∙ ap (λ z. g [] [] z (each f ns)) c ∙ e

@@ -4,14 +4,14 @@ use Rattle.laws.proofs.Every.{every-map}
 use Rattle.laws.specs.Every.{Every}
 use Rattle.laws.proofs.Ranges.{range-every}
 use Rattle.laws.proofs.Times.{lefts}
-use Rattle.laws.specs.Lists.{range}
+use Rattle.laws.specs.Lists.{range, rest}
 use Rattle.tree.proofs.Forks.{kids-first, kids-rows}
 use Rattle.tree.proofs.Members.{held, kids-firsts, run-first}
-use Rattle.tree.proofs.Sound.{Close, Sound}
-use Rattle.tree.specs.Grove.{Grove, bare, fork, leaf, members#, rowsIn, treeAt}
+use Rattle.tree.proofs.Sound.{Close, Reaches, Sound}
+use Rattle.tree.specs.Grove.{Grove, bare, fork, leaf, members#, reach#, rowsIn, treeAt}
 use Rattle.words.specs.InShape.{InShape, Left}
 use Rattle.words.specs.Shape.{inner}
-use Rattle.words.specs.Words.{N#, child#, count#, dist#, first#, m#, n#, radius#, row#, start#}
+use Rattle.words.specs.Words.{N#, child#, count#, dist#, first#, inner#, m#, n#, radius#, row#, start#}
 use mathlib.Core.Bool.{Bool, cond, false, true}
 use mathlib.Core.List.{List, foldr, map}
 use mathlib.Core.Path.{_≡_, refl, subst, sym}
@@ -23,6 +23,7 @@ pub record Fits (d : ℕ → ℕ → ℕ) (w : List ℕ) : Type 0 where
   pub dists : (k i : ℕ) → k < N# w → inner w k ≡ false → i < count# w k → start# w k + i < n# w
       → d (first# w k) (row# w (start# w k + i)) ≡ dist# w (start# w k + i)
   pub radii : (k i : ℕ) → k < N# w → i < count# w k → d (first# w k) (row# w (start# w k + i)) ≤ radius# w k
+  pub inners : (k i : ℕ) → k < N# w → suc i < count# w k → inner# w k ≤ d (first# w k) (row# w (start# w k + suc i))
   pub near : (k a b i : ℕ) → k < N# w → inner w k ≡ true → a < m# w → b < m# w → i < count# w (child# w k + a)
       → start# w k ≤ start# w (child# w k + a) + i → start# w (child# w k + a) + i < start# w k + count# w k
       → d (first# w (child# w k + a)) (row# w (start# w (child# w k + a) + i)) ≤ d (first# w (child# w k + b)) (row# w (start# w (child# w k + a) + i))
@@ -51,7 +52,7 @@ module _ (d : ℕ → ℕ → ℕ) (w : List ℕ) (S : InShape w) (F : Fits d w)
   close-at cs (suc deep) k g h a c = go (inner w k) refl
     where
       go : (b : Bool) → inner w k ≡ b
-          → Close d cs (cond b (fork (radius# w k) (foldr (treeAt w deep) bare (range (child# w k) (m# w))) g) (leaf (radius# w k) (members# w k) g))
+          → Close d cs (cond b (fork (reach# w k) (foldr (treeAt w deep) bare (range (child# w k) (m# w))) g) (leaf (reach# w k) (members# w k) g))
       go true e = (
         subst (λ f. Every (λ i. Every (λ c. d f i ≤ d c i) cs) (rowsIn (foldr (treeAt w deep) bare (range (child# w k) (m# w)))))
             (sym (kids-first w S deep k h e))
@@ -72,15 +73,26 @@ module _ (d : ℕ → ℕ → ℕ) (w : List ℕ) (S : InShape w) (F : Fits d w)
       close-at cs deep j (foldr (treeAt w deep) bare (range (suc j) m)) (omega arith) (subst (AsClose cs) (omega arith) (f 0 (omega arith)))
       (close-kids cs deep (suc j) m (omega arith) (λ a q. subst (AsClose cs) (omega arith) (f (suc a) (omega arith))))
 
+  -- a fact of the rows of n positions from s on but the first
+  rest-every : (P : ℕ → Type 0) (s n : ℕ) → ((i : ℕ) → suc i < n → P (row# w (s + suc i))) → Every P (rest (lefts (held w s n)))
+  rest-every P s zero f = tt
+  rest-every P s (suc n) f = rows-every P (suc s) n (λ i u. rw (suc-add s i, ← add-suc s i) (f i (omega arith)))
+
+  -- node k's run is within its reach
+  reaches : (k : ℕ) → k < N# w → Reaches d (reach# w k) (first# w k) (lefts (members# w k))
+  reaches k h = record {
+    up = rows-every (λ i. d (first# w k) i ≤ radius# w k) (start# w k) (count# w k) (λ i u. F .radii k i h u);
+    low = rest-every (λ i. inner# w k ≤ d (first# w k) i) (start# w k) (count# w k) (λ i u. F .inners k i h u);
+  }
+
   -- a leaf
   leaf-sound : (k : ℕ) (g : Grove) → k < N# w → inner w k ≡ false → Sound d g
-      → Sound d (leaf (radius# w k) (members# w k) g)
+      → Sound d (leaf (reach# w k) (members# w k) g)
   leaf-sound k g h e s =
       let r = sym (run-first w S (start# w k) (count# w k) (S .node k h .some)) in (
         subst (λ f. Every (λ e. d f (e .0) ≡ e .1) (members# w k)) r
             (held-every (λ e. d (first# w k) (e .0) ≡ e .1) (start# w k) (count# w k) (λ i u. F .dists k i h e u (omega (arith, S .node k h .run)))),
-        subst (λ f. Every (λ i. d f i ≤ radius# w k) (lefts (members# w k))) r
-            (rows-every (λ i. d (first# w k) i ≤ radius# w k) (start# w k) (count# w k) (λ i u. F .radii k i h u)),
+        subst (λ f. Reaches d (reach# w k) f (lefts (members# w k))) r (reaches k h),
         s,
       )
 
@@ -108,16 +120,15 @@ module _ (d : ℕ → ℕ → ℕ) (w : List ℕ) (S : InShape w) (F : Fits d w)
           (kid-sound ih (suc j) m (omega arith) (λ a p. rw (add-suc j a, ← suc-add j a) at (f (suc a) (omega arith))))
 
       go : ((j : ℕ) (g : Grove) → Left w deep j → j < N# w → Sound d g → Sound d (treeAt w deep j g)) → (b : Bool) → inner w k ≡ b
-          → Sound d (cond b (fork (radius# w k) (foldr (treeAt w deep) bare (range (child# w k) (m# w))) g) (leaf (radius# w k) (members# w k) g))
+          → Sound d (cond b (fork (reach# w k) (foldr (treeAt w deep) bare (range (child# w k) (m# w))) g) (leaf (reach# w k) (members# w k) g))
       go ih true e =
           let K = S .node k h .kids e in
           let ks : Grove = foldr (treeAt w deep) bare (range (child# w k) (m# w)) in
           let one : suc deep - 1 ≡ deep = omega arith in (
             subst (λ cs. Close d cs ks) (sym (kids-firsts w S deep (child# w k) (m# w) (K .inside)))
                 (close-kids (map (first# w) (range (child# w k) (m# w))) deep (child# w k) (m# w) (K .inside) (near-kids k h e)),
-            subst (λ f. Every (λ i. d f i ≤ radius# w k) (rowsIn ks)) (sym (kids-first w S deep k h e))
-                (subst (λ l. Every (λ i. d (first# w k) i ≤ radius# w k) l) (sym (kids-rows w S deep k h e))
-                (rows-every (λ i. d (first# w k) i ≤ radius# w k) (start# w k) (count# w k) (λ i u. F .radii k i h u))),
+            subst (λ f. Reaches d (reach# w k) f (rowsIn ks)) (sym (kids-first w S deep k h e))
+                (subst (Reaches d (reach# w k) (first# w k)) (sym (kids-rows w S deep k h e)) (reaches k h)),
             kid-sound ih (child# w k) (m# w) (K .inside) (λ a p. subst (λ n. Left w n (child# w k + a)) one (K .down (suc deep) a l)),
             s,
           )

@@ -3,7 +3,7 @@ use Prim.Native.Nat.{_<_, suc, zero, ℕ}
 use Rattle.laws.proofs.Times.{lefts}
 use Rattle.laws.specs.Lists.{head, range}
 use Rattle.tree.proofs.Members.{entries-at, firsts-at, kids-entries}
-use Rattle.tree.specs.Grove.{Grove, bare, first, firsts, fork, leaf, members#, rowsIn, treeAt}
+use Rattle.tree.specs.Grove.{Grove, bare, first, firsts, fork, leaf, members#, reach#, rowsIn, treeAt}
 use Rattle.words.specs.InShape.{InShape}
 use Rattle.words.specs.Shape.{inner}
 use Rattle.words.specs.Words.{N#, child#, count#, first#, m#, radius#, start#}
@@ -14,7 +14,7 @@ use mathlib.Core.Path.{_∙_, _≡_, ap, refl, sym}
 module _ (w : List ℕ) where
   -- node k as a leaf, before the nodes g
   abbrev pub leafNode : ℕ → Grove → Grove
-  leafNode k g = leaf (radius# w k) (members# w k) g
+  leafNode k g = leaf (reach# w k) (members# w k) g
 
   -- node k's children, with `deep` levels left below them
   abbrev pub kidsAt : ℕ → ℕ → Grove
@@ -22,7 +22,7 @@ module _ (w : List ℕ) where
 
   -- node k as an inner node, before the nodes g
   abbrev pub forkNode : ℕ → ℕ → Grove → Grove
-  forkNode deep k g = fork (radius# w k) (kidsAt deep k) g
+  forkNode deep k g = fork (reach# w k) (kidsAt deep k) g
 
   -- a leaf's tree
   pub as-leaf : (deep k : ℕ) (g : Grove) → inner w k ≡ false → treeAt w deep k g ≡ leafNode k g

@@ -4,7 +4,7 @@ use Rattle.laws.proofs.Every.{every-both, every-unmap}
 use Rattle.laws.specs.Every.{Every}
 use Rattle.laws.proofs.Tests.{and-of, holds, is-true}
 use Rattle.laws.specs.Lists.{each, range, times}
-use Rattle.limits.proofs.Ranges.{shared}
+use Rattle.limits.proofs.Ranges.{shared, within-both}
 use Rattle.limits.specs.Limits.{columnsOk, maxDepth, maxDistance, maxRows, shareOk}
 use Rattle.tree.proofs.Encode.{Even, level-length, nodes-length}
 use Rattle.tree.proofs.Faultless.{no-fault}
@@ -14,18 +14,19 @@ use Rattle.tree.proofs.Held.{At, at-rows, read-at}
 use Rattle.tree.proofs.Right.{Made, nodes-right}
 use Rattle.tree.proofs.Shaped.{Fine, below-fine, below-none}
 use Rattle.tree.proofs.Sound.{Sound}
-use Rattle.tree.proofs.Written.{each-words, encode-shape, read-nodes}
+use Rattle.tree.proofs.Written.{Edition, each-words, encode-shape, read-nodes}
 use Rattle.tree.specs.Cases.{words}
 use Rattle.tree.specs.Check.{Accepted, faults}
 use Rattle.tree.specs.Encode.{below, broods, encode, family, levelNodes, members, nodeWords, nodes, numbered, pairWords, span}
 use Rattle.tree.specs.Grove.{Grove, bare, entries, fork, leaf, rowsIn}
 use Rattle.words.specs.Shape.{shapeOk}
-use Rattle.words.specs.Words.{headerOk, nodesOk, row#, wordsOf, wordsOk}
+use Rattle.words.specs.Words.{editionOk, headerOk, nodesOk, row#, width, wordsOf, wordsOk}
 use lib.Dec.{T, leb, le→leb}
 use lib.ListN.{length, length-append}
 use mathlib.Core.Bool.{_&&_, true}
 use mathlib.Core.List.{List, [], _++_, _∷_, append-assoc, map}
 use mathlib.Core.Path.{_≡_, ap, refl, subst, sym}
+use native.Mathlib.Nat.{mul-zero}
 use native.Mathlib.Omega.{arith}
 
 -- ---- how many nodes: at most 2n - 1
@@ -90,14 +91,15 @@ nodes-test zero N a b = absurd (omega arith)
 nodes-test (suc n) N a b = and-of (leb 1 N) (leb N (2 * suc n - 1)) (le→leb 1 N a) (le→leb N (2 * suc n - 1) (omega arith))
 
 -- the header that is written is possible
-header-ok : (n c m l N : ℕ) → n ≤ maxRows → T (columnsOk c) → T (shareOk m l) → 1 ≤ N → N + 1 ≤ 2 * n
-    → T (true && leb n maxRows && columnsOk c && shareOk m l && nodesOk n N && true && true)
-header-ok n c m l N hn hc hs a b =
-    let q1 = leb n maxRows && columnsOk c in
+header-ok : (e n c m l N : ℕ) → T (editionOk e) → n ≤ maxRows → T (columnsOk c) → T (shareOk m l) → 1 ≤ N → N + 1 ≤ 2 * n
+    → T (editionOk e && leb n maxRows && columnsOk c && shareOk m l && nodesOk n N && true && true)
+header-ok e n c m l N he hn hc hs a b =
+    let q0 = editionOk e && leb n maxRows in
+    let q1 = q0 && columnsOk c in
     let q2 = q1 && shareOk m l in
     let q3 = q2 && nodesOk n N in
     and-of (q3 && true) true (and-of q3 true
-    (and-of q2 (nodesOk n N) (and-of q1 (shareOk m l) (and-of (leb n maxRows) (columnsOk c) (le→leb n maxRows hn) hc) hs)
+    (and-of q2 (nodesOk n N) (and-of q1 (shareOk m l) (and-of q0 (columnsOk c) (and-of (editionOk e) (leb n maxRows) he (le→leb n maxRows hn)) hc) hs)
     (nodes-test n N a b)) tt) tt
 
 -- two words for each position
@@ -106,56 +108,59 @@ pairs-length [] = refl
 pairs-length (e ∷ es) = omega (arith, pairs-length es)
 
 -- the words that the header asks for are there
-encode-words : (c m l : ℕ) (t : Grove) → T (headerOk (encode c m l t)) → wordsOk (encode c m l t) ≡ true
+encode-words : (e c m l : ℕ) (t : Grove) → Edition e → T (headerOk (encode e c m l t)) → wordsOk (encode e c m l t) ≡ true
 unfolding encode wordsOk
-encode-words c m l t h =
-    let w : List ℕ = encode c m l t in
-    let B : List ℕ = each nodeWords (numbered t) in
+encode-words e c m l t ed h =
+    let w : List ℕ = encode e c m l t in
+    let B : List ℕ = each (nodeWords e) (numbered t) in
     let Z : List ℕ = each pairWords (entries t) in
-    let len : length w ≡ wordsOf w = omega (arith, length-append B Z, each-words (numbered t), pairs-length (entries t)) in
+    let len : length w ≡ wordsOf w = omega (arith, length-append B Z, each-words e (numbered t) ed, pairs-length (entries t)) in
     is-true (leb 8 (length w) && headerOk w && leb (wordsOf w) (length w))
     (and-of (leb 8 (length w) && headerOk w) (leb (wordsOf w) (length w))
     (and-of (leb 8 (length w)) (headerOk w) (le→leb 8 (length w) (omega arith)) h) (le→leb (wordsOf w) (length w) (omega arith)))
 
 -- A WELL-MADE TREE, NUMBERED AND WRITTEN, IS ACCEPTED
-pub encode-accepted : (d : ℕ → ℕ → ℕ) (c m l : ℕ) (t : Grove) → columnsOk c ≡ true → shareOk m l ≡ true → length (entries t) ≤ maxRows
-    → Good d m l t → Accepted d (encode c m l t)
+pub encode-accepted : (d : ℕ → ℕ → ℕ) (e c m l : ℕ) (t : Grove) → editionOk e ≡ true → columnsOk c ≡ true → shareOk m l ≡ true → length (entries t) ≤ maxRows
+    → Good d m l t → Accepted d (encode e c m l t)
 unfolding encode numbered headerOk
-encode-accepted d c m l t hc hs hn G =
-    let w : List ℕ = encode c m l t in
+encode-accepted d e c m l t he hc hs hn G =
+    let ed : Edition e = within-both 1 2 e he in
+    let w : List ℕ = encode e c m l t in
     let n : ℕ = length (entries t) in
-    let H : List ℕ = 1 ∷ n ∷ c ∷ m ∷ l ∷ length (numbered t) ∷ 1 ∷ 0 ∷ [] in
-    let B : List ℕ = each nodeWords (numbered t) in
+    let H : List ℕ = e ∷ n ∷ c ∷ m ∷ l ∷ length (numbered t) ∷ 1 ∷ 0 ∷ [] in
+    let B : List ℕ = each (nodeWords e) (numbered t) in
     let Z : List ℕ = each pairWords (entries t) in
     let m2 = shared m l hs .two in
     let N : length (numbered t) ≡ size t + 0 = nodes-size l maxDepth (span t) ((0, t) ∷ []) (G .fine, tt) in
     let sz = size-bound m t m2 (G .full) (G .even) in
     let held : At w 0 (entries t) =
-    read-at (entries t) (H ++ B) w 0 (append-assoc H B Z) (omega (arith, length-append H B, each-words (numbered t))) in
+    read-at (entries t) (H ++ B) w 0 (append-assoc H B Z) (omega (arith, length-append H B, each-words e (numbered t) ed)) in
     let made : Made d w 0 t = record { full = G .full; held = held; sound = G .sound; tight = G .tight; even = G .even } in
     let rows : map (row# w) (range 0 n) ≡ rowsIn t = at-rows w 0 (entries t) held in
     record {
       words =
-          encode-words c m l t (header-ok n c m l (length (numbered t)) hn (holds (columnsOk c) hc) (holds (shareOk m l) hs)
+          encode-words e c m l t ed (header-ok e n c m l (length (numbered t)) (holds (editionOk e) he) hn (holds (columnsOk c) hc) (holds (shareOk m l) hs)
           (omega (arith, broods-sizes 0 t, G .one)) (omega (arith, G .one)));
-      shape = is-true (shapeOk w) (encode-shape m l t (G .one) (G .even) (G .fine) c
+      shape = is-true (shapeOk w) (encode-shape e m l ed t (G .one) (G .even) (G .fine) c
           (every-both (λ e. e .0 < n) (λ e. e .1 ≤ maxDistance) (λ e. (e .0 < n) × (e .1 ≤ maxDistance)) (λ e a b. (a, b)) (entries t)
           (every-unmap (λ i. i < n) (λ e. e .0) (entries t) (G .rows)) (G .dists)));
       sound = no-fault d w (λ i. subst (λ is. times i is ≤ 1) (sym rows) (G .once i))
-          (nodes-right d w l maxDepth 0 (span t) ((0, t) ∷ []) (read-nodes (numbered t) H Z 0 refl) (made, tt) (G .fine, tt) (omega arith)
+          (nodes-right d w l maxDepth 0 (span t) ((0, t) ∷ []) (read-nodes e ed (numbered t) H Z w 0 refl refl (omega (arith, mul-zero (width e)))) (made, tt) (G .fine, tt) (omega arith)
           (omega (arith, G .one)));
     }
 
 -- the tree of no rows
-pub empty-accepted : (d : ℕ → ℕ → ℕ) (c m l : ℕ) → columnsOk c ≡ true → shareOk m l ≡ true → Accepted d (encode c m l bare)
+pub empty-accepted : (d : ℕ → ℕ → ℕ) (e c m l : ℕ) → editionOk e ≡ true → columnsOk c ≡ true → shareOk m l ≡ true → Accepted d (encode e c m l bare)
 unfolding encode numbered nodes levelNodes family broods headerOk shapeOk faults
-empty-accepted d c m l hc hs =
+empty-accepted d e c m l he hc hs =
+    let E = editionOk e && true in
     let C = columnsOk c in
     let s = shareOk m l in
     record {
-      words = encode-words c m l bare
-          (and-of (C && s && true && true) true (and-of (C && s && true) true
-          (and-of (C && s) true (and-of C s (holds C hc) (holds s hs)) tt) tt) tt);
+      words = encode-words e c m l bare (within-both 1 2 e he)
+          (and-of (E && C && s && true && true) true (and-of (E && C && s && true) true
+          (and-of (E && C && s) true (and-of (E && C) s (and-of E C (and-of (editionOk e) true (holds (editionOk e) he) tt) (holds C hc)) (holds s hs))
+          tt) tt) tt);
       shape = refl;
       sound = refl;
     }

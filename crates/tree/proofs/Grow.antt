@@ -1,17 +1,18 @@
 -- The tree that the build grows is well made: its runs have the rows that there were. Assumes nothing.
 use Prim.Native.Nat.{_+_, _-_, _≤_, suc, zero, ℕ}
-use Rattle.laws.proofs.Every.{every-all, every-both, every-map, every-of, greatest-under}
+use Rattle.laws.proofs.Every.{every-all, every-both, every-map, every-of, greatest-under, lowest-under}
 use Rattle.laws.specs.Every.{Every}
 use Rattle.laws.proofs.Lists.{map-id, paired, tally-append, tally-length}
 use Rattle.laws.proofs.Shares.{every-∀, heads-tally, part-times, share}
 use Rattle.laws.proofs.Tests.{holds}
 use Rattle.laws.proofs.Times.{tally-lefts}
-use Rattle.laws.specs.Lists.{head, joined, keep, tally, times}
+use Rattle.laws.specs.Lists.{head, joined, keep, rest, tally, times}
 use Rattle.limits.specs.Limits.{maxDistance}
 use Rattle.tree.proofs.Centres.{chosen, chosen-length, chosen-tally, groupOf, left, one-centre, split-is}
 use Rattle.tree.proofs.Encode.{Even}
-use Rattle.tree.proofs.Shaped.{Fine}
-use Rattle.tree.specs.Build.{Run, closest, grow, leafOf, radius, split}
+use Rattle.tree.proofs.Full.{Full}
+use Rattle.tree.proofs.Shaped.{Fine, Small}
+use Rattle.tree.specs.Build.{Run, closest, grow, innerReach, leafOf, radius, reach, split}
 use Rattle.tree.specs.Encode.{span}
 use Rattle.tree.specs.Grove.{Grove, bare, entries, fork, rowsIn}
 use borrow.Author.Tests.{leb-false}
@@ -33,6 +34,17 @@ radius-fine : (d : ℕ → ℕ → ℕ) → ((i j : ℕ) → d i j ≤ maxDistan
 radius-fine d D run =
     greatest-under maxDistance (map (d (head run)) run)
     (every-map (λ a. a ≤ maxDistance) (d (head run)) run (every-all (λ i. d (head run) i ≤ maxDistance) (λ i. D (head run) i) run))
+
+-- so is the inner reach
+inner-fine : (d : ℕ → ℕ → ℕ) → ((i j : ℕ) → d i j ≤ maxDistance) → (run : List ℕ) → innerReach d run ≤ maxDistance
+inner-fine d D run =
+    lowest-under maxDistance (map (d (head run)) (rest run))
+    (every-map (λ a. a ≤ maxDistance) (d (head run)) (rest run)
+    (every-all (λ i. d (head run) i ≤ maxDistance) (λ i. D (head run) i) (rest run)))
+
+-- and so both
+reach-fine : (d : ℕ → ℕ → ℕ) → ((i j : ℕ) → d i j ≤ maxDistance) → (run : List ℕ) → Small (reach d run)
+reach-fine d D run = (radius-fine d D run, inner-fine d D run)
 
 -- at depth 24 a leaf may have any number of rows
 always : (b : Bool) → T (b || true)
@@ -69,7 +81,7 @@ module _ (d : ℕ → ℕ → ℕ) (m l : ℕ) (m1 : 1 ≤ m) (ml : m ≤ l) whe
   grown-span zero run g = refl
   grown-span (suc deep) run g = go (leb (length run) l)
     where
-      go : (b : Bool) → span (cond b (leafOf d run g) (fork (radius d run) (foldr (grow d m l deep) bare (split d m run)) g)) ≡ suc (span g)
+      go : (b : Bool) → span (cond b (leafOf d run g) (fork (reach d run) (foldr (grow d m l deep) bare (split d m run)) g)) ≡ suc (span g)
       go true = refl
       go false = refl
 
@@ -92,7 +104,7 @@ module _ (d : ℕ → ℕ → ℕ) (m l : ℕ) (m1 : 1 ≤ m) (ml : m ≤ l) whe
 
       go : ((f : ℕ → Bool) (run : List ℕ) (g : Grove) → Run run → tally f (rowsIn (grow d m l deep run g)) ≡ tally f run + tally f (rowsIn g))
           → (b : Bool) → leb (length run) l ≡ b
-          → tally f (rowsIn (cond b (leafOf d run g) (fork (radius d run) (foldr (grow d m l deep) bare (split d m run)) g)))
+          → tally f (rowsIn (cond b (leafOf d run g) (fork (reach d run) (foldr (grow d m l deep) bare (split d m run)) g)))
           ≡ tally f run + tally f (rowsIn g)
       go ih true e = leaf-tally d f run g
       go ih false e =
@@ -119,7 +131,7 @@ module _ (d : ℕ → ℕ → ℕ) (m l : ℕ) (m1 : 1 ≤ m) (ml : m ≤ l) whe
       forest ih (q ∷ gs) = ih q (foldr (grow d m l deep) bare gs) (forest ih gs)
 
       go : ((run : List ℕ) (g : Grove) → Even m g → Even m (grow d m l deep run g)) → (b : Bool)
-          → Even m (cond b (leafOf d run g) (fork (radius d run) (foldr (grow d m l deep) bare (split d m run)) g))
+          → Even m (cond b (leafOf d run g) (fork (reach d run) (foldr (grow d m l deep) bare (split d m run)) g))
       go ih true = h
       go ih false = (forest-span deep (split d m run) ∙ split-length run, forest ih (split d m run), h)
 
@@ -127,7 +139,7 @@ module _ (d : ℕ → ℕ → ℕ) (m l : ℕ) (m1 : 1 ≤ m) (ml : m ≤ l) whe
   pub grown-fine : (D : (i j : ℕ) → d i j ≤ maxDistance) (deep : ℕ) (run : List ℕ) (g : Grove) → Run run → Fine l deep g
       → Fine l deep (grow d m l deep run g)
   unfolding grow
-  grown-fine D zero run g r h = (rw length-map (r .0), radius-fine d D run, always (leb (length (map (λ i. (i, d (head run) i)) run)) l), h)
+  grown-fine D zero run g r h = (rw length-map (r .0), reach-fine d D run, always (leb (length (map (λ i. (i, d (head run) i)) run)) l), h)
   grown-fine D (suc deep) run g r h = go (λ q f k u. grown-fine D deep q f k u) (leb (length run) l) refl
     where
       forest : ((run : List ℕ) (g : Grove) → Run run → Fine l deep g → Fine l deep (grow d m l deep run g)) → (gs : List (List ℕ)) → Every Run gs
@@ -136,8 +148,8 @@ module _ (d : ℕ → ℕ → ℕ) (m l : ℕ) (m1 : 1 ≤ m) (ml : m ≤ l) whe
       forest ih (q ∷ gs) h = ih q (foldr (grow d m l deep) bare gs) (h .0) (forest ih gs (h .1))
 
       go : ((run : List ℕ) (g : Grove) → Run run → Fine l deep g → Fine l deep (grow d m l deep run g)) → (b : Bool) → leb (length run) l ≡ b
-          → Fine l (suc deep) (cond b (leafOf d run g) (fork (radius d run) (foldr (grow d m l deep) bare (split d m run)) g))
-      go ih true e = (rw length-map (r .0), radius-fine d D run, rw (length-map, e) tt, h)
+          → Fine l (suc deep) (cond b (leafOf d run g) (fork (reach d run) (foldr (grow d m l deep) bare (split d m run)) g))
+      go ih true e = (rw length-map (r .0), reach-fine d D run, rw (length-map, e) tt, h)
       go ih false e =
           let k : m ≤ length run = omega (arith, leb-false (length run) l e) in
           let ks : Grove = foldr (grow d m l deep) bare (split d m run) in
@@ -145,4 +157,30 @@ module _ (d : ℕ → ℕ → ℕ) (m l : ℕ) (m1 : 1 ≤ m) (ml : m ≤ l) whe
           sym (length-map (entries ks) (λ e. e .0)) ∙ sym (tally-length (rowsIn ks))
           ∙ forest-tally deep (λ i. true) (split d m run) (split-runs run r k)
           ∙ split-tally (λ i. true) run r k ∙ tally-length run in
-          (omega (arith, leb-false (length run) l e), radius-fine d D run, forest ih (split d m run) (split-runs run r k), h)
+          (omega (arith, leb-false (length run) l e), reach-fine d D run, forest ih (split d m run) (split-runs run r k), h)
+
+  -- no leaf is empty and no inner node is childless
+  pub grown-full : (deep : ℕ) (run : List ℕ) (g : Grove) → Run run → Full g → Full (grow d m l deep run g)
+  unfolding grow
+  grown-full zero run g r h = (rw length-map (r .0), h)
+  grown-full (suc deep) run g r h = go (λ q f k u. grown-full deep q f k u) (leb (length run) l) refl
+    where
+      forest : ((run : List ℕ) (g : Grove) → Run run → Full g → Full (grow d m l deep run g)) → (gs : List (List ℕ)) → Every Run gs
+          → Full (foldr (grow d m l deep) bare gs)
+      forest ih [] h = tt
+      forest ih (q ∷ gs) h = ih q (foldr (grow d m l deep) bare gs) (h .0) (forest ih gs (h .1))
+
+      go : ((run : List ℕ) (g : Grove) → Run run → Full g → Full (grow d m l deep run g)) → (b : Bool) → leb (length run) l ≡ b
+          → Full (cond b (leafOf d run g) (fork (reach d run) (foldr (grow d m l deep) bare (split d m run)) g))
+      go ih true e = (rw length-map (r .0), h)
+      go ih false e =
+          let k : m ≤ length run = omega (arith, leb-false (length run) l e) in (
+            omega (arith, forest-span deep (split d m run), split-length run),
+            forest ih (split d m run) (split-runs run r k),
+            h,
+          )
+
+  -- nor among nodes side by side
+  pub forest-full : (deep : ℕ) (gs : List (List ℕ)) → Every Run gs → Full (foldr (grow d m l deep) bare gs)
+  forest-full deep [] h = tt
+  forest-full deep (q ∷ gs) h = grown-full deep q (foldr (grow d m l deep) bare gs) (h .0) (forest-full deep gs (h .1))

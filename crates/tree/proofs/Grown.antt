@@ -1,15 +1,16 @@
 -- The tree that the build grows fits its table. Assumes nothing.
 use Prim.Native.Nat.{_-_, _≤_, suc, zero, ℕ}
-use Rattle.laws.proofs.Every.{every-all, every-map, every-unmap, greatest-le, greatest-under}
+use Rattle.laws.proofs.Every.{every-all, every-map, every-unmap, greatest-le, greatest-under, lowest-le, lowest-over}
 use Rattle.laws.specs.Every.{Every}
 use Rattle.laws.proofs.Lists.{map-id, paired}
-use Rattle.laws.proofs.Times.{every-same, lefts}
-use Rattle.laws.specs.Lists.{greatest, head, keep, rest, times, without}
+use Rattle.laws.proofs.Times.{every-same, lefts, times-split}
+use Rattle.laws.specs.Lists.{greatest, head, keep, lowest, rest, times, without}
 use Rattle.tree.proofs.Centres.{chosen, closest-least, groupOf, left, split-is}
-use Rattle.tree.proofs.Grow.{forest-tally, split-runs, split-tally}
-use Rattle.tree.specs.Build.{Run, choose, closest, farthest, grow, leafOf, radius, split}
-use Rattle.tree.proofs.Sound.{Close, Sound}
-use Rattle.tree.specs.Grove.{Grove, bare, first, firsts, fork, leaf, rowsIn}
+use Rattle.tree.proofs.Full.{first-row}
+use Rattle.tree.proofs.Grow.{forest-full, forest-span, forest-tally, split-length, split-runs, split-tally}
+use Rattle.tree.specs.Build.{Run, choose, closest, farthest, grow, innerReach, leafOf, radius, reach, split}
+use Rattle.tree.proofs.Sound.{Close, Reaches, Sound}
+use Rattle.tree.specs.Grove.{Grove, Reach, bare, first, firsts, fork, leaf, rowsIn}
 use borrow.Author.Tests.{eqb-true, leb-false}
 use lib.Dec.{eqb, leb}
 use lib.ListN.{length}
@@ -18,11 +19,15 @@ use mathlib.Core.List.{List, [], _++_, _∷_, foldr, map}
 use mathlib.Core.Path.{_∙_, _≡_, ap, refl, subst, sym}
 use native.Mathlib.Omega.{arith}
 
--- radii are exact
+-- how far rows reach from the first f
+abbrev pub Spans : (ℕ → ℕ → ℕ) → Reach → ℕ → List ℕ → Type 0
+Spans d R f is = (R .outer ≡ greatest (map (d f) is)) × (R .inner ≡ lowest (map (d f) (rest is)))
+
+-- radii and inner reaches are exact
 abbrev pub Tight : (ℕ → ℕ → ℕ) → Grove → Type 0
 Tight d bare = Unit {0}
-Tight d (leaf R es g) = (R ≡ greatest (map (d (head (lefts es))) (lefts es))) × Tight d g
-Tight d (fork R ks g) = (R ≡ greatest (map (d (first ks)) (rowsIn ks))) × Tight d ks × Tight d g
+Tight d (leaf R es g) = Spans d R (head (lefts es)) (lefts es) × Tight d g
+Tight d (fork R ks g) = Spans d R (first ks) (rowsIn ks) × Tight d ks × Tight d g
 
 -- the greatest is the same in any order
 greatest-same : (f : ℕ → ℕ) (xs ys : List ℕ) → ((i : ℕ) → times i ys ≡ times i xs) → greatest (map f xs) ≡ greatest (map f ys)
@@ -33,6 +38,26 @@ greatest-same f xs ys e =
     let b = greatest-under (greatest (map f xs)) (map f ys) (every-map (λ v. v ≤ greatest (map f xs)) f ys
     (every-same (λ i. f i ≤ greatest (map f xs)) xs ys e (every-unmap (λ v. v ≤ greatest (map f xs)) f xs (greatest-le (map f xs))))) in
     omega arith
+
+-- so is the lowest
+lowest-same : (f : ℕ → ℕ) (xs ys : List ℕ) → ((i : ℕ) → times i ys ≡ times i xs) → lowest (map f xs) ≡ lowest (map f ys)
+lowest-same f [] [] e = refl
+lowest-same f [] (y ∷ ys) e = absurd (every-same (λ i. ⊥) [] (y ∷ ys) e tt .0)
+lowest-same f (x ∷ xs) [] e = absurd (every-same (λ i. ⊥) [] (x ∷ xs) (λ i. sym (e i)) tt .0)
+lowest-same f (x ∷ xs) (y ∷ ys) e =
+    let a = under (x ∷ xs) (y ∷ ys) (omega arith) e in
+    let b = under (y ∷ ys) (x ∷ xs) (omega arith) (λ i. sym (e i)) in
+    omega arith
+  where
+    under : (xs ys : List ℕ) → 1 ≤ length (map f ys) → ((i : ℕ) → times i ys ≡ times i xs) → lowest (map f xs) ≤ lowest (map f ys)
+    under xs ys h e =
+        lowest-over (lowest (map f xs)) (map f ys) h (every-map (λ v. lowest (map f xs) ≤ v) f ys
+        (every-same (λ i. lowest (map f xs) ≤ f i) xs ys e (every-unmap (λ v. lowest (map f xs) ≤ v) f xs (lowest-le (map f xs)))))
+
+-- rows but the first are the same in any order, where the first is the same
+rest-same : (xs ys : List ℕ) → 1 ≤ length xs → 1 ≤ length ys → head ys ≡ head xs → ((i : ℕ) → times i ys ≡ times i xs) → (i : ℕ)
+    → times i (rest ys) ≡ times i (rest xs)
+rest-same xs ys h k q e i = omega (arith, times-split i xs h, times-split i ys k, e i, ap (λ a. times i (a ∷ [])) q)
 
 -- the rows of a leaf's pairs are its run
 rows-paired : (d : ℕ → ℕ → ℕ) (run : List ℕ) → lefts (map (λ i. (i, d (head run) i)) run) ≡ run
@@ -94,7 +119,7 @@ module _ (d : ℕ → ℕ → ℕ) (self : (i : ℕ) → d i i ≡ 0) (m l : ℕ
       forest ih (q ∷ gs) = ih q (foldr (grow d m l deep) bare gs) ∙ ap (λ k. head q ∷ k) (forest ih gs)
 
       go : ((run : List ℕ) (g : Grove) → firsts (grow d m l deep run g) ≡ head run ∷ firsts g) → (b : Bool)
-          → firsts (cond b (leafOf d run g) (fork (radius d run) (foldr (grow d m l deep) bare (split d m run)) g)) ≡ head run ∷ firsts g
+          → firsts (cond b (leafOf d run g) (fork (reach d run) (foldr (grow d m l deep) bare (split d m run)) g)) ≡ head run ∷ firsts g
       go ih true = ap (λ is. head is ∷ firsts g) (rows-paired d run)
       go ih false = ap (λ i. i ∷ firsts g) (ap head (forest ih (split d m run) ∙ split-heads run) ∙ chosen-head run)
 
@@ -113,6 +138,22 @@ module _ (d : ℕ → ℕ → ℕ) (self : (i : ℕ) → d i i ≡ 0) (m l : ℕ
   kids-head : (deep : ℕ) (run : List ℕ) → first (foldr (grow d m l deep) bare (split d m run)) ≡ head run
   kids-head deep run = ap head (forest-firsts deep (split d m run) ∙ split-heads run) ∙ chosen-head run
 
+  -- and so their rows but the first are the run's
+  kids-rest : (deep : ℕ) (run : List ℕ) → Run run → m ≤ length run → (i : ℕ)
+      → times i (rest (rowsIn (foldr (grow d m l deep) bare (split d m run)))) ≡ times i (rest run)
+  kids-rest deep run r k =
+      let ks : Grove = foldr (grow d m l deep) bare (split d m run) in
+      let q = first-row ks (forest-full d m l m1 ml deep (split d m run) (split-runs d m l m1 ml run r k))
+      (omega (arith, forest-span d m l m1 ml deep (split d m run), split-length d m l m1 ml run)) in
+      rest-same run (rowsIn ks) (r .0) (q .0) (q .1 ∙ kids-head deep run) (kids-same deep run r k)
+
+  -- a run is within its reach
+  reaches : (run : List ℕ) → Reaches d (reach d run) (head run) run
+  reaches run = record {
+    up = every-unmap (λ v. v ≤ radius d run) (d (head run)) run (greatest-le (map (d (head run)) run));
+    low = every-unmap (λ v. innerReach d run ≤ v) (d (head run)) (rest run) (lowest-le (map (d (head run)) (rest run)));
+  }
+
   -- a grown node's rows are as close to its first as its run's were
   grown-close : (cs : List ℕ) (deep : ℕ) (run : List ℕ) (g : Grove) → Run run → Near cs run → Close d cs g → Close d cs (grow d m l deep run g)
   unfolding grow
@@ -120,7 +161,7 @@ module _ (d : ℕ → ℕ → ℕ) (self : (i : ℕ) → d i i ≡ 0) (m l : ℕ
   grown-close cs (suc deep) run g r h c = go (leb (length run) l) refl
     where
       go : (b : Bool) → leb (length run) l ≡ b
-          → Close d cs (cond b (leafOf d run g) (fork (radius d run) (foldr (grow d m l deep) bare (split d m run)) g))
+          → Close d cs (cond b (leafOf d run g) (fork (reach d run) (foldr (grow d m l deep) bare (split d m run)) g))
       go true e = (subst (λ is. Near cs is) (sym (rows-paired d run)) h, c)
       go false e =
           let k : m ≤ length run = omega (arith, leb-false (length run) l e) in
@@ -142,16 +183,19 @@ module _ (d : ℕ → ℕ → ℕ) (self : (i : ℕ) → d i i ≡ 0) (m l : ℕ
         subst (λ is. Every (λ (e : ℕ × ℕ). d (head is) (e .0) ≡ e .1) (map (λ i. (i, d (head run) i)) run)) e
             (every-map (λ e. d (head run) (e .0) ≡ e .1) (λ i. (i, d (head run) i)) run
             (every-all (λ i. d (head run) i ≡ d (head run) i) (λ i. refl) run)),
-        subst (λ is. Every (λ i. d (head is) i ≤ radius d run) is) e
-            (every-unmap (λ v. v ≤ radius d run) (d (head run)) run (greatest-le (map (d (head run)) run))),
+        subst (λ is. Reaches d (reach d run) (head is) is) e (reaches run),
         h,
       )
 
-  -- THE GROWN TREE FITS ITS TABLE, AND ITS RADII ARE EXACT
+  -- its reach is exact
+  leaf-spans : (run : List ℕ) → Spans d (reach d run) (head (lefts (map (λ i. (i, d (head run) i)) run))) (lefts (map (λ i. (i, d (head run) i)) run))
+  leaf-spans run = subst (λ is. Spans d (reach d run) (head is) is) (sym (rows-paired d run)) (refl, refl)
+
+  -- THE GROWN TREE FITS ITS TABLE, AND ITS REACHES ARE EXACT
   pub grown-sound : (deep : ℕ) (run : List ℕ) (g : Grove) → Run run → Sound d g × Tight d g
       → Sound d (grow d m l deep run g) × Tight d (grow d m l deep run g)
   unfolding grow
-  grown-sound zero run g r h = (leaf-sound run g (h .0), (ap (λ is. greatest (map (d (head is)) is)) (sym (rows-paired d run)), h .1))
+  grown-sound zero run g r h = (leaf-sound run g (h .0), (leaf-spans run, h .1))
   grown-sound (suc deep) run g r h = go (λ q f k u. grown-sound deep q f k u) (leb (length run) l) refl
     where
       forest : ((run : List ℕ) (g : Grove) → Run run → Sound d g × Tight d g → Sound d (grow d m l deep run g) × Tight d (grow d m l deep run g))
@@ -161,23 +205,31 @@ module _ (d : ℕ → ℕ → ℕ) (self : (i : ℕ) → d i i ≡ 0) (m l : ℕ
 
       go : ((run : List ℕ) (g : Grove) → Run run → Sound d g × Tight d g → Sound d (grow d m l deep run g) × Tight d (grow d m l deep run g))
           → (b : Bool) → leb (length run) l ≡ b
-          → Sound d (cond b (leafOf d run g) (fork (radius d run) (foldr (grow d m l deep) bare (split d m run)) g))
-          × Tight d (cond b (leafOf d run g) (fork (radius d run) (foldr (grow d m l deep) bare (split d m run)) g))
-      go ih true e = (leaf-sound run g (h .0), (ap (λ is. greatest (map (d (head is)) is)) (sym (rows-paired d run)), h .1))
+          → Sound d (cond b (leafOf d run g) (fork (reach d run) (foldr (grow d m l deep) bare (split d m run)) g))
+          × Tight d (cond b (leafOf d run g) (fork (reach d run) (foldr (grow d m l deep) bare (split d m run)) g))
+      go ih true e = (leaf-sound run g (h .0), (leaf-spans run, h .1))
       go ih false e =
           let k : m ≤ length run = omega (arith, leb-false (length run) l e) in
           let rs = split-runs d m l m1 ml run r k in
           let ks : Grove = foldr (grow d m l deep) bare (split d m run) in
           let f = forest ih (split d m run) rs in
-          let same = kids-same deep run r k in (
+          let same = kids-same deep run r k in
+          let others = kids-rest deep run r k in (
             (
               subst (λ cs. Close d cs ks) (sym (forest-firsts deep (split d m run) ∙ split-heads run))
                   (forest-close (chosen d m run) deep (split d m run) rs (split-near run)),
-              subst (λ f. Every (λ i. d f i ≤ radius d run) (rowsIn ks)) (sym (kids-head deep run))
-                  (every-same (λ i. d (head run) i ≤ radius d run) run (rowsIn ks) same
-                  (every-unmap (λ v. v ≤ radius d run) (d (head run)) run (greatest-le (map (d (head run)) run)))),
+              subst (λ f. Reaches d (reach d run) f (rowsIn ks)) (sym (kids-head deep run))
+                  (record {
+                    up = every-same (λ i. d (head run) i ≤ radius d run) run (rowsIn ks) same (reaches run .up);
+                    low = every-same (λ i. innerReach d run ≤ d (head run) i) (rest run) (rest (rowsIn ks)) others (reaches run .low);
+                  }),
               f .0,
               h .0,
             ),
-            (greatest-same (d (head run)) run (rowsIn ks) same ∙ ap (λ i. greatest (map (d i) (rowsIn ks))) (sym (kids-head deep run)), f .1, h .1),
+            (
+              subst (λ f. Spans d (reach d run) f (rowsIn ks)) (sym (kids-head deep run))
+                  (greatest-same (d (head run)) run (rowsIn ks) same, lowest-same (d (head run)) (rest run) (rest (rowsIn ks)) others),
+              f .1,
+              h .1,
+            ),
           )

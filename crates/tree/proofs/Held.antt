@@ -5,7 +5,7 @@ use Rattle.laws.specs.Every.{Every}
 use Rattle.laws.specs.Lists.{each, range}
 use Rattle.tree.proofs.Written.{at-behind}
 use Rattle.tree.specs.Encode.{pairWords}
-use Rattle.words.specs.Words.{N#, at, dist#, row#, width}
+use Rattle.words.specs.Words.{at, dist#, pairAt, row#}
 use lib.ListN.{length, length-append}
 use mathlib.Core.List.{List, [], _++_, _∷_, append-assoc, map}
 use mathlib.Core.Path.{_∙_, _≡_, ap, ap₂, refl, sym}
@@ -39,12 +39,12 @@ at-dists d w s [] h k = tt
 at-dists d w s (e ∷ es) h k = (h .1 ∙ sym (k .0) ∙ ap d (sym (h .0)), at-dists d w (suc s) es (h .2) (k .1))
 
 -- POSITION WORDS ARE READ BACK: behind the words `pre`, the pairs stand from position p on
-pub read-at : (es : List (ℕ × ℕ)) (pre w : List ℕ) (p : ℕ) → pre ++ each pairWords es ≡ w → length pre ≡ 8 + width * N# w + 2 * p → At w p es
+pub read-at : (es : List (ℕ × ℕ)) (pre w : List ℕ) (p : ℕ) → pre ++ each pairWords es ≡ w → length pre ≡ pairAt w p → At w p es
 read-at [] pre w p e l = tt
 read-at (x ∷ es) pre w p e l =
     let ys : List ℕ = each pairWords (x ∷ es) in (
-      ap (λ l. at l (8 + width * N# w + 2 * p)) (sym e) ∙ at-behind pre ys (8 + width * N# w + 2 * p) 0 (omega arith),
-      ap (λ l. at l (8 + width * N# w + 2 * p + 1)) (sym e) ∙ at-behind pre ys (8 + width * N# w + 2 * p + 1) 1 (omega arith),
+      ap (λ l. at l (pairAt w p)) (sym e) ∙ at-behind pre ys (pairAt w p) 0 (omega arith),
+      ap (λ l. at l (pairAt w p + 1)) (sym e) ∙ at-behind pre ys (pairAt w p + 1) 1 (omega arith),
       read-at es (pre ++ pairWords x) w (suc p) (append-assoc pre (pairWords x) (each pairWords es) ∙ e)
           (omega (arith, length-append pre (pairWords x))),
     )

@@ -4,7 +4,7 @@ use Rattle.laws.proofs.Lists.{map-append, map-id, paired, tally-append}
 use Rattle.laws.proofs.Times.{tally-lefts, times-split}
 use Rattle.laws.specs.Lists.{times}
 use Rattle.tree.proofs.Full.{Full}
-use Rattle.tree.specs.Grove.{Grove, bare, entries, first, firsts, fork, leaf, rowsIn}
+use Rattle.tree.specs.Grove.{Grove, Reach, bare, entries, first, firsts, fork, leaf, rowsIn}
 use Rattle.tree.specs.Homes.{childBound, homes, homesIn, nearestOf}
 use lib.Dec.{eqb}
 use mathlib.Core.List.{[], _∷_, map}
@@ -14,7 +14,7 @@ use native.Mathlib.Omega.{arith}
 
 module _ (x : ℕ → ℕ) where
   -- below the nodes of a grove, every row but their firsts is at home once
-  homesIn-rows : (i : ℕ) (β : ℕ → ℕ → ℕ) (g : Grove) → Full g
+  homesIn-rows : (i : ℕ) (β : ℕ → Reach → ℕ) (g : Grove) → Full g
       → times i (map (λ p. p .0) (homesIn x β g)) + times i (firsts g) ≡ times i (rowsIn g)
   unfolding homesIn
   homesIn-rows i β bare w = refl

@@ -25,5 +25,8 @@ pub mod Grow
 pub mod Grown
 pub mod Good
 pub mod Built
+pub mod Alike
+pub mod Widened
+pub mod WidenedBuild
 pub mod Theorems
 pub mod Tallies

@@ -5,7 +5,7 @@ use Rattle.laws.proofs.Ranges.{getD-range}
 use Rattle.laws.proofs.Times.{lefts, tally-lefts, times-split}
 use Rattle.laws.specs.Lists.{look, rest, times}
 use Rattle.tree.proofs.Full.{Full, first-row}
-use Rattle.tree.specs.Grove.{Grove, bare, entries, first, firsts, fork, leaf, rowsIn}
+use Rattle.tree.specs.Grove.{Grove, Reach, bare, entries, first, firsts, fork, leaf, rowsIn}
 use Rattle.tree.specs.Homes.{childBound, nearestOf}
 use Rattle.tree.specs.Radius.{byDistance, inLeaf, marks, marksIn, radiusHow, visit}
 use lib.Dec.{eqb, leb, ltb}
@@ -18,9 +18,9 @@ use native.Mathlib.Omega.{arith}
 
 module _ (x : ℕ → ℕ) (r : ℕ) where
   -- swept, closed or opened, a node's other rows are each marked once
-  visit-rows : (i xf R b : ℕ) (others : List ℕ) (opened : List (ℕ × ℕ)) → times i (map (λ p. p .0) opened) ≡ times i others
+  visit-rows : (i xf : ℕ) (R : Reach) (b : ℕ) (others : List ℕ) (opened : List (ℕ × ℕ)) → times i (map (λ p. p .0) opened) ≡ times i others
       → times i (map (λ p. p .0) (visit x r xf R b others opened)) ≡ times i others
-  visit-rows i xf R b others opened h = go (leb (xf + R) r) (ltb r b)
+  visit-rows i xf R b others opened h = go (leb (xf + R .outer) r) (ltb r b)
     where
       go : (s t : Bool) → times i (map (λ p. p .0) (cond s (map (λ i. (i, 2)) others) (cond t (map (λ i. (i, 0)) others) opened))) ≡ times i others
       go true t = simp (paired, map-id)
@@ -28,7 +28,7 @@ module _ (x : ℕ → ℕ) (r : ℕ) where
       go false false = h
 
   -- below the nodes of a grove, every row but their firsts is marked once
-  marksIn-rows : (i : ℕ) (β : ℕ → ℕ → ℕ) (g : Grove) → Full g
+  marksIn-rows : (i : ℕ) (β : ℕ → Reach → ℕ) (g : Grove) → Full g
       → times i (map (λ p. p .0) (marksIn x r β g)) + times i (firsts g) ≡ times i (rowsIn g)
   unfolding marksIn
   marksIn-rows i β bare w = refl

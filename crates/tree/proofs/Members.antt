@@ -4,7 +4,7 @@ use Rattle.laws.proofs.Lists.{map-append}
 use Rattle.laws.proofs.Ranges.{range-append, range-length}
 use Rattle.laws.specs.Lists.{head, range}
 use Rattle.tree.proofs.Full.{Full}
-use Rattle.tree.specs.Grove.{Grove, bare, entries, firsts, fork, leaf, members#, treeAt}
+use Rattle.tree.specs.Grove.{Grove, bare, entries, firsts, fork, leaf, members#, reach#, treeAt}
 use Rattle.words.proofs.Tiles.{tile-first, tile-head, tile-le, tile-none, tile-tail}
 use Rattle.words.specs.InShape.{InShape}
 use Rattle.words.specs.Shape.{inner, tile}
@@ -56,7 +56,7 @@ module _ (w : List ℕ) (S : InShape w) where
     where
       go : ((k : ℕ) (g : Grove) → k < N# w → entries (treeAt w deep k g) ≡ members# w k ++ entries g)
           → (b : Bool) → inner w k ≡ b
-          → entries (cond b (fork (radius# w k) (foldr (treeAt w deep) bare (range (child# w k) (m# w))) g) (leaf (radius# w k) (members# w k) g))
+          → entries (cond b (fork (reach# w k) (foldr (treeAt w deep) bare (range (child# w k) (m# w))) g) (leaf (reach# w k) (members# w k) g))
           ≡ members# w k ++ entries g
       go ih true e =
           ap (λ es. es ++ entries g)
@@ -81,7 +81,7 @@ module _ (w : List ℕ) (S : InShape w) where
 
       go : ((k : ℕ) (g : Grove) → k < N# w → firsts (treeAt w deep k g) ≡ first# w k ∷ firsts g)
           → (b : Bool) → inner w k ≡ b
-          → firsts (cond b (fork (radius# w k) (foldr (treeAt w deep) bare (range (child# w k) (m# w))) g) (leaf (radius# w k) (members# w k) g))
+          → firsts (cond b (fork (reach# w k) (foldr (treeAt w deep) bare (range (child# w k) (m# w))) g) (leaf (reach# w k) (members# w k) g))
           ≡ first# w k ∷ firsts g
       go ih true e =
           let q : child# w k < N# w = omega (arith, S .node k h .kids e .inside, some-kids) in
@@ -108,7 +108,7 @@ module _ (w : List ℕ) (S : InShape w) where
       kids ih j (suc m) q = ih j (foldr (treeAt w deep) bare (range (suc j) m)) (omega arith) (kids ih (suc j) m (omega arith))
 
       go : ((k : ℕ) (g : Grove) → k < N# w → Full g → Full (treeAt w deep k g)) → (b : Bool) → inner w k ≡ b
-          → Full (cond b (fork (radius# w k) (foldr (treeAt w deep) bare (range (child# w k) (m# w))) g) (leaf (radius# w k) (members# w k) g))
+          → Full (cond b (fork (reach# w k) (foldr (treeAt w deep) bare (range (child# w k) (m# w))) g) (leaf (reach# w k) (members# w k) g))
       go ih true e = (
         subst (λ l. 1 ≤ length l) (sym (kids-firsts deep (child# w k) (m# w) (S .node k h .kids e .inside)))
             (simp (length-map, range-length) some-kids),

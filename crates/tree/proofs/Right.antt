@@ -5,17 +5,18 @@ use Rattle.laws.specs.Every.{Every}
 use Rattle.laws.proofs.Lists.{map-map}
 use Rattle.laws.proofs.Ranges.{every-range-append}
 use Rattle.laws.proofs.Times.{lefts}
-use Rattle.laws.specs.Lists.{greatest, head, range}
+use Rattle.laws.specs.Lists.{greatest, head, lowest, range, rest}
 use Rattle.tree.proofs.Encode.{Even, Holds, fork-inner, level-first, level-length, level-others, nodes-head, nodes-length, nodes-rest}
 use Rattle.tree.proofs.Full.{Full, first-row}
 use Rattle.tree.proofs.Grown.{Tight}
 use Rattle.tree.proofs.Held.{At, at-dists, at-left, at-right, at-rows}
 use Rattle.tree.proofs.Shaped.{Fine, below-fine, below-none}
 use Rattle.tree.proofs.Sound.{Close, Sound}
+use Rattle.tree.specs.Check.{nearest#}
 use Rattle.tree.specs.Encode.{Node, below, broods, family, levelNodes, members, nodes, span}
-use Rattle.tree.specs.Grove.{Grove, bare, entries, first, firsts, fork, leaf, rowsIn}
+use Rattle.tree.specs.Grove.{Grove, Reach, bare, entries, first, firsts, fork, leaf, rowsIn}
 use Rattle.words.specs.Shape.{inner}
-use Rattle.words.specs.Words.{child#, count#, dist#, first#, m#, radius#, row#, run#, start#}
+use Rattle.words.specs.Words.{child#, count#, dist#, edition#, first#, inner#, kept, m#, radius#, row#, run#, start#}
 use lib.Dec.{T, eqb}
 use lib.ListN.{length, length-map}
 use mathlib.Core.Bool.{false, not, true}
@@ -24,14 +25,20 @@ use mathlib.Core.Path.{_∙_, _≡_, ap, ap₂, refl, subst, sym}
 use native.Mathlib.Nat.{add-assoc, add-zero, not-suc-le-zero}
 use native.Mathlib.Omega.{arith}
 
+-- all but the first, of a list changed one by one
+pub rest-map : (f : ℕ → ℕ) (xs : List ℕ) → rest (map f xs) ≡ map f (rest xs)
+rest-map f [] = refl
+rest-map f (x ∷ xs) = refl
+
 module _ (d : ℕ → ℕ → ℕ) (w : List ℕ) where
   -- each member of b nodes from number a on is as close to its own node's first as to any of their firsts
   abbrev pub NearAll : ℕ → ℕ → Type 0
   NearAll a b = Every (λ j. Every (λ p. Every (λ i. d (first# w j) (row# w p) ≤ d (first# w i) (row# w p)) (range a b)) (run# w j)) (range a b)
 
-  -- one node k: exact radius; a leaf's stored distances; an inner node's members each with its closest centre
+  -- one node k: exact radius and inner reach; a leaf's stored distances; an inner node's members each with its closest centre
   pub record Right (k : ℕ) : Type 0 where
     pub radius : radius# w k ≡ greatest (map (λ p. d (first# w k) (row# w p)) (run# w k))
+    pub inner-reach : inner# w k ≡ kept (edition# w) (nearest# d w k)
     pub dists : inner w k ≡ false → Every (λ p. dist# w p ≡ d (first# w k) (row# w p)) (run# w k)
     pub near : inner w k ≡ true → NearAll (child# w k) (m# w)
 
@@ -56,6 +63,12 @@ module _ (d : ℕ → ℕ → ℕ) (w : List ℕ) where
     -- how far its members reach from its first
     greatest-is : (f : ℕ) → f ≡ first# w k → greatest (map (d f) (lefts es)) ≡ greatest (map (λ p. d (first# w k) (row# w p)) (run# w k))
     greatest-is f q = ap greatest (ap₂ (λ g rs. map (d g) rs) q (sym rows-are) ∙ sym (map-map (d (first# w k)) (row# w) (run# w k)))
+
+    -- and how near the nearest but the first is
+    lowest-is : (f : ℕ) → f ≡ first# w k → lowest (map (d f) (rest (lefts es))) ≡ nearest# d w k
+    lowest-is f q =
+        ap lowest (ap₂ (λ g rs. map (d g) (rest rs)) q (sym rows-are) ∙ ap (map (d (first# w k))) (rest-map (row# w) (run# w k))
+        ∙ sym (map-map (d (first# w k)) (row# w) (rest (run# w k))))
 
   -- a fact of rows, at the positions that hold them
   every-rows : (P : ℕ → Type 0) (ps is : List ℕ) → map (row# w) ps ≡ is → Every P is → Every (λ p. P (row# w p)) ps
@@ -125,7 +138,7 @@ module _ (d : ℕ → ℕ → ℕ) (w : List ℕ) where
     pub even : Even (m# w) g
 
   -- what follows a leaf is well made
-  made-after-leaf : {s R : ℕ} {es : List (ℕ × ℕ)} {g : Grove} → Made s (leaf R es g) → Made (s + length es) g
+  made-after-leaf : {s : ℕ} {R : Reach} {es : List (ℕ × ℕ)} {g : Grove} → Made s (leaf R es g) → Made (s + length es) g
   made-after-leaf {s} {R} {es} {g} M =
       record {
         full = M .full .1;
@@ -136,7 +149,7 @@ module _ (d : ℕ → ℕ → ℕ) (w : List ℕ) where
       }
 
   -- so are an inner node's children
-  made-kids : {s R : ℕ} {ks g : Grove} → Made s (fork R ks g) → Made s ks
+  made-kids : {s : ℕ} {R : Reach} {ks g : Grove} → Made s (fork R ks g) → Made s ks
   made-kids {s} {R} {ks} {g} M =
       record {
         full = M .full .1;
@@ -147,7 +160,7 @@ module _ (d : ℕ → ℕ → ℕ) (w : List ℕ) where
       }
 
   -- and what follows it
-  made-after-fork : {s R : ℕ} {ks g : Grove} → Made s (fork R ks g) → Made (s + length (entries ks)) g
+  made-after-fork : {s : ℕ} {R : Reach} {ks g : Grove} → Made s (fork R ks g) → Made (s + length (entries ks)) g
   made-after-fork {s} {R} {ks} {g} M =
       record {
         full = M .full .2;
@@ -183,7 +196,9 @@ module _ (d : ℕ → ℕ → ℕ) (w : List ℕ) where
       let l = at-left w s es (entries g) (M .held) in
       let fi = first-is j s es (h .0) (h .1) (M .full .0) l in (
         record {
-          radius = h .3 ∙ M .tight .0 ∙ greatest-is j s es (h .0) (h .1) (M .full .0) l (head (lefts es)) (sym fi);
+          radius = h .3 .0 ∙ M .tight .0 .0 ∙ greatest-is j s es (h .0) (h .1) (M .full .0) l (head (lefts es)) (sym fi);
+          inner-reach = h .3 .1
+              ∙ ap (kept (edition# w)) (M .tight .0 .1 ∙ lowest-is j s es (h .0) (h .1) (M .full .0) l (head (lefts es)) (sym fi));
           dists = λ e. subst (λ ps. Every (λ p. dist# w p ≡ d (first# w j) (row# w p)) ps) (sym (run-is j s es (h .0) (h .1) (M .full .0) l))
               (at-dists (d (first# w j)) w s es l (subst (λ (z : ℕ). Every (λ (e : ℕ × ℕ). d z (e .0) ≡ e .1) es) (sym fi) (M .sound .0)));
           near = λ e. absurd (no-leaf j (h .2) e);
@@ -197,7 +212,9 @@ module _ (d : ℕ → ℕ → ℕ) (w : List ℕ) where
       let fi : first# w j ≡ first ks = first-is j s (entries ks) (h .0) (h .1) some l ∙ q .1 in
       let near = near-of nx (u .0 .0) s ks (M .full .1) (u .0 .1) l (M .sound .0) in (
         record {
-          radius = h .3 ∙ M .tight .0 ∙ greatest-is j s (entries ks) (h .0) (h .1) some l (first ks) (sym fi);
+          radius = h .3 .0 ∙ M .tight .0 .0 ∙ greatest-is j s (entries ks) (h .0) (h .1) some l (first ks) (sym fi);
+          inner-reach = h .3 .1
+              ∙ ap (kept (edition# w)) (M .tight .0 .1 ∙ lowest-is j s (entries ks) (h .0) (h .1) some l (first ks) (sym fi));
           dists = λ e. absurd (subst T (sym (fork-inner w j nx (h .2) n) ∙ e) tt);
           near = λ e. subst (λ a. NearAll a (m# w)) (sym (h .2)) (subst (NearAll nx) (M .even .0) near);
         },

@@ -5,12 +5,12 @@ use Rattle.laws.specs.Every.{Every}
 use Rattle.laws.proofs.Ranges.{every-range-append, range-append, range-every}
 use Rattle.laws.specs.Lists.{range}
 use Rattle.limits.specs.Limits.{maxDepth, maxDistance}
-use Rattle.tree.proofs.Encode.{Even, Fams, Holds, below-even, family-born, fams-left, fams-right, fork-inner, level-born, level-fams, level-first, level-length, level-others, nodes-head, nodes-length, nodes-rest}
+use Rattle.tree.proofs.Encode.{Even, Fams, Holds, Reached, below-even, family-born, fams-left, fams-right, fork-inner, level-born, level-fams, level-first, level-length, level-others, nodes-head, nodes-length, nodes-rest}
 use Rattle.tree.specs.Encode.{Node, below, broods, family, levelNodes, members, nodes, span}
-use Rattle.tree.specs.Grove.{Grove, bare, entries, fork, leaf}
+use Rattle.tree.specs.Grove.{Grove, Reach, bare, entries, fork, leaf}
 use Rattle.words.proofs.Levels.{born-inner, born-leaf}
 use Rattle.words.specs.Shape.{born, level, nodeOk, tile}
-use Rattle.words.specs.Words.{child#, count#, l#, m#, radius#, start#}
+use Rattle.words.specs.Words.{child#, count#, edition#, inner#, kept, l#, m#, radius#, start#}
 use borrow.Author.Tests.{eq-eqb, le-leb, lt-leb, ne-eqb}
 use lib.Dec.{T, eqb, leb}
 use lib.ListN.{length}
@@ -21,30 +21,48 @@ use native.Mathlib.Nat.{add-suc, add-zero, suc-add}
 use native.Mathlib.Omega.{arith}
 
 -- ---- one node
--- leaves by the rule of count and depth, radii in range; `deep` levels are left below
+-- a reach in range
+abbrev pub Small : Reach → Type 0
+Small R = (R .outer ≤ maxDistance) × (R .inner ≤ maxDistance)
+
+-- leaves by the rule of count and depth, reaches in range; `deep` levels are left below
 abbrev pub Fine : ℕ → ℕ → Grove → Type 0
 Fine l deep bare = Unit {0}
-Fine l deep (leaf R es g) = (1 ≤ length es) × (R ≤ maxDistance) × T (leb (length es) l || eqb deep 0) × Fine l deep g
+Fine l deep (leaf R es g) = (1 ≤ length es) × Small R × T (leb (length es) l || eqb deep 0) × Fine l deep g
 Fine l zero (fork R ks g) = ⊥
-Fine l (suc deep) (fork R ks g) = (l < length (entries ks)) × (R ≤ maxDistance) × Fine l deep ks × Fine l (suc deep) g
+Fine l (suc deep) (fork R ks g) = (l < length (entries ks)) × Small R × Fine l deep ks × Fine l (suc deep) g
+
+-- what is kept is no more
+pub kept-le : (e i : ℕ) → kept e i ≤ i
+kept-le e i = go (eqb e 2)
+  where
+    go : (b : Bool) → cond b i 0 ≤ i
+    go true = omega arith
+    go false = omega arith
+
+-- words that hold a reach in range are in range
+small-words : (w : List ℕ) (j : ℕ) (R : Reach) → Reached w j R → Small R → (radius# w j ≤ maxDistance) × (inner# w j ≤ maxDistance)
+small-words w j R r s = (omega (arith, r .0, s .0), omega (arith, r .1, s .1, kept-le (edition# w) (R .inner)))
 
 -- a leaf passes its test
-leaf-ok : (w : List ℕ) (j c R deep : ℕ) → count# w j ≡ c → child# w j ≡ 0 → radius# w j ≡ R → 1 ≤ c → R ≤ maxDistance
+leaf-ok : (w : List ℕ) (j c deep : ℕ) (R : Reach) → count# w j ≡ c → child# w j ≡ 0 → Reached w j R → 1 ≤ c → Small R
     → leb (level w maxDepth) j ≡ eqb deep 0 → T (leb c (l# w) || eqb deep 0) → T (nodeOk w j)
 unfolding nodeOk
-leaf-ok w j c R deep ec eh er hc hR hd ht =
-    rw (ec, eh, er, hd, le-leb 1 c hc, le-leb R maxDistance hR) (go (leb c (l# w) || eqb deep 0) ht)
+leaf-ok w j c deep R ec eh er hc hR hd ht =
+    let s = small-words w j R er hR in
+    rw (ec, eh, hd, le-leb 1 c hc, le-leb (radius# w j) maxDistance (s .0), le-leb (inner# w j) maxDistance (s .1)) (go (leb c (l# w) || eqb deep 0) ht)
   where
     go : (b : Bool) → T b → T (cond b true (eqb 0 (born w j) && tile w 0 (m# w) (start# w j) (start# w j + c)))
     go true t = tt
     go false t = absurd t
 
 -- so does an inner node
-fork-ok : (w : List ℕ) (j c R : ℕ) → count# w j ≡ c → child# w j ≡ born w j → radius# w j ≡ R → l# w < c → R ≤ maxDistance
+fork-ok : (w : List ℕ) (j c : ℕ) (R : Reach) → count# w j ≡ c → child# w j ≡ born w j → Reached w j R → l# w < c → Small R
     → leb (level w maxDepth) j ≡ false → T (tile w (child# w j) (m# w) (start# w j) (start# w j + c)) → T (nodeOk w j)
 unfolding nodeOk
 fork-ok w j c R ec eh er hc hR hd ht =
-    rw (ec, er, hd, le-leb 1 c (omega arith), le-leb R maxDistance hR, lt-leb c (l# w) hc, eq-eqb (child# w j) (born w j) eh) ht
+    let s = small-words w j R er hR in
+    rw (ec, hd, le-leb 1 c (omega arith), le-leb (radius# w j) maxDistance (s .0), le-leb (inner# w j) maxDistance (s .1), lt-leb c (l# w) hc, eq-eqb (child# w j) (born w j) eh) ht
 
 -- ---- the nodes of a family, of a level, of all levels
 -- every node from number j on, k of them, is as it should be
@@ -61,7 +79,7 @@ family-ok : (w : List ℕ) (deep j nx s : ℕ) (g : Grove) → Holds w j (family
 unfolding family broods
 family-ok w deep j nx s bare h ev fi n b u d = tt
 family-ok w deep j nx s (leaf R es g) h ev fi n b u d = (
-  leaf-ok w j (length es) R deep (h .1) (h .2) (h .3) (fi .0) (fi .1) (d .0) (fi .2),
+  leaf-ok w j (length es) deep R (h .1) (h .2) (h .3) (fi .0) (fi .1) (d .0) (fi .2),
   family-ok w deep (suc j) nx (s + length es) g (h .4) ev (fi .3) n (born-leaf w j (h .2) ∙ b) u (d .1),
 )
 family-ok w zero j nx s (fork R ks g) h ev fi n b u d = absurd fi

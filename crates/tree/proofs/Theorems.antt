@@ -62,7 +62,7 @@ module _ (d : ℕ → ℕ → ℕ) (w : List ℕ) (A : Accepted d w) where
     radius-exact r i h =
         let F = full-tree w (shape-of d w A) in
         rw (how-at x r (n# w) (treeOf w) i h)
-        (look-fact (Exact x r) i (marks x r (treeOf w)) (marks-exact d x r P (treeOf w) (sound-tree d w A))
+        (look-fact (Exact x r) i (marks x r (treeOf w)) (marks-exact d x r P (treeOf w) F (sound-tree d w A))
         (omega (arith, marks-rows x r i (treeOf w) F, each-once d w A i h)))
 
     -- THE FIRST k OF THE ROWS WITH HOME BOUND AT MOST D ARE THE FIRST k OF ALL, D the distance of the last of these

@@ -8,7 +8,7 @@ use Rattle.laws.proofs.Maps.{map-same}
 use Rattle.laws.specs.Every.{Every}
 use Rattle.laws.specs.Lists.{gap, has, head, keep, least, look, range, rest, times}
 use Rattle.tree.proofs.TwoRadius.{all-firsts}
-use Rattle.tree.specs.Grove.{Grove, bare, first, firsts, fork, leaf}
+use Rattle.tree.specs.Grove.{Grove, Reach, bare, first, firsts, fork, leaf}
 use Rattle.tree.specs.Homes.{childBound, homes, homesIn, nearestOf, rowBound}
 use Rattle.tree.specs.Nearest.{Own, best, lastDistance, rowsUpTo, sort, upTo}
 use borrow.Author.Tests.{leb-false, leb-true, lt-leb}
@@ -29,7 +29,7 @@ up-none : (D : ℕ) (hs : List (ℕ × ℕ)) → Every (λ h. D < h .1) hs → u
 up-none D hs k = keep-none (λ h. leb (h .1) D) hs (every-of (λ h. D < h .1) (λ h. leb (h .1) D ≡ false) (λ h q. lt-leb (h .1) D q) hs k)
 
 -- no bound below a node is less than the node's
-bounds-up : (x : ℕ → ℕ) (b : ℕ) (β : ℕ → ℕ → ℕ) (g : Grove) → ((u R : ℕ) → b ≤ β u R) → Every (λ h. b ≤ h .1) (homesIn x β g)
+bounds-up : (x : ℕ → ℕ) (b : ℕ) (β : ℕ → Reach → ℕ) (g : Grove) → ((u : ℕ) (R : Reach) → b ≤ β u R) → Every (λ h. b ≤ h .1) (homesIn x β g)
 unfolding homesIn
 bounds-up x b β bare k = tt
 bounds-up x b β (leaf R es g) k =
@@ -76,7 +76,7 @@ module _ (x y : ℕ → ℕ) (D : ℕ) where
       go false e = none x (nearestOf x ks) (leb-false b D e) ∙ sym (none y (nearestOf y ks) (leb-false b D e))
 
   -- below the nodes of a grove whose firsts agree, the homes up to D are the same
-  same-homesIn : (β : ℕ → ℕ → ℕ) (g : Grove) → Every (λ i. x i ≡ y i) (firsts g) → Every AgreeUpTo (homesIn x β g)
+  same-homesIn : (β : ℕ → Reach → ℕ) (g : Grove) → Every (λ i. x i ≡ y i) (firsts g) → Every AgreeUpTo (homesIn x β g)
       → upTo D (homesIn x β g) ≡ upTo D (homesIn y β g)
   unfolding homesIn
   same-homesIn β bare p h = refl

@@ -5,7 +5,7 @@ use Rattle.laws.proofs.Every.{every-left, every-of, every-right}
 use Rattle.laws.proofs.Maps.{map-same}
 use Rattle.laws.specs.Every.{Every}
 use Rattle.laws.specs.Lists.{gap, head, least, rest}
-use Rattle.tree.specs.Grove.{Grove, bare, first, firsts, fork, leaf, rowsIn}
+use Rattle.tree.specs.Grove.{Grove, Reach, bare, first, firsts, fork, leaf, rowsIn}
 use Rattle.tree.specs.Homes.{childBound, nearestOf}
 use Rattle.tree.specs.Nearest.{isMeasured}
 use Rattle.tree.specs.Radius.{byDistance, inLeaf, marks, marksIn, visit}
@@ -64,9 +64,9 @@ module _ (x y : ℕ → ℕ) (r : ℕ) where
       (every-of (λ i. x i ≡ y i) (λ i. _≡_ {A = ℕ × ℕ} (i, byDistance x r i) (i, byDistance y r i)) (λ i e. ap (λ k. (i, cond (leb k r) 3 1)) e) cs h)
 
   -- swept, closed or opened alike
-  same-visit : (xf R b : ℕ) (others : List ℕ) (o o′ : List (ℕ × ℕ)) → (Every Agree o → o ≡ o′) → Every Agree (visit x r xf R b others o)
+  same-visit : (xf : ℕ) (R : Reach) (b : ℕ) (others : List ℕ) (o o′ : List (ℕ × ℕ)) → (Every Agree o → o ≡ o′) → Every Agree (visit x r xf R b others o)
       → visit x r xf R b others o ≡ visit y r xf R b others o′
-  same-visit xf R b others o o′ k = go (leb (xf + R) r) (ltb r b)
+  same-visit xf R b others o o′ k = go (leb (xf + R .outer) r) (ltb r b)
     where
       go : (s t : Bool) → Every Agree (cond s (map (λ i. (i, 2)) others) (cond t (map (λ i. (i, 0)) others) o))
           → cond {A = List (ℕ × ℕ)} s (map (λ i. (i, 2)) others) (cond t (map (λ i. (i, 0)) others) o)
@@ -76,7 +76,7 @@ module _ (x y : ℕ → ℕ) (r : ℕ) where
       go false false h = k h
 
   -- below the nodes of a grove whose firsts agree, the marks are the same
-  same-marksIn : (β : ℕ → ℕ → ℕ) (g : Grove) → Every (λ i. x i ≡ y i) (firsts g) → Every Agree (marksIn x r β g)
+  same-marksIn : (β : ℕ → Reach → ℕ) (g : Grove) → Every (λ i. x i ≡ y i) (firsts g) → Every Agree (marksIn x r β g)
       → marksIn x r β g ≡ marksIn y r β g
   unfolding marksIn
   same-marksIn β bare p h = refl

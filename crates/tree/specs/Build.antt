@@ -1,10 +1,10 @@
 -- The tree that the build grows: 01, The tree. Over the distance d between rows. Assumes nothing.
 use Prim.Native.Nat.{_-_, _≤_, suc, zero, ℕ}
-use Rattle.laws.specs.Lists.{greatest, head, keep, least, range, rest, times, without}
+use Rattle.laws.specs.Lists.{greatest, head, keep, least, lowest, range, rest, times, without}
 use Rattle.limits.specs.Limits.{maxDepth}
 use Rattle.measure.specs.Table.{between, rowsOf}
 use Rattle.tree.specs.Encode.{encode}
-use Rattle.tree.specs.Grove.{Grove, bare, fork, leaf}
+use Rattle.tree.specs.Grove.{Grove, Reach, bare, fork, leaf}
 use lib.Dec.{eqb, leb, ltb}
 use lib.ListN.{length}
 use mathlib.Core.Bool.{_&&_, _||_, cond}
@@ -57,15 +57,23 @@ module _ (d : ℕ → ℕ → ℕ) where
   abbrev pub radius : List ℕ → ℕ
   radius run = greatest (map (d (head run)) run)
 
+  -- 02, R-4: how far the nearest member other than the first is, 0 for a run of one row
+  abbrev pub innerReach : List ℕ → ℕ
+  innerReach run = lowest (map (d (head run)) (rest run))
+
+  -- how far a run reaches
+  abbrev pub reach : List ℕ → Reach
+  reach run = record { outer = radius run; inner = innerReach run }
+
   -- a run's leaf, before the nodes g: each row with its distance from the first
   abbrev pub leafOf : List ℕ → Grove → Grove
-  leafOf run g = leaf (radius run) (map (λ i. (i, d (head run) i)) run) g
+  leafOf run g = leaf (reach run) (map (λ i. (i, d (head run) i)) run) g
 
   -- the node of a run with at most `deep` levels below it, before the nodes g: a leaf if it has at most l rows or no level is left
   unfoldable pub grow : ℕ → ℕ → ℕ → List ℕ → Grove → Grove
   grow m l zero run g = leafOf run g
   grow m l (suc deep) run g =
-      let branch = fork (radius run) (foldr (grow m l deep) bare (split m run)) g in
+      let branch = fork (reach run) (foldr (grow m l deep) bare (split m run)) g in
       cond (leb (length run) l) (leafOf run g) branch
 
 -- the tree of n rows: the root's run is all of them, ascending
@@ -73,6 +81,6 @@ abbrev pub plant : (ℕ → ℕ → ℕ) → ℕ → ℕ → ℕ → Grove
 plant d m l zero = bare
 plant d m l (suc n) = grow d m l maxDepth (range 0 (suc n)) bare
 
--- the index words of a table of c columns
-unfoldable pub build : List ℕ → ℕ → ℕ → ℕ → List ℕ
-build T c m l = encode c m l (plant (between T c) m l (rowsOf T c))
+-- the index words, in edition e, of a table of c columns
+unfoldable pub build : List ℕ → ℕ → ℕ → ℕ → ℕ → List ℕ
+build T c e m l = encode e c m l (plant (between T c) m l (rowsOf T c))

@@ -7,11 +7,12 @@ use Rattle.measure.specs.Distance.{l1}
 use Rattle.measure.specs.Table.{between, from}
 use Rattle.tree.specs.Build.{build, choose, grow, split}
 use Rattle.tree.specs.Calls.{saidBuild, saidCheck, saidNearest, saidRadius}
-use Rattle.tree.specs.Check.{again, faults, strays, wrongDist, wrongRadius}
+use Rattle.tree.specs.Check.{again, faults, strays, wrongDist, wrongInner, wrongRadius}
 use Rattle.tree.specs.Encode.{broods, encode, family, levelNodes, nodes, numbered, pairWords}
 use Rattle.tree.specs.Grove.{treeAt, treeOf}
 use Rattle.tree.specs.Homes.{homes, homesIn}
 use Rattle.tree.specs.Nearest.{answers, measured, nearHow, passes}
+use Rattle.tree.specs.Widen.{widen}
 use Rattle.tree.specs.Radius.{inside, marks, marksIn, radiusHow}
 use Rattle.words.specs.Calls.{indexFaults}
 use Rattle.words.specs.Image.{checkFrom, checkWord, rotate, step, window}
@@ -37,6 +38,17 @@ fiveWords =
     ∷ 2 ∷ 1 ∷ 0 ∷ 0
     ∷ 0 ∷ 0 ∷ 1 ∷ 1 ∷ 2 ∷ 0 ∷ 4 ∷ 0 ∷ 3 ∷ 9 ∷ []
 
+-- the same in edition 2
+abbrev pub wideWords : List ℕ
+wideWords =
+    2 ∷ 5 ∷ 1 ∷ 2 ∷ 2 ∷ 5 ∷ 1 ∷ 0
+    ∷ 0 ∷ 5 ∷ 1 ∷ 20 ∷ 1
+    ∷ 0 ∷ 3 ∷ 3 ∷ 10 ∷ 1
+    ∷ 3 ∷ 2 ∷ 0 ∷ 9 ∷ 9
+    ∷ 0 ∷ 2 ∷ 0 ∷ 1 ∷ 1
+    ∷ 2 ∷ 1 ∷ 0 ∷ 0 ∷ 0
+    ∷ 0 ∷ 0 ∷ 1 ∷ 1 ∷ 2 ∷ 0 ∷ 4 ∷ 0 ∷ 3 ∷ 9 ∷ []
+
 -- the same rows with 10 and 11 exchanged: row 3, at 11, stands with the centre 0 and is closer to 20
 abbrev pub strayWords : List ℕ
 strayWords =
@@ -59,12 +71,18 @@ pub data Case : Type 0 where
   nearest : List ℕ → ℕ → ℕ → List (ℕ × ℕ) → ℕ → Case
   -- in the table, query and w give these how-bytes
   near : List ℕ → ℕ → ℕ → List ℕ → Case
+  -- in edition 2, the table is built to these words, the edition 1 words are widened to them, and the check accepts them
+  wide : List ℕ → List ℕ → Case
+  -- in edition 2, query and r give these how-bytes
+  wideRadius : List ℕ → ℕ → ℕ → List ℕ → Case
+  -- in edition 2, query and w give these how-bytes
+  wideNear : List ℕ → ℕ → ℕ → List ℕ → Case
   -- a block with this number, these words and zeros has this check word
   block : ℕ → List ℕ → ℕ → Case
   -- the check of these words for the five-row table gives a number and two places
   check : List ℕ → ℕ → ℕ → ℕ → Case
-  -- for the five-row table: the number of a build with c, m, l, room and workspace
-  buildSays : ℕ → ℕ → ℕ → ℕ → ℕ → ℕ → Case
+  -- for the five-row table: the number of a build with c, edition, m, l, room and workspace
+  buildSays : ℕ → ℕ → ℕ → ℕ → ℕ → ℕ → ℕ → Case
   -- of a radius search with these words and query, by the how-bytes that it is lent
   radiusSays : List ℕ → List ℕ → ℕ → ℕ → Case
   -- and of a nearest search that wants so many, by what it is lent
@@ -72,19 +90,22 @@ pub data Case : Type 0 where
 
 -- a case comes out as it says
 unfoldable pub right : Case → Bool
-unfolding sumTo tableFaults l1 between from headerOk wordsOk born level tile nodeOk shapeOk indexFaults again wrongDist wrongRadius strays faults treeAt treeOf family broods levelNodes nodes numbered encode choose split grow build homesIn homes answers passes nearHow marksIn marks radiusHow rotate step checkFrom checkWord window saidBuild saidCheck saidRadius saidNearest
-right (words T w) = same (build T 1 2 2) w && eqb (saidCheck T 1 w 30 .0) 0
-right (order T is N) = let w = build T 1 2 2 in same (map (row# w) (range 0 (n# w))) is && eqb (N# w) N
+unfolding sumTo tableFaults l1 between from headerOk wordsOk born level tile nodeOk shapeOk indexFaults again wrongDist wrongRadius wrongInner widen strays faults treeAt treeOf family broods levelNodes nodes numbered encode choose split grow build homesIn homes answers passes nearHow marksIn marks radiusHow rotate step checkFrom checkWord window saidBuild saidCheck saidRadius saidNearest
+right (words T w) = same (build T 1 1 2 2) w && eqb (saidCheck T 1 w 30 .0) 0
+right (order T is N) = let w = build T 1 1 2 2 in same (map (row# w) (range 0 (n# w))) is && eqb (N# w) N
 right (radius T q r how i k) =
-    let h = radiusHow (from T 1 (q ∷ [])) r (length T) (treeOf (build T 1 2 2)) in
+    let h = radiusHow (from T 1 (q ∷ [])) r (length T) (treeOf (build T 1 1 2 2)) in
     same h how && eqb (inside h) i && eqb (measured h) k
 right (nearest T q w as′ k) =
     let x = from T 1 (q ∷ []) in
-    same (each pairWords (answers x (length T) w)) (each pairWords as′) && eqb (measured (nearHow x (length T) (treeOf (build T 1 2 2)) w)) k
-right (near T q w how) = same (nearHow (from T 1 (q ∷ [])) (length T) (treeOf (build T 1 2 2)) w) how
+    same (each pairWords (answers x (length T) w)) (each pairWords as′) && eqb (measured (nearHow x (length T) (treeOf (build T 1 1 2 2)) w)) k
+right (near T q w how) = same (nearHow (from T 1 (q ∷ [])) (length T) (treeOf (build T 1 1 2 2)) w) how
+right (wide T w) = same (build T 1 2 2 2) w && same (widen (between T 1) (build T 1 1 2 2)) w && eqb (saidCheck T 1 w 30 .0) 0
+right (wideRadius T q r how) = same (radiusHow (from T 1 (q ∷ [])) r (length T) (treeOf (build T 1 2 2 2))) how
+right (wideNear T q w how) = same (nearHow (from T 1 (q ∷ [])) (length T) (treeOf (build T 1 2 2 2)) w) how
 right (block b ws s) = eqb (checkWord b (window ws 0 127)) s
 right (check w k p p′) = let s = saidCheck five 1 w 30 in eqb (s .0) k && eqb (s .1) p && eqb (s .2) p′
-right (buildSays c m l room work k) = eqb (saidBuild five c m l room work .0) k
+right (buildSays c e m l room work k) = eqb (saidBuild five c e m l room work .0) k
 right (radiusSays w q how k) = eqb (saidRadius five 1 w q how .0) k
 right (nearestSays w q wanted room how work k) = eqb (saidNearest five 1 w q wanted room how work .0) k
 
@@ -113,7 +134,7 @@ ours =
     ∷ near (6 ∷ 9 ∷ 5 ∷ 3 ∷ 0 ∷ []) 10 1 (1 ∷ 3 ∷ 0 ∷ 0 ∷ 1 ∷ [])
     ∷ near five 6 2 (1 ∷ 3 ∷ 3 ∷ 1 ∷ 1 ∷ [])
     ∷ check strayWords 13 0 2
-    ∷ check (set fiveWords 0 2) 8 0 0
+    ∷ check (set fiveWords 0 3) 8 0 0
     ∷ check (set fiveWords 1 4) 8 0 0
     ∷ check (set fiveWords 5 4) 9 0 0
     ∷ check (set fiveWords 8 1) 9 0 0
@@ -123,12 +144,28 @@ ours =
     ∷ check (set fiveWords 30 0) 10 1 0
     ∷ check (set fiveWords 31 2) 11 1 0
     ∷ check (set fiveWords 11 19) 12 0 0
-    ∷ buildSays 17 2 1 0 0 1
-    ∷ buildSays 1 2 1 0 0 2
-    ∷ buildSays 2 2 2 0 0 3
-    ∷ buildSays 1 2 2 57 30 5
-    ∷ buildSays 1 2 2 58 29 5
-    ∷ buildSays 1 2 2 58 30 0
+    ∷ buildSays 17 1 2 1 0 0 1
+    ∷ buildSays 1 1 2 1 0 0 2
+    ∷ buildSays 2 1 2 2 0 0 3
+    ∷ buildSays 1 1 2 2 57 30 5
+    ∷ buildSays 1 1 2 2 58 29 5
+    ∷ buildSays 1 1 2 2 58 30 0
+    ∷ buildSays 1 3 2 2 99 30 2
+    ∷ buildSays 1 0 2 2 99 30 2
+    ∷ buildSays 1 2 2 2 67 30 5
+    ∷ buildSays 1 2 2 2 68 30 0
+    ∷ wide five wideWords
+    ∷ wide [] (2 ∷ 0 ∷ 1 ∷ 2 ∷ 2 ∷ 0 ∷ 1 ∷ 0 ∷ [])
+    ∷ wideRadius five 9 1 (1 ∷ 0 ∷ 3 ∷ 0 ∷ 1 ∷ [])
+    ∷ wideRadius five 0 19 (3 ∷ 2 ∷ 2 ∷ 3 ∷ 1 ∷ [])
+    ∷ wideNear five 6 2 (1 ∷ 3 ∷ 3 ∷ 1 ∷ 1 ∷ [])
+    ∷ wideNear (0 ∷ 10 ∷ 20 ∷ []) 0 1 (3 ∷ 0 ∷ 1 ∷ [])
+    ∷ radius (4 ∷ 2 ∷ 2 ∷ 8 ∷ []) 5 0 (1 ∷ 1 ∷ 0 ∷ 1 ∷ []) 0 3
+    ∷ wideRadius (4 ∷ 2 ∷ 2 ∷ 8 ∷ []) 5 0 (1 ∷ 0 ∷ 0 ∷ 1 ∷ [])
+    ∷ near (7 ∷ 4 ∷ 4 ∷ 1 ∷ []) 7 1 (3 ∷ 1 ∷ 0 ∷ 1 ∷ [])
+    ∷ wideNear (7 ∷ 4 ∷ 4 ∷ 1 ∷ []) 7 1 (3 ∷ 0 ∷ 0 ∷ 1 ∷ [])
+    ∷ check (set wideWords 12 2) 12 0 0
+    ∷ check (set wideWords 12 1_048_561) 9 0 0
     ∷ radiusSays fiveWords (9 ∷ []) 4 5
     ∷ radiusSays fiveWords [] 5 6
     ∷ radiusSays (take 37 fiveWords) (9 ∷ []) 5 8

@@ -1,11 +1,11 @@
 -- The full check: 01, The tree, and Numbers given back, 10 to 13. Over the distance d between rows. Assumes nothing.
 use Prim.Native.Nat.{_+_, ℕ}
-use Rattle.laws.specs.Lists.{any, each, greatest, has, keep, range}
+use Rattle.laws.specs.Lists.{any, each, greatest, has, keep, lowest, range, rest}
 use Rattle.limits.specs.Said.{Said}
 use Rattle.words.specs.Shape.{inner, shapeOk}
-use Rattle.words.specs.Words.{N#, child#, count#, dist#, first#, m#, n#, radius#, row#, run#, start#, wordsOk}
+use Rattle.words.specs.Words.{N#, child#, count#, dist#, edition#, first#, inner#, m#, n#, radius#, row#, run#, start#, wordsOk}
 use lib.Dec.{eqb, leb, ltb}
-use mathlib.Core.Bool.{Bool, _&&_, cond, not, true}
+use mathlib.Core.Bool.{Bool, _&&_, _||_, cond, not, true}
 use mathlib.Core.List.{List, [], _++_, map}
 use mathlib.Core.Path.{_≡_}
 
@@ -30,6 +30,18 @@ module _ (d : ℕ → ℕ → ℕ) where
   unfoldable pub wrongRadius : List ℕ → ℕ → Bool
   wrongRadius w k = not (eqb (radius# w k) (greatest (map (λ p. d (first# w k) (row# w p)) (run# w k))))
 
+  -- the least distance of a member other than the first from node k's first, 0 where there is none
+  abbrev pub nearest# : List ℕ → ℕ → ℕ
+  nearest# w k = lowest (map (λ p. d (first# w k) (row# w p)) (rest (run# w k)))
+
+  -- 12, in edition 2: its inner reach is not that
+  unfoldable pub wrongInner : List ℕ → ℕ → Bool
+  wrongInner w k = eqb (edition# w) 2 && not (eqb (inner# w k) (nearest# w k))
+
+  -- 12: one of the two
+  abbrev pub wrongReach : List ℕ → ℕ → Bool
+  wrongReach w k = wrongRadius w k || wrongInner w k
+
   -- 13: the member at position p of node k's child j is closer to the centre of another child
   unfoldable pub strays : List ℕ → ℕ → ℕ → Bool
   strays w k p = any (λ j. inRun w p j && any (λ i. ltb (d (first# w i) (row# w p)) (d (first# w j) (row# w p))) (kids w k)) (kids w k)
@@ -38,7 +50,7 @@ module _ (d : ℕ → ℕ → ℕ) where
   unfoldable pub faults : List ℕ → List Said
   faults w =
       map (λ p. (10, p, 0)) (keep (again w) (range 0 (n# w))) ++ map (λ p. (11, p, 0)) (keep (wrongDist w) (range 0 (n# w)))
-      ++ map (λ k. (12, k, 0)) (keep (wrongRadius w) (range 0 (N# w)))
+      ++ map (λ k. (12, k, 0)) (keep (wrongReach w) (range 0 (N# w)))
       ++ each (λ k. map (λ p. (13, k, p)) (keep (strays w k) (run# w k))) (range 0 (N# w))
 
   -- the full check accepts: words and header, shape, and no fault

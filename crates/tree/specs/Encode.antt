@@ -2,17 +2,19 @@
 use Prim.Native.Nat.{_+_, suc, zero, ℕ}
 use Rattle.laws.specs.Lists.{each}
 use Rattle.limits.specs.Limits.{maxDepth}
-use Rattle.tree.specs.Grove.{Grove, bare, entries, firsts, fork, leaf}
+use Rattle.tree.specs.Grove.{Grove, Reach, bare, entries, firsts, fork, leaf}
+use lib.Dec.{eqb}
 use lib.ListN.{length}
+use mathlib.Core.Bool.{cond}
 use mathlib.Core.List.{List, [], _++_, _∷_}
 
--- a node's words: start, count, first child's number, radius
+-- a node: start, count, first child's number, and how far it reaches
 abbrev pub Node : Type 0
-Node = ℕ × ℕ × ℕ × ℕ
+Node = ℕ × ℕ × ℕ × Reach
 
--- as words
-abbrev pub nodeWords : Node → List ℕ
-nodeWords v = v .0 ∷ v .1 ∷ v .2 ∷ v .3 ∷ []
+-- as words; the inner reach in edition 2 alone
+abbrev pub nodeWords : ℕ → Node → List ℕ
+nodeWords e v = v .0 ∷ v .1 ∷ v .2 ∷ v .3 .outer ∷ cond (eqb e 2) (v .3 .inner ∷ []) []
 
 -- a position's words: row number, distance
 abbrev pub pairWords : ℕ × ℕ → List ℕ
@@ -58,7 +60,7 @@ nodes (suc deep) next fs = levelNodes next fs ++ nodes deep (next + members (bel
 unfoldable pub numbered : Grove → List Node
 numbered t = nodes maxDepth (span t) ((0, t) ∷ [])
 
--- the words: header, nodes, positions
-unfoldable pub encode : ℕ → ℕ → ℕ → Grove → List ℕ
-encode c m l t =
-    (1 ∷ length (entries t) ∷ c ∷ m ∷ l ∷ length (numbered t) ∷ 1 ∷ 0 ∷ []) ++ (each nodeWords (numbered t) ++ each pairWords (entries t))
+-- the words in edition e: header, nodes, positions. The tree is the same in both editions
+unfoldable pub encode : ℕ → ℕ → ℕ → ℕ → Grove → List ℕ
+encode e c m l t =
+    (e ∷ length (entries t) ∷ c ∷ m ∷ l ∷ length (numbered t) ∷ 1 ∷ 0 ∷ []) ++ (each (nodeWords e) (numbered t) ++ each pairWords (entries t))

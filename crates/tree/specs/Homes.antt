@@ -1,12 +1,13 @@
 -- Bounds and homes: 01, Which rows are measured. Over the distance x of each row from the query. Assumes nothing.
 use Prim.Native.Nat.{_+_, _-_, _/_, max, ℕ}
 use Rattle.laws.specs.Lists.{gap, head, least, rest}
-use Rattle.tree.specs.Grove.{Grove, bare, first, firsts, fork, leaf}
+use Rattle.tree.specs.Grove.{Grove, Reach, bare, first, firsts, fork, leaf}
 use mathlib.Core.List.{List, [], _++_, map}
 
--- a child's bound: b is its parent's, y the least distance over the centres, x its own centre's distance, R its radius
-abbrev pub childBound : ℕ → ℕ → ℕ → ℕ → ℕ
-childBound b y x R = max b (max (x - R) ((x - y + 1) / 2))
+-- a child's bound: b is its parent's, y the least distance over the centres, x its own centre's distance, R how far it reaches. It speaks of
+-- its members other than the first
+abbrev pub childBound : ℕ → ℕ → ℕ → Reach → ℕ
+childBound b y x R = max b (max (max (x - R .outer) (R .inner - x)) ((x - y + 1) / 2))
 
 module _ (x : ℕ → ℕ) where
   -- the least distance over the centres of an inner node
@@ -17,9 +18,9 @@ module _ (x : ℕ → ℕ) where
   abbrev pub rowBound : ℕ → ℕ → ℕ × ℕ → ℕ
   rowBound b f e = max b (gap (x f) (e .1))
 
-  -- Every row but the nodes' firsts, with its home bound. β gives a node's bound from its first's distance and its radius. A centre but
+  -- Every row but the nodes' firsts, with its home bound. β gives a node's bound from its first's distance and how far it reaches. A centre but
   -- the first is at home in the inner node whose centre it is, at the topmost such; any other row in its leaf.
-  unfoldable pub homesIn : (ℕ → ℕ → ℕ) → Grove → List (ℕ × ℕ)
+  unfoldable pub homesIn : (ℕ → Reach → ℕ) → Grove → List (ℕ × ℕ)
   homesIn β bare = []
   homesIn β (leaf R es g) =
       let f = head (map (λ e. e .0) es) in

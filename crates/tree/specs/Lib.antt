@@ -2,6 +2,7 @@ pub mod Grove
 pub mod Encode
 pub mod Build
 pub mod Check
+pub mod Widen
 pub mod Homes
 pub mod Nearest
 pub mod Radius

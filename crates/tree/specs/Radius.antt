@@ -1,7 +1,7 @@
 -- The radius search: 01, Which rows are measured, Radius. Over the distance x of each row from the query. Assumes nothing.
 use Prim.Native.Nat.{_+_, ℕ}
 use Rattle.laws.specs.Lists.{gap, head, look, range, rest, tally}
-use Rattle.tree.specs.Grove.{Grove, bare, first, firsts, fork, leaf, rowsIn}
+use Rattle.tree.specs.Grove.{Grove, Reach, bare, first, firsts, fork, leaf, rowsIn}
 use Rattle.tree.specs.Homes.{childBound, nearestOf}
 use lib.Dec.{leb, ltb}
 use mathlib.Core.Bool.{cond}
@@ -17,11 +17,11 @@ module _ (x : ℕ → ℕ) (r : ℕ) where
   inLeaf f e = cond (ltb r (gap (x f) (e .1))) 0 (cond (leb (x f + e .1) r) 2 (byDistance (e .0)))
 
   -- the marks of a node's rows but its first, which is at x: swept, closed or opened, in this order
-  abbrev pub visit : ℕ → ℕ → ℕ → List ℕ → List (ℕ × ℕ) → List (ℕ × ℕ)
-  visit x R b others opened = cond (leb (x + R) r) (map (λ i. (i, 2)) others) (cond (ltb r b) (map (λ i. (i, 0)) others) opened)
+  abbrev pub visit : ℕ → Reach → ℕ → List ℕ → List (ℕ × ℕ) → List (ℕ × ℕ)
+  visit x R b others opened = cond (leb (x + R .outer) r) (map (λ i. (i, 2)) others) (cond (ltb r b) (map (λ i. (i, 0)) others) opened)
 
   -- every row but the nodes' firsts, with its how-byte; β gives a node's bound. An opened inner node measures every centre.
-  unfoldable pub marksIn : (ℕ → ℕ → ℕ) → Grove → List (ℕ × ℕ)
+  unfoldable pub marksIn : (ℕ → Reach → ℕ) → Grove → List (ℕ × ℕ)
   marksIn β bare = []
   marksIn β (leaf R es g) =
       let f = head (map (λ e. e .0) es) in

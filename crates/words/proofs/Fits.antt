@@ -4,7 +4,7 @@ use Rattle.laws.proofs.Tests.{go-on, stop}
 use Rattle.limits.specs.Limits.{maxDepth, maxDistance}
 use Rattle.words.specs.Pass.{fits, roomy}
 use Rattle.words.specs.Shape.{brood, nodeFits, rootFits, tile}
-use Rattle.words.specs.Words.{N#, child#, count#, l#, m#, n#, radius#, start#}
+use Rattle.words.specs.Words.{N#, child#, count#, inner#, l#, m#, n#, radius#, start#}
 use borrow.Author.Tests.{eq-eqb, le-leb, leb-true, lt-leb, ne-eqb}
 use lib.Dec.{eqb, leb}
 use mathlib.Core.Bool.{and-false, false, true}
@@ -61,17 +61,27 @@ module _ (w : List ℕ) (k next depth : ℕ) where
     pub fit-far : maxDistance < radius# w k → false ≡ fits w k next depth
     fit-far h = go-on room (simp (lt-leb (radius# w k) maxDistance h, and-false))
 
-    module _ (some : 1 ≤ count# w k) (near : radius# w k ≤ maxDistance) where
+    -- its inner reach is out of range
+    pub fit-wide : maxDistance < inner# w k → false ≡ fits w k next depth
+    fit-wide h = go-on room (simp (lt-leb (inner# w k) maxDistance h, and-false))
+
+    module _ (some : 1 ≤ count# w k) (near : radius# w k ≤ maxDistance) (nearer : inner# w k ≤ maxDistance) where
       -- it has at most l rows: it must be a leaf
       pub fit-few : count# w k ≤ l# w → eqb (child# w k) 0 ≡ fits w k next depth
-      fit-few h = go-on room (simp (le-leb 1 (count# w k) some, le-leb (radius# w k) maxDistance near, le-leb (count# w k) (l# w) h))
+      fit-few h = go-on room (simp (le-leb 1 (count# w k) some, le-leb (radius# w k) maxDistance near, le-leb (inner# w k) maxDistance nearer, le-leb (count# w k) (l# w) h))
 
       module _ (many : l# w < count# w k) where
         -- it is at depth 24: it must be a leaf
         pub fit-deep : maxDepth ≤ depth → eqb (child# w k) 0 ≡ fits w k next depth
         fit-deep h =
             go-on room
-            (simp (le-leb 1 (count# w k) some, le-leb (radius# w k) maxDistance near, lt-leb (count# w k) (l# w) many, le-leb maxDepth depth h))
+            (simp (
+              le-leb 1 (count# w k) some,
+              le-leb (radius# w k) maxDistance near,
+              le-leb (inner# w k) maxDistance nearer,
+              lt-leb (count# w k) (l# w) many,
+              le-leb maxDepth depth h,
+            ))
 
         module _ (shallow : depth < maxDepth) where
           -- its first child has another number than the next
@@ -87,6 +97,7 @@ module _ (w : List ℕ) (k next depth : ℕ) where
               (simp (
                 le-leb 1 (count# w k) some,
                 le-leb (radius# w k) maxDistance near,
+                le-leb (inner# w k) maxDistance nearer,
                 lt-leb (count# w k) (l# w) many,
                 lt-leb maxDepth depth shallow,
                 eq-eqb (child# w k) next e,

@@ -1,13 +1,16 @@
 -- The header test, word by word: any one bad word makes it impossible. Assumes nothing.
-use Prim.Native.Nat.{_*_, _-_, _<_, _≤_, suc, zero, ℕ}
+use Prim.Native.Nat.{_*_, _+_, _-_, _<_, _≤_, suc, zero, ℕ}
+use Rattle.limits.proofs.Ranges.{within-both}
 use Rattle.limits.specs.Limits.{columnsOk, maxRows, shareOk, within}
-use Rattle.words.specs.Words.{N#, c#, edition#, headerOk, kind#, l#, last#, m#, n#, nodesOk, wordsOf, wordsOk}
+use Rattle.words.specs.Words.{N#, c#, edition#, editionOk, headerOk, kind#, l#, last#, m#, n#, nodesOk, width, wordsOf, wordsOk}
 use borrow.Author.Tests.{eq-eqb, le-leb, lt-leb, ne-eqb}
-use lib.Dec.{eqb, leb}
+use lib.Dec.{T, eqb, leb}
 use lib.ListN.{length}
-use mathlib.Core.Bool.{and-false, false, true}
+use mathlib.Core.Bool.{Bool, and-false, false, true}
 use mathlib.Core.List.{List}
-use mathlib.Core.Path.{_≡_, refl}
+use mathlib.Core.Path.{_∙_, _≡_, ap₂, refl, subst, sym}
+use native.Mathlib.Nat.{mul-le-mul-right}
+use native.Mathlib.Omega.{arith}
 
 -- ---- the node count
 -- no rows have no nodes
@@ -21,10 +24,10 @@ nodes-some (suc n) N h = refl
 
 -- ---- the header
 module _ (w : List ℕ) where
-  -- the edition is not 1
-  pub bad-edition : (edition# w ≡ 1 → ⊥) → false ≡ headerOk w
+  -- the edition is neither 1 nor 2
+  pub bad-edition : editionOk (edition# w) ≡ false → false ≡ headerOk w
   unfolding headerOk
-  bad-edition h = simp (ne-eqb (edition# w) 1 h)
+  bad-edition e = simp e
 
   -- there are too many rows
   pub bad-rows : maxRows < n# w → false ≡ headerOk w
@@ -52,10 +55,22 @@ module _ (w : List ℕ) where
   bad-kind h = simp (ne-eqb (kind# w) 1 h, and-false)
 
   -- all these are right: the last word decides
-  pub good-header : edition# w ≡ 1 → n# w ≤ maxRows → columnsOk (c# w) ≡ true → shareOk (m# w) (l# w) ≡ true → nodesOk (n# w) (N# w) ≡ true
+  pub good-header : editionOk (edition# w) ≡ true → n# w ≤ maxRows → columnsOk (c# w) ≡ true → shareOk (m# w) (l# w) ≡ true → nodesOk (n# w) (N# w) ≡ true
       → kind# w ≡ 1 → eqb (last# w) 0 ≡ headerOk w
   unfolding headerOk
-  good-header e h c s k d = simp (eq-eqb (edition# w) 1 e, le-leb (n# w) maxRows h, c, s, k, eq-eqb (kind# w) 1 d)
+  good-header e h c s k d = simp (e, le-leb (n# w) maxRows h, c, s, k, eq-eqb (kind# w) 1 d)
+
+  -- the edition of a possible header
+  pub edition-is : headerOk w ≡ true → (1 ≤ edition# w) × (edition# w ≤ 2)
+  edition-is h = go (editionOk (edition# w)) refl
+    where
+      go : (b : Bool) → editionOk (edition# w) ≡ b → (1 ≤ edition# w) × (edition# w ≤ 2)
+      go true e = within-both 1 2 (edition# w) e
+      go false e = absurd (subst T (sym (bad-edition e ∙ h)) tt)
+
+  -- the nodes' words, by numbers that are equal to the header's
+  pub nodes-words : {a b : ℕ} → headerOk w ≡ true → a ≡ width (edition# w) → b ≡ N# w → (a * b ≡ width (edition# w) * N# w) × (a * b ≤ 5 * b)
+  nodes-words {a} {b} h p q = (ap₂ (λ (x y : ℕ). x * y) p q, mul-le-mul-right b (omega (arith, p, edition-is h .1)))
 
   -- ---- the words
   -- there are fewer than 8

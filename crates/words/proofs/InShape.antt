@@ -10,7 +10,7 @@ use Rattle.words.proofs.Positions.{position-is}
 use Rattle.words.proofs.Tiles.{tile-first, tile-part}
 use Rattle.words.specs.InShape.{InShape, Kids, Left, Node, Place, Whole}
 use Rattle.words.specs.Shape.{born, inner, level, positionOk, rootFits, shapeOk, treeFits}
-use Rattle.words.specs.Words.{N#, c#, child#, count#, edition#, headerOk, kind#, l#, last#, m#, n#, nodesOk, start#, wordsOf, wordsOk}
+use Rattle.words.specs.Words.{N#, c#, child#, count#, edition#, editionOk, headerOk, kind#, l#, last#, m#, n#, nodesOk, start#, wordsOf, wordsOk}
 use lib.Dec.{T, eqb, eqb→eq, leb, leb→le}
 use lib.ListN.{length}
 use mathlib.Core.Bool.{Bool, _&&_, cond, false, true}
@@ -33,7 +33,7 @@ nodes-are (suc n) N t =
 pub whole : (w : List ℕ) → wordsOk w ≡ true → Whole w
 unfolding wordsOk headerOk
 whole w e =
-    let a = eqb (edition# w) 1 in
+    let a = editionOk (edition# w) in
     let b = leb (n# w) maxRows in
     let d = columnsOk (c# w) in
     let s = shareOk (m# w) (l# w) in
@@ -49,6 +49,7 @@ whole w e =
     let nodes = nodes-are (n# w) (N# w) (and-r (a && b && d && s) k t) in
     record {
       words = leb→le (wordsOf w) (length w) (and-r (leb 8 (length w) && h) (leb (wordsOf w) (length w)) g);
+      edition = within-both 1 2 (edition# w) (is-true a (and-l a b (and-l (a && b) d t3)));
       rows = leb→le (n# w) maxRows (and-r a b (and-l (a && b) d t3));
       columns = columns-are (c# w) (is-true d (and-r (a && b) d t3));
       fan = (share .two, share .most);
@@ -56,6 +57,13 @@ whole w e =
       nodes = nodes .0;
       rooted = nodes .1;
     }
+
+-- and its header is possible
+pub header-possible : (w : List ℕ) → wordsOk w ≡ true → headerOk w ≡ true
+unfolding wordsOk
+header-possible w e =
+    is-true (headerOk w) (and-r (leb 8 (length w)) (headerOk w) (and-l (leb 8 (length w) && headerOk w) (leb (wordsOf w) (length w))
+    (holds (leb 8 (length w) && headerOk w && leb (wordsOf w) (length w)) e)))
 
 -- the header's words are there
 pub header-there : (w : List ℕ) → wordsOk w ≡ true → 8 ≤ length w
@@ -135,6 +143,7 @@ module _ (w : List ℕ) (W : Whole w) (t : T (treeFits w)) where
         some = v .some;
         run = runs (N# w) (omega arith) (omega arith) k (omega (arith, closed w t (omega arith)));
         near = v .small;
+        nearer = v .smaller;
         kids = λ e. kids-are k h e;
         bottom = λ l. bottom-leaf k h (l .1);
       }

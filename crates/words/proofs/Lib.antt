@@ -8,3 +8,4 @@ pub mod InShape
 pub mod Positions
 pub mod Index
 pub mod Listed
+pub mod Strides

@@ -3,6 +3,7 @@ use Prim.Native.Nat.{_*_, _+_, _<_, _≤_, ℕ}
 use Rattle.laws.proofs.Tests.{and-l, and-r, holds, is-true}
 use Rattle.limits.specs.Limits.{maxRows}
 use Rattle.words.proofs.InShape.{in-shape}
+use Rattle.words.proofs.Strides.{words-few}
 use Rattle.words.specs.Calls.{Lists, Unlisted, beyond, impossible, listed, lists, missing, pairs, wrong}
 use Rattle.words.specs.InShape.{InShape}
 use Rattle.words.specs.Shape.{shapeOk}
@@ -142,10 +143,10 @@ pub list-only : {w : List ℕ} {k start start′ long long′ : ℕ} → Lists w
 list-only a b = (a .starts ∙ sym (b .starts), a .whole ∙ sym (b .whole))
 
 -- both numbers are at most the words of the greatest index, so that 32 bits hold them
-pub part-small : {w : List ℕ} {k start long : ℕ} → Lists w k start long → (start ≤ 10 * maxRows + 8) × (long ≤ 10 * maxRows + 8)
+pub part-small : {w : List ℕ} {k start long : ℕ} → Lists w k start long → (start ≤ 12 * maxRows + 8) × (long ≤ 12 * maxRows + 8)
 part-small {w} {k} {start} {long} p = go (lists w k) refl
   where
-    go : (b : Bool) → lists w k ≡ b → (start ≤ 10 * maxRows + 8) × (long ≤ 10 * maxRows + 8)
+    go : (b : Bool) → lists w k ≡ b → (start ≤ 12 * maxRows + 8) × (long ≤ 12 * maxRows + 8)
     go false e =
         let s : start ≡ 0 = p .starts ∙ ap (λ (b : Bool). cond b (pairAt w (start# w k)) 0) e in
         let l : long ≡ 0 = p .whole ∙ ap length (listed-none w k e) in
@@ -156,4 +157,5 @@ part-small {w} {k} {start} {long} p = go (lists w k) refl
         let in-words = part-there w k (there .0) (there .1) in
         let s : start ≡ pairAt w (start# w k) = p .starts ∙ ap (λ (b : Bool). cond b (pairAt w (start# w k)) 0) e in
         let l : long ≡ 2 * count# w k = p .whole ∙ ap length (listed-pairs w k e) ∙ pairs-long w k (there .0) (there .1) in
-        (omega (arith, in-words, W .rows, W .nodes), omega (arith, in-words, W .rows, W .nodes))
+        let most = words-few w W in
+        (omega (arith, in-words, W .rows, most), omega (arith, in-words, W .rows, most))

@@ -7,7 +7,7 @@ use Rattle.laws.specs.Lists.{all, range}
 use Rattle.limits.specs.Limits.{maxDepth, maxDistance}
 use Rattle.words.proofs.Levels.{born-inner, born-le, level-stays}
 use Rattle.words.specs.Shape.{born, inner, level, nodeOk, rootFits, rootOk, tile, treeFits}
-use Rattle.words.specs.Words.{N#, child#, count#, l#, m#, radius#, start#}
+use Rattle.words.specs.Words.{N#, child#, count#, inner#, l#, m#, radius#, start#}
 use borrow.Author.Tests.{leb-false, leb-true}
 use lib.Dec.{T, eqb, eqb→eq, leb, leb→le}
 use mathlib.Core.Bool.{Bool, _&&_, _||_, cond, false, not, true}
@@ -20,6 +20,7 @@ use native.Mathlib.Omega.{arith}
 pub record NodeIs (w : List ℕ) (k : ℕ) : Type 0 where
   pub some : 1 ≤ count# w k
   pub small : radius# w k ≤ maxDistance
+  pub smaller : inner# w k ≤ maxDistance
   pub shallow : inner w k ≡ true → k < level w maxDepth
   pub next : inner w k ≡ true → child# w k ≡ born w k
   pub tiled : inner w k ≡ true → T (tile w (child# w k) (m# w) (start# w k) (start# w k + count# w k))
@@ -51,13 +52,16 @@ module _ (w : List ℕ) (k : ℕ) where
   node-is t =
       let a = leb 1 (count# w k) in
       let b = leb (radius# w k) maxDistance in
+      let i = leb (inner# w k) maxDistance in
       let few = leb (count# w k) (l# w) in
       let deep = leb (level w maxDepth) k in
       let c = cond (few || deep) (eqb (child# w k) 0) (eqb (child# w k) (born w k) && tiles) in
-      let p = by-case few deep refl (and-r (a && b) c t) in
+      let p = by-case few deep refl (and-r (a && b && i) c t) in
+      let u = and-l (a && b && i) c t in
       record {
-        some = leb→le 1 (count# w k) (and-l a b (and-l (a && b) c t));
-        small = leb→le (radius# w k) maxDistance (and-r a b (and-l (a && b) c t));
+        some = leb→le 1 (count# w k) (and-l a b (and-l (a && b) i u));
+        small = leb→le (radius# w k) maxDistance (and-r a b (and-l (a && b) i u));
+        smaller = leb→le (inner# w k) maxDistance (and-r (a && b) i u);
         shallow = λ e. (p e) .0;
         next = λ e. (p e) .1;
         tiled = λ e. (p e) .2;

@@ -2,7 +2,7 @@
 use Prim.Native.Nat.{_*_, _+_, _-_, _<_, _≤_, ℕ}
 use Rattle.limits.specs.Limits.{maxColumns, maxDepth, maxDistance, maxRows}
 use Rattle.words.specs.Shape.{inner, level, tile}
-use Rattle.words.specs.Words.{N#, c#, child#, count#, dist#, l#, m#, n#, radius#, row#, start#, wordsOf}
+use Rattle.words.specs.Words.{N#, c#, child#, count#, dist#, edition#, inner#, l#, m#, n#, radius#, row#, start#, wordsOf}
 use lib.Dec.{T}
 use lib.ListN.{length}
 use mathlib.Core.Bool.{false, true}
@@ -12,6 +12,7 @@ use mathlib.Core.Path.{_≡_}
 -- no word is missing, and the header's numbers are possible
 pub record Whole (w : List ℕ) : Type 0 where
   pub words : wordsOf w ≤ length w
+  pub edition : (1 ≤ edition# w) × (edition# w ≤ 2)
   pub rows : n# w ≤ maxRows
   pub columns : (1 ≤ c# w) × (c# w ≤ maxColumns)
   pub fan : (2 ≤ m# w) × (m# w ≤ 64)
@@ -39,6 +40,7 @@ pub record Node (w : List ℕ) (k : ℕ) : Type 0 where
   pub some : 1 ≤ count# w k
   pub run : start# w k + count# w k ≤ n# w
   pub near : radius# w k ≤ maxDistance
+  pub nearer : inner# w k ≤ maxDistance
   pub kids : inner w k ≡ true → Kids w k
   pub bottom : Left w 0 k → inner w k ≡ false
 

@@ -2,7 +2,7 @@
 use Prim.Native.Nat.{_+_, suc, zero, ℕ}
 use Rattle.laws.specs.Lists.{all, range}
 use Rattle.limits.specs.Limits.{maxDepth, maxDistance}
-use Rattle.words.specs.Words.{N#, child#, count#, dist#, l#, m#, n#, radius#, row#, start#}
+use Rattle.words.specs.Words.{N#, child#, count#, dist#, inner#, l#, m#, n#, radius#, row#, start#}
 use lib.Dec.{eqb, leb, ltb}
 use mathlib.Core.Bool.{Bool, _&&_, _||_, cond, not, true}
 use mathlib.Core.List.{List}
@@ -34,7 +34,7 @@ tile w j (suc k) s e = eqb (start# w j) s && tile w (suc j) k (s + count# w j) e
 -- range; with at most l rows or at depth 24 it is a leaf; any other is inner, and its m children's runs tile its own
 abbrev pub nodeFits : List ℕ → ℕ → ℕ → Bool → Bool
 nodeFits w k next deep =
-    leb 1 (count# w k) && leb (radius# w k) maxDistance
+    leb 1 (count# w k) && leb (radius# w k) maxDistance && leb (inner# w k) maxDistance
     && cond (leb (count# w k) (l# w) || deep) (eqb (child# w k) 0)
     (eqb (child# w k) next && tile w (child# w k) (m# w) (start# w k) (start# w k + count# w k))
 

@@ -4,7 +4,7 @@ use Rattle.laws.specs.Lists.{range}
 use Rattle.limits.specs.Limits.{columnsOk, maxRows, shareOk, within}
 use lib.Dec.{eqb, leb}
 use lib.ListN.{getD, length}
-use mathlib.Core.Bool.{Bool, _&&_}
+use mathlib.Core.Bool.{Bool, _&&_, cond}
 use mathlib.Core.List.{List}
 
 -- word i, 0 past the end
@@ -12,7 +12,7 @@ abbrev pub at : List ℕ → ℕ → ℕ
 at w i = getD w i 0
 
 -- ---- the header's eight words: edition, n, c, m, l, node count N, distance kind, and a last one
--- the edition, 1
+-- the edition, 1 or 2
 abbrev pub edition# : List ℕ → ℕ
 edition# w = at w 0
 
@@ -49,41 +49,53 @@ abbrev pub nodesOk : ℕ → ℕ → Bool
 nodesOk zero N = eqb N 0
 nodesOk (suc n) N = within 1 (2 * suc n - 1) N
 
+-- the two editions; edition 2 has the inner reach (02, R-4)
+abbrev pub editionOk : ℕ → Bool
+editionOk e = within 1 2 e
+
 -- the header is not impossible
 unfoldable pub headerOk : List ℕ → Bool
 headerOk w =
-    eqb (edition# w) 1 && leb (n# w) maxRows && columnsOk (c# w) && shareOk (m# w) (l# w)
+    editionOk (edition# w) && leb (n# w) maxRows && columnsOk (c# w) && shareOk (m# w) (l# w)
     && nodesOk (n# w) (N# w) && eqb (kind# w) 1 && eqb (last# w) 0
 
--- ---- the nodes, `width` words each after the header: start, count, first child's number (0 for a leaf), radius
--- how many words a node has
-abbrev pub width : ℕ
-width = 4
+-- ---- the nodes, `width` words each after the header: start, count, first child's number (0 for a leaf), radius, and in edition 2 the inner reach
+-- how many words a node has: 4 in edition 1, 5 in edition 2
+abbrev pub width : ℕ → ℕ
+width e = 3 + e
 
 -- where node k's words stand
-abbrev pub nodeAt : ℕ → ℕ
-nodeAt k = 8 + width * k
+abbrev pub nodeAt : List ℕ → ℕ → ℕ
+nodeAt w k = 8 + width (edition# w) * k
 
 -- where node k's run starts
 abbrev pub start# : List ℕ → ℕ → ℕ
-start# w k = at w (nodeAt k)
+start# w k = at w (nodeAt w k)
 
 -- how many rows it has
 abbrev pub count# : List ℕ → ℕ → ℕ
-count# w k = at w (nodeAt k + 1)
+count# w k = at w (nodeAt w k + 1)
 
 -- its first child's number, 0 for a leaf
 abbrev pub child# : List ℕ → ℕ → ℕ
-child# w k = at w (nodeAt k + 2)
+child# w k = at w (nodeAt w k + 2)
 
 -- its radius
 abbrev pub radius# : List ℕ → ℕ → ℕ
-radius# w k = at w (nodeAt k + 3)
+radius# w k = at w (nodeAt w k + 3)
+
+-- 02, R-4: what an edition keeps of an inner reach: edition 1 has none, which is as good as 0
+abbrev pub kept : ℕ → ℕ → ℕ
+kept e i = cond (eqb e 2) i 0
+
+-- its inner reach
+abbrev pub inner# : List ℕ → ℕ → ℕ
+inner# w k = kept (edition# w) (at w (nodeAt w k + 4))
 
 -- ---- the positions, two words each after the nodes: row number, distance from its leaf's first
 -- where position p's words stand
 abbrev pub pairAt : List ℕ → ℕ → ℕ
-pairAt w p = nodeAt (N# w) + 2 * p
+pairAt w p = nodeAt w (N# w) + 2 * p
 
 -- the row number at position p
 abbrev pub row# : List ℕ → ℕ → ℕ
@@ -93,7 +105,7 @@ row# w p = at w (pairAt w p)
 abbrev pub dist# : List ℕ → ℕ → ℕ
 dist# w p = at w (pairAt w p + 1)
 
--- how many words the header asks for: 8 + 4N + 2n
+-- how many words the header asks for: 8 + 4N + 2n, or 8 + 5N + 2n in edition 2
 abbrev pub wordsOf : List ℕ → ℕ
 wordsOf w = pairAt w (n# w)
 

@@ -5,7 +5,6 @@ ghost use Rattle.words.specs.Words.{headerOk, nodesOk, wordsOk};
 ghost use lib.ListN.{length};
 ghost use mathlib.Core.Path.{_≡_};
 use crate::places::HEADER;
-use crate::places::WIDTH;
 use crate::places::word;
 use limits::Params;
 use limits::columns_ok;
@@ -28,7 +27,7 @@ pub fn header_ok(index: &[u32]) -> bool
     requires { ⌜ 8 ≤ length (now index) ⌝ }
     ensures { λ r. ⌜ r ≡ headerOk (now (index .entry)) ⌝ }
 {
-    if word(index, 0) != 1 {
+    if !is_within(1, 2, word(index, 0)) {
         return false;
     }
     let n = word(index, 1);
@@ -60,5 +59,8 @@ pub fn words_ok(index: &[u32]) -> bool
     if !header_ok(index) {
         return false;
     }
-    HEADER + WIDTH * crate::places::nodes(index) + 2 * crate::places::rows(index) <= index.len()
+    HEADER
+        + crate::places::width(index) * crate::places::nodes(index)
+        + 2 * crate::places::rows(index)
+        <= index.len()
 }

@@ -1,14 +1,20 @@
 // The index words by place.
 ghost use Prim.Native.Nat.{_*_, _+_, _<_, _≤_};
-ghost use Rattle.words.specs.InShape.{InShape};
-ghost use Rattle.words.specs.Words.{N#, at, c#, child#, count#, dist#, first#, l#, m#, n#, nodeAt, pairAt, radius#, row#, start#};
+ghost use Rattle.words.specs.InShape.{InShape, Whole};
+ghost use Rattle.words.specs.Words.{N#, at, c#, child#, count#, dist#, edition#, first#, inner#, l#, m#, n#, nodeAt, pairAt, radius#, row#, start#, width};
 ghost use lib.ListN.{length};
 ghost use mathlib.Core.Path.{_≡_};
 
-// How many words a header has, and how many each node.
+// How many words a header has.
 pub const HEADER: usize = 8;
 
-pub const WIDTH: usize = 4;
+// How many words each node has: 4 in edition 1, 5 in edition 2.
+pub fn width(index: &[u32]) -> usize
+    requires { ⌜ 8 ≤ length (now index) ⌝ }
+    ensures { λ r. ⌜ (r ≡ width (edition# (now (index .entry)))) × (r < 4294967300) ⌝ }
+{
+    3 + word(index, 0)
+}
 
 // Word i, as a place or a count.
 pub fn word(index: &[u32], i: usize) -> usize
@@ -58,36 +64,62 @@ pub fn nodes(index: &[u32]) -> usize
     word(index, 5)
 }
 
+// Where node k's words stand.
+pub fn node_at(index: &[u32], k: usize) -> usize
+    requires { ⌜ nodeAt (now index) k ≤ length (now index) ⌝ }
+    ensures { λ r. ⌜ r ≡ nodeAt (now (index .entry)) k ⌝ }
+{
+    HEADER + width(index) * k
+}
+
 // Node k's run starts here.
 pub fn node_start(index: &[u32], k: usize) -> usize
-    requires { ⌜ nodeAt k + 3 < length (now index) ⌝ }
+    requires { ⌜ Whole (now index) ⌝ }
+    requires { ⌜ k < N# (now index) ⌝ }
     ensures { λ r. ⌜ (r ≡ start# (now (index .entry)) k) × (r < 4294967296) ⌝ }
 {
-    word(index, HEADER + WIDTH * k)
+    word(index, node_at(index, k))
 }
 
 // How many rows node k has.
 pub fn node_count(index: &[u32], k: usize) -> usize
-    requires { ⌜ nodeAt k + 3 < length (now index) ⌝ }
+    requires { ⌜ Whole (now index) ⌝ }
+    requires { ⌜ k < N# (now index) ⌝ }
     ensures { λ r. ⌜ (r ≡ count# (now (index .entry)) k) × (r < 4294967296) ⌝ }
 {
-    word(index, HEADER + WIDTH * k + 1)
+    word(index, node_at(index, k) + 1)
 }
 
 // The number of node k's first child, 0 for a leaf.
 pub fn node_child(index: &[u32], k: usize) -> usize
-    requires { ⌜ nodeAt k + 3 < length (now index) ⌝ }
+    requires { ⌜ Whole (now index) ⌝ }
+    requires { ⌜ k < N# (now index) ⌝ }
     ensures { λ r. ⌜ (r ≡ child# (now (index .entry)) k) × (r < 4294967296) ⌝ }
 {
-    word(index, HEADER + WIDTH * k + 2)
+    word(index, node_at(index, k) + 2)
 }
 
 // Node k's radius.
 pub fn node_radius(index: &[u32], k: usize) -> u32
-    requires { ⌜ nodeAt k + 3 < length (now index) ⌝ }
+    requires { ⌜ Whole (now index) ⌝ }
+    requires { ⌜ k < N# (now index) ⌝ }
     ensures { λ r. ⌜ r ≡ radius# (now (index .entry)) k ⌝ }
 {
-    index[HEADER + WIDTH * k + 3]
+    let at = node_at(index, k) + 3;
+    index[at]
+}
+
+// Node k's inner reach: 0 in edition 1, which has none.
+pub fn node_inner(index: &[u32], k: usize) -> u32
+    requires { ⌜ Whole (now index) ⌝ }
+    requires { ⌜ k < N# (now index) ⌝ }
+    ensures { λ r. ⌜ r ≡ inner# (now (index .entry)) k ⌝ }
+{
+    if word(index, 0) != 2 {
+        return 0;
+    }
+    let at = node_at(index, k) + 4;
+    index[at]
 }
 
 // Where position p's words stand.
@@ -95,7 +127,7 @@ pub fn pair_at(index: &[u32], p: usize) -> usize
     requires { ⌜ pairAt (now index) p ≤ length (now index) ⌝ }
     ensures { λ r. ⌜ r ≡ pairAt (now (index .entry)) p ⌝ }
 {
-    HEADER + WIDTH * nodes(index) + 2 * p
+    node_at(index, nodes(index)) + 2 * p
 }
 
 // The row number at position p.

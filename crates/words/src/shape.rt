@@ -4,14 +4,14 @@ ghost use Rattle.laws.specs.Lists.{all, range};
 ghost use Rattle.words.specs.InShape.{Whole};
 ghost use Rattle.words.specs.Pass.{fits, roomy};
 ghost use Rattle.words.specs.Shape.{brood, positionOk, rootFits, shapeOk, tile, treeFits};
-ghost use Rattle.words.specs.Words.{N#, n#, nodeAt, wordsOk};
-ghost use lib.ListN.{length};
+ghost use Rattle.words.specs.Words.{N#, n#, wordsOk};
 ghost use mathlib.Core.Bool.{true};
 ghost use mathlib.Core.Path.{_≡_};
 use crate::places::centres;
 use crate::places::leaf_size;
 use crate::places::node_child;
 use crate::places::node_count;
+use crate::places::node_inner;
 use crate::places::node_radius;
 use crate::places::node_start;
 use crate::places::nodes;
@@ -21,7 +21,8 @@ use limits::Params;
 
 // The runs of m nodes from number j on tile the positions s up to e, in order.
 fn tiles(index: &[u32], j: usize, m: usize, s: usize, e: usize) -> bool
-    requires { ⌜ (m ≤ 64) × (s < 4294967296) × (nodeAt (j + m) ≤ length (now index)) ⌝ }
+    requires { ⌜ Whole (now index) ⌝ }
+    requires { ⌜ (m ≤ 64) × (s < 4294967296) × (j + m ≤ N# (now index)) ⌝ }
     ensures { λ r. ⌜ r ≡ tile (now (index .entry)) j m s e ⌝ }
 {
     let mut at = s;
@@ -66,6 +67,9 @@ fn node_fits(index: &[u32], k: usize, next: usize, depth: usize) -> bool
     if Params::MOST_DISTANCE < node_radius(index, k) {
         return false;
     }
+    if Params::MOST_DISTANCE < node_inner(index, k) {
+        return false;
+    }
     if count <= leaf_size(index) {
         return child == 0;
     }
@@ -80,7 +84,8 @@ fn node_fits(index: &[u32], k: usize, next: usize, depth: usize) -> bool
 
 // How many children node k has.
 fn brood_of(index: &[u32], k: usize) -> usize
-    requires { ⌜ nodeAt k + 3 < length (now index) ⌝ }
+    requires { ⌜ Whole (now index) ⌝ }
+    requires { ⌜ k < N# (now index) ⌝ }
     ensures { λ r. ⌜ r ≡ brood (now (index .entry)) k ⌝ }
 {
     if node_child(index, k) == 0 {
@@ -91,7 +96,8 @@ fn brood_of(index: &[u32], k: usize) -> usize
 
 // The root's run is everything.
 fn root_fits(index: &[u32]) -> bool
-    requires { ⌜ nodeAt 1 ≤ length (now index) ⌝ }
+    requires { ⌜ Whole (now index) ⌝ }
+    requires { ⌜ 1 ≤ N# (now index) ⌝ }
     ensures { λ r. ⌜ r ≡ rootFits (now (index .entry)) ⌝ }
 {
     if node_start(index, 0) != 0 {

@@ -14,7 +14,7 @@ abbrev start : tie.After-first-wrong-distance → tie.Start
 start p = p .before .before .before
 
 -- the pass for 11, seen from the one for 12
-abbrev earlier : tie.After-first-wrong-radius → tie.After-first-wrong-distance
+abbrev earlier : tie.After-first-wrong-reach → tie.After-first-wrong-distance
 earlier k = k .before .before .before
 
 -- the distance between the table's rows
@@ -34,8 +34,8 @@ returns c =
     let r = p .first-wrong-distance in
     distance-found (dist s) (s .args .index .now) (r .result) (r .ensures) (omega arith)
 
-first-wrong-radius-requires : tie.Need-first-wrong-radius-requires
-first-wrong-radius-requires c κs = search needs
+first-wrong-reach-requires : tie.Need-first-wrong-reach-requires
+first-wrong-reach-requires c κs = search needs
 
 nodes-requires : tie.Need-nodes-requires
 nodes-requires c κs = search needs
@@ -45,7 +45,7 @@ returns-2 c =
     let later = c .before .before in
     let s = start (earlier later) in
     let p = earlier later .first-wrong-distance in
-    let k = later .first-wrong-radius in
+    let k = later .first-wrong-reach in
     radius-found (dist s) (s .args .index .now) (p .result) (p .ensures) (k .result) (k .ensures) (omega arith) (omega arith)
 
 closeness-requires : tie.Need-closeness-requires
@@ -56,7 +56,7 @@ returns-3 c =
     let later = c .before .before .before in
     let s = start (earlier later) in
     let p = earlier later .first-wrong-distance in
-    let k = later .first-wrong-radius in
+    let k = later .first-wrong-reach in
     c .closeness .ensures
     ∙ radius-none (dist s) (s .args .index .now) (p .result) (p .ensures) (k .result) (k .ensures) (omega arith) (omega arith)
 
@@ -67,7 +67,7 @@ measured-fault-spec =
     first-wrong-distance-requires
     rows-requires
     returns
-    first-wrong-radius-requires
+    first-wrong-reach-requires
     nodes-requires
     returns-2
     closeness-requires

@@ -41,7 +41,7 @@ answer c = answer-taken (begun c .args .m) (begun c .args .l) (c .p .given .1) (
 abbrev says : tie.After-p → ℕ
 says c =
     let a = begun c .args in
-    saidBuild (a .table .now) (a .c) (a .m) (a .l) (length (a .room .now)) (length (a .work .now)) .0
+    saidBuild (a .table .now) (a .c) 1 (a .m) (a .l) (length (a .room .now)) (length (a .work .now)) .0
 
 columns-ok-requires : tie.Need-columns-ok-requires
 columns-ok-requires c κs = search needs

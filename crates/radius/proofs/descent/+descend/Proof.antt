@@ -8,7 +8,7 @@ use Rattle.radius.proofs.Distances.{bound-is, least-is}
 use Rattle.radius.proofs.Fitted.{lent-same}
 use Rattle.radius.proofs.Ways.{closed-did, inner-opened, leaf-opened, swept-did}
 use Rattle.radius.proofs.Written.{marked-end, marked-next, marked-none}
-use Rattle.tree.proofs.bounds.child_bound.Reads as child-bound-reads
+use Rattle.tree.proofs.bounds.kid_bound.Reads as kid-bound-reads
 use Rattle.radius.proofs.centres.least_of.Reads as least-of-reads
 use Rattle.radius.proofs.descent.+descend.Lts-descend as descend-lts
 use Rattle.radius.proofs.descent.+descend.Tie.{close}
@@ -60,8 +60,8 @@ claims t = (
   open-inner-reads.Learnt,
   least-of-reads.Asked,
   least-of-reads.Learnt,
-  child-bound-reads.Asked,
-  child-bound-reads.Learnt,
+  kid-bound-reads.Asked,
+  kid-bound-reads.Learnt,
   descend-below t,
   descend.Post,
 )
@@ -161,10 +161,14 @@ descend-add-kid : (t : ℕ) → descend-lts.Need-add-kid (claims t) (descend-at 
 descend-add-kid t c = search needs
 
 descend-node-radius-requires-2 : (t : ℕ) → descend-lts.Need-node-radius-requires-2 (claims t) (descend-at t) descend.Post descend-Inv-loop descend-μ-loop
-descend-node-radius-requires-2 t c κs = search needs
+descend-node-radius-requires-2 t c κs =
+    let l = c .before .loop in
+    (l .inv .0 .shape .whole, omega (arith, l .inv .1 .inside, l .inv .4, c .loop-test .taken))
 
-descend-child-bound-requires : (t : ℕ) → descend-lts.Need-child-bound-requires (claims t) (descend-at t) descend.Post descend-Inv-loop descend-μ-loop
-descend-child-bound-requires t c κs = search needs
+descend-kid-bound-requires : (t : ℕ) → descend-lts.Need-kid-bound-requires (claims t) (descend-at t) descend.Post descend-Inv-loop descend-μ-loop
+descend-kid-bound-requires t c κs =
+    let l = c .before .before .loop in
+    (l .inv .0 .shape .whole, omega (arith, l .inv .1 .inside, l .inv .4, c .before .loop-test .taken))
 
 descend-add-j : (t : ℕ) → descend-lts.Need-add-j (claims t) (descend-at t) descend.Post descend-Inv-loop descend-μ-loop
 descend-add-j t c = search needs
@@ -190,7 +194,7 @@ descend-loop-again t c =
     let child = c .before .before .sweep2 in
     let kept = child .kept .1 .1 .0 in
     let at = l .inv .5 .at (l .j) (omega arith) in
-    let bound = bound-is (s .args .bound) (c .before .before .before .before .before .child-bound .ensures) (l .inv .6) at (c .before .before .before .before .before .before .node-radius2 .ensures) in (
+    let bound = bound-is (s .args .bound) _ (c .before .before .before .before .before .kid-bound .ensures) (l .inv .6) at in (
       lent-same (l .inv .0) _ kept,
       l .inv .1,
       kept ∙ l .inv .2,
@@ -224,7 +228,7 @@ descend-loop-again-2 t c =
     let child = c .before .before .descend in
     let kept = child .kept .1 .1 .1 .1 .1 .1 .1 .1 .1 .0 in
     let at = l .inv .5 .at (l .j) (omega arith) in
-    let bound = bound-is (s .args .bound) (c .before .before .before .before .before .before .child-bound .ensures) (l .inv .6) at (c .before .before .before .before .before .before .before .node-radius2 .ensures) in (
+    let bound = bound-is (s .args .bound) _ (c .before .before .before .before .before .before .kid-bound .ensures) (l .inv .6) at in (
       lent-same (l .inv .0) _ kept,
       l .inv .1,
       kept ∙ l .inv .2,
@@ -245,7 +249,7 @@ descend-loop-again-3 t c =
     let s = c .before .before .before .before .before .before .before .before .before .before .before .before .before .before .before .before .before .before .before .before .before in
     let l = c .before .before .before .before .before .loop in
     let at = l .inv .5 .at (l .j) (omega arith) in
-    let bound = bound-is (s .args .bound) (c .before .before .child-bound .ensures) (l .inv .6) at (c .before .before .before .node-radius2 .ensures) in (
+    let bound = bound-is (s .args .bound) _ (c .before .before .kid-bound .ensures) (l .inv .6) at in (
       l .inv .0,
       l .inv .1,
       l .inv .2,
@@ -294,7 +298,7 @@ pub +descend-spec : {M : Type 1} → statement M
     (descend-array-read-d t)
     (descend-add-kid t)
     (descend-node-radius-requires-2 t)
-    (descend-child-bound-requires t)
+    (descend-kid-bound-requires t)
     (descend-add-j t)
     (descend-add-if4 t)
     (descend-sweep-requires-2 t)

@@ -37,41 +37,37 @@ slice-read-x c =
     let l = c .before .before .before in
     omega (arith, kept-there _ _ _ _ _ _ (l .before .before .before .pre .0) (c .before .node-first .ensures .1), l .loop .inv .more .outside .same)
 
-node-radius-requires : tie.Need-node-radius-requires Inv-loop μ-loop
-node-radius-requires c κs =
+kid-bound-requires : tie.Need-kid-bound-requires Inv-loop μ-loop
+kid-bound-requires c κs =
     let pre = c .before .before .before .before .before .before .pre in
     node-words _ _ (pre .0 .shape) (omega (arith, pre .1 .1))
 
-child-bound-requires : tie.Need-child-bound-requires Inv-loop μ-loop
-child-bound-requires c κs = search needs
-
 cast-push-due : tie.Need-cast-push-due Inv-loop μ-loop
 cast-push-due c =
-    let pre = c .before .before .before .before .before .before .before .before .before .pre in
+    let pre = c .before .before .before .before .before .before .before .before .pre in
     omega (arith, pre .1 .1, pre .0 .shape .whole .nodes, pre .0 .shape .whole .rows)
 
 push-due-requires : tie.Need-push-due-requires Inv-loop μ-loop
 push-due-requires c κs =
-    let pre = c .before .before .before .before .before .before .before .before .before .pre in
-    let loop = c .before .before .before .before .before .before .loop in
+    let pre = c .before .before .before .before .before .before .before .before .pre in
+    let loop = c .before .before .before .before .before .loop in
     (loop .inv .more .queue, queued-room _ _ _ _ _ _ _ _ _ (loop .inv) _ _ (pre .0) (omega arith))
 
 add-j : tie.Need-add-j Inv-loop μ-loop
 add-j c = search needs
 
 loop-less : tie.Need-loop-less Inv-loop μ-loop
-loop-less c = omega (arith, c .before .before .before .before .before .before .before .before .loop-test .taken)
+loop-less c = omega (arith, c .before .before .before .before .before .before .before .loop-test .taken)
 
 loop-again : tie.Need-loop-again Inv-loop μ-loop
 loop-again c =
-    let pre = c .before .before .before .before .before .before .before .before .before .before .before .before .pre in
-    let loop = c .before .before .before .before .before .before .before .before .before .loop in
-    let node-first = c .before .before .before .before .before .before .before .node-first in
-    let node-radius = c .before .before .before .before .before .node-radius in
-    let child-bound = c .before .before .before .before .child-bound in
+    let pre = c .before .before .before .before .before .before .before .before .before .before .before .pre in
+    let loop = c .before .before .before .before .before .before .before .before .loop in
+    let node-first = c .before .before .before .before .before .before .node-first in
+    let kid-bound = c .before .before .before .before .kid-bound in
     let push-due = c .before .before .push-due in
     queued-step _ _ _ _ _ _ _ _ _ (loop .inv) _ _ _ (omega arith)
-    (node-entry _ _ _ _ _ _ _ _ _ _ _ _ _ _ _ _ (pre .0) (loop .inv) (node-first .ensures .0) refl (node-radius .ensures) (child-bound .ensures))
+    (node-entry _ _ _ _ _ _ _ _ _ _ _ _ _ _ _ (pre .0) (loop .inv) (node-first .ensures .0) refl (kid-bound .ensures))
     (push-due .ensures)
 
 same-length : tie.Need-same-length Inv-loop μ-loop
@@ -93,8 +89,7 @@ queue-children-spec =
     add-x
     mul-x-2
     slice-read-x
-    node-radius-requires
-    child-bound-requires
+    kid-bound-requires
     cast-push-due
     push-due-requires
     add-j

@@ -60,13 +60,15 @@ returns-3 c =
     part-none (a .index .now) (a .k) (no-node (a .index .now) (a .k) h) refl refl
 
 node-start-requires : tie.Need-node-start-requires
-node-start-requires c κs = omega (arith, there c .0 .whole .words)
+node-start-requires c κs = (there c .0 .whole, there c .1)
 
 pair-at-requires : tie.Need-pair-at-requires
 pair-at-requires c κs = let e = c .before in omega (arith, there e .0 .whole .words, part-there (W e) (K e) (there e .0) (there e .1))
 
 node-count-requires : tie.Need-node-count-requires
-node-count-requires c κs = omega (arith, there (c .before .before) .0 .whole .words)
+node-count-requires c κs =
+    let e = c .before .before in
+    (there e .0 .whole, there e .1)
 
 mul-t8 : tie.Need-mul-t8
 mul-t8 c = search needs

@@ -14,7 +14,7 @@ row-at-requires : tie.Need-row-at-requires
 row-at-requires c κs =
     let start = c .before .before in
     let v = start .pre .0 .node (start .args .k) (start .pre .1) in
-    omega (arith, v .run, v .some)
+    omega (arith, v .run, v .some, start .pre .0 .whole .words)
 
 returns : tie.Need-returns
 returns c =

@@ -1,9 +1,11 @@
 -- `words::shape::node_fits` meets its contract: each return is one end of the test, in its order.
 -- Assumes nothing.
+use Prim.Native.Nat.{_+_, _≤_}
 use Rattle.laws.proofs.Tests.{no, yes}
-use Rattle.words.proofs.Fits.{fit-crowd, fit-deep, fit-empty, fit-far, fit-few, fit-other, fit-tiled, room-is, tile-same}
+use Rattle.words.proofs.Fits.{fit-crowd, fit-deep, fit-empty, fit-far, fit-few, fit-other, fit-tiled, fit-wide, room-is, tile-same}
 use Rattle.words.proofs.shape.node_fits.Statement.{statement}
 use Rattle.words.proofs.shape.node_fits.Tie as tie
+use Rattle.words.specs.Words.{N#}
 use borrow.Author.Needs.{needs}
 use mathlib.Core.Path.{_∙_, sym}
 use native.Mathlib.Omega.{arith}
@@ -27,47 +29,47 @@ node-child-requires c κs = search needs
 
 returns-2 : tie.Need-returns-2
 returns-2 c =
-    let at1 = c .before .before .before .before in
-    let a = at1 .before .before .before .args in
-    fit-empty (a .index .now) (a .k) (a .next) (a .depth) (yes (at1 .before .has-room .ensures) (at1 .if1 .left)) (omega arith)
+    let a = c .before .before .before .before .before .before .before .args in
+    fit-empty (a .index .now) (a .k) (a .next) (a .depth) (yes (c .before .before .before .before .before .has-room .ensures) (c .before .before .before .before .if1 .left)) (omega arith)
 
 node-radius-requires : tie.Need-node-radius-requires
 node-radius-requires c κs = search needs
 
 returns-3 : tie.Need-returns-3
 returns-3 c =
-    let at1 = c .before .before .before .before .before .before in
-    let a = at1 .before .before .before .args in
-    fit-far (a .index .now) (a .k) (a .next) (a .depth) (yes (at1 .before .has-room .ensures) (at1 .if1 .left)) (omega arith)
+    let a = c .before .before .before .before .before .before .before .before .before .args in
+    fit-far (a .index .now) (a .k) (a .next) (a .depth) (yes (c .before .before .before .before .before .before .before .has-room .ensures) (c .before .before .before .before .before .before .if1 .left)) (omega arith)
+
+node-inner-requires : tie.Need-node-inner-requires
+node-inner-requires c κs = search needs
+
+returns-4 : tie.Need-returns-4
+returns-4 c =
+    let a = c .before .before .before .before .before .before .before .before .before .before .before .args in
+    fit-wide (a .index .now) (a .k) (a .next) (a .depth) (yes (c .before .before .before .before .before .before .before .before .before .has-room .ensures) (c .before .before .before .before .before .before .before .before .if1 .left)) (omega (arith, c .if4 .taken, c .before .node-inner .ensures))
 
 leaf-size-requires : tie.Need-leaf-size-requires
 leaf-size-requires c κs = search needs
 
-returns-4 : tie.Need-returns-4
-returns-4 c =
-    let at-child = c .before .before .before .before .before in
-    let at1 = at-child .before .before .before in
-    let a = at1 .before .before .before .args in
-    rw (at-child .node-child .ensures .0)
-    (fit-few (a .index .now) (a .k) (a .next) (a .depth) (yes (at1 .before .has-room .ensures) (at1 .if1 .left)) (omega arith) (omega arith)
-    (omega arith))
-
 returns-5 : tie.Need-returns-5
 returns-5 c =
-    let at-child = c .before .before .before .before .before .before in
-    let at1 = at-child .before .before .before in
-    let a = at1 .before .before .before .args in
-    rw (at-child .node-child .ensures .0)
-    (fit-deep (a .index .now) (a .k) (a .next) (a .depth) (yes (at1 .before .has-room .ensures) (at1 .if1 .left)) (omega arith) (omega arith)
-    (omega arith) (omega arith))
+    let a = c .before .before .before .before .before .before .before .before .before .before .before .before .before .args in
+    rw (c .before .before .before .before .before .before .before .node-child .ensures .0)
+    (fit-few (a .index .now) (a .k) (a .next) (a .depth) (yes (c .before .before .before .before .before .before .before .before .before .before .before .has-room .ensures) (c .before .before .before .before .before .before .before .before .before .before .if1 .left)) (omega arith) (omega arith)
+    (omega (arith, c .before .before .if4 .left, c .before .before .before .node-inner .ensures)) (omega arith))
 
 returns-6 : tie.Need-returns-6
 returns-6 c =
-    let at-child = c .before .before .before .before .before .before .before in
-    let at1 = at-child .before .before .before in
-    let a = at1 .before .before .before .args in
-    fit-other (a .index .now) (a .k) (a .next) (a .depth) (yes (at1 .before .has-room .ensures) (at1 .if1 .left)) (omega arith) (omega arith)
-    (omega arith) (omega arith) (λ e. c .if6 .taken (at-child .node-child .ensures .0 ∙ e))
+    let a = c .before .before .before .before .before .before .before .before .before .before .before .before .before .before .args in
+    rw (c .before .before .before .before .before .before .before .before .node-child .ensures .0)
+    (fit-deep (a .index .now) (a .k) (a .next) (a .depth) (yes (c .before .before .before .before .before .before .before .before .before .before .before .before .has-room .ensures) (c .before .before .before .before .before .before .before .before .before .before .before .if1 .left)) (omega arith) (omega arith)
+    (omega (arith, c .before .before .before .if4 .left, c .before .before .before .before .node-inner .ensures)) (omega arith) (omega arith))
+
+returns-7 : tie.Need-returns-7
+returns-7 c =
+    let a = c .before .before .before .before .before .before .before .before .before .before .before .before .before .before .before .args in
+    fit-other (a .index .now) (a .k) (a .next) (a .depth) (yes (c .before .before .before .before .before .before .before .before .before .before .before .before .before .has-room .ensures) (c .before .before .before .before .before .before .before .before .before .before .before .before .if1 .left)) (omega arith) (omega arith)
+    (omega (arith, c .before .before .before .before .if4 .left, c .before .before .before .before .before .node-inner .ensures)) (omega arith) (omega arith) (λ e. c .if7 .taken (c .before .before .before .before .before .before .before .before .before .node-child .ensures .0 ∙ e))
 
 centres-requires : tie.Need-centres-requires
 centres-requires c κs = search needs
@@ -77,32 +79,24 @@ add-tiles c = search needs
 
 tiles-requires : tie.Need-tiles-requires
 tiles-requires c κs =
-    let at-child = c .before .before .before .before .before .before .before .before in
-    let at1 = at-child .before .before .before in
-    let start = at1 .before .before .before in
+    let start = c .before .before .before .before .before .before .before .before .before .before .before .before .before .before .before .before in
     let a = start .args in
     let m = c .centres .ensures .0 in
-    let child = at-child .node-child .ensures .0 in
-    let room = room-is (a .index .now) (a .k) (a .next) (yes (at1 .before .has-room .ensures) (at1 .if1 .left))
-    (λ z. omega (arith, child, c .before .if6 .left, start .pre .1 .1)) in
-    (omega (arith, m, start .pre .0 .fan .1), search needs, omega (arith, m, room, c .before .if6 .left, start .pre .0 .words))
+    let child = c .before .before .before .before .before .before .before .before .before .before .node-child .ensures .0 in
+    let room = room-is (a .index .now) (a .k) (a .next) (yes (c .before .before .before .before .before .before .before .before .before .before .before .before .before .before .has-room .ensures) (c .before .before .before .before .before .before .before .before .before .before .before .before .before .if1 .left))
+    (λ z. omega (arith, child, c .before .if7 .left, start .pre .1 .1)) in
+    (start .pre .0, (omega (arith, m, start .pre .0 .fan .1), search needs, omega (arith, m, room, c .before .if7 .left)))
 
-returns-7 : tie.Need-returns-7
-returns-7 c =
-    let at5 = c .before .before .before in
-    let at3 = at5 .before .before .before in
-    let at2 = at3 .before .before in
-    let at-child = at2 .before in
-    let at-count = at-child .before in
-    let at1 = at-count .before .before in
-    let a = at1 .before .before .before .args in
-    let child = at-child .node-child .ensures .0 in
+returns-8 : tie.Need-returns-8
+returns-8 c =
+    let a = c .before .before .before .before .before .before .before .before .before .before .before .before .before .before .before .before .before .args in
+    let child = c .before .before .before .before .before .before .before .before .before .before .before .node-child .ensures .0 in
+    let count = c .before .before .before .before .before .before .before .before .before .before .before .before .node-count .ensures .0 in
     c .tiles .ensures
-    ∙ tile-same (a .index .now) child (c .before .centres .ensures .0) (at-count .before .node-start .ensures .0) (at-count .node-count .ensures .0)
-    ∙ fit-tiled (a .index .now) (a .k) (a .next) (a .depth) (yes (at1 .before .has-room .ensures) (at1 .if1 .left))
-    (omega (arith, at2 .if2 .left, at-count .node-count .ensures .0)) (omega (arith, at3 .if3 .left, at3 .before .node-radius .ensures))
-    (omega (arith, at5 .before .if4 .left, at5 .before .before .leaf-size .ensures .0, at-count .node-count .ensures .0)) (at5 .if5 .left)
-    (sym child ∙ c .before .before .if6 .left)
+    ∙ tile-same (a .index .now) child (c .before .centres .ensures .0) (c .before .before .before .before .before .before .before .before .before .before .before .before .before .node-start .ensures .0) count
+    ∙ fit-tiled (a .index .now) (a .k) (a .next) (a .depth) (yes (c .before .before .before .before .before .before .before .before .before .before .before .before .before .before .before .has-room .ensures) (c .before .before .before .before .before .before .before .before .before .before .before .before .before .before .if1 .left)) (omega (arith, c .before .before .before .before .before .before .before .before .before .before .if2 .left, count))
+    (omega (arith, c .before .before .before .before .before .before .before .before .if3 .left, c .before .before .before .before .before .before .before .before .before .node-radius .ensures)) (omega (arith, c .before .before .before .before .before .before .if4 .left, c .before .before .before .before .before .before .before .node-inner .ensures))
+    (omega (arith, c .before .before .before .before .if5 .left, c .before .before .before .before .before .leaf-size .ensures .0, count)) (c .before .before .before .if6 .left) (sym child ∙ c .before .before .if7 .left)
 
 pub node-fits-spec : {M : Type 1} → statement M
 node-fits-spec =
@@ -116,11 +110,13 @@ node-fits-spec =
     returns-2
     node-radius-requires
     returns-3
-    leaf-size-requires
+    node-inner-requires
     returns-4
+    leaf-size-requires
     returns-5
     returns-6
+    returns-7
     centres-requires
     add-tiles
     tiles-requires
-    returns-7)
+    returns-8)

@@ -7,6 +7,7 @@ use Rattle.words.proofs.shape.tiles.Tie as tie
 use Rattle.words.specs.Shape.{tile}
 use borrow.Author.Needs.{needs}
 use mathlib.Core.Path.{_∙_, _≡_, ap, sym}
+use native.Mathlib.Omega.{arith}
 
 abbrev Inv-loop : tie.InvT-loop
 Inv-loop index j m s e at₀ i₀ at i = (i ≤ m) × (at < 4294967296 * (i + 1)) × (tile index j m s e ≡ tile index (j + i) (m - i) at e)

@@ -1,0 +1,16 @@
+-- Where a build writes the nodes: at the width of edition 1, whatever stood in the room before. Assumes nothing.
+use Prim.Native.Nat.{_*_, _+_, ℕ}
+use Rattle.words.specs.Words.{at, width}
+use mathlib.Core.List.{List}
+
+-- where node k's words stand
+abbrev pub nodeAt : ℕ → ℕ
+nodeAt k = 8 + width 1 * k
+
+-- where its run starts
+abbrev pub start# : List ℕ → ℕ → ℕ
+start# w k = at w (nodeAt k)
+
+-- how many rows it has
+abbrev pub count# : List ℕ → ℕ → ℕ
+count# w k = at w (nodeAt k + 1)

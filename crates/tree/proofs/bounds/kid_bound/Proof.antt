@@ -1,0 +1,25 @@
+-- `tree::bounds::kid_bound` meets its contract: the node's two reaches are its words.
+-- Assumes nothing.
+use Rattle.tree.proofs.bounds.kid_bound.Statement.{statement}
+use Rattle.tree.proofs.bounds.kid_bound.Tie as tie
+use Rattle.tree.specs.Grove.{reaching}
+use Rattle.tree.specs.Homes.{childBound}
+use borrow.Author.Needs.{needs}
+use mathlib.Core.Path.{_∙_, ap, ap₂}
+
+node-radius-requires : tie.Need-node-radius-requires
+node-radius-requires c κs = search needs
+
+node-inner-requires : tie.Need-node-inner-requires
+node-inner-requires c κs = search needs
+
+child-bound-requires : tie.Need-child-bound-requires
+child-bound-requires c κs = search needs
+
+returns : tie.Need-returns
+returns c =
+    let a = c .before .before .before .before .args in
+    c .child-bound .ensures ∙ ap (childBound (a .b) (a .y) (a .x)) (ap₂ reaching (c .before .before .node-radius .ensures) (c .before .node-inner .ensures))
+
+pub kid-bound-spec : {M : Type 1} → statement M
+kid-bound-spec = tie.close (tie.spec node-radius-requires node-inner-requires child-bound-requires returns)
