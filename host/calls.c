@@ -12,6 +12,7 @@
 
 enum call {
     BUILD,
+    WIDEN,
     CHECK,
     RADIUS,
     NEAREST,
@@ -22,7 +23,7 @@ enum call {
     CALLS
 };
 
-static const char *const call_names[CALLS] = { "build", "check", "radius", "nearest", "nearest_answers", "list", "write", "read" };
+static const char *const call_names[CALLS] = { "build", "widen", "check", "radius", "nearest", "nearest_answers", "list", "write", "read" };
 
 enum {
     NUMBERS = 19,
@@ -63,10 +64,10 @@ static void show_words(const char *name, const uint32_t *at, size_t count)
 
 static void show_lot(const struct lot *lot)
 {
-    printf("  c %" PRIu32 ", m %" PRIu32 ", l %" PRIu32 ", r %" PRIu32 ", w %" PRIu32 ", node %" PRIu32 "\n", lot->c, lot->m, lot->l, lot->r, lot->w,
-           lot->node);
-    printf("  lengths: room %zu, work %zu, how %zu, rows %zu, distances %zu, answers %zu, image %zu\n", lot->room, lot->work, lot->how, lot->rows,
-           lot->distances, lot->answers, lot->image_length);
+    printf("  c %" PRIu32 ", m %" PRIu32 ", l %" PRIu32 ", edition %" PRIu32 ", r %" PRIu32 ", w %" PRIu32 ", node %" PRIu32 "\n", lot->c, lot->m,
+           lot->l, lot->edition, lot->r, lot->w, lot->node);
+    printf("  lengths: room %zu, wide %zu, work %zu, how %zu, rows %zu, distances %zu, answers %zu, image %zu\n", lot->room, lot->wide, lot->work,
+           lot->how, lot->rows, lot->distances, lot->answers, lot->image_length);
     show_columns("table", lot->table, lot->table_length);
     if (lot->fitting != NULL)
         show_columns("table that fits", lot->fitting, lot->table_length);
@@ -215,10 +216,22 @@ void try_build(struct trial *t, const struct lot *lot)
     lend_table(t, lot);
     lend_words(t, LENT_ROOM, lot->room);
     lend_words(t, LENT_WORK, lot->work);
-    bourascul_built is = bourascul_build(lend_given(LENT_TABLE), lot->table_length, lot->c, lot->m, lot->l, lend_given(LENT_ROOM), lot->room,
-                                         lend_given(LENT_WORK), lot->work);
-    struct naive_says should = naive_build(model_table(lot), lot->m, lot->l, model_room(LENT_ROOM), model_room(LENT_WORK));
+    bourascul_built is = bourascul_build(lend_given(LENT_TABLE), lot->table_length, lot->c, lot->m, lot->l, lot->edition, lend_given(LENT_ROOM),
+                                         lot->room, lend_given(LENT_WORK), lot->work);
+    struct naive_says should = naive_build(model_table(lot), lot->m, lot->l, lot->edition, model_room(LENT_ROOM), model_room(LENT_WORK));
     compare(t, lot, BUILD, three(is.number, is.words, is.nodes), should, lents, 3);
+}
+
+void try_widen(struct trial *t, const struct lot *lot)
+{
+    static const enum lent lents[] = { LENT_TABLE, LENT_INDEX, LENT_ROOM };
+    lend_table(t, lot);
+    lend_index(t, lot);
+    lend_words(t, LENT_ROOM, lot->wide);
+    bourascul_widened is = bourascul_widen(lend_given(LENT_TABLE), lot->table_length, lot->c, lend_given(LENT_INDEX), lot->index_length,
+                                           lend_given(LENT_ROOM), lot->wide);
+    struct naive_says should = naive_widen(model_table(lot), model_index(lot), model_room(LENT_ROOM));
+    compare(t, lot, WIDEN, three(is.number, is.words, 0), should, lents, 3);
 }
 
 void try_check(struct trial *t, const struct lot *lot)

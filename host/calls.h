@@ -16,18 +16,19 @@ struct lot {
     const uint16_t *table;
     size_t table_length;
     const uint16_t *fitting; /* the table that decides the outcome in a trial of two tables, else NULL */
-    uint32_t c, m, l;
+    uint32_t c, m, l, edition;
     const uint32_t *index;
     size_t index_length;
     const uint16_t *query;
     size_t query_length;
     uint32_t r, w, node;
-    size_t room, work, how, rows, distances, answers;
+    size_t room, wide, work, how, rows, distances, answers; /* `wide` is a widening's room */
     const uint8_t *image;
     size_t image_length;
 };
 
 void try_build(struct trial *t, const struct lot *lot);
+void try_widen(struct trial *t, const struct lot *lot);
 void try_check(struct trial *t, const struct lot *lot);
 void try_radius(struct trial *t, const struct lot *lot);
 void try_nearest(struct trial *t, const struct lot *lot);

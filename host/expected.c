@@ -13,6 +13,7 @@
 enum {
     MOST_TEXT = 1 << 23,
     MOST_NUMBERS = 1 << 20,
+    EDITION = 1,  /* what both programs build */
     CENTRES = 16, /* what the analyst's program builds with */
     LEAF = 32
 };
@@ -80,7 +81,7 @@ static int list(void)
         return 0;
     }
     struct naive_room room = { room_for(10248, 4), 10248 }, work = { room_for(6144, 4), 6144 };
-    struct naive_says says = naive_build((struct naive_table){ number + 3, count - 3, number[0] }, number[1], number[2], room, work);
+    struct naive_says says = naive_build((struct naive_table){ number + 3, count - 3, number[0] }, number[1], number[2], EDITION, room, work);
     if (says.number != 0)
         printf("refused %u\n", says.number);
     else {
@@ -138,7 +139,7 @@ static int minutes(const char *way, size_t row, uint32_t amount)
     struct naive_room room = { room_for(10 * n + 8, 4), 10 * n + 8 }, work = { room_for(6 * n, 4), 6 * n };
     struct naive_room rows = { room_for(n, 4), n }, distances = { room_for(n, 4), n };
     struct naive_bytes how = { room_for(n, 1), n };
-    struct naive_index index = { room.words, naive_build(table, CENTRES, LEAF, room, work).one };
+    struct naive_index index = { room.words, naive_build(table, CENTRES, LEAF, EDITION, room, work).one };
     struct naive_query query = { number + row * c, c };
     if (strcmp(way, "like") == 0) {
         struct naive_says says = naive_radius(table, index, query, amount, how);

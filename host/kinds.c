@@ -11,6 +11,7 @@ static struct sample sample;
 
 static void every_call(struct trial *t, const struct lot *lot)
 {
+    try_widen(t, lot);
     try_check(t, lot);
     try_searches(t, lot);
     try_list(t, lot);
@@ -43,6 +44,34 @@ static void each_end(struct trial *t, uint32_t limit)
         lot.l = pairs[i][1];
         try_build(t, &lot);
         every_call(t, &lot);
+    }
+}
+
+/* Each edition and others beside: asked of a build with each length of room that matters, in the header of an index, and in
+   an image's first word. Behind an index of edition 1 stand words enough to be read as edition 2. */
+static void each_edition(struct trial *t, uint32_t limit)
+{
+    static const uint32_t editions[] = { 0, 1, 2, 3, 4, 5, 257, 258, 65537, 65538, 0x80000001u, 0x80000002u, UINT32_MAX };
+    draw_sample(&t->draw, &sample, limit < 30 ? limit : 30);
+    index_any(&t->draw, &sample);
+    for (uint32_t more = sample.edition == 1 ? sample.index[5] : 0; more > 0; more--)
+        sample.index[sample.index_length++] = draw_below(&t->draw, sample.n);
+    for (size_t i = 0; i < sizeof editions / sizeof *editions; i++) {
+        sample.index[0] = editions[i];
+        struct lot lot = fair_lot(&t->draw, &sample);
+        lot.edition = editions[i];
+        for (uint32_t room = 0; room < 4; room++) {
+            lot.room = build_words(sample.n, 1 + room / 2) - room % 2;
+            try_build(t, &lot);
+        }
+        every_call(t, &lot);
+        sample.index[0] = sample.edition;
+        draw_image(&sample);
+        for (size_t b = 0; b < 4; b++)
+            sample.image[b] = (uint8_t)(editions[i] >> (8 * b));
+        seal_block(&sample, 0);
+        lot = fair_lot(&t->draw, &sample);
+        try_read(t, &lot);
     }
 }
 
@@ -91,6 +120,7 @@ static void accepted(struct trial *t, uint32_t limit, bool foreign)
     for (uint32_t more = draw_one_in(&t->draw, 3) ? draw_between(&t->draw, 1, 5) : 0; more > 0; more--)
         sample.index[sample.index_length++] = (uint32_t)draw_next(&t->draw);
     lot.index_length = sample.index_length;
+    try_widen(t, &lot);
     try_check(t, &lot);
     for (uint32_t i = 0; i < 6; i++) {
         draw_query(&t->draw, &sample);
@@ -102,6 +132,81 @@ static void accepted(struct trial *t, uint32_t limit, bool foreign)
 
 static void accepted_built(struct trial *t, uint32_t limit) { accepted(t, limit, false); }
 static void accepted_foreign(struct trial *t, uint32_t limit) { accepted(t, limit, true); }
+
+/* ---- Widening ---- */
+
+static uint32_t wide[SAMPLE_WORDS];
+static size_t wide_length;
+
+/* Whether each how-byte is as good on the widened index as before: the same of in or out, and measured only where it was. */
+static bool as_good(const uint8_t *before, const uint8_t *after, uint32_t n)
+{
+    for (uint32_t i = 0; i < n; i++)
+        if (before[i] >> 1 != after[i] >> 1 || (before[i] & 1) < (after[i] & 1))
+            return false;
+    return true;
+}
+
+/* The library's searches on the sample's index and on the widened one: the same rows in, the same answers. */
+static void same_answers(struct trial *t, const struct lot *lot)
+{
+    static uint8_t how[2][SAMPLE_ROWS];
+    static uint32_t rows[2][SAMPLE_ROWS], distances[2][SAMPLE_ROWS], work[6 * SAMPLE_ROWS];
+    const uint32_t *index[2] = { lot->index, wide };
+    const size_t length[2] = { lot->index_length, wide_length };
+    uint32_t n = sample.n, given[2];
+    for (size_t k = 0; k < 2; k++)
+        bourascul_radius(lot->table, lot->table_length, lot->c, index[k], length[k], lot->query, lot->c, lot->r, how[k], SAMPLE_ROWS);
+    if (!as_good(how[0], how[1], n))
+        tell_difference(t, lot, "radius", "on the widened index other rows are in, or a row more is measured");
+    for (size_t k = 0; k < 2; k++)
+        given[k] = bourascul_nearest(lot->table, lot->table_length, lot->c, index[k], length[k], lot->query, lot->c, lot->w, rows[k], SAMPLE_ROWS,
+                                     distances[k], SAMPLE_ROWS, how[k], SAMPLE_ROWS, work, 6 * SAMPLE_ROWS).given;
+    if (given[0] != given[1] || given[0] > n || memcmp(rows[0], rows[1], given[0] * sizeof *rows[0]) != 0
+        || memcmp(distances[0], distances[1], given[0] * sizeof *distances[0]) != 0 || !as_good(how[0], how[1], n))
+        tell_difference(t, lot, "nearest", "on the widened index the answers are others, or a row more is measured");
+}
+
+/* The build in edition 1 widened must be the build in edition 2, word for word. */
+static void same_as_built(struct trial *t, const struct lot *lot)
+{
+    static uint32_t room[SAMPLE_WORDS], work[6 * SAMPLE_ROWS];
+    bourascul_built built = bourascul_build(lot->table, lot->table_length, lot->c, lot->m, lot->l, 2, room, SAMPLE_WORDS, work, 6 * SAMPLE_ROWS);
+    if (built.number != 0 || built.words != wide_length || memcmp(room, wide, wide_length * sizeof *wide) != 0)
+        tell_difference(t, lot, "widen", "a build in edition 1 widened is not the build in edition 2");
+}
+
+static void widened(struct trial *t, uint32_t limit)
+{
+    draw_sample(&t->draw, &sample, limit);
+    sample.edition = 1;
+    bool foreign = draw_one_in(&t->draw, 2);
+    if (foreign)
+        index_foreign(&t->draw, &sample);
+    else
+        index_built(&sample);
+    struct lot lot = fair_lot(&t->draw, &sample);
+    try_widen(t, &lot);
+    bourascul_widened w = bourascul_widen(lot.table, lot.table_length, lot.c, lot.index, lot.index_length, wide, SAMPLE_WORDS);
+    wide_length = w.words;
+    /* What is wrong then has been told. */
+    if (w.number != 0 || wide_length > SAMPLE_WORDS)
+        return;
+    if (!foreign)
+        same_as_built(t, &lot);
+    for (uint32_t i = 0; i < 4; i++) {
+        draw_query(&t->draw, &sample);
+        lot = fair_lot(&t->draw, &sample);
+        same_answers(t, &lot);
+    }
+    memcpy(sample.index, wide, wide_length * sizeof *wide);
+    sample.index_length = wide_length;
+    sample.edition = 2;
+    lot = fair_lot(&t->draw, &sample);
+    if (naive_verdict(&lot) != 0)
+        tell_difference(t, &lot, "widen", "the full check refuses what was accepted before");
+    every_call(t, &lot);
+}
 
 /* ---- Spoilt indexes ---- */
 
@@ -125,7 +230,7 @@ static void each_word(struct trial *t, uint32_t limit)
     for (size_t i = 0; i < length; i++) {
         uint32_t right = sample.index[i], n = sample.n;
         const uint32_t values[] = { 0, 1, 2, 3, right + 1, right - 1, n, n - 1, n + 1, 1048560, 1048561, 0x80000000u, UINT32_MAX,
-                                    sample.index[(i + 1) % length], sample.index[(i + 4) % length], right + sample.m };
+                                    sample.index[(i + 1) % length], sample.index[(i + node_words(sample.edition)) % length], right + sample.m };
         for (size_t v = 0; v < sizeof values / sizeof *values; v++) {
             sample.index[i] = values[v];
             struct lot lot = fair_lot(&t->draw, &sample);
@@ -198,13 +303,14 @@ static size_t shorter(struct draw *d, size_t length)
 static void one_fault(struct draw *d, struct sample *s, struct lot *lot)
 {
     const uint32_t bad_m[] = { 0, 1, 65, 64, UINT32_MAX }, bad_l[] = { 0, 1, lot->m - 1, lot->m, 1024, 1025, UINT32_MAX };
+    const uint32_t bad_editions[] = { 0, 3, 3 - s->edition, UINT32_MAX };
     size_t n = s->n, asked = lot->w < n ? lot->w : n;
-    switch (draw_below(d, 15)) {
+    switch (draw_below(d, 17)) {
     case 0: lot->c = draw_bad_columns(d, lot->c); break;
     case 1: lot->m = bad_m[draw_below(d, 5)]; break;
     case 2: lot->l = bad_l[draw_below(d, 7)]; break;
     case 3: lot->table_length = draw_one_in(d, 2) ? shorter(d, lot->table_length) : lot->table_length + 1; break;
-    case 4: lot->room = shorter(d, 10 * n + 8); break;
+    case 4: lot->room = shorter(d, build_words(n, lot->edition)); break;
     case 5: lot->work = shorter(d, 6 * n); break;
     case 6: lot->how = shorter(d, n); break;
     case 7: lot->rows = shorter(d, asked); break;
@@ -213,6 +319,8 @@ static void one_fault(struct draw *d, struct sample *s, struct lot *lot)
     case 10: lot->query_length = draw_below(d, 20); break;
     case 11: lot->w = 0; break;
     case 12: lot->index_length = shorter(d, lot->index_length); break;
+    case 13: lot->edition = bad_editions[draw_below(d, 4)]; break;
+    case 14: lot->wide = shorter(d, build_words(n, 2)); break;
     default:
         spoil_index(d, s);
         lot->index_length = s->index_length;
@@ -250,13 +358,14 @@ static void too_many_rows(struct trial *t, uint32_t limit)
     for (size_t less = 0; less < 2; less++) {
         lot.table_length = length - less;
         try_build(t, &lot);
+        try_widen(t, &lot);
         try_check(t, &lot);
         try_searches(t, &lot);
     }
     free(table);
 }
 
-/* The greatest table there is, with every room just long enough. */
+/* The greatest table there is in each edition, with every room just long enough. */
 static void largest_table(struct trial *t, uint32_t limit)
 {
     (void)limit;
@@ -264,17 +373,20 @@ static void largest_table(struct trial *t, uint32_t limit)
     size_t n = 1048576;
     uint32_t c = draw_between(d, 1, 3);
     uint16_t *table = malloc(n * c * sizeof *table), query[3] = { 100, 60000, 7 };
-    uint32_t *room = malloc((10 * n + 8) * sizeof *room), *work = malloc(6 * n * sizeof *work);
+    uint32_t *room = malloc(build_words(n, 2) * sizeof *room), *work = malloc(6 * n * sizeof *work);
     if (table == NULL || room == NULL || work == NULL)
         abort();
     for (size_t i = 0; i < n * c; i++)
         table[i] = (uint16_t)draw_below(d, 65536);
-    bourascul_built built = bourascul_build(table, n * c, c, 32, 200, room, 10 * n + 8, work, 6 * n);
-    struct lot lot = { .table = table, .table_length = n * c, .c = c, .m = 32, .l = 200, .index = room, .index_length = built.words,
-                       .query = query, .query_length = c, .r = 900, .w = 20, .node = 3, .room = 10 * n + 8, .work = 6 * n, .how = n,
-                       .rows = 20, .distances = 20, .answers = 20 };
-    try_build(t, &lot);
-    every_call(t, &lot);
+    for (uint32_t edition = 1; edition <= 2; edition++) {
+        size_t asked = build_words(n, edition);
+        bourascul_built built = bourascul_build(table, n * c, c, 32, 200, edition, room, asked, work, 6 * n);
+        struct lot lot = { .table = table, .table_length = n * c, .c = c, .m = 32, .l = 200, .edition = edition, .index = room,
+                           .index_length = built.words, .query = query, .query_length = c, .r = 900, .w = 20, .node = 3, .room = asked,
+                           .wide = build_words(n, 2), .work = 6 * n, .how = n, .rows = 20, .distances = 20, .answers = 20 };
+        try_build(t, &lot);
+        every_call(t, &lot);
+    }
     free(table);
     free(room);
     free(work);
@@ -337,7 +449,7 @@ static void words_to_write(struct draw *d, struct sample *s, uint32_t limit)
         return;
     if (s->n > 0)
         s->index[5] = draw_between(d, 1, 2 * s->n - 1);
-    s->index_length = 8 + 4 * (size_t)s->index[5] + 2 * (size_t)s->n;
+    s->index_length = 8 + node_words(s->edition) * s->index[5] + 2 * (size_t)s->n;
     for (size_t i = 8; i < s->index_length; i++)
         s->index[i] = (uint32_t)draw_next(d);
 }
@@ -428,10 +540,12 @@ static void listing(struct trial *t, uint32_t limit)
 const struct kind kinds[] = {
     { "build of tables of every style", build_any, 1 },
     { "all calls with each end of m and l, and beyond", each_end, 4 },
+    { "all calls with each edition, and others", each_edition, 2 },
     { "build with m and l at their ends, all calls on it", build_ends, 2 },
     { "equal rows, 4 to 100 and more, all calls", build_equal, 2 },
     { "check and searches on built indexes", accepted_built, 1 },
     { "check and searches on accepted indexes of another hand", accepted_foreign, 1 },
+    { "widened indexes: the build of edition 2, and the same answers", widened, 1 },
     { "all calls on indexes in shape that fit no table", wild, 1 },
     { "all calls, each word of a small index changed to 16 values", each_word, 8 },
     { "all calls, a small index cut at each length, each two words swapped", cut_and_swapped, 8 },

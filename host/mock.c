@@ -1,17 +1,27 @@
 /* A library in the proved one's place, to try the trial on (host/wrong.sh): the naive implementation behind the header's
-   eight calls. Only nearest is searched as the yardstick does it: the naive one scans and reckons the marks afterwards,
+   nine calls. Only nearest is searched as the yardstick does it: the naive one scans and reckons the marks afterwards,
    which the trial of two tables finds. */
 #include "bourascul.h"
 #include "naive_inner.h"
 #include "plain.h"
 
-bourascul_built bourascul_build(const uint16_t *table, size_t table_length, uint32_t c, uint32_t m, uint32_t l, uint32_t *room, size_t room_length,
-                                uint32_t *work, size_t work_length)
+bourascul_built bourascul_build(const uint16_t *table, size_t table_length, uint32_t c, uint32_t m, uint32_t l, uint32_t edition, uint32_t *room,
+                                size_t room_length, uint32_t *work, size_t work_length)
 {
     struct naive_table t = { table, table_length, c };
     struct naive_room r = { room, room_length }, k = { work, work_length };
-    struct naive_says s = naive_build(t, m, l, r, k);
+    struct naive_says s = naive_build(t, m, l, edition, r, k);
     return (bourascul_built){ s.number, s.one, s.two };
+}
+
+bourascul_widened bourascul_widen(const uint16_t *table, size_t table_length, uint32_t c, const uint32_t *index, size_t index_length, uint32_t *room,
+                                  size_t room_length)
+{
+    struct naive_table t = { table, table_length, c };
+    struct naive_index x = { index, index_length };
+    struct naive_room r = { room, room_length };
+    struct naive_says s = naive_widen(t, x, r);
+    return (bourascul_widened){ s.number, s.one };
 }
 
 bourascul_checked bourascul_check(const uint16_t *table, size_t table_length, uint32_t c, const uint32_t *index, size_t index_length,

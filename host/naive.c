@@ -1,5 +1,6 @@
-/* The scope paper (01) in plain C: numbers given back, index words, shape, listing, image. The tree and the searches stand
-   in naive_tree.c and naive_search.c. Every condition is tested by itself, and of several faults the lowest number is taken. */
+/* The scope paper (01) with edition 2 (02, R-4) in plain C: numbers given back, index words, shape, listing, image. The tree
+   and the searches stand in naive_tree.c and naive_search.c. Every condition is tested by itself, and of several faults the
+   lowest number is taken. */
 #include "naive_inner.h"
 
 #include <stdlib.h>
@@ -62,9 +63,14 @@ void naive_clear_work(struct naive_room work, size_t n)
 
 /* ---- Index words ---- */
 
+size_t naive_node_words(uint32_t edition)
+{
+    return edition == 2 ? 5 : 4;
+}
+
 static const uint32_t *node_words(const uint32_t *w, uint32_t k)
 {
-    return w + HEADER_WORDS + (size_t)NODE_WORDS * k;
+    return w + HEADER_WORDS + naive_node_words(w[0]) * k;
 }
 
 static uint32_t start_of(const uint32_t *w, uint32_t k) { return node_words(w, k)[0]; }
@@ -74,7 +80,7 @@ static uint32_t radius_of(const uint32_t *w, uint32_t k) { return node_words(w, 
 
 size_t naive_pair_place(const uint32_t *w, uint32_t p)
 {
-    return HEADER_WORDS + (size_t)NODE_WORDS * w[5] + 2 * (size_t)p;
+    return HEADER_WORDS + naive_node_words(w[0]) * w[5] + 2 * (size_t)p;
 }
 
 static uint32_t row_at(const uint32_t *w, uint32_t p) { return w[naive_pair_place(w, p)]; }
@@ -82,15 +88,15 @@ static uint32_t stored_at(const uint32_t *w, uint32_t p) { return w[naive_pair_p
 
 size_t naive_words_asked(const uint32_t *w)
 {
-    return HEADER_WORDS + (size_t)NODE_WORDS * w[5] + 2 * (size_t)w[1];
+    return HEADER_WORDS + naive_node_words(w[0]) * w[5] + 2 * (size_t)w[1];
 }
 
 static bool header_possible(const uint32_t *w)
 {
     uint32_t n = w[1], c = w[2], m = w[3], l = w[4], nodes = w[5];
     bool nodes_fit = n == 0 ? nodes == 0 : nodes >= 1 && nodes <= 2 * (uint64_t)n - 1;
-    return w[0] == 1 && n <= MOST_ROWS && c >= 1 && c <= MOST_COLUMNS && m >= 2 && m <= MOST_CENTRES && l >= m && l <= MOST_LEAF && nodes_fit
-        && w[6] == 1 && w[7] == 0;
+    return (w[0] == 1 || w[0] == 2) && n <= MOST_ROWS && c >= 1 && c <= MOST_COLUMNS && m >= 2 && m <= MOST_CENTRES && l >= m && l <= MOST_LEAF
+        && nodes_fit && w[6] == 1 && w[7] == 0;
 }
 
 static bool words_there(struct naive_index x)
@@ -104,6 +110,12 @@ static bool index_of_table(struct naive_index x, struct naive_table t)
 }
 
 /* ---- Shape ---- */
+
+/* Both reaches of a node are at most the greatest distance there is. */
+static bool reaches_fit(const uint32_t *w, uint32_t k)
+{
+    return radius_of(w, k) <= MOST_DISTANCE && (w[0] != 2 || node_words(w, k)[4] <= MOST_DISTANCE);
+}
 
 static bool must_be_leaf(const uint32_t *w, uint32_t k, uint32_t depth)
 {
@@ -126,7 +138,7 @@ static bool children_tile(const uint32_t *w, uint32_t k, uint32_t child)
 static bool node_in_shape(const uint32_t *w, uint32_t k, uint32_t *depth, uint32_t *next)
 {
     uint32_t nodes = w[5], m = w[3];
-    if (k >= *next || count_of(w, k) == 0 || radius_of(w, k) > MOST_DISTANCE)
+    if (k >= *next || count_of(w, k) == 0 || !reaches_fit(w, k))
         return false;
     if (must_be_leaf(w, k, depth[k]))
         return child_of(w, k) == 0;

@@ -12,7 +12,6 @@ enum {
     MOST_LEAF = 1024,
     MOST_DISTANCE = 1048560,
     HEADER_WORDS = 8,
-    NODE_WORDS = 4,
     BLOCK_WORDS = 127,
     BLOCK_BYTES = 512,
     NUMBERS = 19
@@ -25,13 +24,14 @@ struct faults {
 
 struct node {
     uint32_t start, count, radius;
-    struct node **child; /* the m children, or NULL for a leaf */
+    uint32_t inner_reach; /* 0 in edition 1, where it adds nothing to a bound */
+    struct node **child;  /* the m children, or NULL for a leaf */
 };
 
 /* `row` and `stored` stand by position. */
 struct tree {
     struct naive_table table;
-    uint32_t n, m, l;
+    uint32_t n, m, l, edition;
     uint32_t *row, *stored;
     struct node *root; /* NULL where there are no rows */
 };
@@ -69,6 +69,8 @@ struct faults naive_table_faults(struct naive_table t);
 void naive_index_faults(struct faults *f, struct naive_index x, struct naive_table t);
 void naive_clear_work(struct naive_room work, size_t n);
 
+/* How many words a node takes in an edition. */
+size_t naive_node_words(uint32_t edition);
 /* How many words a possible header asks for, and where position p's pair stands. */
 size_t naive_words_asked(const uint32_t *w);
 size_t naive_pair_place(const uint32_t *w, uint32_t p);

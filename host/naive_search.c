@@ -1,4 +1,5 @@
-/* 01's searches: radius by its recursive rules, nearest by sorting all rows and by home bounds from the top down. */
+/* 01's searches, with 02's inner reach: radius by its recursive rules, nearest by sorting all rows and by home bounds from the
+   top down. */
 #include "naive_inner.h"
 
 #include <stdlib.h>
@@ -42,11 +43,13 @@ static uint32_t least_over_centres(const struct search *s, const struct node *v)
     return y;
 }
 
+/* It speaks of the child's members other than its first. The root is no child, so its bound is 0 in both editions. */
 static uint32_t child_bound(const struct search *s, const struct node *child, uint32_t parents, uint32_t y)
 {
     uint32_t x = first_distance(s, child);
     uint32_t beyond = x > child->radius ? x - child->radius : 0;
-    return greater(parents, greater(beyond, (x - y + 1) / 2));
+    uint32_t within = child->inner_reach > x ? child->inner_reach - x : 0;
+    return greater(parents, greater(greater(beyond, within), (x - y + 1) / 2));
 }
 
 /* ---- Radius ---- */
@@ -70,7 +73,7 @@ static void treat_leaf(struct search *s, const struct node *v)
     }
 }
 
-/* The node's first is measured before this is called. */
+/* The node's first is measured before this is called, and keeps the mark of its own distance. */
 static void descend(struct search *s, const struct node *v, uint32_t bound)
 {
     if (first_distance(s, v) + v->radius <= s->r) {

@@ -1,4 +1,4 @@
-/* 01's tree: built by the definition, read from an index in shape, checked in full. */
+/* 01's tree: built by the definition, read from an index in shape, checked in full; and an edition 1 index widened (02, R-4). */
 #include "naive_inner.h"
 
 #include <stdlib.h>
@@ -22,9 +22,9 @@ void naive_free_tree(struct tree *t)
     free(t->stored);
 }
 
-static struct tree bare_tree(struct naive_table table, uint32_t n, uint32_t m, uint32_t l)
+static struct tree bare_tree(struct naive_table table, uint32_t n, uint32_t m, uint32_t l, uint32_t edition)
 {
-    struct tree t = { table, n, m, l, NULL, NULL, NULL };
+    struct tree t = { table, n, m, l, edition, NULL, NULL, NULL };
     t.row = naive_fresh(n, sizeof *t.row);
     t.stored = naive_fresh(n, sizeof *t.stored);
     return t;
@@ -36,6 +36,17 @@ static uint32_t true_radius(const struct tree *t, const struct node *v)
     for (uint32_t p = v->start; p < v->start + v->count; p++)
         most = greater(most, naive_between(t->table, first_of(t, v), t->row[p]));
     return most;
+}
+
+/* The least distance from the node's first to what stands at its other positions, 0 where there is none. */
+static uint32_t true_inner_reach(const struct tree *t, const struct node *v)
+{
+    uint32_t least = UINT32_MAX;
+    for (uint32_t p = v->start + 1; p < v->start + v->count; p++) {
+        uint32_t d = naive_between(t->table, first_of(t, v), t->row[p]);
+        least = d < least ? d : least;
+    }
+    return v->count == 1 ? 0 : least;
 }
 
 /* ---- Build ---- */
@@ -110,6 +121,7 @@ static struct node *grow(struct tree *t, uint32_t start, uint32_t count, uint32_
     v->start = start;
     v->count = count;
     v->radius = true_radius(t, v);
+    v->inner_reach = t->edition == 2 ? true_inner_reach(t, v) : 0;
     if (count <= t->l || depth == MOST_DEPTH) {
         for (uint32_t p = start; p < start + count; p++)
             t->stored[p] = naive_between(t->table, first_of(t, v), t->row[p]);
@@ -148,15 +160,17 @@ static const struct node **by_level(const struct tree *t, uint32_t nodes)
 static void put_index(const struct tree *t, uint32_t nodes, uint32_t *w)
 {
     const struct node **list = by_level(t, nodes);
-    const uint32_t header[HEADER_WORDS] = { 1, t->n, t->table.c, t->m, t->l, nodes, 1, 0 };
+    const uint32_t header[HEADER_WORDS] = { t->edition, t->n, t->table.c, t->m, t->l, nodes, 1, 0 };
     memcpy(w, header, sizeof header);
     for (uint32_t k = 0, child = 1; k < nodes; k++) {
-        uint32_t *at = w + HEADER_WORDS + (size_t)NODE_WORDS * k;
+        uint32_t *at = w + HEADER_WORDS + naive_node_words(t->edition) * k;
         bool inner = list[k]->child != NULL;
         at[0] = list[k]->start;
         at[1] = list[k]->count;
         at[2] = inner ? child : 0;
         at[3] = list[k]->radius;
+        if (t->edition == 2)
+            at[4] = list[k]->inner_reach;
         child += inner ? t->m : 0;
     }
     for (uint32_t p = 0; p < t->n; p++) {
@@ -166,15 +180,21 @@ static void put_index(const struct tree *t, uint32_t nodes, uint32_t *w)
     free(list);
 }
 
-struct naive_says naive_build(struct naive_table table, uint32_t m, uint32_t l, struct naive_room room, struct naive_room work)
+/* The words of room that a build in this edition asks for; a widening asks for edition 2's. */
+static size_t room_asked(size_t n, uint32_t edition)
+{
+    return edition == 2 ? 12 * n + 8 : 10 * n + 8;
+}
+
+struct naive_says naive_build(struct naive_table table, uint32_t m, uint32_t l, uint32_t edition, struct naive_room room, struct naive_room work)
 {
     struct faults f = naive_table_faults(table);
     size_t n = naive_rows_of(table);
-    f.met[2] = m < 2 || m > MOST_CENTRES || l < m || l > MOST_LEAF;
-    f.met[5] = room.length < 10 * n + 8 || work.length < 6 * n;
+    f.met[2] = m < 2 || m > MOST_CENTRES || l < m || l > MOST_LEAF || (edition != 1 && edition != 2);
+    f.met[5] = room.length < room_asked(n, edition) || work.length < 6 * n;
     if (naive_lowest(&f) != 0)
         return says(naive_lowest(&f), 0, 0);
-    struct tree t = bare_tree(table, (uint32_t)n, m, l);
+    struct tree t = bare_tree(table, (uint32_t)n, m, l, edition);
     for (uint32_t i = 0; i < n; i++)
         t.row[i] = i;
     if (n > 0)
@@ -190,11 +210,12 @@ struct naive_says naive_build(struct naive_table table, uint32_t m, uint32_t l, 
 
 static struct node *read_node(const uint32_t *w, uint32_t k)
 {
-    const uint32_t *words = w + HEADER_WORDS + (size_t)NODE_WORDS * k;
+    const uint32_t *words = w + HEADER_WORDS + naive_node_words(w[0]) * k;
     struct node *v = naive_fresh(1, sizeof *v);
     v->start = words[0];
     v->count = words[1];
     v->radius = words[3];
+    v->inner_reach = w[0] == 2 ? words[4] : 0;
     if (words[2] == 0)
         return v;
     v->child = naive_fresh(w[3], sizeof *v->child);
@@ -206,7 +227,7 @@ static struct node *read_node(const uint32_t *w, uint32_t k)
 struct tree naive_read_tree(struct naive_index x, struct naive_table table)
 {
     const uint32_t *w = x.words;
-    struct tree t = bare_tree(table, w[1], w[3], w[4]);
+    struct tree t = bare_tree(table, w[1], w[3], w[4], w[0]);
     for (uint32_t p = 0; p < t.n; p++) {
         t.row[p] = w[naive_pair_place(w, p)];
         t.stored[p] = w[naive_pair_place(w, p) + 1];
@@ -214,6 +235,32 @@ struct tree naive_read_tree(struct naive_index x, struct naive_table table)
     if (t.n > 0)
         t.root = read_node(w, 0);
     return t;
+}
+
+/* ---- Widening ---- */
+
+static void find_inner_reaches(const struct tree *t, struct node *v)
+{
+    v->inner_reach = true_inner_reach(t, v);
+    for (uint32_t j = 0; v->child != NULL && j < t->m; j++)
+        find_inner_reaches(t, v->child[j]);
+}
+
+struct naive_says naive_widen(struct naive_table table, struct naive_index index, struct naive_room room)
+{
+    struct faults f = naive_table_faults(table);
+    f.met[5] = room.length < room_asked(naive_rows_of(table), 2);
+    naive_index_faults(&f, index, table);
+    f.met[8] = f.met[8] || index.words[0] == 2;
+    if (naive_lowest(&f) != 0)
+        return says(naive_lowest(&f), 0, 0);
+    struct tree t = naive_read_tree(index, table);
+    t.edition = 2;
+    if (t.root != NULL)
+        find_inner_reaches(&t, t.root);
+    put_index(&t, index.words[5], room.words);
+    naive_free_tree(&t);
+    return says(0, (uint32_t)naive_words_asked(room.words), 0);
 }
 
 /* ---- The full check ---- */
@@ -251,11 +298,16 @@ static struct place wrong_distance(const struct tree *t, const struct node **lis
     return at;
 }
 
-static struct place wrong_radius(const struct tree *t, const struct node **list, uint32_t nodes)
+static bool inner_reach_wrong(const struct tree *t, const struct node *v)
+{
+    return t->edition == 2 && v->inner_reach != true_inner_reach(t, v);
+}
+
+static struct place wrong_reach(const struct tree *t, const struct node **list, uint32_t nodes)
 {
     struct place at = { false, 0, 0 };
     for (uint32_t k = 0; k < nodes && !at.found; k++)
-        if (list[k]->radius != true_radius(t, list[k])) {
+        if (list[k]->radius != true_radius(t, list[k]) || inner_reach_wrong(t, list[k])) {
             at.found = true;
             at.one = k;
         }
@@ -292,7 +344,7 @@ static struct place wrong_group(const struct tree *t, const struct node **list, 
 static struct naive_says full_check(const struct tree *t, uint32_t nodes)
 {
     const struct node **list = by_level(t, nodes);
-    const struct place at[4] = { row_again(t), wrong_distance(t, list, nodes), wrong_radius(t, list, nodes), wrong_group(t, list, nodes) };
+    const struct place at[4] = { row_again(t), wrong_distance(t, list, nodes), wrong_reach(t, list, nodes), wrong_group(t, list, nodes) };
     free(list);
     for (uint32_t k = 0; k < 4; k++)
         if (at[k].found)

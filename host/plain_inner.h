@@ -28,4 +28,16 @@ static inline uint32_t greater(uint32_t a, uint32_t b)
     return a > b ? a : b;
 }
 
+/* A node's words: start, count, first child, radius, and in edition 2 the inner reach. */
+static inline uint32_t width_of(const uint32_t *index)
+{
+    return index[0] == 2 ? 5 : 4;
+}
+
+/* A node's inner reach; edition 1 has none, and 0 adds nothing to a bound. */
+static inline uint32_t inner_of(const uint32_t *node, uint32_t width)
+{
+    return width == 5 ? node[4] : 0;
+}
+
 #endif

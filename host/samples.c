@@ -72,6 +72,7 @@ void draw_sample(struct draw *d, struct sample *s, uint32_t limit)
 {
     s->n = draw_below(d, limit + 1);
     s->c = draw_one_in(d, 3) ? draw_between(d, 1, 2) : draw_between(d, 1, 16);
+    s->edition = draw_between(d, 1, 2);
     draw_centres(d, s);
     fill_table(d, s, draw_one_in(d, 2) ? TIES : (enum style)draw_below(d, STYLES));
     s->index_length = s->image_length = 0;
@@ -82,6 +83,7 @@ void draw_equal_rows(struct draw *d, struct sample *s, uint32_t n)
 {
     s->n = n;
     s->c = draw_between(d, 1, 16);
+    s->edition = draw_between(d, 1, 2);
     s->m = draw_between(d, 2, 4);
     s->l = s->m + draw_below(d, 3);
     fill_table(d, s, EQUAL);
@@ -90,6 +92,16 @@ void draw_equal_rows(struct draw *d, struct sample *s, uint32_t n)
 }
 
 /* ---- Indexes ---- */
+
+size_t node_words(uint32_t edition)
+{
+    return edition == 2 ? 5 : 4;
+}
+
+size_t build_words(size_t n, uint32_t edition)
+{
+    return edition == 2 ? 12 * n + 8 : 10 * n + 8;
+}
 
 static struct naive_table table_of(const struct sample *s)
 {
@@ -101,12 +113,12 @@ void index_built(struct sample *s)
 {
     static uint32_t scratch[6 * SAMPLE_ROWS];
     struct naive_room room = { s->index, SAMPLE_WORDS }, work = { scratch, sizeof scratch / sizeof *scratch };
-    s->index_length = naive_build(table_of(s), s->m, s->l, room, work).one;
+    s->index_length = naive_build(table_of(s), s->m, s->l, s->edition, room, work).one;
 }
 
 /* How often something is wrong in an index: 0 for never, k for one time in k. */
 struct wrongs {
-    uint32_t group, radius, stored, row;
+    uint32_t group, radius, inner, stored, row;
 };
 
 /* A tree under way in number order: each node knows its run, and its depth. */
@@ -119,7 +131,7 @@ struct making {
 
 static uint32_t *node_at(struct sample *s, uint32_t k)
 {
-    return s->index + 8 + 4 * (size_t)k;
+    return s->index + 8 + node_words(s->edition) * k;
 }
 
 static uint32_t apart(const struct sample *s, uint32_t i, uint32_t j)
@@ -184,15 +196,18 @@ static uint32_t draw_distance(struct draw *d, uint32_t chances, uint32_t right)
     return draw_one_in(d, 12) ? draw_below(d, 1048561) : draw_below(d, 2 * right + 3) % 1048561;
 }
 
-static void set_radius(struct making *k, uint32_t number)
+static void set_reaches(struct making *k, uint32_t number)
 {
     struct sample *s = k->sample;
-    uint32_t *node = node_at(s, number), most = 0;
-    for (uint32_t i = 0; i < node[1]; i++) {
+    uint32_t *node = node_at(s, number), most = 0, least = 0;
+    for (uint32_t i = 1; i < node[1]; i++) {
         uint32_t far = apart(s, k->order[node[0]], k->order[node[0] + i]);
         most = far > most ? far : most;
+        least = i == 1 || far < least ? far : least;
     }
     node[3] = draw_distance(k->draw, k->wrongs.radius, most);
+    if (s->edition == 2)
+        node[4] = draw_distance(k->draw, k->wrongs.inner, least);
 }
 
 static void set_pairs(struct making *k)
@@ -201,7 +216,7 @@ static void set_pairs(struct making *k)
     for (uint32_t v = 0; v < k->nodes; v++) {
         const uint32_t *node = node_at(s, v);
         for (uint32_t p = node[0]; node[2] == 0 && p < node[0] + node[1]; p++) {
-            uint32_t *pair = s->index + 8 + 4 * (size_t)k->nodes + 2 * (size_t)p;
+            uint32_t *pair = node_at(s, k->nodes) + 2 * (size_t)p;
             uint32_t right = apart(s, k->order[node[0]], k->order[p]);
             pair[0] = k->order[p];
             pair[1] = draw_distance(k->draw, k->wrongs.stored, right);
@@ -228,16 +243,16 @@ static void make_index(struct draw *d, struct sample *s, struct wrongs wrongs)
             split(&k, v);
     }
     for (uint32_t v = 0; v < k.nodes; v++)
-        set_radius(&k, v);
+        set_reaches(&k, v);
     set_pairs(&k);
-    const uint32_t header[8] = { 1, s->n, s->c, s->m, s->l, k.nodes, 1, 0 };
+    const uint32_t header[8] = { s->edition, s->n, s->c, s->m, s->l, k.nodes, 1, 0 };
     memcpy(s->index, header, sizeof header);
-    s->index_length = 8 + 4 * (size_t)k.nodes + 2 * (size_t)s->n;
+    s->index_length = 8 + node_words(s->edition) * k.nodes + 2 * (size_t)s->n;
 }
 
 void index_foreign(struct draw *d, struct sample *s)
 {
-    const struct wrongs none = { 0, 0, 0, 0 };
+    const struct wrongs none = { 0, 0, 0, 0, 0 };
     make_index(d, s, none);
 }
 
@@ -248,15 +263,19 @@ static uint32_t draw_chances(struct draw *d)
 
 void index_wild(struct draw *d, struct sample *s)
 {
-    struct wrongs wrongs = { 0, 0, 0, 0 };
-    const struct wrongs groups_alone = { draw_between(d, 1, 16), 0, 0, 0 };
+    struct wrongs wrongs = { 0, 0, 0, 0, 0 };
+    const struct wrongs groups_alone = { draw_between(d, 1, 16), 0, 0, 0, 0 };
+    const struct wrongs reaches_alone = { 0, draw_chances(d), draw_between(d, 1, 16), 0, 0 };
     wrongs.group = draw_chances(d);
     wrongs.radius = draw_chances(d);
+    wrongs.inner = draw_chances(d);
     wrongs.stored = draw_chances(d);
     wrongs.row = draw_one_in(d, 5) ? draw_between(d, 1, 200) : 0;
-    /* All else right, or 10 to 12 would hide every 13. */
+    /* All else right, or 10 to 12 would hide every 13, and 10 and 11 most of 12. */
     if (draw_one_in(d, 3))
         wrongs = groups_alone;
+    else if (draw_one_in(d, 3))
+        wrongs = reaches_alone;
     make_index(d, s, wrongs);
 }
 
@@ -278,7 +297,7 @@ void random_words(struct draw *d, struct sample *s)
         s->index[i] = draw_one_in(d, 20) ? (uint32_t)draw_next(d) : draw_below(d, most);
     if (s->index_length < 8 || draw_one_in(d, 2))
         return;
-    const uint32_t header[8] = { 1, s->n, s->c, s->m, s->l, s->n == 0 ? 0 : draw_between(d, 1, 2 * s->n - 1), 1, 0 };
+    const uint32_t header[8] = { s->edition, s->n, s->c, s->m, s->l, s->n == 0 ? 0 : draw_between(d, 1, 2 * s->n - 1), 1, 0 };
     memcpy(s->index, header, sizeof header);
     if (s->n > 0 && s->index_length >= 12) {
         s->index[8] = 0;
@@ -318,6 +337,7 @@ struct lot fair_lot(struct draw *d, const struct sample *s)
     lot.c = s->c;
     lot.m = s->m;
     lot.l = s->l;
+    lot.edition = s->edition;
     lot.index = s->index;
     lot.index_length = s->index_length;
     lot.query = s->query;
@@ -326,7 +346,8 @@ struct lot fair_lot(struct draw *d, const struct sample *s)
     lot.w = draw_w(d, s);
     lot.node = draw_below(d, s->index_length > 5 && s->index[5] < 2 * SAMPLE_ROWS ? s->index[5] + 2 : 9);
     size_t asked = lot.w < s->n ? lot.w : s->n;
-    lot.room = longer(d, 10 * (size_t)s->n + 8);
+    lot.room = longer(d, build_words(s->n, s->edition));
+    lot.wide = longer(d, build_words(s->n, 2));
     lot.work = longer(d, 6 * (size_t)s->n);
     lot.how = longer(d, s->n);
     lot.rows = longer(d, asked);

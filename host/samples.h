@@ -6,12 +6,12 @@
 
 enum {
     SAMPLE_ROWS = 640,
-    SAMPLE_WORDS = 10 * SAMPLE_ROWS + 8 + 64,
+    SAMPLE_WORDS = 12 * SAMPLE_ROWS + 8 + 64,
     SAMPLE_BLOCKS = SAMPLE_WORDS / 127 + 4
 };
 
 struct sample {
-    uint32_t n, c, m, l;
+    uint32_t n, c, m, l, edition;
     uint16_t table[SAMPLE_ROWS * 16];
     uint32_t index[SAMPLE_WORDS];
     size_t index_length;
@@ -20,13 +20,14 @@ struct sample {
     size_t image_length;
 };
 
-/* A table of at most `limit` rows, mostly full of ties, with m and l that give a tree, and a query. No index yet. */
+/* A table of at most `limit` rows, mostly full of ties, with m and l that give a tree, an edition, and a query. No index yet. */
 void draw_sample(struct draw *d, struct sample *s, uint32_t limit);
 /* n equal rows, with m and l small. */
 void draw_equal_rows(struct draw *d, struct sample *s, uint32_t n);
 void draw_query(struct draw *d, struct sample *s);
 
-/* The build's index; an accepted one of another hand (other centres, orders and ties); one in shape that fits no table. */
+/* In the sample's edition: the build's index; an accepted one of another hand (other centres, orders and ties); one in shape
+   that fits no table. */
 void index_built(struct sample *s);
 void index_foreign(struct draw *d, struct sample *s);
 void index_wild(struct draw *d, struct sample *s);
@@ -44,6 +45,10 @@ void draw_image(struct sample *s);
 void seal_block(struct sample *s, size_t block);
 /* Changes the image in one of many ways, often with the check words set right again. */
 void spoil_image(struct draw *d, struct sample *s);
+
+/* How many words a node takes in an edition, and how many words of room a build over n rows asks for. */
+size_t node_words(uint32_t edition);
+size_t build_words(size_t n, uint32_t edition);
 
 /* What all calls on the sample are lent, with r, w and a node drawn; each room is long enough, often longer. */
 struct lot fair_lot(struct draw *d, const struct sample *s);

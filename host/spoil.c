@@ -43,26 +43,43 @@ static void move_border(struct draw *d, struct sample *s)
     uint32_t nodes = s->index[5];
     if (nodes < 3)
         return;
-    uint32_t *node = s->index + 8 + 4 * (size_t)draw_between(d, 1, nodes - 2);
+    size_t width = node_words(s->index[0]);
+    uint32_t *node = s->index + 8 + width * draw_between(d, 1, nodes - 2);
     node[1] += 1;
-    node[4] += 1;
-    node[5] -= 1;
+    node[width] += 1;
+    node[width + 1] -= 1;
+}
+
+/* A node's radius or, in edition 2, more often its inner reach set to something else: by one more or less, to another node's,
+   to the node's other reach, or to an end of what is possible. */
+static void spoil_reach(struct draw *d, uint32_t *node, const uint32_t *other, size_t width)
+{
+    static const uint32_t ends[] = { 0, 1, 1048559, 1048560, 1048561, UINT32_MAX };
+    size_t at = width == 5 && !draw_one_in(d, 3) ? 4 : 3;
+    switch (draw_below(d, 5)) {
+    case 0: node[at] += 1; break;
+    case 1: node[at] -= 1; break;
+    case 2: node[at] = other[at]; break;
+    case 3: node[at] = node[width == 5 ? 7 - at : at]; break;
+    default: node[at] = ends[draw_below(d, 6)]; break;
+    }
 }
 
 /* What stands in the index of a node or a pair, spoilt as a whole. Needs rows, and all words. */
 static void spoil_records(struct draw *d, struct sample *s)
 {
     uint32_t n = s->index[1], nodes = s->index[5];
-    uint32_t *node = s->index + 8, *pair = node + 4 * (size_t)nodes;
+    size_t width = node_words(s->index[0]);
+    uint32_t *node = s->index + 8, *pair = node + width * nodes;
     uint32_t a = draw_below(d, n), b = draw_below(d, n), u = draw_below(d, nodes), v = draw_below(d, nodes);
     switch (draw_below(d, 8)) {
-    case 0: swap_parts(node + 4 * (size_t)u, node + 4 * (size_t)v, 4); break;
+    case 0: swap_parts(node + width * u, node + width * v, width); break;
     case 1: swap_parts(pair + 2 * (size_t)a, pair + 2 * (size_t)b, 2); break;
     case 2: swap_parts(pair + 2 * (size_t)a, pair + 2 * (size_t)b, 1); break;
     case 3: pair[2 * (size_t)a] = pair[2 * (size_t)b]; break;
     case 4: pair[2 * (size_t)a + 1] += draw_one_in(d, 2) ? 1 : UINT32_MAX; break;
-    case 5: node[4 * (size_t)u + 3] += draw_one_in(d, 2) ? 1 : UINT32_MAX; break;
-    case 6: node[4 * (size_t)u + 3] = node[4 * (size_t)v + 3]; break;
+    case 5:
+    case 6: spoil_reach(d, node + width * u, node + width * v, width); break;
     default: move_border(d, s); break;
     }
 }
@@ -72,7 +89,7 @@ void spoil_index(struct draw *d, struct sample *s)
     if (s->index_length == 0)
         return;
     bool whole = s->index_length >= 8 && s->index[1] > 0 && s->index[1] <= SAMPLE_ROWS && s->index[5] > 0 && s->index[5] < 2 * SAMPLE_ROWS
-        && s->index_length >= 8 + 4 * (size_t)s->index[5] + 2 * (size_t)s->index[1];
+        && s->index_length >= 8 + node_words(s->index[0]) * s->index[5] + 2 * (size_t)s->index[1];
     if (whole && !draw_one_in(d, 3)) {
         spoil_records(d, s);
         return;
