@@ -171,7 +171,8 @@ static void same_answers(struct trial *t, const struct lot *lot)
 static void same_as_built(struct trial *t, const struct lot *lot)
 {
     static uint32_t room[SAMPLE_WORDS], work[6 * SAMPLE_ROWS];
-    bourascul_built built = bourascul_build(lot->table, lot->table_length, lot->c, lot->m, lot->l, 2, room, SAMPLE_WORDS, work, 6 * SAMPLE_ROWS);
+    bourascul_built built = bourascul_build(lot->table, lot->table_length, lot->c, lot->m, lot->l, 2, room, BOURASCUL_ROOM_WORDS(sample.n, 2), work,
+                                            BOURASCUL_WORK_WORDS(sample.n));
     if (built.number != 0 || built.words != wide_length || memcmp(room, wide, wide_length * sizeof *wide) != 0)
         tell_difference(t, lot, "widen", "a build in edition 1 widened is not the build in edition 2");
 }
@@ -187,11 +188,12 @@ static void widened(struct trial *t, uint32_t limit)
         index_built(&sample);
     struct lot lot = fair_lot(&t->draw, &sample);
     try_widen(t, &lot);
-    bourascul_widened w = bourascul_widen(lot.table, lot.table_length, lot.c, lot.index, lot.index_length, wide, SAMPLE_WORDS);
+    bourascul_widened w = bourascul_widen(lot.table, lot.table_length, lot.c, lot.index, lot.index_length, wide, BOURASCUL_ROOM_WORDS(sample.n, 2));
     wide_length = w.words;
-    /* What is wrong then has been told. */
-    if (w.number != 0 || wide_length > SAMPLE_WORDS)
+    if (w.number != 0 || wide_length > SAMPLE_WORDS) {
+        tell_difference(t, &lot, "widen", "does not widen with the header's own room");
         return;
+    }
     if (!foreign)
         same_as_built(t, &lot);
     for (uint32_t i = 0; i < 4; i++) {
