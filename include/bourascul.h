@@ -43,8 +43,8 @@
    10n + 8, and 8 + 5N + 2n in edition 2, at most 12n + 8. It belongs to the table it was built over: keep the two together,
    and check an index that comes from elsewhere.
 
-   Every call takes both editions, and bourascul_widen makes an edition 1 index edition 2. On an index that bourascul_check
-   accepts, a search in edition 2 gives the same answers as in edition 1 and may measure fewer rows.
+   bourascul_widen makes an edition 1 index edition 2; every other call takes both. On an index that bourascul_check accepts,
+   a search in edition 2 gives the same answers as in edition 1 and may measure fewer rows.
 
    A search tests an index's shape, not all of it: on an index that bourascul_check would refuse it stays within what is
    lent and gives number 0, but what it answers is open. */
