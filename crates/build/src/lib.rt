@@ -68,7 +68,14 @@ fn root(table: &[u16], c: usize, m: usize, l: usize, n: usize, room: &mut [u32],
     ensures { λ _. ⌜ Rooted (between (now (table .entry)) c) m l n (now (room .entry)) (now (room .exit)) (now (work .exit)) ⌝ }
 {
     let reach = lay(table, c, n, work);
-    put_node(&mut room[HEADER..], 0, n as u32, 0, reach.radius, reach.inner);
+    put_node(
+        &mut room[HEADER..],
+        0,
+        n as u32,
+        0,
+        reach.radius,
+        reach.inner,
+    );
 }
 
 // Opens node k, where it has more than l rows. Gives the number of nodes there are then.

@@ -123,7 +123,14 @@ fn share(
         let first = work[3 * (s + t)];
         let g = gather(work, 3 * (s + m), 3 * (s + count), first, 3 * (n + at));
         let node = HEADER + WIDTH * (made + t);
-        put_node(&mut room[node..], at as u32, g.count as u32, 0, g.radius, g.inner);
+        put_node(
+            &mut room[node..],
+            at as u32,
+            g.count as u32,
+            0,
+            g.radius,
+            g.inner,
+        );
         at += g.count;
         t += 1;
     }
