@@ -41,12 +41,19 @@ unfolding saidBuild sumTo l1 between family broods levelNodes nodes numbered enc
 build-cases = (
   (
     comes five 1 fiveWords refl refl (λ room work a b. rw (a, b)),
-    comes five 2 wideWords refl refl (λ room work a b. rw (a, b)),
-    comes sevens 1 sevenWords refl refl (λ room work a b. rw (a, b)),
-    comes sevens 2 sevenWide refl refl (λ room work a b. rw (a, b)),
-    comes [] 1 (emptyWords 1) refl refl (λ room work a b. rw (a, b)),
-    comes [] 2 (emptyWords 2) refl refl (λ room work a b. rw (a, b)),
-    tt,
+    (
+      comes five 2 wideWords refl refl (λ room work a b. rw (a, b)),
+      (
+        comes sevens 1 sevenWords refl refl (λ room work a b. rw (a, b)),
+        (
+          comes sevens 2 sevenWide refl refl (λ room work a b. rw (a, b)),
+          (
+            comes [] 1 (emptyWords 1) refl refl (λ room work a b. rw (a, b)),
+            (comes [] 2 (emptyWords 2) refl refl (λ room work a b. rw (a, b)), tt),
+          ),
+        ),
+      ),
+    ),
   ),
   refl,
   refl,

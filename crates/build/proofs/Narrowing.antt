@@ -24,7 +24,7 @@ narrowed-long w (suc k) = length-append (narrowed w k) (fourAt w (nodeAt k)) ∙
 -- one node more
 narrowed-next : (w : List ℕ) (k : ℕ) → narrowed w (k + 1) ≡ narrowed w k ++ fourAt w (nodeAt k)
 unfolding narrowed
-narrowed-next w k = rw add-one
+narrowed-next w k = rw (add-one k)
 
 -- four words of what stands behind place q
 four-behind : (w : List ℕ) (q p : ℕ) → fourAt (drop q w) p ≡ fourAt w (q + p)
@@ -95,13 +95,14 @@ module _ {w₀ : List ℕ} {N : ℕ} {w : List ℕ} {k : ℕ} (inv : Narrowing w
 pub narrowed-nodes : (ns : List Node) (pre z w : List ℕ) (j : ℕ) → w ≡ pre ++ (each (nodeWords 2) ns ++ z) → length pre ≡ nodeAt j
     → narrowed w (j + length ns) ≡ narrowed w j ++ each (nodeWords 1) ns
 unfolding narrowed
-narrowed-nodes [] pre z w j e l = ap (narrowed w) (omega arith) ∙ sym (append-nil (narrowed w j))
+narrowed-nodes [] pre z w j e l = let k : j + 0 ≡ j = omega arith in ap (narrowed w) k ∙ sym (append-nil (narrowed w j))
 narrowed-nodes (v ∷ ns) pre z w j e l =
     let zs : List ℕ = each (nodeWords 2) ns ++ z in
     let cut : w ≡ pre ++ (nodeWords 2 v ++ zs) = e ∙ ap (λ (x : List ℕ). pre ++ x) (append-assoc (nodeWords 2 v) (each (nodeWords 2) ns) z) in
     let word : (i : ℕ) → getD w (nodeAt j + i) 0 ≡ getD (nodeWords 2 v ++ zs) i 0 = λ i.
     ap₂ (λ (x : List ℕ) (k : ℕ). getD x (k + i) 0) cut (sym l) ∙ getD-append-add pre (nodeWords 2 v ++ zs) i 0 in
-    let first : getD w (nodeAt j) 0 ≡ v .0 = ap (λ (k : ℕ). getD w k 0) (omega arith) ∙ word 0 in
+    let here : nodeAt j ≡ nodeAt j + 0 = omega arith in
+    let first : getD w (nodeAt j) 0 ≡ v .0 = ap (λ (k : ℕ). getD w k 0) here ∙ word 0 in
     let node : fourAt w (nodeAt j) ≡ nodeWords 1 v = cc (first, word 1, word 2, word 3) in
     let more : length (pre ++ nodeWords 2 v) ≡ nodeAt (suc j) = length-append pre (nodeWords 2 v) ∙ omega arith in
     let up : j + suc (length ns) ≡ suc j + length ns = omega arith in

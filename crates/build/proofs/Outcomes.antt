@@ -5,6 +5,7 @@ use Rattle.build.proofs.Whole.{encode-long}
 use Rattle.build.specs.Calls.{Builds}
 use Rattle.build.specs.Filled.{Fillable, Filled, endOf}
 use Rattle.build.specs.Stages.{Fit}
+use Rattle.laws.proofs.Tests.{and-r, holds, is-true}
 use Rattle.limits.proofs.Ranges.{shared, within-both}
 use Rattle.limits.proofs.Told.{refused-is, taken-is}
 use Rattle.limits.specs.Chosen.{chosen, told}
@@ -37,6 +38,12 @@ answer-taken {p = p} m l e h q = taken-is p m l e (ap told (sym h) ∙ q)
 -- it refused: they are not
 pub answer-refused : {r : Chosen} (m l e : ℕ) → r ≡ Refused → told r ≡ chosen m l e → (shareOk m l && editionOk e) ≡ false
 answer-refused m l e h q = refused-is m l e (ap told (sym h) ∙ q)
+
+-- the edition that the parameters hold
+pub edition-low : (m l e k : ℕ) → (shareOk m l && editionOk e) ≡ true → k ≡ e → k ≤ 2
+edition-low m l e k h q =
+    let t = holds (shareOk m l && editionOk e) h in
+    omega (arith, within-both 1 2 e (is-true (editionOk e) (and-r (shareOk m l) (editionOk e) t)) .1)
 
 -- ---- a refusal
 -- both rooms are as they were, and the counts are 0: the contract is met
@@ -87,10 +94,6 @@ module _ {T : List ℕ} {c e m l : ℕ} {room work : List ℕ} {p : Params} (pas
   -- the edition is one of the two
   pub edition-is : Edition e
   edition-is = within-both 1 2 e (cleared .edition)
-
-  -- as the parameters hold it
-  pub edition-held : p .edition ≤ 2
-  edition-held = omega (arith, passed .e-is, edition-is .1)
 
   -- the tree has room to grow in either edition
   grow-space : 10 * rowsOf T c + 8 ≤ length room

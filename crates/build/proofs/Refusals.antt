@@ -81,9 +81,12 @@ module _ (T : List ℕ) (c e m l room work : ℕ) where
     pub two : (shareOk m l && editionOk e) ≡ false → 2 ≡ says .0
     two s = ap numberOf (fault-first 2 last (ap not s) ∙ after-columns)
 
-    -- the lengths decide
-    pub by-lengths : {v : ℕ} → (shareOk m l && editionOk e) ≡ true → v ≡ said last .0 → v ≡ says .0
-    by-lengths s k = k ∙ ap numberOf (fault-next 2 last (ap not s) ∙ after-columns)
+    -- the lengths decide, by the edition that was taken
+    pub by-lengths : {v k : ℕ} → (shareOk m l && editionOk e) ≡ true → k ≡ e
+        → v ≡ said (lengthFaults (length T) c ++ fault 5 (shortOf k (rowsOf T c) room work)) .0 → v ≡ says .0
+    by-lengths s k h =
+        h ∙ ap (λ (k : ℕ). said (lengthFaults (length T) c ++ fault 5 (shortOf k n room work)) .0) k
+        ∙ ap numberOf (fault-next 2 last (ap not s) ∙ after-columns)
 
   -- ---- none
   pub clear : says .0 ≡ 0 → Clear T c e m l room work

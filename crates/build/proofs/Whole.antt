@@ -21,7 +21,6 @@ use Rattle.tree.proofs.Good.{pairs-length}
 use Rattle.tree.proofs.Grow.{grown-tally}
 use Rattle.tree.proofs.Written.{Edition, each-words}
 use Rattle.tree.specs.Build.{plant}
-use Rattle.tree.specs.Calls.{roomOf}
 use Rattle.tree.specs.Encode.{Node, broods, encode, family, levelNodes, nodeWords, nodes, numbered, pairWords}
 use Rattle.tree.specs.Grove.{Grove, bare, entries, rowsIn}
 use Rattle.split.specs.Places.{nodeAt}
@@ -35,7 +34,7 @@ use lib.Seq.{drop-append-add, drop-at, drop-drop, length-take-le}
 use mathlib.Core.Bool.{Bool, cond, false, true}
 use mathlib.Core.List.{List, [], _++_, _∷_, append-assoc, append-nil, map}
 use mathlib.Core.Path.{_∙_, _≡_, ap, ap₂, refl, sym}
-use native.Mathlib.Nat.{add-zero, mul-le-mul-left, mul-le-mul-right}
+use native.Mathlib.Nat.{add-zero, mul-le-mul-left, mul-le-mul-right, zero-add}
 use native.Mathlib.Omega.{arith}
 
 -- 8 + 4N + 2n words, or 8 + 5N + 2n in edition 2, whatever the tree
@@ -177,7 +176,7 @@ module _ {t : List ℕ} {c e m l n : ℕ} {origin work₀ : List ℕ} (asked : F
       go false p q =
           let one : e ≡ 1 = omega (arith, asked .edition .0, asked .edition .1, eqb-false e 2 p) in
           let words : narrowed room made ≡ each (nodeWords 1) ns =
-          ap (narrowed room) (grown .count)
+          ap (narrowed room) (grown .count ∙ sym (zero-add (length ns)))
           ∙ narrowed-nodes ns (take 8 origin) (drop (nodeAt (length ns)) origin) room 0 (grown .nodes) (length-take-le 8 origin eight) in
           let long : 8 ≤ length room =
           omega (arith, ap length grown-cut, length-append grown-front (drop (nodeAt made) origin), grown-long) in

@@ -18,12 +18,12 @@ abbrev μ-loop : tie.MeasureT-loop
 
 loop-holds : tie.Need-loop-holds Inv-loop μ-loop
 loop-holds c =
-    let a = c .before .before .before .args in
+    let a = c .before .before .args in
     laying-start (between (a .table .now) (a .c)) (a .n) (a .work .now)
 
 row-distance-requires : tie.Need-row-distance-requires Inv-loop μ-loop
 row-distance-requires c κs =
-    let s = c .before .before .before .before .before in
+    let s = c .before .before .before .before in
     let i = c .before .loop .i in
     let first = row-ends (s .args .c) (s .args .n) 0 (omega arith) in
     let this = row-ends (s .args .c) (s .args .n) i (omega arith) in
@@ -68,7 +68,7 @@ loop-again c =
     let b = e .before .before in
     let g = b .before in
     let s = g .before .before .before in
-    let a = s .before .before .before .before .args in
+    let a = s .before .before .before .args in
     laying-step (s .loop .inv) (metric (a .table .now) (a .c) .self 0) (search needs) (search needs) (g .before .row-distance .ensures .0)
     (g .greater .ensures) (b .least-of .ensures)
     (e .put-entry .ensures) (search needs)
