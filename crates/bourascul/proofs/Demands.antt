@@ -42,11 +42,11 @@ use native.Mathlib.Omega.{arith}
 
 -- ---- DEMAND 1: A REFUSAL GIVES ITS NUMBER, COUNTS OF ZERO OR AN EMPTY PART, AND LEAVES EVERY BUFFER AS IT WAS
 -- a refused build
-pub build-refused : {t : List ℕ} {c m l : ℕ} {room work room′ work′ : List ℕ} {number words nodes : ℕ} → Builds t c m l room work room′ work′ number words nodes
+pub build-refused : {t : List ℕ} {c e m l : ℕ} {room work room′ work′ : List ℕ} {number words nodes : ℕ} → Builds t c e m l room work room′ work′ number words nodes
     → (number ≡ 0 → ⊥) → (words ≡ 0) × (nodes ≡ 0) × (room′ ≡ room) × (work′ ≡ work)
 build-refused {number = number} b k =
-    let e = ne-eqb number 0 k in
-    (rw e at (b .counted .0), rw e at (b .counted .1), rw e at (b .index), rw e at (b .cleared))
+    let q = ne-eqb number 0 k in
+    (rw q at (b .counted .0), rw q at (b .counted .1), rw q at (b .index), rw q at (b .cleared))
 
 -- a check: 1 to 9 are refusals; 10 and above are what it found, and clear the workspace as 0 does
 module _ {t : List ℕ} {c : ℕ} {w work work′ : List ℕ} {number place second : ℕ} (s : Checks t c w work work′ number place second) where
@@ -105,12 +105,12 @@ pub check-accepts : {t : List ℕ} {c : ℕ} {w work work′ : List ℕ} {number
 check-accepts s = check-exact s
 
 -- what a build wrote over a table of 16-bit numbers passes, in a workspace that is long enough
-pub build-passes : {t : List ℕ} {c m l : ℕ} {room work room′ work′ work₂ work₃ : List ℕ} {words nodes number place second : ℕ}
-    → Builds t c m l room work room′ work′ 0 words nodes → Every (λ v. v ≤ 65535) t → 6 * rowsOf t c ≤ length work₂
+pub build-passes : {t : List ℕ} {c e m l : ℕ} {room work room′ work′ work₂ work₃ : List ℕ} {words nodes number place second : ℕ}
+    → Builds t c e m l room work room′ work′ 0 words nodes → Every (λ v. v ≤ 65535) t → 6 * rowsOf t c ≤ length work₂
     → Checks t c (take words room′) work₂ work₃ number place second → (number ≡ 0) × (place ≡ 0) × (second ≡ 0)
-build-passes {t} {c} {m} {l} {room} {work} {room′} {work′} {words = words} {nodes} b small enough s =
-    let h = build-headed t c m l room work b refl in
-    let a = build-accepted t c m l room work room′ work′ 0 words nodes b refl small in
+build-passes {t} {c} {e} {m} {l} {room} {work} {room′} {work′} {words = words} {nodes} b small enough s =
+    let h = build-headed t c e m l room work b refl in
+    let a = build-accepted t c e m l room work room′ work′ 0 words nodes b refl small in
     let z = check-exact s .1
     (record { columns = (h .0 .some, h .0 .few); multiple = h .0 .whole; few = h .0 .rows; room = enough; same-rows = h .1; same-columns = h .2; accepted = a }) in
     let p = check-placeless s (omega arith) in

@@ -76,12 +76,21 @@ pub extern "C" fn bourascul_build(
     c: u32,
     m: u32,
     l: u32,
+    edition: u32,
     room: &mut [u32],
     work: &mut [u32],
 ) -> Built
-    ensures { λ r. ⌜ Builds (now (table .entry)) c m l (now (room .entry)) (now (work .entry)) (now (room .exit)) (now (work .exit)) (r .number) (r .words) (r .nodes) ⌝ }
+    ensures { λ r. ⌜ Builds (now (table .entry)) c edition m l (now (room .entry)) (now (work .entry)) (now (room .exit)) (now (work .exit)) (r .number) (r .words) (r .nodes) ⌝ }
 {
-    let built = build::build(table, c as usize, m as usize, l as usize, room, work);
+    let built = build::build(
+        table,
+        c as usize,
+        m as usize,
+        l as usize,
+        edition as usize,
+        room,
+        work,
+    );
     Built {
         number: built.number,
         words: built.words as u32,

@@ -13,6 +13,7 @@ pub mod Headed
 pub mod Pairing
 pub mod Rooting
 pub mod Growing
+pub mod Narrowing
 pub mod Whole
 pub mod Refusals
 pub mod Outcomes

@@ -1,6 +1,6 @@
 -- The root: all rows in ascending order, in the workspace and as the first node. Assumes nothing.
 use Prim.Native.Nat.{_*_, _+_, _-_, _<_, _≤_, max, suc, zero, ℕ}
-use Rattle.build.specs.Filled.{Room, Rooted, entryOf0, rootItem}
+use Rattle.build.specs.Filled.{Room, RootLaid, Rooted, entryOf0, rootItem}
 use Rattle.build.specs.Levels.{leafNode}
 use Rattle.build.specs.Stages.{Tiled}
 use Rattle.laws.proofs.Lists.{map-append}
@@ -8,12 +8,12 @@ use Rattle.laws.proofs.Parts.{put-more}
 use Rattle.laws.proofs.Ranges.{at-every, range-append, range-length}
 use Rattle.laws.proofs.Times.{range-times}
 use Rattle.laws.proofs.Upto.{most-next, most-none}
-use Rattle.laws.specs.Lists.{each, greatest, range}
+use Rattle.laws.specs.Lists.{each, greatest, lowest, range, rest}
 use Rattle.laws.specs.Upto.{mostTo}
 use Rattle.measure.specs.Table.{between}
 use Rattle.split.proofs.Laid.{laid-long}
 use Rattle.split.specs.Runs.{laid}
-use Rattle.tree.specs.Build.{Run, radius}
+use Rattle.tree.specs.Build.{Run, innerReach, radius}
 use Rattle.tree.specs.Encode.{nodeWords, nodes}
 use borrow.Rule.Slice.PartMut.{midOf, putMid}
 use lib.ListN.{drop, length, take, take-append-drop}
@@ -48,6 +48,11 @@ root-radius : (d : ℕ → ℕ → ℕ) (n : ℕ) → 1 ≤ n → radius d (rang
 root-radius d zero h = absurd (omega arith)
 root-radius d (suc n) h = greatest-range (d 0) (suc n)
 
+-- and so it is for the inner reach
+root-inner : (d : ℕ → ℕ → ℕ) (n : ℕ) → 1 ≤ n → innerReach d (range 0 n) ≡ lowest (map (d 0) (rest (range 0 n)))
+root-inner d zero h = absurd (omega arith)
+root-inner d (suc n) h = refl
+
 -- and the centre of all its entries
 root-laid : (d : ℕ → ℕ → ℕ) (n : ℕ) → 1 ≤ n → laid d (range 0 n) ≡ each (entryOf0 d) (range 0 n)
 root-laid d zero h = absurd (omega arith)
@@ -75,22 +80,22 @@ module _ {t : List ℕ} {c m l n : ℕ} {room work : List ℕ} (asked : Room t c
       }
 
   -- THE ROOT STANDS
-  pub root-stands : {r : ℕ} {work′ ys : List ℕ} → length work′ ≡ length work
-      → (r ≡ mostTo (between t c 0) n) × (work′ ≡ each (entryOf0 (between t c)) (range 0 n) ++ drop (3 * n) work)
-      → ys ≡ 0 ∷ n ∷ 0 ∷ r ∷ drop 4 (midOf 8 (length room - 8) room)
+  pub root-stands : {r i : ℕ} {work′ ys : List ℕ} → length work′ ≡ length work → RootLaid (between t c) n work work′ r i
+      → ys ≡ 0 ∷ n ∷ 0 ∷ r ∷ i ∷ drop 5 (midOf 8 (length room - 8) room)
       → Rooted (between t c) m l n room (putMid 8 (length room - 8) room ys) work′
-  root-stands {r} {work′} {ys} same told put =
+  root-stands {r} {i} {work′} {ys} same told put =
       let fits : 8 ≤ length room = omega (arith, asked .space) in
-      let w : 0 ∷ n ∷ 0 ∷ r ∷ [] ≡ nodeWords 1 (leafNode d m l (rootItem n)) =
-      ap₂ (λ (x y : ℕ). 0 ∷ x ∷ 0 ∷ y ∷ []) (sym (range-length 0 n)) (told .0 ∙ sym (root-radius d n some)) in
+      let w : 0 ∷ n ∷ 0 ∷ r ∷ i ∷ [] ≡ nodeWords 2 (leafNode d m l (rootItem n)) =
+      ap₂ (λ (x y : ℕ). 0 ∷ x ∷ 0 ∷ y ∷ i ∷ []) (sym (range-length 0 n)) (told .far ∙ sym (root-radius d n some))
+      ∙ ap (λ (z : ℕ). 0 ∷ length (range 0 n) ∷ 0 ∷ radius d (range 0 n) ∷ z ∷ []) (told .near ∙ sym (root-inner d n some)) in
       record {
         nodes =
-            put-more (take 8 room) (0 ∷ n ∷ 0 ∷ r ∷ []) room room ys 8 4 (length-take-le 8 room fits) fits (sym (take-append-drop 8 room)) put
-            ∙ append-assoc (take 8 room) (0 ∷ n ∷ 0 ∷ r ∷ []) (drop 12 room) ∙ ap (λ (x : List ℕ). take 8 room ++ (x ++ drop 12 room)) w;
+            put-more (take 8 room) (0 ∷ n ∷ 0 ∷ r ∷ i ∷ []) room room ys 8 5 (length-take-le 8 room fits) fits (sym (take-append-drop 8 room)) put
+            ∙ append-assoc (take 8 room) (0 ∷ n ∷ 0 ∷ r ∷ i ∷ []) (drop 13 room) ∙ ap (λ (x : List ℕ). take 8 room ++ (x ++ drop 13 room)) w;
         space = asked .space;
         first = refl;
         last = refl;
         few = omega arith;
-        tiled = tiled work′ same (told .1);
+        tiled = tiled work′ same (told .words);
         wait = refl;
       }

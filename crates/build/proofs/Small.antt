@@ -2,7 +2,7 @@
 use Prim.Native.Nat.{_*_, _+_, _≤_, suc, zero, ℕ}
 use Rattle.build.proofs.Items.{out-long, placed-long}
 use Rattle.build.proofs.Numbering.{numbered-levels}
-use Rattle.build.proofs.Outcomes.{Passed, built-fit}
+use Rattle.build.proofs.Outcomes.{Passed, built-fit, edition-is}
 use Rattle.build.proofs.Rooting.{root-run}
 use Rattle.build.proofs.Whole.{encode-long}
 use Rattle.build.specs.Calls.{Builds}
@@ -13,19 +13,22 @@ use Rattle.laws.proofs.Ranges.{range-length}
 use Rattle.laws.specs.Every.{Every}
 use Rattle.laws.specs.Lists.{joined, range}
 use Rattle.limits.specs.Limits.{maxDepth, maxRows}
+use Rattle.limits.specs.declared.Params.{Params}
 use Rattle.measure.specs.Table.{between, rowsOf}
 use Rattle.split.proofs.Laid.{split-joined}
 use Rattle.tree.proofs.Grow.{split-length, split-runs}
+use Rattle.tree.proofs.Written.{Edition}
 use Rattle.tree.specs.Build.{Run, build, plant, split}
 use Rattle.tree.specs.Calls.{saidBuild}
 use Rattle.tree.specs.Encode.{broods, encode, family, levelNodes, nodes, numbered}
-use Rattle.words.specs.Words.{N#}
+use Rattle.words.specs.Words.{N#, width}
 use borrow.Author.Tests.{eqb-true, leb-false}
 use lib.Dec.{eqb, leb}
 use lib.ListN.{length, length-append, length-map}
 use mathlib.Core.Bool.{Bool, cond, false, true}
 use mathlib.Core.List.{List, [], _++_, _∷_}
 use mathlib.Core.Path.{_∙_, _≡_, ap, refl, sym}
+use native.Mathlib.Nat.{mul-le-mul-right}
 use native.Mathlib.Omega.{arith}
 
 -- how many rows some items have
@@ -128,31 +131,35 @@ module _ (d : ℕ → ℕ → ℕ) (m l : ℕ) (m2 : 2 ≤ m) (ml : m ≤ l) whe
         range-length 0 (suc n),
       )
 
-module _ (T : List ℕ) (c m l : ℕ) (room work : List ℕ) where
+module _ (T : List ℕ) (c e m l : ℕ) (room work : List ℕ) where
   -- number 0: the numbers are in range
-  fit : saidBuild T c 1 m l (length room) (length work) .0 ≡ 0 → Fit T c m l (rowsOf T c)
+  fit : saidBuild T c e m l (length room) (length work) .0 ≡ 0 → Fit T c m l (rowsOf T c) × Edition e
   fit z =
-      let passed : Passed T c m l room work m l = record { none = z; centres = refl; leaf = refl } in
-      built-fit passed
+      let p : Params = record { centres = m; leaf = l; edition = e } in
+      let passed : Passed T c e m l room work p = record { none = z; m-is = refl; l-is = refl; e-is = refl } in
+      (built-fit passed, edition-is passed)
 
   -- the index of any table that is not refused
-  built-small : saidBuild T c 1 m l (length room) (length work) .0 ≡ 0
-      → (length (build T c 1 m l) ≤ 10 * maxRows + 8) × (N# (build T c 1 m l) ≤ 2 * maxRows)
+  built-small : saidBuild T c e m l (length room) (length work) .0 ≡ 0
+      → (length (build T c e m l) ≤ 12 * maxRows + 8) × (N# (build T c e m l) ≤ 2 * maxRows)
   unfolding build encode
   built-small z =
-      let f = fit z in
+      let f = fit z .0 in
+      let ed = fit z .1 in
       let few = nodes-few (between T c) m l (f .two) (f .leafy) (rowsOf T c) in
-      (omega (arith, few, f .rows, encode-long f refl), omega (arith, few, f .rows))
+      let made : ℕ = length (numbered (plant (between T c) m l (rowsOf T c))) in
+      let wide : width e * made ≤ 5 * made = mul-le-mul-right made (omega (arith, ed .1)) in
+      (omega (arith, few, f .rows, encode-long f e ed refl), omega (arith, few, f .rows))
 
--- THE COUNTS ARE SMALL: at most 10n + 8 words and 2n nodes for the most rows, so that 32 bits hold them
-pub build-small : {T : List ℕ} {c m l : ℕ} {room work room′ work′ : List ℕ} {number words nodes : ℕ}
-    → Builds T c m l room work room′ work′ number words nodes
-    → (words ≤ 10 * maxRows + 8) × (nodes ≤ 2 * maxRows)
-build-small {T} {c} {m} {l} {room} {work} {number = number} {words} {nodes} b = go (eqb number 0) refl (b .counted .0) (b .counted .1)
+-- THE COUNTS ARE SMALL: at most 12n + 8 words and 2n nodes for the most rows, so that 32 bits hold them
+pub build-small : {T : List ℕ} {c e m l : ℕ} {room work room′ work′ : List ℕ} {number words nodes : ℕ}
+    → Builds T c e m l room work room′ work′ number words nodes
+    → (words ≤ 12 * maxRows + 8) × (nodes ≤ 2 * maxRows)
+build-small {T} {c} {e} {m} {l} {room} {work} {number = number} {words} {nodes} b = go (eqb number 0) refl (b .counted .0) (b .counted .1)
   where
-    go : (t : Bool) → eqb number 0 ≡ t → words ≡ cond t (length (build T c 1 m l)) 0 → nodes ≡ cond t (N# (build T c 1 m l)) 0
-        → (words ≤ 10 * maxRows + 8) × (nodes ≤ 2 * maxRows)
-    go true e w k =
-        let s = built-small T c m l room work (sym (b .said) ∙ eqb-true number 0 e) in
+    go : (t : Bool) → eqb number 0 ≡ t → words ≡ cond t (length (build T c e m l)) 0 → nodes ≡ cond t (N# (build T c e m l)) 0
+        → (words ≤ 12 * maxRows + 8) × (nodes ≤ 2 * maxRows)
+    go true q w k =
+        let s = built-small T c e m l room work (sym (b .said) ∙ eqb-true number 0 q) in
         (omega (arith, s .0), omega (arith, s .1))
-    go false e w k = (omega arith, omega arith)
+    go false q w k = (omega arith, omega arith)

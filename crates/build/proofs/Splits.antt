@@ -59,7 +59,7 @@ module _ {t : List ℕ} {c m l n : ℕ} (fit : Fit t c m l n) {work : List ℕ} 
     -- their nodes are in the room, no children yet
     pub nodes-after : {at : ℕ} → s ≡ at
         → room′ ≡ take (nodeAt made) room
-        ++ (each (nodeWords 1) (map (leafNode (between t c) m l) (placed at (split (between t c) m run))) ++ drop (nodeAt (made + m)) room)
+        ++ (each (nodeWords 2) (map (leafNode (between t c) m l) (placed at (split (between t c) m run))) ++ drop (nodeAt (made + m)) room)
     nodes-after {at} here =
         let kids : List (List ℕ) = split (between t c) m run in
         let around : List ℕ → List ℕ = λ x. take (nodeAt made) room ++ (x ++ drop (nodeAt (made + m)) room) in

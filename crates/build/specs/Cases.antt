@@ -1,7 +1,8 @@
--- The builds that 01 marks P, The five-row table: one column, m = 2 and l = 2. Assumes nothing.
-use Prim.Native.Nat.{_*_, _+_, _≤_, ℕ}
+-- The builds that 01 marks P, The five-row table, in both editions: one column, m = 2 and l = 2. Assumes nothing.
+use Prim.Native.Nat.{_*_, _≤_, ℕ}
 use Rattle.build.specs.Calls.{Builds}
-use Rattle.tree.specs.Cases.{five, fiveWords}
+use Rattle.tree.specs.Calls.{roomOf}
+use Rattle.tree.specs.Cases.{five, fiveWords, wideWords}
 use Rattle.words.specs.Words.{N#}
 use lib.ListN.{drop, length, replicate}
 use mathlib.Core.List.{List, [], _++_, _∷_}
@@ -22,13 +23,35 @@ sevenWords =
     ∷ 2 ∷ 1 ∷ 0 ∷ 0
     ∷ 0 ∷ 0 ∷ 3 ∷ 0 ∷ 2 ∷ 0 ∷ 1 ∷ 0 ∷ []
 
--- no rows
-abbrev pub emptyWords : List ℕ
-emptyWords = 1 ∷ 0 ∷ 1 ∷ 2 ∷ 2 ∷ 0 ∷ 1 ∷ 0 ∷ []
+-- the same in edition 2: all inner reaches are 0
+abbrev pub sevenWide : List ℕ
+sevenWide =
+    2 ∷ 4 ∷ 1 ∷ 2 ∷ 2 ∷ 5 ∷ 1 ∷ 0
+    ∷ 0 ∷ 4 ∷ 1 ∷ 0 ∷ 0
+    ∷ 0 ∷ 3 ∷ 3 ∷ 0 ∷ 0
+    ∷ 3 ∷ 1 ∷ 0 ∷ 0 ∷ 0
+    ∷ 0 ∷ 2 ∷ 0 ∷ 0 ∷ 0
+    ∷ 2 ∷ 1 ∷ 0 ∷ 0 ∷ 0
+    ∷ 0 ∷ 0 ∷ 3 ∷ 0 ∷ 2 ∷ 0 ∷ 1 ∷ 0 ∷ []
 
--- a table and the words of its index
-abbrev pub table : List (List ℕ × List ℕ)
-table = (five, fiveWords) ∷ (sevens, sevenWords) ∷ ([], emptyWords) ∷ []
+-- no rows
+abbrev pub emptyWords : ℕ → List ℕ
+emptyWords e = e ∷ 0 ∷ 1 ∷ 2 ∷ 2 ∷ 0 ∷ 1 ∷ 0 ∷ []
+
+-- a table, an edition, and the words of the table's index
+abbrev pub Case : Type 0
+Case = List ℕ × ℕ × List ℕ
+
+-- each table in both editions
+abbrev pub table : List Case
+table =
+    (five, 1, fiveWords)
+    ∷ (five, 2, wideWords)
+    ∷ (sevens, 1, sevenWords)
+    ∷ (sevens, 2, sevenWide)
+    ∷ ([], 1, emptyWords 1)
+    ∷ ([], 2, emptyWords 2)
+    ∷ []
 
 -- what the call left: number 0, the words in the room, counted, and the workspace cleared
 pub record Left (T ws room work room′ work′ : List ℕ) (number words nodes : ℕ) : Type 0 where
@@ -39,7 +62,7 @@ pub record Left (T ws room work room′ work′ : List ℕ) (number words nodes 
   pub cleared : work′ ≡ replicate (6 * length T) 0 ++ drop (6 * length T) work
 
 -- any call on the table, with room enough, leaves these words
-abbrev pub Comes : List ℕ × List ℕ → Type 0
-Comes e =
-    (room work room′ work′ : List ℕ) (number words nodes : ℕ) → 10 * length (e .0) + 8 ≤ length room → 6 * length (e .0) ≤ length work
-    → Builds (e .0) 1 2 2 room work room′ work′ number words nodes → Left (e .0) (e .1) room work room′ work′ number words nodes
+abbrev pub Comes : Case → Type 0
+Comes v =
+    (room work room′ work′ : List ℕ) (number words nodes : ℕ) → roomOf (v .1) (length (v .0)) ≤ length room → 6 * length (v .0) ≤ length work
+    → Builds (v .0) 1 (v .1) 2 2 room work room′ work′ number words nodes → Left (v .0) (v .2) room work room′ work′ number words nodes

@@ -25,7 +25,7 @@ pub record Fit (t : List ℕ) (c m l n : ℕ) : Type 0 where
 
 -- a room in which these nodes' words were written behind the header
 abbrev pub withNodes : List ℕ → List Node → List ℕ
-withNodes room ns = take 8 room ++ (each (nodeWords 1) ns ++ drop (nodeAt (length ns)) room)
+withNodes room ns = take 8 room ++ (each (nodeWords 2) ns ++ drop (nodeAt (length ns)) room)
 
 -- the first half of the workspace is runs that follow each other: none empty, no row in one twice, rows below n, n of them
 pub record Tiled (d : ℕ → ℕ → ℕ) (n : ℕ) (work : List ℕ) (tiles : List (List ℕ)) : Type 0 where

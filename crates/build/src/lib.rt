@@ -2,14 +2,13 @@
 // position: the row, its distance from the first of its run, and that first. The second half takes a run's entries as they are shared out.
 ghost use Prim.Native.Nat.{_*_, _+_, _/_, _≤_};
 ghost use Rattle.build.specs.Calls.{Builds};
-ghost use Rattle.build.specs.Filled.{Filled, Grown, Leveled, Planted, Room, Rooted, entryOf0, headerOf, pairsIn, shortOf};
+ghost use Rattle.build.specs.Filled.{Fillable, Filled, Grown, Leveled, Planted, Room, RootLaid, Rooted, endOf, fourAt, headerOf, pairsIn, settled, shortOf};
 ghost use Rattle.build.specs.Stages.{Fit, Level, Openable, Opened, Staged};
-ghost use Rattle.laws.specs.Lists.{each, range};
-ghost use Rattle.laws.specs.Upto.{mostTo};
 ghost use Rattle.limits.specs.Limits.{maxColumns, maxRows};
 ghost use Rattle.limits.specs.Said.{fault, lengthFaults, said};
 ghost use Rattle.measure.specs.Table.{between};
 ghost use Rattle.split.specs.Groups.{stretch};
+ghost use Rattle.split.specs.Places.{nodeAt};
 ghost use lib.ListN.{drop, length, replicate};
 ghost use mathlib.Core.List.{_++_};
 ghost use mathlib.Core.Path.{_≡_};
@@ -21,6 +20,7 @@ use limits::length_number;
 use measure::row_distance;
 use split::groups::WIDTH;
 use split::groups::greater;
+use split::groups::least_of;
 use split::groups::put_node;
 use split::groups::split_run;
 use split::rounds::put_entry;
@@ -34,23 +34,31 @@ pub struct Built {
     pub nodes: usize,
 }
 
+// How far a run reaches: the greatest distance from its first, and the least of a member other than the first, 0 where there is none.
+struct Reach {
+    radius: u32,
+    inner: u32,
+}
+
 // ---- the nodes, level by level, into the room
 
-// The root's entries: each row with its distance from row 0. Gives the radius.
-fn lay(table: &[u16], c: usize, n: usize, work: &mut [u32]) -> u32
+// The root's entries: each row with its distance from row 0. Gives how far they reach.
+fn lay(table: &[u16], c: usize, n: usize, work: &mut [u32]) -> Reach
     requires { ⌜ (c ≤ maxColumns) × (n ≤ maxRows) × (c * n ≤ length (now table)) × (3 * n ≤ length (now work)) ⌝ }
-    ensures { λ r. ⌜ (r ≡ mostTo (between (now (table .entry)) c 0) n) × (now (work .exit) ≡ each (entryOf0 (between (now (table .entry)) c)) (range 0 n) ++ drop (3 * n) (now (work .entry))) ⌝ }
+    ensures { λ r. ⌜ RootLaid (between (now (table .entry)) c) n (now (work .entry)) (now (work .exit)) (r .radius) (r .inner) ⌝ }
 {
     let mut radius: u32 = 0;
+    let mut inner: u32 = 0;
     let mut i = 0;
     while i < n {
         let d = row_distance(table, c, 0, i);
         radius = greater(radius, d);
+        inner = least_of(i, inner, d);
         let at = 3 * i;
         put_entry(&mut work[at..], i as u32, d, 0);
         i += 1;
     }
-    radius
+    Reach { radius, inner }
 }
 
 // The root's entries and its node.
@@ -59,8 +67,15 @@ fn root(table: &[u16], c: usize, m: usize, l: usize, n: usize, room: &mut [u32],
     requires { ⌜ 1 ≤ n ⌝ }
     ensures { λ _. ⌜ Rooted (between (now (table .entry)) c) m l n (now (room .entry)) (now (room .exit)) (now (work .exit)) ⌝ }
 {
-    let radius = lay(table, c, n, work);
-    put_node(&mut room[HEADER..], 0, n as u32, 0, radius);
+    let reach = lay(table, c, n, work);
+    put_node(
+        &mut room[HEADER..],
+        0,
+        n as u32,
+        0,
+        reach.radius,
+        reach.inner,
+    );
 }
 
 // Opens node k, where it has more than l rows. Gives the number of nodes there are then.
@@ -158,18 +173,59 @@ fn grow(
     levels(table, c, m, l, n, room, work)
 }
 
+// ---- the nodes as the edition has them
+
+// A node's first four words, moved from word k of a part to its front.
+fn move_node(part: &mut [u32], k: usize)
+    requires { ⌜ k + 4 ≤ length (now part) ⌝ }
+    ensures { λ _. ⌜ now (part .exit) ≡ fourAt (now (part .entry)) k ++ drop 4 (now (part .entry)) ⌝ }
+{
+    let start = part[k];
+    let count = part[k + 1];
+    let child = part[k + 2];
+    let radius = part[k + 3];
+    part[0] = start;
+    part[1] = count;
+    part[2] = child;
+    part[3] = radius;
+}
+
+// Edition 1 has no inner reach: its nodes move up to each other.
+fn narrow(room: &mut [u32], nodes: usize, edition: usize)
+    requires { ⌜ nodeAt nodes ≤ length (now room) ⌝ }
+    ensures { λ _. ⌜ now (room .exit) ≡ settled edition nodes (now (room .entry)) ⌝ }
+{
+    if edition == Params::LAST_EDITION {
+        return;
+    }
+    let mut k = 0;
+    while k < nodes {
+        let at = HEADER + 4 * k;
+        move_node(&mut room[at..], k);
+        k += 1;
+    }
+}
+
+// Where the words behind this many nodes start.
+fn end_of(edition: usize, nodes: usize) -> usize
+    requires { ⌜ (edition ≤ 2) × (nodes ≤ 2097152) ⌝ }
+    ensures { λ r. ⌜ (r ≡ endOf edition nodes) × (r ≤ nodeAt nodes) ⌝ }
+{
+    HEADER + (3 + edition) * nodes
+}
+
 // ---- the header, the positions, and the cleared workspace
 
 // The header's eight words.
-fn put_header(room: &mut [u32], n: usize, c: usize, m: usize, l: usize, nodes: usize)
-    requires { ⌜ (8 ≤ length (now room)) × (n ≤ maxRows) × (c ≤ maxColumns) × (m ≤ 64) × (l ≤ 1024) × (nodes ≤ 2097152) ⌝ }
-    ensures { λ _. ⌜ now (room .exit) ≡ headerOf n c m l nodes ++ drop 8 (now (room .entry)) ⌝ }
+fn put_header(room: &mut [u32], n: usize, c: usize, p: Params, nodes: usize)
+    requires { ⌜ (8 ≤ length (now room)) × (n ≤ maxRows) × (c ≤ maxColumns) × (p .edition ≤ 2) × (p .centres ≤ 64) × (p .leaf ≤ 1024) × (nodes ≤ 2097152) ⌝ }
+    ensures { λ _. ⌜ now (room .exit) ≡ headerOf (p .edition) n c (p .centres) (p .leaf) nodes ++ drop 8 (now (room .entry)) ⌝ }
 {
-    room[0] = 1;
+    room[0] = p.edition as u32;
     room[1] = n as u32;
     room[2] = c as u32;
-    room[3] = m as u32;
-    room[4] = l as u32;
+    room[3] = p.centres as u32;
+    room[4] = p.leaf as u32;
     room[5] = nodes as u32;
     room[6] = 1;
     room[7] = 0;
@@ -193,18 +249,18 @@ fn put_positions(part: &mut [u32], n: usize, work: &[u32])
 pub fn fill(
     table: &[u16],
     c: usize,
-    m: usize,
-    l: usize,
+    p: Params,
     n: usize,
     room: &mut [u32],
     work: &mut [u32],
 ) -> usize
-    requires { ⌜ Room (now table) c m l n (now room) (now work) ⌝ }
-    ensures { λ r. ⌜ Filled (now (table .entry)) c m l n (now (room .entry)) (now (room .exit)) (now (work .exit)) r ⌝ }
+    requires { ⌜ Fillable (now table) c (p .edition) (p .centres) (p .leaf) n (now room) (now work) ⌝ }
+    ensures { λ r. ⌜ Filled (now (table .entry)) c (p .edition) (p .centres) (p .leaf) n (now (room .entry)) (now (room .exit)) (now (work .exit)) r ⌝ }
 {
-    let nodes = grow(table, c, m, l, n, room, work);
-    put_header(room, n, c, m, l, nodes);
-    let at = HEADER + WIDTH * nodes;
+    let nodes = grow(table, c, p.centres, p.leaf, n, room, work);
+    narrow(room, nodes, p.edition);
+    put_header(room, n, c, p, nodes);
+    let at = end_of(p.edition, nodes);
     put_positions(&mut room[at..], n, work);
     clear_words(work, work.len());
     nodes
@@ -213,26 +269,26 @@ pub fn fill(
 // ---- the public call
 
 // The room or the workspace is too short for n rows.
-fn too_short(n: usize, room: usize, work: usize) -> bool
-    requires { ⌜ n ≤ maxRows ⌝ }
-    ensures { λ r. ⌜ r ≡ shortOf n room work ⌝ }
+fn too_short(edition: usize, n: usize, room: usize, work: usize) -> bool
+    requires { ⌜ (edition ≤ 2) × (n ≤ maxRows) ⌝ }
+    ensures { λ r. ⌜ r ≡ shortOf edition n room work ⌝ }
 {
-    if room < 10 * n + 8 {
+    if room < (8 + 2 * edition) * n + 8 {
         return true;
     }
     work < 6 * n
 }
 
 // What is wrong with the lengths of a table of c columns, of the room and of the workspace: 3, 4, 5, or 0 for nothing.
-fn lengths_number(length: usize, c: usize, room: usize, work: usize) -> u32
-    requires { ⌜ 1 ≤ c ⌝ }
-    ensures { λ r. ⌜ r ≡ said (lengthFaults length c ++ fault 5 (shortOf (length / c) room work)) .0 ⌝ }
+fn lengths_number(length: usize, c: usize, edition: usize, room: usize, work: usize) -> u32
+    requires { ⌜ (1 ≤ c) × (edition ≤ 2) ⌝ }
+    ensures { λ r. ⌜ r ≡ said (lengthFaults length c ++ fault 5 (shortOf edition (length / c) room work)) .0 ⌝ }
 {
     let number = length_number(length, c);
     if number != 0 {
         return number;
     }
-    if too_short(length / c, room, work) {
+    if too_short(edition, length / c, room, work) {
         return 5;
     }
     0
@@ -249,33 +305,34 @@ fn refused(number: u32) -> Built
     }
 }
 
-// Builds the index into the room.
+// Builds the index into the room, in the edition that is asked for.
 pub fn build(
     table: &[u16],
     c: usize,
     m: usize,
     l: usize,
+    edition: usize,
     room: &mut [u32],
     work: &mut [u32],
 ) -> Built
-    ensures { λ r. ⌜ Builds (now (table .entry)) c m l (now (room .entry)) (now (work .entry)) (now (room .exit)) (now (work .exit)) (r .number) (r .words) (r .nodes) ⌝ }
+    ensures { λ r. ⌜ Builds (now (table .entry)) c edition m l (now (room .entry)) (now (work .entry)) (now (room .exit)) (now (work .exit)) (r .number) (r .words) (r .nodes) ⌝ }
 {
     if !columns_ok(c) {
         return refused(1);
     }
-    let Chosen::Taken(p) = Params::new(m, l) else {
+    let Chosen::Taken(p) = Params::new(m, l, edition) else {
         return refused(2);
     };
-    let number = lengths_number(table.len(), c, room.len(), work.len());
+    let number = lengths_number(table.len(), c, p.edition, room.len(), work.len());
     if number != 0 {
         return refused(number);
     }
     let n = table.len() / c;
     let used = 6 * n;
-    let nodes = fill(table, c, p.centres, p.leaf, n, room, &mut work[..used]);
+    let nodes = fill(table, c, p, n, room, &mut work[..used]);
     Built {
         number: 0,
-        words: HEADER + WIDTH * nodes + 2 * n,
+        words: end_of(p.edition, nodes) + 2 * n,
         nodes,
     }
 }

@@ -31,19 +31,19 @@ small : (t : List ℕ) → ((i : ℕ) → getD t i 0 ≤ 65535) → Every (λ v.
 small [] h = tt
 small (x ∷ t) h = (h 0, small t (λ i. h (suc i)))
 
-module _ {t : List ℕ} {c m l : ℕ} {room work room′ work′ : List ℕ} {number words nodes : ℕ}
-    (b : Builds t c m l room work room′ work′ number words nodes) (z : number ≡ 0) where
+module _ {t : List ℕ} {c e m l : ℕ} {room work room′ work′ : List ℕ} {number words nodes : ℕ}
+    (b : Builds t c e m l room work room′ work′ number words nodes) (z : number ≡ 0) where
   -- the words that the build counts stand in the room
   pub words-there : words ≤ length room′
   words-there =
-      let w : List ℕ = build t c 1 m l in
+      let w : List ℕ = build t c e m l in
       let long : words ≡ length w = b .counted .0 ∙ ap (λ (x : ℕ). cond (eqb x 0) (length w) 0) z in
       let there : room′ ≡ w ++ drop (length w) room = b .index ∙ ap (λ (x : ℕ). cond (eqb x 0) (w ++ drop (length w) room) room) z in
       omega (arith, simp length-append at (ap length there))
 
   -- and the full check accepts them
   pub built-accepted : ((i : ℕ) → getD t i 0 ≤ 65535) → Accepted (between t c) (take words room′)
-  built-accepted s = build-accepted t c m l room work room′ work′ number words nodes b z (small t s)
+  built-accepted s = build-accepted t c e m l room work room′ work′ number words nodes b z (small t s)
 
 -- ---- the two questions, over an accepted index w
 module _ {t : List ℕ} {c : ℕ} {w : List ℕ} (a : Accepted (between t c) w) where

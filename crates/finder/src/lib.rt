@@ -3,6 +3,7 @@ ghost use Prim.Native.Nat.{_*_, _+_, _≤_};
 ghost use Rattle.finder.specs.Answers.{Alike, Closest};
 ghost use Rattle.measure.specs.Table.{row as row·};
 ghost use lib.ListN.{length};
+use limits::Params;
 use measure::row_of;
 use nearest::Given;
 use radius::Found;
@@ -26,7 +27,7 @@ pub fn mark_like(
     ensures { λ f. ⌜ Alike (now (table .entry)) c (row· (now (table .entry)) c row) r (now (how .exit)) (f .number) ⌝ }
 {
     let query = row_of(table, c, row);
-    let built = build::build(table, c, CENTRES, LEAF, room, work);
+    let built = build::build(table, c, CENTRES, LEAF, Params::FIRST_EDITION, room, work);
     let number = built.number;
     if number != 0 {
         return Found {
@@ -55,7 +56,7 @@ pub fn find_nearest(
     ensures { λ g. ⌜ Closest (now (table .entry)) c (row· (now (table .entry)) c row) w (now (rows .exit)) (now (distances .exit)) (g .number) (g .given) ⌝ }
 {
     let query = row_of(table, c, row);
-    let built = build::build(table, c, CENTRES, LEAF, room, work);
+    let built = build::build(table, c, CENTRES, LEAF, Params::FIRST_EDITION, room, work);
     let number = built.number;
     if number != 0 {
         return Given {

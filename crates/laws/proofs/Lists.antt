@@ -1,6 +1,7 @@
 -- Laws of the shared functions on lists. Assumes nothing.
-use Prim.Native.Nat.{_+_, _≤_, suc, zero, ℕ}
-use Rattle.laws.specs.Lists.{rest, tally}
+use Prim.Native.Nat.{_+_, _≤_, min, suc, zero, ℕ}
+use Rattle.laws.specs.Lists.{least, lower, lowest, rest, tally}
+use borrow.Author.Tests.{lt-leb}
 use lib.ListN.{length, take}
 use mathlib.Core.Bool.{Bool, cond, false, true}
 use mathlib.Core.List.{List, [], _++_, _∷_, map}
@@ -54,3 +55,14 @@ tally-take f (suc k) (x ∷ xs) = go (f x) (tally-take f k xs)
     go : (b : Bool) → tally f (take k xs) ≤ k → cond b 1 0 + tally f (take k xs) ≤ suc k
     go true h = omega arith
     go false h = omega arith
+
+-- ---- the least number
+-- of y and some numbers, one more at the end
+least-last : (y : ℕ) (xs : List ℕ) (x : ℕ) → least y (xs ++ x ∷ []) ≡ min (least y xs) x
+least-last y [] x = omega arith
+least-last y (z ∷ xs) x = omega (arith, least-last y xs x)
+
+-- of some numbers, one more at the end
+pub lowest-last : (xs : List ℕ) (x : ℕ) → lowest (xs ++ x ∷ []) ≡ lower (length xs + 1) (lowest xs) x
+lowest-last [] x = refl
+lowest-last (y ∷ xs) x = rw (lt-leb (length (y ∷ xs) + 1) 1 (omega arith)) (least-last y xs x)

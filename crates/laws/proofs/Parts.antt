@@ -43,3 +43,12 @@ four-sets (x ∷ []) a b c d h = absurd (omega arith)
 four-sets (x ∷ y ∷ []) a b c d h = absurd (omega arith)
 four-sets (x ∷ y ∷ z ∷ []) a b c d h = absurd (omega arith)
 four-sets (x ∷ y ∷ z ∷ v ∷ l) a b c d h = refl
+
+-- five stores
+pub five-sets : (l : List ℕ) (a b c d e : ℕ) → 5 ≤ length l → set (set (set (set (set l 0 a) 1 b) 2 c) 3 d) 4 e ≡ a ∷ b ∷ c ∷ d ∷ e ∷ drop 5 l
+five-sets [] a b c d e h = absurd (omega arith)
+five-sets (x ∷ []) a b c d e h = absurd (omega arith)
+five-sets (x ∷ y ∷ []) a b c d e h = absurd (omega arith)
+five-sets (x ∷ y ∷ z ∷ []) a b c d e h = absurd (omega arith)
+five-sets (x ∷ y ∷ z ∷ v ∷ []) a b c d e h = absurd (omega arith)
+five-sets (x ∷ y ∷ z ∷ v ∷ w ∷ l) a b c d e h = refl

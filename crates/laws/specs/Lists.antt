@@ -1,6 +1,6 @@
 -- Lists and numbers: the few functions that the definitions of all crates share. Assumes nothing.
 use Prim.Native.Nat.{_+_, _-_, max, min, suc, zero, ℕ}
-use lib.Dec.{eqb}
+use lib.Dec.{eqb, leb}
 use mathlib.Core.Bool.{Bool, _&&_, _||_, cond, false, true}
 use mathlib.Core.List.{List, [], _++_, _∷_, foldr}
 
@@ -85,6 +85,10 @@ least x xs = foldr min x xs
 abbrev pub lowest : List ℕ → ℕ
 lowest [] = 0
 lowest (x ∷ xs) = least x xs
+
+-- the least of k numbers, of which x is the last and `low` the least of those before it: the first is the least
+abbrev pub lower : ℕ → ℕ → ℕ → ℕ
+lower k low x = cond (leb k 1) x (min low x)
 
 -- the two lists are equal
 abbrev pub same : List ℕ → List ℕ → Bool

@@ -1,14 +1,15 @@
 // The index kind: its fixed limits, and the refusals that numbers alone decide.
 ghost use Prim.Native.Nat.{_≤_};
 ghost use Rattle.limits.specs.Chosen.{chosen, told};
-ghost use Rattle.limits.specs.Limits.{columnsOk, shareOk, within};
+ghost use Rattle.limits.specs.Limits.{columnsOk, editionOk, shareOk, within};
 ghost use Rattle.limits.specs.Said.{lengthFaults, said, tableFaults};
 ghost use mathlib.Core.Path.{_≡_};
 
-// What an index is built with: the centres of an inner node, and the rows that a leaf may have.
+// What an index is built with: the centres of an inner node, the rows that a leaf may have, and the edition.
 pub struct Params {
     pub centres: usize,
     pub leaf: usize,
+    pub edition: usize,
 }
 
 // What the constructor answers.
@@ -32,14 +33,25 @@ impl Params {
 
     pub const MOST_DISTANCE: u32 = 1_048_560;
 
-    // Centres and leaf size, where both are in range.
-    pub fn new(centres: usize, leaf: usize) -> Chosen
-        ensures { λ r. ⌜ told r ≡ chosen centres leaf ⌝ }
+    pub const FIRST_EDITION: usize = 1;
+
+    pub const LAST_EDITION: usize = 2;
+
+    // Centres, leaf size and edition, where all are in range.
+    pub fn new(centres: usize, leaf: usize, edition: usize) -> Chosen
+        ensures { λ r. ⌜ told r ≡ chosen centres leaf edition ⌝ }
     {
         if !share_ok(centres, leaf) {
             return Chosen::Refused;
         }
-        Chosen::Taken(Params { centres, leaf })
+        if edition_ok(edition) {
+            return Chosen::Taken(Params {
+                centres,
+                leaf,
+                edition,
+            });
+        }
+        Chosen::Refused
     }
 }
 
@@ -68,6 +80,13 @@ pub fn share_ok(centres: usize, leaf: usize) -> bool
         return false;
     }
     is_within(centres, Params::MOST_LEAF, leaf)
+}
+
+// An index may be of this edition.
+pub fn edition_ok(edition: usize) -> bool
+    ensures { λ r. ⌜ r ≡ editionOk edition ⌝ }
+{
+    is_within(Params::FIRST_EDITION, Params::LAST_EDITION, edition)
 }
 
 // What is wrong with the length of a table of c columns: 3, 4, or 0 for nothing.

@@ -28,7 +28,7 @@ build-nodes T c m l = encode-nodes c m l (plant (between T c) m l (rowsOf T c))
 
 -- on 0 the nodes' words end where the positions' words begin, and these end in the room
 pub built-there : (T : List ℕ) (c m l : ℕ) (room work room′ work′ : List ℕ) (number words nodes : ℕ)
-    → Builds T c m l room work room′ work′ number words nodes → number ≡ 0 → (8 + width 1 * nodes ≤ words) × (words ≤ length room′)
+    → Builds T c 1 m l room work room′ work′ number words nodes → number ≡ 0 → (8 + width 1 * nodes ≤ words) × (words ≤ length room′)
 built-there T c m l room work room′ work′ number words nodes b z =
     let w : List ℕ = build T c 1 m l in
     let long : words ≡ length w = b .counted .0 ∙ ap (λ (x : ℕ). cond (eqb x 0) (length w) 0) z in

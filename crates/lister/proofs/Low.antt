@@ -1,6 +1,6 @@
 -- No number that the program meets is above 18. Assumes nothing.
 use Prim.Native.Nat.{_%_, _*_, _+_, _≤_, ℕ}
-use Rattle.limits.specs.Limits.{columnsOk, maxRows, shareOk}
+use Rattle.limits.specs.Limits.{columnsOk, editionOk, maxRows, shareOk}
 use Rattle.limits.specs.Said.{fault, said}
 use Rattle.measure.specs.Table.{rowsOf}
 use Rattle.text.specs.Calls.{saidRead}
@@ -8,7 +8,6 @@ use Rattle.text.specs.Reading.{numbers, readable}
 use Rattle.tree.specs.Calls.{saidBuild}
 use lib.Dec.{eqb, ltb}
 use lib.ListN.{length}
-use Rattle.words.specs.Words.{editionOk}
 use mathlib.Core.Bool.{Bool, _&&_, _||_, cond, false, not, true}
 use mathlib.Core.List.{List, _++_}
 use mathlib.Core.Path.{_≡_, subst, sym}

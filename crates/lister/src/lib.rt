@@ -6,6 +6,7 @@ ghost use lib.ListN.{length};
 ghost use mathlib.Core.Path.{_≡_};
 use libc::STDIN_FILENO;
 use libc::STDOUT_FILENO;
+use limits::Params;
 use lines::print_lines;
 use words::places::HEADER;
 
@@ -91,7 +92,7 @@ fn list(numbers: &[u16], room: &mut [u32], work: &mut [u32]) -> u32
     let c = wide(numbers[0]);
     let m = wide(numbers[1]);
     let l = wide(numbers[2]);
-    let built = build::build(&numbers[3..], c, m, l, room, work);
+    let built = build::build(&numbers[3..], c, m, l, Params::FIRST_EDITION, room, work);
     let number = built.number;
     if number != 0 {
         print_refused(number);

@@ -4,7 +4,7 @@ use Rattle.laws.proofs.Parts.{put-more}
 use Rattle.split.proofs.Parts.{stretch-front}
 use Rattle.split.proofs.Picks.{picked-size, pickedIn}
 use Rattle.split.specs.Entries.{own}
-use Rattle.split.specs.Groups.{Gatherable, Gathered, Picked, Picking, group, picked, size, stretch, widest}
+use Rattle.split.specs.Groups.{Gatherable, Gathered, Picked, Picking, group, narrowest, picked, size, stretch, widest}
 use borrow.Rule.Slice.PartMut.{midOf, putMid}
 use lib.ListN.{drop, length, length-append, length-drop, take, take-append-drop}
 use lib.Seq.{drop-append-add, drop-drop, length-take-le, take-at}
@@ -71,8 +71,8 @@ module _ {w : List ℕ} {lo hi a to : ℕ} (asked : Gatherable w lo hi a to) {ys
       }
 
   -- they stand behind the centre: the group is gathered
-  pub gather-done : {w′ : List ℕ} {count radius : ℕ} → Picked (putMid to (length w - to) w ys) lo hi a (to + 3) w′ count radius
-      → Gathered w lo hi a to w′ (count + 1) radius
+  pub gather-done : {w′ : List ℕ} {count radius inner : ℕ} → Picked (putMid to (length w - to) w ys) lo hi a (to + 3) w′ count radius inner
+      → Gathered w lo hi a to w′ (count + 1) radius inner
   unfolding size widest
   gather-done {w′} {count} got =
       let F : List ℕ = take to w ++ own a in
@@ -87,4 +87,5 @@ module _ {w : List ℕ} {lo hi a to : ℕ} (asked : Gatherable w lo hi a to) {ys
             ∙ rw (source-kept, fore, back, group-more) (append-assoc (take to w) (own a) (P ++ drop (to + 3 * size (group a (stretch w lo hi))) w));
         members = omega arith;
         far = got .far ∙ ap (λ (l : List ℕ). widest (picked a l)) source-kept ∙ omega arith;
+        near = got .near ∙ ap (λ (l : List ℕ). narrowest (picked a l)) source-kept;
       }

@@ -4,7 +4,7 @@ use Rattle.laws.proofs.Lists.{tally-length}
 use Rattle.laws.specs.Every.{Every}
 use Rattle.laws.specs.Lists.{each, greatest, head, joined}
 use Rattle.split.specs.Entries.{Entries}
-use Rattle.split.specs.Groups.{size, widest}
+use Rattle.split.specs.Groups.{distances, size, widest}
 use Rattle.split.specs.Runs.{laid, rows}
 use Rattle.tree.proofs.Grow.{split-tally}
 use Rattle.tree.specs.Build.{Run, split}
@@ -29,6 +29,12 @@ pub under-widest : (f : ℕ → ℕ) (a : ℕ) (xs : List ℕ) → widest (under
 unfolding widest
 under-widest f a [] = refl
 under-widest f a (x ∷ xs) = ap (max (f x)) (under-widest f a xs)
+
+-- their distances
+pub under-distances : (f : ℕ → ℕ) (a : ℕ) (xs : List ℕ) → distances (under f a xs) ≡ map f xs
+unfolding distances
+under-distances f a [] = refl
+under-distances f a (x ∷ xs) = ap (λ (ds : List ℕ). f x ∷ ds) (under-distances f a xs)
 
 -- three words each
 pub under-long : (f : ℕ → ℕ) (a : ℕ) (xs : List ℕ) → length (under f a xs) ≡ 3 * length xs

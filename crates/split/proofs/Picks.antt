@@ -1,8 +1,10 @@
 -- Those of a run's entries that have one centre, written one after the other. Assumes nothing.
 use Prim.Native.Nat.{_%_, _*_, _+_, _-_, _<_, _≤_, max, ℕ}
+use Rattle.laws.proofs.Lists.{lowest-last}
 use Rattle.laws.proofs.Parts.{put-more}
+use Rattle.laws.specs.Lists.{lower, lowest}
 use Rattle.split.proofs.Parts.{read-front, stretch-three}
-use Rattle.split.specs.Groups.{Picked, Picking, picked, size, stretch, widest}
+use Rattle.split.specs.Groups.{Picked, Picking, distances, narrowest, picked, size, stretch, widest}
 use borrow.Author.Tests.{eq-eqb, ne-eqb}
 use borrow.Rule.Slice.PartMut.{midOf, putMid}
 use lib.Dec.{eqb}
@@ -26,12 +28,29 @@ picked-size a (i ∷ x ∷ b ∷ es) = go (eqb b a) (picked-size a es)
     go true h = omega arith
     go false h = h
 
+-- k entries and one more: it has the last distance
+distances-more : (es : List ℕ) (k i x a : ℕ) → length es ≡ 3 * k
+    → (distances (es ++ i ∷ x ∷ a ∷ []) ≡ distances es ++ x ∷ []) × (length (distances es) ≡ k)
+unfolding distances
+distances-more [] k i x a l = (refl, omega arith)
+distances-more (j ∷ []) k i x a l = absurd (omega arith)
+distances-more (j ∷ y ∷ []) k i x a l = absurd (omega arith)
+distances-more (j ∷ y ∷ b ∷ es) k i x a l =
+    let r = distances-more es (k - 1) i x a (omega arith) in
+    (ap (λ (ds : List ℕ). y ∷ ds) (r .0), omega (arith, r .1))
+
+-- and may be the narrowest
+narrowest-more : (es : List ℕ) (k i x a : ℕ) → length es ≡ 3 * k → narrowest (es ++ i ∷ x ∷ a ∷ []) ≡ lower (k + 1) (narrowest es) x
+narrowest-more es k i x a l =
+    let r = distances-more es k i x a l in
+    ap lowest (r .0) ∙ lowest-last (distances es) x ∙ ap (λ (j : ℕ). lower (j + 1) (narrowest es) x) (r .1)
+
 -- those of centre a from lo to hi
 abbrev pub pickedIn : List ℕ → ℕ → ℕ → ℕ → List ℕ
 pickedIn w lo hi a = picked a (stretch w lo hi)
 
 -- the entries before p are dealt with: `count` of centre a are written from word `to` on
-pub record Picks (w₀ : List ℕ) (lo hi a to : ℕ) (w : List ℕ) (count radius p : ℕ) : Type 0 where
+pub record Picks (w₀ : List ℕ) (lo hi a to : ℕ) (w : List ℕ) (count radius inner p : ℕ) : Type 0 where
   pub asked : Picking w₀ lo hi a to
   pub over : p ≤ hi
   pub thirds : (hi - p) % 3 ≡ 0
@@ -40,9 +59,11 @@ pub record Picks (w₀ : List ℕ) (lo hi a to : ℕ) (w : List ℕ) (count radi
   pub left : drop (3 * count) (pickedIn w₀ lo hi a) ≡ pickedIn w₀ p hi a
   pub wrote : w ≡ (take to w₀ ++ take (3 * count) (pickedIn w₀ lo hi a)) ++ drop (to + 3 * count) w₀
   pub far : max radius (widest (pickedIn w₀ p hi a)) ≡ widest (pickedIn w₀ lo hi a)
+  pub near : inner ≡ narrowest (take (3 * count) (pickedIn w₀ lo hi a))
 
 -- none is written
-pub picks-start : {w : List ℕ} {lo hi a to : ℕ} → Picking w lo hi a to → Picks w lo hi a to w 0 0 lo
+pub picks-start : {w : List ℕ} {lo hi a to : ℕ} → Picking w lo hi a to → Picks w lo hi a to w 0 0 0 lo
+unfolding distances
 picks-start {w} {lo} {hi} {a} {to} asked =
     let z : to + 3 * 0 ≡ to = omega arith in
     record {
@@ -54,9 +75,10 @@ picks-start {w} {lo} {hi} {a} {to} asked =
       left = refl;
       wrote = sym (ap₂ (λ (l : List ℕ) (k : ℕ). l ++ drop k w) (append-nil (take to w)) z ∙ take-append-drop to w);
       far = omega arith;
+      near = refl;
     }
 
-module _ {w₀ : List ℕ} {lo hi a to : ℕ} {w : List ℕ} {count radius p : ℕ} (inv : Picks w₀ lo hi a to w count radius p) where
+module _ {w₀ : List ℕ} {lo hi a to : ℕ} {w : List ℕ} {count radius inner p : ℕ} (inv : Picks w₀ lo hi a to w count radius inner p) where
   -- those that are to be written in all
   abbrev G : List ℕ
   G = pickedIn w₀ lo hi a
@@ -76,7 +98,7 @@ module _ {w₀ : List ℕ} {lo hi a to : ℕ} {w : List ℕ} {count radius p : �
   centre-read h = picks-read (p + 2) (omega (arith, inv .thirds))
 
   -- ---- it has another centre
-  pub picks-skip : p < hi → (getD w (p + 2) 0 ≡ a → ⊥) → Picks w₀ lo hi a to w count radius (p + 3)
+  pub picks-skip : p < hi → (getD w (p + 2) 0 ≡ a → ⊥) → Picks w₀ lo hi a to w count radius inner (p + 3)
   unfolding picked
   picks-skip h n =
       let s : pickedIn w₀ p hi a ≡ pickedIn w₀ (p + 3) hi a = rw (source h, ne-eqb (getD w₀ (p + 2) 0) a (λ e. n (centre-read h ∙ e))) in
@@ -90,6 +112,7 @@ module _ {w₀ : List ℕ} {lo hi a to : ℕ} {w : List ℕ} {count radius p : �
         left = inv .left ∙ s;
         wrote = inv .wrote;
         far = ap (λ (l : List ℕ). max radius (widest l)) (sym s) ∙ inv .far;
+        near = inv .near;
       }
 
   -- ---- it has centre a
@@ -134,7 +157,8 @@ module _ {w₀ : List ℕ} {lo hi a to : ℕ} {w : List ℕ} {count radius p : �
   -- it is written
   pub picks-take : (ys : List ℕ) → p < hi → getD w (p + 2) 0 ≡ a
       → ys ≡ getD w p 0 ∷ getD w (p + 1) 0 ∷ a ∷ drop 3 (midOf (to + 3 * count) (length w - (to + 3 * count)) w)
-      → Picks w₀ lo hi a to (putMid (to + 3 * count) (length w - (to + 3 * count)) w ys) (count + 1) (max radius (getD w (p + 1) 0)) (p + 3)
+      → Picks w₀ lo hi a to (putMid (to + 3 * count) (length w - (to + 3 * count)) w ys) (count + 1) (max radius (getD w (p + 1) 0))
+      (lower (count + 1) inner (getD w (p + 1) 0)) (p + 3)
   unfolding widest
   picks-take ys h e f =
       let q : ℕ = to + 3 * count in
@@ -159,6 +183,10 @@ module _ {w₀ : List ℕ} {lo hi a to : ℕ} {w : List ℕ} {count radius p : �
         left = ap (λ (k : ℕ). drop k G) up ∙ sym (drop-drop 3 (3 * count) G) ∙ ap (drop 3) rest;
         wrote = put ∙ rw (grown, qup) (ap (λ (l : List ℕ). l ++ drop (q + 3) w₀) (append-assoc (take to w₀) (take (3 * count) G) entry));
         far = rw (picks-read (p + 1) (omega arith)) (widen ∙ ap (λ (l : List ℕ). max radius (widest l)) (sym (taken h e)) ∙ inv .far);
+        near =
+            ap₂ (lower (count + 1)) (inv .near) (picks-read (p + 1) (omega arith))
+            ∙ sym (narrowest-more (take (3 * count) G) count (getD w₀ p 0) (getD w₀ (p + 1) 0) a (length-take-le (3 * count) G (inv .some)))
+            ∙ ap narrowest (sym grown);
       }
     where
       widen : max (max radius (getD w₀ (p + 1) 0)) (widest (pickedIn w₀ (p + 3) hi a))
@@ -166,7 +194,7 @@ module _ {w₀ : List ℕ} {lo hi a to : ℕ} {w : List ℕ} {count radius p : �
       widen = omega arith
 
   -- ---- all are dealt with
-  pub picks-done : hi ≤ p → Picked w₀ lo hi a to w count radius
+  pub picks-done : hi ≤ p → Picked w₀ lo hi a to w count radius inner
   unfolding picked widest
   picks-done h =
       let z : hi - p ≡ 0 = omega arith in
@@ -175,10 +203,12 @@ module _ {w₀ : List ℕ} {lo hi a to : ℕ} {w : List ℕ} {count radius p : �
       let some : 3 * count ≤ length G = inv .some in
       let all : length G ≡ 3 * count = omega (arith, ap length out, length-drop (3 * count) G) in
       let n : count ≡ size G = omega (arith, picked-size a (stretch w₀ lo hi)) in
+      let whole : take (3 * count) G ≡ G = take-all (3 * count) G (omega arith) in
       record {
         words =
             inv .wrote ∙ append-assoc (take to w₀) (take (3 * count) G) (drop (to + 3 * count) w₀)
-            ∙ ap₂ (λ (l : List ℕ) (k : ℕ). take to w₀ ++ (l ++ drop (to + 3 * k) w₀)) (take-all (3 * count) G (omega arith)) n;
+            ∙ ap₂ (λ (l : List ℕ) (k : ℕ). take to w₀ ++ (l ++ drop (to + 3 * k) w₀)) whole n;
         members = n;
         far = sym (ap (λ (l : List ℕ). max radius (widest (picked a l))) none ∙ omega arith) ∙ inv .far;
+        near = inv .near ∙ ap narrowest whole;
       }

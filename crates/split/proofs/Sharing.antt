@@ -3,7 +3,7 @@ use Prim.Native.Nat.{_*_, _+_, _-_, _<_, _≤_, suc, zero, ℕ}
 use Rattle.laws.proofs.Parts.{put-more}
 use Rattle.split.proofs.Gathered.{group-size}
 use Rattle.split.proofs.Parts.{read-front, stretch-front}
-use Rattle.split.specs.Groups.{Gatherable, Gathered, Sharable, Shared, centres, group, groupNodes, groupWords, shared, sharedNodes, size, stretch, waiting, widest}
+use Rattle.split.specs.Groups.{Gatherable, Gathered, Sharable, Shared, centres, group, groupNodes, groupWords, narrowest, picked, shared, sharedNodes, size, stretch, waiting, widest}
 use Rattle.split.specs.Places.{nodeAt}
 use borrow.Rule.Slice.PartMut.{midOf, putMid}
 use lib.ListN.{drop, getD, length, length-append, length-drop, take, take-append-drop}
@@ -12,8 +12,8 @@ use mathlib.Core.List.{List, [], _++_, _∷_, append-assoc, append-nil}
 use mathlib.Core.Path.{_∙_, _≡_, ap, ap₂, refl, sym}
 use native.Mathlib.Omega.{arith}
 
--- four words a node
-nodes-long : (at : ℕ) (es cs : List ℕ) → length (sharedNodes at es cs) ≡ 4 * length cs
+-- five words a node
+nodes-long : (at : ℕ) (es cs : List ℕ) → length (sharedNodes at es cs) ≡ 5 * length cs
 unfolding sharedNodes
 nodes-long at es [] = refl
 nodes-long at es (a ∷ cs) = omega (arith, nodes-long (at + size (group a es)) es cs)
@@ -33,8 +33,8 @@ pub record Sharing (room₀ work₀ : List ℕ) (n m s count made : ℕ) (room w
   pub wide : length room ≡ length room₀
   pub left : drop (3 * (at - s)) (groupWords work₀ m s count) ≡ shared (waiting work₀ m s count) (centres work₀ (3 * (s + t)) (m - t))
   pub wrote : work ≡ (take (3 * (n + s)) work₀ ++ take (3 * (at - s)) (groupWords work₀ m s count)) ++ drop (3 * (n + s) + 3 * (at - s)) work₀
-  pub nodesLeft : drop (4 * t) (groupNodes work₀ m s count) ≡ sharedNodes at (waiting work₀ m s count) (centres work₀ (3 * (s + t)) (m - t))
-  pub nodesWrote : room ≡ (take (nodeAt made) room₀ ++ take (4 * t) (groupNodes work₀ m s count)) ++ drop (nodeAt (made + t)) room₀
+  pub nodesLeft : drop (5 * t) (groupNodes work₀ m s count) ≡ sharedNodes at (waiting work₀ m s count) (centres work₀ (3 * (s + t)) (m - t))
+  pub nodesWrote : room ≡ (take (nodeAt made) room₀ ++ take (5 * t) (groupNodes work₀ m s count)) ++ drop (nodeAt (made + t)) room₀
 
 module _ {room₀ work₀ : List ℕ} {n m s count made : ℕ} (asked : Sharable room₀ work₀ n m s count made) where
   -- the entries that wait
@@ -50,8 +50,8 @@ module _ {room₀ work₀ : List ℕ} {n m s count made : ℕ} (asked : Sharable
   N = groupNodes work₀ m s count
 
   -- m nodes
-  all-nodes : length N ≡ 4 * m
-  all-nodes = nodes-long s W (centres work₀ (3 * s) m) ∙ ap (λ (k : ℕ). 4 * k) (centres-long work₀ (3 * s) m)
+  all-nodes : length N ≡ 5 * m
+  all-nodes = nodes-long s W (centres work₀ (3 * s) m) ∙ ap (λ (k : ℕ). 5 * k) (centres-long work₀ (3 * s) m)
 
   -- no group is written
   pub sharing-start : Sharing room₀ work₀ n m s count made room₀ work₀ s 0
@@ -98,9 +98,9 @@ module _ {room₀ work₀ : List ℕ} {n m s count made : ℕ} (asked : Sharable
               ∙ ap₂ (λ (l : List ℕ) (k : ℕ). take (3 * (n + s)) work₀ ++ (l ++ drop (3 * (n + s) + k) work₀))
               (take-all (3 * (at - s)) G (omega (arith, asked .tile))) all;
           nodes =
-              inv .nodesWrote ∙ append-assoc (take (nodeAt made) room₀) (take (4 * t) N) (drop (nodeAt (made + t)) room₀)
+              inv .nodesWrote ∙ append-assoc (take (nodeAt made) room₀) (take (5 * t) N) (drop (nodeAt (made + t)) room₀)
               ∙ ap₂ (λ (l : List ℕ) (k : ℕ). take (nodeAt made) room₀ ++ (l ++ drop (nodeAt (made + k)) room₀))
-              (take-all (4 * t) N (omega (arith, all-nodes))) same;
+              (take-all (5 * t) N (omega (arith, all-nodes))) same;
         }
 
     -- ---- one group more
@@ -168,8 +168,8 @@ module _ {room₀ work₀ : List ℕ} {n m s count made : ℕ} (asked : Sharable
             room = rw same-group (omega (arith, sharing-fits, asked .halves, inv .long));
           }
 
-      module _ {work′ : List ℕ} {k radius : ℕ}
-          (got : Gathered work (3 * (s + m)) (3 * (s + count)) (getD work (3 * (s + t)) 0) (3 * (n + at)) work′ k radius) where
+      module _ {work′ : List ℕ} {k radius inner : ℕ}
+          (got : Gathered work (3 * (s + m)) (3 * (s + count)) (getD work (3 * (s + t)) 0) (3 * (n + at)) work′ k radius inner) where
         -- it has k members
         members : k ≡ size g
         members = got .members ∙ ap size same-group
@@ -177,6 +177,11 @@ module _ {room₀ work₀ : List ℕ} {n m s count made : ℕ} (asked : Sharable
         -- the farthest at `radius`
         far : radius ≡ widest g
         far = got .far ∙ ap widest same-group
+
+        -- the nearest but the centre at `inner`
+        near : inner ≡ narrowest (picked centre W)
+        unfolding centre
+        near = got .near ∙ ap₂ (λ (a : ℕ) (es : List ℕ). narrowest (picked a es)) sharing-read source
 
         -- it ends in the run, by its count
         pub sharing-small : at + k ≤ s + count
@@ -228,35 +233,37 @@ module _ {room₀ work₀ : List ℕ} {n m s count made : ℕ} (asked : Sharable
             (append-assoc (take (3 * (n + s)) work₀) (take (3 * (at - s)) G) g ∙ ap (λ (l : List ℕ). take (3 * (n + s)) work₀ ++ l) (sym step-take))
 
         -- its node is the next of the nodes that are left
-        node-words : drop (4 * t) N ≡ at ∷ k ∷ 0 ∷ radius ∷ sharedNodes (at + k) W later
+        node-words : drop (5 * t) N ≡ at ∷ k ∷ 0 ∷ radius ∷ inner ∷ sharedNodes (at + k) W later
         unfolding sharedNodes
         node-words =
-            inv .nodesLeft ∙ ap (sharedNodes at W) next ∙ ap₂ (λ (x y : ℕ). at ∷ x ∷ 0 ∷ y ∷ sharedNodes (at + x) W later) (sym members) (sym far)
+            inv .nodesLeft ∙ ap (sharedNodes at W) next
+            ∙ ap₂ (λ (x y : ℕ). at ∷ x ∷ 0 ∷ y ∷ narrowest (picked centre W) ∷ sharedNodes (at + x) W later) (sym members) (sym far)
+            ∙ ap (λ (z : ℕ). at ∷ k ∷ 0 ∷ radius ∷ z ∷ sharedNodes (at + k) W later) (sym near)
 
-        -- four words more
-        four : 4 * (t + 1) ≡ 4 * t + 4
-        four = omega arith
+        -- five words more
+        five : 5 * (t + 1) ≡ 5 * t + 5
+        five = omega arith
 
         -- it is written behind the others
-        step-nodes : (ys : List ℕ) → ys ≡ at ∷ k ∷ 0 ∷ radius ∷ drop 4 (midOf (nodeAt (made + t)) (length room - nodeAt (made + t)) room)
+        step-nodes : (ys : List ℕ) → ys ≡ at ∷ k ∷ 0 ∷ radius ∷ inner ∷ drop 5 (midOf (nodeAt (made + t)) (length room - nodeAt (made + t)) room)
             → putMid (nodeAt (made + t)) (length room - nodeAt (made + t)) room ys
-            ≡ (take (nodeAt made) room₀ ++ take (4 * (t + 1)) N) ++ drop (nodeAt (made + (t + 1))) room₀
+            ≡ (take (nodeAt made) room₀ ++ take (5 * (t + 1)) N) ++ drop (nodeAt (made + (t + 1))) room₀
         step-nodes ys e =
-            let node : List ℕ = at ∷ k ∷ 0 ∷ radius ∷ [] in
-            let F : List ℕ = take (nodeAt made) room₀ ++ take (4 * t) N in
+            let node : List ℕ = at ∷ k ∷ 0 ∷ radius ∷ inner ∷ [] in
+            let F : List ℕ = take (nodeAt made) room₀ ++ take (5 * t) N in
             let fits : nodeAt (made + m) ≤ length room₀ = asked .nodes in
             let lf : length F ≡ nodeAt (made + t) =
-            length-append (take (nodeAt made) room₀) (take (4 * t) N)
-            ∙ omega (arith, length-take-le (nodeAt made) room₀ (omega arith), length-take-le (4 * t) N (omega (arith, all-nodes))) in
-            let up : nodeAt (made + t) + 4 ≡ nodeAt (made + (t + 1)) = omega arith in
-            let taken : take (4 * (t + 1)) N ≡ take (4 * t) N ++ node =
-            ap (λ (x : ℕ). take x N) four ∙ take-add (4 * t) 4 N ∙ ap (λ (l : List ℕ). take (4 * t) N ++ take 4 l) node-words in
-            put-more F node room₀ room ys (nodeAt (made + t)) 4 lf (omega (arith, inv .wide)) (inv .nodesWrote) e
+            length-append (take (nodeAt made) room₀) (take (5 * t) N)
+            ∙ omega (arith, length-take-le (nodeAt made) room₀ (omega arith), length-take-le (5 * t) N (omega (arith, all-nodes))) in
+            let up : nodeAt (made + t) + 5 ≡ nodeAt (made + (t + 1)) = omega arith in
+            let taken : take (5 * (t + 1)) N ≡ take (5 * t) N ++ node =
+            ap (λ (x : ℕ). take x N) five ∙ take-add (5 * t) 5 N ∙ ap (λ (l : List ℕ). take (5 * t) N ++ take 5 l) node-words in
+            put-more F node room₀ room ys (nodeAt (made + t)) 5 lf (omega (arith, inv .wide)) (inv .nodesWrote) e
             ∙ ap₂ (λ (l : List ℕ) (x : ℕ). l ++ drop x room₀)
-            (append-assoc (take (nodeAt made) room₀) (take (4 * t) N) node ∙ ap (λ (l : List ℕ). take (nodeAt made) room₀ ++ l) (sym taken)) up
+            (append-assoc (take (nodeAt made) room₀) (take (5 * t) N) node ∙ ap (λ (l : List ℕ). take (nodeAt made) room₀ ++ l) (sym taken)) up
 
         -- the group and its node are written
-        pub sharing-step : {ys : List ℕ} → ys ≡ at ∷ k ∷ 0 ∷ radius ∷ drop 4 (midOf (nodeAt (made + t)) (length room - nodeAt (made + t)) room)
+        pub sharing-step : {ys : List ℕ} → ys ≡ at ∷ k ∷ 0 ∷ radius ∷ inner ∷ drop 5 (midOf (nodeAt (made + t)) (length room - nodeAt (made + t)) room)
             → length work′ ≡ length work → length (putMid (nodeAt (made + t)) (length room - nodeAt (made + t)) room ys) ≡ length room
             → Sharing room₀ work₀ n m s count made (putMid (nodeAt (made + t)) (length room - nodeAt (made + t)) room ys) work′ (at + k) (t + 1)
         unfolding later
@@ -271,7 +278,7 @@ module _ {room₀ work₀ : List ℕ} {n m s count made : ℕ} (asked : Sharable
               left = step-left ∙ ap (λ (x : ℕ). shared W (centres work₀ x (m - (t + 1)))) (sym idx);
               wrote = step-wrote;
               nodesLeft =
-                  ap (λ (x : ℕ). drop x N) four ∙ sym (drop-drop 4 (4 * t) N) ∙ ap (drop 4) node-words
+                  ap (λ (x : ℕ). drop x N) five ∙ sym (drop-drop 5 (5 * t) N) ∙ ap (drop 5) node-words
                   ∙ ap (λ (x : ℕ). sharedNodes (at + k) W (centres work₀ x (m - (t + 1)))) (sym idx);
               nodesWrote = step-nodes ys e;
             }

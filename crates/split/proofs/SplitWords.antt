@@ -1,14 +1,14 @@
 -- The groups of the words that the rounds leave are the runs of 01's `split`. Assumes nothing.
 use Prim.Native.Nat.{_*_, _+_, _-_, _≤_, ℕ}
-use Rattle.laws.specs.Lists.{each, keep}
+use Rattle.laws.specs.Lists.{each, keep, lowest}
 use Rattle.split.proofs.Closest.{held, nearness-closest}
 use Rattle.split.proofs.Held.{chosen, chosenWords, unchosen}
-use Rattle.split.proofs.Laid.{under, under-size, under-widest}
+use Rattle.split.proofs.Laid.{under, under-distances, under-size, under-widest}
 use Rattle.split.specs.Entries.{own}
-use Rattle.split.specs.Groups.{centres, group, groupNodes, groupWords, picked, shared, sharedNodes, size, waiting, widest}
+use Rattle.split.specs.Groups.{centres, distances, group, groupNodes, groupWords, narrowest, picked, shared, sharedNodes, size, waiting, widest}
 use Rattle.split.specs.Runs.{laid, runNodes}
 use Rattle.tree.proofs.Grow.{split-length}
-use Rattle.tree.specs.Build.{closest, nearness, radius, split}
+use Rattle.tree.specs.Build.{closest, innerReach, nearness, radius, split}
 use borrow.Author.Tests.{eqb-true}
 use lib.Dec.{eqb}
 use lib.ListN.{drop, getD, length, length-append, length-map, take}
@@ -61,8 +61,10 @@ module _ (d : ℕ → ℕ → ℕ) (zeroed : (i : ℕ) → d i i ≡ 0) (cs : Li
         let run : List ℕ = runOf d cs is a in
         let n : size (group a es) ≡ length run = ap size (group-laid a) ∙ under-size (d a) a run in
         let w : widest (group a es) ≡ radius d run = ap widest (group-laid a) ∙ under-widest (d a) a run in
-        ap₂ (λ (x y : ℕ). at ∷ x ∷ 0 ∷ y ∷ sharedNodes (at + x) es bs) n w
-        ∙ ap (λ (l : List ℕ). at ∷ length run ∷ 0 ∷ radius d run ∷ l) (nodes-laid (at + length run) bs)
+        let i : narrowest (picked a es) ≡ innerReach d run =
+        ap (λ (x : List ℕ). lowest (distances x)) (picked-held a is) ∙ ap lowest (under-distances (d a) a (joining d cs a is)) in
+        ap₂ (λ (x y : ℕ). at ∷ x ∷ 0 ∷ y ∷ narrowest (picked a es) ∷ sharedNodes (at + x) es bs) n w
+        ∙ ap₂ (λ (z : ℕ) (l : List ℕ). at ∷ length run ∷ 0 ∷ radius d run ∷ z ∷ l) i (nodes-laid (at + length run) bs)
 
 -- three words a centre
 own-long : (cs : List ℕ) → length (each own cs) ≡ 3 * length cs

@@ -1,6 +1,6 @@
 -- A run's entries shared out among its centres: 01, The tree, groups and the children's runs. Assumes nothing.
 use Prim.Native.Nat.{_%_, _*_, _+_, _-_, _≤_, max, suc, zero, ℕ}
-use Rattle.laws.specs.Lists.{each}
+use Rattle.laws.specs.Lists.{each, lowest}
 use Rattle.limits.specs.Limits.{maxRows}
 use Rattle.split.specs.Entries.{own}
 use Rattle.split.specs.Places.{nodeAt}
@@ -39,14 +39,25 @@ widest (i ∷ []) = 0
 widest (i ∷ x ∷ []) = 0
 widest (i ∷ x ∷ a ∷ es) = max x (widest es)
 
+-- their distances
+unfoldable pub distances : List ℕ → List ℕ
+distances [] = []
+distances (i ∷ []) = []
+distances (i ∷ x ∷ []) = []
+distances (i ∷ x ∷ a ∷ es) = x ∷ distances es
+
+-- the least of their distances, 0 where there is none
+abbrev pub narrowest : List ℕ → ℕ
+narrowest es = lowest (distances es)
+
 -- the groups of the centres, one after the other
 abbrev pub shared : List ℕ → List ℕ → List ℕ
 shared es cs = each (λ a. group a es) cs
 
--- the words of these groups' nodes, from position `at` on, no children yet
+-- the words of these groups' nodes, from position `at` on, no children yet; a centre does not count for the inner reach of its group
 unfoldable pub sharedNodes : ℕ → List ℕ → List ℕ → List ℕ
 sharedNodes at es [] = []
-sharedNodes at es (a ∷ cs) = at ∷ size (group a es) ∷ 0 ∷ widest (group a es) ∷ sharedNodes (at + size (group a es)) es cs
+sharedNodes at es (a ∷ cs) = at ∷ size (group a es) ∷ 0 ∷ widest (group a es) ∷ narrowest (picked a es) ∷ sharedNodes (at + size (group a es)) es cs
 
 -- the rows of k entries from word p on
 unfoldable pub centres : List ℕ → ℕ → ℕ → List ℕ
@@ -61,11 +72,12 @@ pub record Picking (w : List ℕ) (lo hi a to : ℕ) : Type 0 where
   pub thirds : (hi - lo) % 3 ≡ 0
   pub room : to + 3 * size (picked a (stretch w lo hi)) ≤ length w
 
--- they stand there, counted, with the greatest of their distances
-pub record Picked (w : List ℕ) (lo hi a to : ℕ) (w′ : List ℕ) (count radius : ℕ) : Type 0 where
+-- they stand there, counted, with the greatest and the least of their distances
+pub record Picked (w : List ℕ) (lo hi a to : ℕ) (w′ : List ℕ) (count radius inner : ℕ) : Type 0 where
   pub words : w′ ≡ take to w ++ (picked a (stretch w lo hi) ++ drop (to + 3 * size (picked a (stretch w lo hi))) w)
   pub members : count ≡ size (picked a (stretch w lo hi))
   pub far : radius ≡ widest (picked a (stretch w lo hi))
+  pub near : inner ≡ narrowest (picked a (stretch w lo hi))
 
 -- the same for the whole group, its centre in front
 pub record Gatherable (w : List ℕ) (lo hi a to : ℕ) : Type 0 where
@@ -74,11 +86,12 @@ pub record Gatherable (w : List ℕ) (lo hi a to : ℕ) : Type 0 where
   pub thirds : (hi - lo) % 3 ≡ 0
   pub room : to + 3 * size (group a (stretch w lo hi)) ≤ length w
 
--- it stands there, counted, with the greatest of its distances
-pub record Gathered (w : List ℕ) (lo hi a to : ℕ) (w′ : List ℕ) (count radius : ℕ) : Type 0 where
+-- it stands there, counted, with the greatest of its distances, and the least of those that were picked
+pub record Gathered (w : List ℕ) (lo hi a to : ℕ) (w′ : List ℕ) (count radius inner : ℕ) : Type 0 where
   pub words : w′ ≡ take to w ++ (group a (stretch w lo hi) ++ drop (to + 3 * size (group a (stretch w lo hi))) w)
   pub members : count ≡ size (group a (stretch w lo hi))
   pub far : radius ≡ widest (group a (stretch w lo hi))
+  pub near : inner ≡ narrowest (picked a (stretch w lo hi))
 
 -- ---- all groups of the run of `count` positions from s on, whose m centres stand at its front
 -- the entries behind the centres

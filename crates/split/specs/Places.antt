@@ -1,11 +1,11 @@
--- Where a build writes the nodes: at the width of edition 1, whatever stood in the room before. Assumes nothing.
+-- Where a build grows the nodes: at the width of edition 2, whatever stood in the room before. Assumes nothing.
 use Prim.Native.Nat.{_*_, _+_, ℕ}
 use Rattle.words.specs.Words.{at, width}
 use mathlib.Core.List.{List}
 
 -- where node k's words stand
 abbrev pub nodeAt : ℕ → ℕ
-nodeAt k = 8 + width 1 * k
+nodeAt k = 8 + width 2 * k
 
 -- where its run starts
 abbrev pub start# : List ℕ → ℕ → ℕ

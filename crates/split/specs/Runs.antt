@@ -5,7 +5,7 @@ use Rattle.laws.specs.Lists.{each, head, times}
 use Rattle.limits.specs.Limits.{maxColumns, maxRows}
 use Rattle.measure.specs.Table.{between}
 use Rattle.split.specs.Groups.{stretch}
-use Rattle.tree.specs.Build.{radius, split}
+use Rattle.tree.specs.Build.{innerReach, radius, split}
 use Rattle.split.specs.Places.{nodeAt}
 use lib.ListN.{drop, length, take}
 use mathlib.Core.List.{List, [], _++_, _∷_}
@@ -18,7 +18,7 @@ laid d run = each (λ i. i ∷ d (head run) i ∷ head run ∷ []) run
 -- the words of the nodes of runs that follow each other from position `at` on, no children yet
 unfoldable pub runNodes : (ℕ → ℕ → ℕ) → ℕ → List (List ℕ) → List ℕ
 runNodes d at [] = []
-runNodes d at (r ∷ rs) = at ∷ length r ∷ 0 ∷ radius d r ∷ runNodes d (at + length r) rs
+runNodes d at (r ∷ rs) = at ∷ length r ∷ 0 ∷ radius d r ∷ innerReach d r ∷ runNodes d (at + length r) rs
 
 -- the rows of some entries
 unfoldable pub rows : List ℕ → List ℕ

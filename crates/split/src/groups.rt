@@ -1,5 +1,6 @@
 // Splitting a run: its centres are chosen, and its entries go to the second half of the workspace, group by group, and back.
 ghost use Prim.Native.Nat.{_*_, _+_, _≤_, max};
+ghost use Rattle.laws.specs.Lists.{lower};
 ghost use Rattle.split.specs.Groups.{Gatherable, Gathered, Picked, Picking, Sharable, Shared, stretch};
 ghost use Rattle.split.specs.Runs.{Splittable, Splitted};
 ghost use lib.ListN.{drop, length, take};
@@ -9,13 +10,14 @@ use crate::rounds::choose;
 use crate::rounds::put_entry;
 use words::places::HEADER;
 
-// How many words a node has as the build writes it: those of edition 1.
-pub const WIDTH: usize = 4;
+// How many words a node has while the tree grows: those of edition 2.
+pub const WIDTH: usize = 5;
 
-// A group: how many members, and the greatest distance to its centre.
+// A group: how many members, the greatest distance to its centre, and the least of a member other than the centre, 0 where there is none.
 pub struct Group {
     pub count: usize,
     pub radius: u32,
+    pub inner: u32,
 }
 
 // The greater of two distances.
@@ -25,13 +27,24 @@ pub fn greater(a: u32, b: u32) -> u32
     if a < b { b } else { a }
 }
 
+// The least of k distances: d is the last of them, and `low` the least of those before it.
+pub fn least_of(k: usize, low: u32, d: u32) -> u32
+    ensures { λ r. ⌜ r ≡ lower k low d ⌝ }
+{
+    if k <= 1 {
+        return d;
+    }
+    if d < low { d } else { low }
+}
+
 // Writes from word `to` on those of the entries from lo to hi whose centre is `centre`.
 fn pick(work: &mut [u32], lo: usize, hi: usize, centre: u32, to: usize) -> Group
     requires { ⌜ Picking (now work) lo hi centre to ⌝ }
-    ensures { λ r. ⌜ Picked (now (work .entry)) lo hi centre to (now (work .exit)) (r .count) (r .radius) ⌝ }
+    ensures { λ r. ⌜ Picked (now (work .entry)) lo hi centre to (now (work .exit)) (r .count) (r .radius) (r .inner) ⌝ }
 {
     let mut count: usize = 0;
     let mut radius: u32 = 0;
+    let mut inner: u32 = 0;
     let mut p = lo;
     while p < hi {
         let at = p;
@@ -43,21 +56,27 @@ fn pick(work: &mut [u32], lo: usize, hi: usize, centre: u32, to: usize) -> Group
             put_entry(&mut work[q..], row, least, centre);
             count += 1;
             radius = greater(radius, least);
+            inner = least_of(count, inner, least);
         }
     }
-    Group { count, radius }
+    Group {
+        count,
+        radius,
+        inner,
+    }
 }
 
 // Writes one centre's group from word `to` on: the centre, and those of the entries from lo to hi that are closest to it.
 fn gather(work: &mut [u32], lo: usize, hi: usize, centre: u32, to: usize) -> Group
     requires { ⌜ Gatherable (now work) lo hi centre to ⌝ }
-    ensures { λ r. ⌜ Gathered (now (work .entry)) lo hi centre to (now (work .exit)) (r .count) (r .radius) ⌝ }
+    ensures { λ r. ⌜ Gathered (now (work .entry)) lo hi centre to (now (work .exit)) (r .count) (r .radius) (r .inner) ⌝ }
 {
     put_entry(&mut work[to..], centre, 0, centre);
     let g = pick(work, lo, hi, centre, to + 3);
     Group {
         count: g.count + 1,
         radius: g.radius,
+        inner: g.inner,
     }
 }
 
@@ -74,14 +93,15 @@ fn copy_back(work: &mut [u32], lo: usize, hi: usize, over: usize)
 }
 
 // One node's words.
-pub fn put_node(part: &mut [u32], start: u32, count: u32, child: u32, radius: u32)
-    requires { ⌜ 4 ≤ length (now part) ⌝ }
-    ensures { λ _. ⌜ now (part .exit) ≡ start ∷ count ∷ child ∷ radius ∷ drop 4 (now (part .entry)) ⌝ }
+pub fn put_node(part: &mut [u32], start: u32, count: u32, child: u32, radius: u32, inner: u32)
+    requires { ⌜ 5 ≤ length (now part) ⌝ }
+    ensures { λ _. ⌜ now (part .exit) ≡ start ∷ count ∷ child ∷ radius ∷ inner ∷ drop 5 (now (part .entry)) ⌝ }
 {
     part[0] = start;
     part[1] = count;
     part[2] = child;
     part[3] = radius;
+    part[4] = inner;
 }
 
 // Shares out the run of `count` positions from s on, whose m centres are at its front: its children are the nodes from `made` on.
@@ -103,7 +123,14 @@ fn share(
         let first = work[3 * (s + t)];
         let g = gather(work, 3 * (s + m), 3 * (s + count), first, 3 * (n + at));
         let node = HEADER + WIDTH * (made + t);
-        put_node(&mut room[node..], at as u32, g.count as u32, 0, g.radius);
+        put_node(
+            &mut room[node..],
+            at as u32,
+            g.count as u32,
+            0,
+            g.radius,
+            g.inner,
+        );
         at += g.count;
         t += 1;
     }

@@ -7,7 +7,7 @@ use Rattle.laws.proofs.Ranges.{range-every, range-length}
 use Rattle.laws.proofs.Times.{every-same, range-times}
 use Rattle.laws.specs.Lists.{head, range, tally}
 use Rattle.limits.proofs.Ranges.{columns-are, shared}
-use Rattle.limits.specs.Limits.{columnsOk, maxDepth, maxDistance, maxRows, shareOk}
+use Rattle.limits.specs.Limits.{columnsOk, editionOk, maxDepth, maxDistance, maxRows, shareOk}
 use Rattle.measure.proofs.Metric.{between-most, metric}
 use Rattle.measure.specs.Space.{Space}
 use Rattle.measure.specs.Table.{between, rowsOf}
@@ -19,7 +19,6 @@ use Rattle.tree.proofs.Grown.{grown-sound}
 use Rattle.tree.specs.Check.{Accepted}
 use Rattle.tree.specs.Encode.{encode}
 use Rattle.tree.specs.Grove.{Grove, bare, entries, fork, rowsIn}
-use Rattle.words.specs.Words.{editionOk}
 use lib.Dec.{eqb, leb}
 use lib.ListN.{length, length-map}
 use mathlib.Core.Bool.{Bool, cond, false, true}

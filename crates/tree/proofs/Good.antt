@@ -5,7 +5,7 @@ use Rattle.laws.specs.Every.{Every}
 use Rattle.laws.proofs.Tests.{and-of, holds, is-true}
 use Rattle.laws.specs.Lists.{each, range, times}
 use Rattle.limits.proofs.Ranges.{shared, within-both}
-use Rattle.limits.specs.Limits.{columnsOk, maxDepth, maxDistance, maxRows, shareOk}
+use Rattle.limits.specs.Limits.{columnsOk, editionOk, maxDepth, maxDistance, maxRows, shareOk}
 use Rattle.tree.proofs.Encode.{Even, level-length, nodes-length}
 use Rattle.tree.proofs.Faultless.{no-fault}
 use Rattle.tree.proofs.Full.{Full}
@@ -20,7 +20,7 @@ use Rattle.tree.specs.Check.{Accepted, faults}
 use Rattle.tree.specs.Encode.{below, broods, encode, family, levelNodes, members, nodeWords, nodes, numbered, pairWords, span}
 use Rattle.tree.specs.Grove.{Grove, bare, entries, fork, leaf, rowsIn}
 use Rattle.words.specs.Shape.{shapeOk}
-use Rattle.words.specs.Words.{editionOk, headerOk, nodesOk, row#, width, wordsOf, wordsOk}
+use Rattle.words.specs.Words.{headerOk, nodesOk, row#, width, wordsOf, wordsOk}
 use lib.Dec.{T, leb, le→leb}
 use lib.ListN.{length, length-append}
 use mathlib.Core.Bool.{_&&_, true}

@@ -5,7 +5,7 @@ use Rattle.laws.proofs.Ranges.{every-at, range-length}
 use Rattle.laws.proofs.Tests.{and-l, and-of, and-r, holds, is-true}
 use Rattle.laws.specs.Every.{Every}
 use Rattle.laws.specs.Lists.{each, range}
-use Rattle.limits.specs.Limits.{columnsOk, maxRows, shareOk}
+use Rattle.limits.specs.Limits.{columnsOk, editionOk, maxRows, shareOk}
 use Rattle.measure.specs.Space.{Point}
 use Rattle.tree.proofs.Alike.{Alike, alike-accepted}
 use Rattle.tree.proofs.Encode.{Holds}
@@ -18,7 +18,7 @@ use Rattle.tree.specs.Encode.{Node, nodeWords, pairWords}
 use Rattle.tree.specs.Grove.{treeOf}
 use Rattle.tree.specs.Radius.{radiusHow}
 use Rattle.tree.specs.Widen.{widen, widened}
-use Rattle.words.specs.Words.{N#, at, c#, child#, count#, dist#, edition#, editionOk, headerOk, inner#, kept, kind#, l#, last#, m#, n#, nodesOk, radius#, row#, start#, wordsOf, wordsOk}
+use Rattle.words.specs.Words.{N#, at, c#, child#, count#, dist#, edition#, headerOk, inner#, kept, kind#, l#, last#, m#, n#, nodesOk, radius#, row#, start#, wordsOf, wordsOk}
 use lib.Dec.{T, eqb, leb, le→leb}
 use lib.ListN.{getD, length, length-append, length-map}
 use mathlib.Core.Bool.{Bool, _&&_, false, true}

@@ -1,11 +1,10 @@
 -- What the calls on a table say: 01, Numbers given back. Each lists its faults in order. Assumes nothing.
 use Prim.Native.Nat.{_*_, _+_, min, ℕ}
-use Rattle.limits.specs.Limits.{shareOk}
+use Rattle.limits.specs.Limits.{editionOk, shareOk}
 use Rattle.limits.specs.Said.{Said, columnsFault, fault, lengthFaults, said, tableFaults}
 use Rattle.measure.specs.Table.{between, rowsOf}
 use Rattle.tree.specs.Check.{faults}
 use Rattle.words.specs.Calls.{indexFaults}
-use Rattle.words.specs.Words.{editionOk}
 use lib.Dec.{eqb, ltb}
 use lib.ListN.{length}
 use mathlib.Core.Bool.{_&&_, _||_, not}

@@ -1,8 +1,8 @@
 -- The header test, word by word: any one bad word makes it impossible. Assumes nothing.
 use Prim.Native.Nat.{_*_, _+_, _-_, _<_, _≤_, suc, zero, ℕ}
 use Rattle.limits.proofs.Ranges.{within-both}
-use Rattle.limits.specs.Limits.{columnsOk, maxRows, shareOk, within}
-use Rattle.words.specs.Words.{N#, c#, edition#, editionOk, headerOk, kind#, l#, last#, m#, n#, nodesOk, width, wordsOf, wordsOk}
+use Rattle.limits.specs.Limits.{columnsOk, editionOk, maxRows, shareOk, within}
+use Rattle.words.specs.Words.{N#, c#, edition#, headerOk, kind#, l#, last#, m#, n#, nodesOk, width, wordsOf, wordsOk}
 use borrow.Author.Tests.{eq-eqb, le-leb, lt-leb, ne-eqb}
 use lib.Dec.{T, eqb, leb}
 use lib.ListN.{length}

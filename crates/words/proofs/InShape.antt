@@ -3,14 +3,14 @@ use Prim.Native.Nat.{_*_, _+_, _-_, _<_, _≤_, suc, zero, ℕ}
 use Rattle.laws.proofs.Tests.{and-l, and-r, holds, is-true}
 use Rattle.laws.specs.Lists.{all, range}
 use Rattle.limits.proofs.Ranges.{columns-are, shared, within-both}
-use Rattle.limits.specs.Limits.{columnsOk, maxDepth, maxRows, shareOk}
+use Rattle.limits.specs.Limits.{columnsOk, editionOk, maxDepth, maxRows, shareOk}
 use Rattle.words.proofs.Levels.{born-le}
 use Rattle.words.proofs.Nodes.{closed, node-at, not-orphan, room-for, root-ok, root-some}
 use Rattle.words.proofs.Positions.{position-is}
 use Rattle.words.proofs.Tiles.{tile-first, tile-part}
 use Rattle.words.specs.InShape.{InShape, Kids, Left, Node, Place, Whole}
 use Rattle.words.specs.Shape.{born, inner, level, positionOk, rootFits, shapeOk, treeFits}
-use Rattle.words.specs.Words.{N#, c#, child#, count#, edition#, editionOk, headerOk, kind#, l#, last#, m#, n#, nodesOk, start#, wordsOf, wordsOk}
+use Rattle.words.specs.Words.{N#, c#, child#, count#, edition#, headerOk, kind#, l#, last#, m#, n#, nodesOk, start#, wordsOf, wordsOk}
 use lib.Dec.{T, eqb, eqb→eq, leb, leb→le}
 use lib.ListN.{length}
 use mathlib.Core.Bool.{Bool, _&&_, cond, false, true}

@@ -28,7 +28,7 @@ module _ (w : List ℕ) (k : ℕ) where
   inner-some e = rw (eq-eqb (edition# w) 2 e)
 
 -- the room's product, taken apart
-spread : (e n : ℕ) → width e * (2 * n) + 2 * n ≡ (8 + 2 * e) * n
+pub spread : (e n : ℕ) → width e * (2 * n) + 2 * n ≡ (8 + 2 * e) * n
 spread e n = rw (add-mul 3 e (2 * n), add-mul 8 (2 * e) n, mul-assoc 2 e n, mul-left-comm e 2 n) (omega arith)
 
 module _ (w : List ℕ) (W : Whole w) where

@@ -1,7 +1,7 @@
 -- The index words: 01, The tree, Index words. Assumes nothing.
 use Prim.Native.Nat.{_*_, _+_, _-_, suc, zero, ℕ}
 use Rattle.laws.specs.Lists.{range}
-use Rattle.limits.specs.Limits.{columnsOk, maxRows, shareOk, within}
+use Rattle.limits.specs.Limits.{columnsOk, editionOk, maxRows, shareOk, within}
 use lib.Dec.{eqb, leb}
 use lib.ListN.{getD, length}
 use mathlib.Core.Bool.{Bool, _&&_, cond}
@@ -48,10 +48,6 @@ last# w = at w 7
 abbrev pub nodesOk : ℕ → ℕ → Bool
 nodesOk zero N = eqb N 0
 nodesOk (suc n) N = within 1 (2 * suc n - 1) N
-
--- the two editions; edition 2 has the inner reach (02, R-4)
-abbrev pub editionOk : ℕ → Bool
-editionOk e = within 1 2 e
 
 -- the header is not impossible
 unfoldable pub headerOk : List ℕ → Bool

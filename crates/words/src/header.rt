@@ -8,6 +8,7 @@ use crate::places::HEADER;
 use crate::places::word;
 use limits::Params;
 use limits::columns_ok;
+use limits::edition_ok;
 use limits::is_within;
 use limits::share_ok;
 
@@ -27,7 +28,7 @@ pub fn header_ok(index: &[u32]) -> bool
     requires { ⌜ 8 ≤ length (now index) ⌝ }
     ensures { λ r. ⌜ r ≡ headerOk (now (index .entry)) ⌝ }
 {
-    if !is_within(1, 2, word(index, 0)) {
+    if !edition_ok(word(index, 0)) {
         return false;
     }
     let n = word(index, 1);

@@ -1,19 +1,20 @@
--- `build::lay` meets its contract: i rows are laid, and the radius is the greatest distance so far (`Laying`).
+-- `build::lay` meets its contract: i rows are laid, with the greatest and the least distance so far (`Laying`).
 -- Assumes nothing.
 use Prim.Native.Nat.{_-_}
 use Rattle.build.proofs.Laying.{Laying, laying-done, laying-start, laying-step}
 use Rattle.build.proofs.lay.Statement.{statement}
 use Rattle.build.proofs.lay.Tie as tie
+use Rattle.measure.proofs.Metric.{metric}
 use Rattle.measure.proofs.Rows.{row-ends}
 use Rattle.measure.specs.Table.{between}
 use borrow.Author.Needs.{needs}
 use native.Mathlib.Omega.{arith}
 
 abbrev Inv-loop : tie.InvT-loop
-Inv-loop table c n work₀ radius₀ i₀ work radius i = Laying (between table c) n work₀ work radius i
+Inv-loop table c n work₀ radius₀ inner₀ i₀ work radius inner i = Laying (between table c) n work₀ work radius inner i
 
 abbrev μ-loop : tie.MeasureT-loop
-μ-loop table c n work₀ radius₀ i₀ work radius i = n - i
+μ-loop table c n work₀ radius₀ inner₀ i₀ work radius inner i = n - i
 
 loop-holds : tie.Need-loop-holds Inv-loop μ-loop
 loop-holds c =
@@ -30,6 +31,9 @@ row-distance-requires c κs =
 
 greater-requires : tie.Need-greater-requires Inv-loop μ-loop
 greater-requires c κs = search needs
+
+least-of-requires : tie.Need-least-of-requires Inv-loop μ-loop
+least-of-requires c κs = search needs
 
 mul-at : tie.Need-mul-at Inv-loop μ-loop
 mul-at c = search needs
@@ -61,8 +65,12 @@ loop-less c = search needs
 loop-again : tie.Need-loop-again Inv-loop μ-loop
 loop-again c =
     let e = c .before .before in
-    let g = e .before .before in
-    laying-step (g .before .before .before .loop .inv) (search needs) (search needs) (g .before .row-distance .ensures .0) (g .greater .ensures)
+    let b = e .before .before in
+    let g = b .before in
+    let s = g .before .before .before in
+    let a = s .before .before .before .args in
+    laying-step (s .loop .inv) (metric (a .table .now) (a .c) .self 0) (search needs) (search needs) (g .before .row-distance .ensures .0)
+    (g .greater .ensures) (b .least-of .ensures)
     (e .put-entry .ensures) (search needs)
 
 same-length : tie.Need-same-length Inv-loop μ-loop
@@ -80,6 +88,7 @@ lay-spec =
     loop-holds
     row-distance-requires
     greater-requires
+    least-of-requires
     mul-at
     mul-put-entry
     sub-put-entry

@@ -9,10 +9,10 @@ use lib.ListN.{length, length-drop, length-take}
 use native.Mathlib.Omega.{arith}
 
 abbrev Inv-loop : tie.InvT-loop
-Inv-loop work₀ lo hi centre to count₀ radius₀ p₀ work count radius p = Picks work₀ lo hi centre to work count radius p
+Inv-loop work₀ lo hi centre to count₀ radius₀ inner₀ p₀ work count radius inner p = Picks work₀ lo hi centre to work count radius inner p
 
 abbrev μ-loop : tie.MeasureT-loop
-μ-loop work₀ lo hi centre to count₀ radius₀ p₀ work count radius p = hi - p
+μ-loop work₀ lo hi centre to count₀ radius₀ inner₀ p₀ work count radius inner p = hi - p
 
 -- the turn of the loop, seen from where an entry is taken
 abbrev turn : tie.Then1 Inv-loop μ-loop → tie.At-loop Inv-loop μ-loop
@@ -95,14 +95,18 @@ add-count c =
 greater-requires : tie.Need-greater-requires Inv-loop μ-loop
 greater-requires c κs = search needs
 
+least-of-requires : tie.Need-least-of-requires Inv-loop μ-loop
+least-of-requires c κs = search needs
+
 loop-less : tie.Need-loop-less Inv-loop μ-loop
 loop-less c = search needs
 
 loop-again : tie.Need-loop-again Inv-loop μ-loop
 loop-again c =
-    let e = c .before .before .before in
+    let g = c .before in
+    let e = g .before .before .before in
     let s = turn (e .before .before .before .before) in
-    rw (c .greater .ensures) (picks-take (s .loop .inv) _ (search needs) (search needs) (e .put-entry .ensures))
+    rw (g .greater .ensures, c .least-of .ensures) (picks-take (s .loop .inv) _ (search needs) (search needs) (e .put-entry .ensures))
 
 loop-less-2 : tie.Need-loop-less-2 Inv-loop μ-loop
 loop-less-2 c = search needs
@@ -142,6 +146,7 @@ pick-spec =
     put-entry-requires
     add-count
     greater-requires
+    least-of-requires
     loop-less
     loop-again
     loop-less-2

@@ -1,6 +1,6 @@
--- `split::groups::put_node` meets its contract: four stores at the front.
+-- `split::groups::put_node` meets its contract: five stores at the front.
 -- Assumes nothing.
-use Rattle.laws.proofs.Parts.{four-sets}
+use Rattle.laws.proofs.Parts.{five-sets}
 use Rattle.split.proofs.groups.put_node.Statement.{statement}
 use Rattle.split.proofs.groups.put_node.Tie as tie
 use borrow.Author.Needs.{needs}
@@ -17,13 +17,16 @@ slice-write-part-3 : tie.Need-slice-write-part-3
 slice-write-part-3 c = simp length-set (omega arith)
 
 slice-write-part-4 : tie.Need-slice-write-part-4
-slice-write-part-4 c = search needs
+slice-write-part-4 c = simp length-set (omega arith)
+
+slice-write-part-5 : tie.Need-slice-write-part-5
+slice-write-part-5 c = search needs
 
 same-length : tie.Need-same-length
 same-length c = search needs
 
 returns : tie.Need-returns
-returns c = four-sets (c .args .part .now) _ _ _ _ (c .pre)
+returns c = five-sets (c .args .part .now) _ _ _ _ _ (c .pre)
 
 pub put-node-spec : {M : Type 1} → statement M
 put-node-spec =
@@ -33,5 +36,6 @@ put-node-spec =
     slice-write-part-2
     slice-write-part-3
     slice-write-part-4
+    slice-write-part-5
     same-length
     returns)

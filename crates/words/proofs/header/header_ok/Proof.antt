@@ -1,11 +1,11 @@
 -- `words::header::header_ok` meets its contract: each return is one bad word, and the last has all the others good.
 -- Assumes nothing.
 use Rattle.laws.proofs.Tests.{no, no-at, yes, yes-at}
-use Rattle.limits.specs.Limits.{columnsOk, shareOk}
+use Rattle.limits.specs.Limits.{columnsOk, editionOk, shareOk}
 use Rattle.words.proofs.Headers.{bad-columns, bad-edition, bad-kind, bad-nodes, bad-rows, bad-share, good-header}
 use Rattle.words.proofs.header.header_ok.Statement.{statement}
 use Rattle.words.proofs.header.header_ok.Tie as tie
-use Rattle.words.specs.Words.{editionOk, nodesOk}
+use Rattle.words.specs.Words.{nodesOk}
 use borrow.Author.Needs.{needs}
 use mathlib.Core.Path.{_∙_, ap, sym}
 use native.Mathlib.Omega.{arith}
@@ -14,10 +14,10 @@ word-requires : tie.Need-word-requires
 word-requires c κs = search needs
 
 returns : tie.Need-returns
-returns c = bad-edition _ (no (c .before .is-within .ensures ∙ ap editionOk (c .before .before .word .ensures .0)) (c .if1 .taken))
+returns c = bad-edition _ (no (c .before .edition-ok .ensures ∙ ap editionOk (c .before .before .word .ensures .0)) (c .if1 .taken))
 
-is-within-requires : tie.Need-is-within-requires
-is-within-requires c κs = search needs
+edition-ok-requires : tie.Need-edition-ok-requires
+edition-ok-requires c κs = search needs
 
 word-requires-2 : tie.Need-word-requires-2
 word-requires-2 c κs = search needs
@@ -78,7 +78,7 @@ returns-7 c =
     let at1 = at2 .before .before in
     let n = at2 .before .word2 .ensures .0 in
     rw (c .word8 .ensures .0)
-    (good-header _ (yes (at1 .before .is-within .ensures ∙ ap editionOk (at1 .before .before .word .ensures .0)) (at1 .if1 .left)) (omega (arith, n, at2 .if2 .left))
+    (good-header _ (yes (at1 .before .edition-ok .ensures ∙ ap editionOk (at1 .before .before .word .ensures .0)) (at1 .if1 .left)) (omega (arith, n, at2 .if2 .left))
     (yes (at3 .before .columns-ok .ensures ∙ ap columnsOk (at3 .before .before .word3 .ensures .0)) (at3 .if3 .left))
     (yes-at shareOk (at4 .before .share-ok .ensures) (at4 .before .before .before .word4 .ensures .0) (at4 .before .before .word5 .ensures .0)
     (at4 .if4 .left))
@@ -90,7 +90,7 @@ header-ok-spec =
     tie.close
     (tie.spec
     word-requires
-    is-within-requires
+    edition-ok-requires
     returns
     word-requires-2
     returns-2
