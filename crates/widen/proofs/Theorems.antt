@@ -80,8 +80,8 @@ module _ {T : List ℕ} {c : ℕ} {w room room′ : List ℕ} {number words : �
     widen-call-accepted A = subst (Accepted (between T c)) (sym widen-there) (widen-accepted (between T c) w A)
 
     -- WIDEN-CALL-BUILD: OF A BUILD IN EDITION 1 IT IS THE BUILD IN EDITION 2, over a table of 16-bit numbers
-    pub widen-call-build : {m l : ℕ} → w ≡ build T c 1 m l → shareOk m l ≡ true → Every (λ v. v ≤ 65535) T → take words room′ ≡ build T c 2 m l
-    widen-call-build {m} {l} e s small =
+    pub widen-call-build : (m l : ℕ) → w ≡ build T c 1 m l → shareOk m l ≡ true → Every (λ v. v ≤ 65535) T → take words room′ ≡ build T c 2 m l
+    widen-call-build m l e s small =
         let S = widen-exact .0 z .table in
         widen-there ∙ ap (widen (between T c)) e ∙ widen-build T c m l (sized-columns (length T) c S) s (S .rows) small
 
