@@ -4,7 +4,7 @@ use Rattle.tree.specs.Check.{inRun}
 use Rattle.words.specs.InShape.{InShape}
 use Rattle.words.specs.Shape.{inner}
 use Rattle.words.specs.Words.{N#, child#, count#, m#, start#}
-use borrow.Author.Tests.{le-leb, le-ltb, lt-leb, lt-ltb, ne-eqb}
+use borrow.Author.Tests.{le-ltb, lt-leb, ne-eqb}
 use lib.Dec.{eqb, leb}
 use mathlib.Core.Bool.{and-false, false, not, true}
 use mathlib.Core.List.{List}

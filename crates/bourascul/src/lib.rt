@@ -252,12 +252,7 @@ pub struct Widened {
 }
 
 #[no_mangle]
-pub extern "C" fn bourascul_widen(
-    table: &[u16],
-    c: u32,
-    index: &[u32],
-    room: &mut [u32],
-) -> Widened
+pub extern "C" fn bourascul_widen(table: &[u16], c: u32, index: &[u32], room: &mut [u32]) -> Widened
     ensures { λ r. ⌜ Widens (now (table .entry)) c (now (index .entry)) (now (room .entry)) (now (room .exit)) (r .number) (r .words) ⌝ }
 {
     let widened = widen::widen(table, c as usize, index, room);

@@ -1,17 +1,16 @@
 -- Why a widening is refused: one law for each return of the code, and what holds where nothing is refused. Assumes nothing.
 use Prim.Native.Nat.{_*_, _+_, _<_, _≤_, ℕ}
-use Rattle.laws.proofs.Tests.{and-l, and-r, holds, is-true}
+use Rattle.laws.proofs.Tests.{and-r, holds}
 use Rattle.limits.proofs.Faults.{fault-first, fault-next, fault-none, numberOf, says-first, says-next, says-none}
 use Rattle.limits.proofs.Sized.{Sized, sized, sized-none, table-numbered}
 use Rattle.limits.specs.Said.{Said, fault, said, tableFaults}
 use Rattle.measure.specs.Table.{rowsOf}
 use Rattle.reach.specs.Runs.{Paired}
-use Rattle.tree.specs.Calls.{roomOf}
 use Rattle.widen.specs.Calls.{oldFaults, saidWiden}
 use Rattle.words.proofs.Index.{index-tests, none-wrong, over}
 use Rattle.words.specs.Calls.{indexFaults}
 use Rattle.words.specs.Shape.{shapeOk}
-use Rattle.words.specs.Words.{c#, edition#, headerOk, n#, wordsOf, wordsOk}
+use Rattle.words.specs.Words.{c#, edition#, n#, wordsOk}
 use borrow.Author.Tests.{eq-eqb, le-ltb, lt-leb, lt-ltb, ltb-false, ne-eqb, not-false}
 use lib.Dec.{eqb, eqb→eq, leb, ltb}
 use lib.ListN.{length}

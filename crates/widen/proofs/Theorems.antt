@@ -16,8 +16,8 @@ use Rattle.tree.specs.Radius.{radiusHow}
 use Rattle.tree.specs.Widen.{widen}
 use Rattle.widen.proofs.Refusals.{Clear, clear, clear-none}
 use Rattle.widen.proofs.Writing.{widen-long}
-use Rattle.widen.specs.Calls.{Widens, saidWiden}
-use Rattle.words.specs.Words.{N#, c#, n#}
+use Rattle.widen.specs.Calls.{Widens}
+use Rattle.words.specs.Words.{c#, n#}
 use borrow.Author.Tests.{eq-eqb, eqb-false, eqb-true, ne-eqb}
 use lib.Dec.{eqb}
 use lib.ListN.{drop, getD, length, take}

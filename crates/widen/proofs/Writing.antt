@@ -1,6 +1,6 @@
 -- The widened words written one node and one position at a time. They are those of any index w, and the numbers that are written are told by
 -- equations: where w was read from does not matter. Assumes nothing.
-use Prim.Native.Nat.{_*_, _+_, _-_, _<_, _≤_, ℕ}
+use Prim.Native.Nat.{_*_, _+_, _-_, _≤_, ℕ}
 use Rattle.laws.proofs.Joins.{each-append}
 use Rattle.laws.proofs.Lists.{map-append}
 use Rattle.laws.proofs.Parts.{put-more, store-more}
@@ -12,7 +12,7 @@ use Rattle.tree.proofs.Written.{each-words}
 use Rattle.tree.specs.Check.{nearest#}
 use Rattle.tree.specs.Encode.{nodeWords, pairWords}
 use Rattle.tree.specs.Widen.{widen, widened}
-use Rattle.widen.specs.Parts.{Filled, nodesTo, pairsTo, topOf}
+use Rattle.widen.specs.Parts.{Filled, nodesTo, pairsTo, topOf, withNodes, withPairs}
 use Rattle.words.specs.Words.{N#, child#, count#, dist#, n#, radius#, row#, start#}
 use borrow.Rule.Slice.PartMut.{midOf, putMid}
 use lib.ListN.{drop, length, length-append, length-map, set}
@@ -76,7 +76,7 @@ module _ (d : ℕ → ℕ → ℕ) (w : List ℕ) where
       }
 
   -- all N nodes
-  pub noded-done : {part₀ part : List ℕ} {k : ℕ} → Noded part₀ part k → k ≡ N# w → part ≡ nodesTo d w (N# w) ++ drop (5 * N# w) part₀
+  pub noded-done : {part₀ part : List ℕ} {k : ℕ} → Noded part₀ part k → k ≡ N# w → part ≡ withNodes d w part₀
   noded-done {part₀} N e = N .words ∙ ap (λ (k : ℕ). nodesTo d w k ++ drop (5 * k) part₀) e
 
 -- ---- the positions
@@ -126,7 +126,7 @@ module _ (w : List ℕ) where
       record { words = two ∙ ap₂ (λ (l : List ℕ) (j : ℕ). l ++ drop j part₀) front up; same = long ∙ P .same }
 
   -- all n positions
-  pub placed-done : {part₀ part : List ℕ} {p : ℕ} → Placed part₀ part p → p ≡ n# w → part ≡ pairsTo w (n# w) ++ drop (2 * n# w) part₀
+  pub placed-done : {part₀ part : List ℕ} {p : ℕ} → Placed part₀ part p → p ≡ n# w → part ≡ withPairs w part₀
   placed-done {part₀} P e = P .words ∙ ap (λ (p : ℕ). pairsTo w p ++ drop (2 * p) part₀) e
 
 -- ---- the whole
@@ -144,9 +144,9 @@ module _ (d : ℕ → ℕ → ℕ) (w : List ℕ) where
   -- the header stands in the room, behind it come the nodes from word a on, and behind these the positions from word b on
   pub filled : {room room₁ room₂ room₃ ns ps : List ℕ} {a b long : ℕ} → 8 + 5 * N# w + 2 * n# w ≤ length room
       → room₁ ≡ topOf w ++ drop 8 room → a ≡ 8
-      → ns ≡ nodesTo d w (N# w) ++ drop (5 * N# w) (midOf a (length room₁ - a) room₁) → room₂ ≡ putMid a (length room₁ - a) room₁ ns
+      → ns ≡ withNodes d w (midOf a (length room₁ - a) room₁) → room₂ ≡ putMid a (length room₁ - a) room₁ ns
       → b ≡ 8 + 5 * N# w
-      → ps ≡ pairsTo w (n# w) ++ drop (2 * n# w) (midOf b (length room₂ - b) room₂) → room₃ ≡ putMid b (length room₂ - b) room₂ ps
+      → ps ≡ withPairs w (midOf b (length room₂ - b) room₂) → room₃ ≡ putMid b (length room₂ - b) room₂ ps
       → length room₁ ≡ length room → length room₂ ≡ length room → long ≡ 8 + 5 * N# w + 2 * n# w → Filled d w room room₃ long
   filled {room} {room₁} {room₂} {room₃} {ns} {ps} {a} {b} fits e₁ ea en e₂ eb ep e₃ l₁ l₂ long =
       let A : List ℕ = topOf w ++ nodesTo d w (N# w) in

@@ -1,5 +1,5 @@
 -- What the call promises: 02, R-4. Assumes nothing.
-use Prim.Native.Nat.{_≤_, ℕ}
+use Prim.Native.Nat.{ℕ}
 use Rattle.limits.specs.Said.{Said, fault, said, tableFaults}
 use Rattle.measure.specs.Table.{between, rowsOf}
 use Rattle.tree.specs.Calls.{roomOf}

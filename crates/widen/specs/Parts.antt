@@ -1,5 +1,5 @@
 -- The widened words, part by part, as far as they are written. Over the distance d between rows. Assumes nothing.
-use Prim.Native.Nat.{ℕ}
+use Prim.Native.Nat.{_*_, ℕ}
 use Rattle.laws.specs.Lists.{each, range}
 use Rattle.tree.specs.Encode.{nodeWords, pairWords}
 use Rattle.tree.specs.Widen.{widen, widened}
@@ -19,6 +19,14 @@ nodesTo d w k = each (nodeWords 2) (map (widened d w) (range 0 k))
 -- the words of the first p positions
 unfoldable pub pairsTo : List ℕ → ℕ → List ℕ
 pairsTo w p = each pairWords (map (λ q. (row# w q, dist# w q)) (range 0 p))
+
+-- a part with all nodes' words, widened, at its front
+abbrev pub withNodes : (ℕ → ℕ → ℕ) → List ℕ → List ℕ → List ℕ
+withNodes d w part = nodesTo d w (N# w) ++ drop (5 * N# w) part
+
+-- and one with all positions' words
+abbrev pub withPairs : List ℕ → List ℕ → List ℕ
+withPairs w part = pairsTo w (n# w) ++ drop (2 * n# w) part
 
 -- the widened index stands at the front of the room, the rest is as it was, and `long` is how many words it has
 pub record Filled (d : ℕ → ℕ → ℕ) (w room room′ : List ℕ) (long : ℕ) : Type 0 where

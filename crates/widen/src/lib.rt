@@ -4,7 +4,7 @@ ghost use Rattle.limits.specs.Said.{said};
 ghost use Rattle.measure.specs.Table.{between};
 ghost use Rattle.reach.specs.Runs.{Paired};
 ghost use Rattle.widen.specs.Calls.{Widens, oldFaults, saidWiden};
-ghost use Rattle.widen.specs.Parts.{Filled, nodesTo, pairsTo, topOf};
+ghost use Rattle.widen.specs.Parts.{Filled, topOf, withNodes, withPairs};
 ghost use Rattle.words.specs.InShape.{InShape};
 ghost use Rattle.words.specs.Words.{N#, n#};
 ghost use lib.ListN.{drop, length};
@@ -66,7 +66,7 @@ fn put_wide(part: &mut [u32], start: u32, count: u32, child: u32, radius: u32, i
 fn put_nodes(table: &[u16], c: usize, index: &[u32], part: &mut [u32])
     requires { ⌜ Paired (now table) c (now index) ⌝ }
     requires { ⌜ 5 * N# (now index) ≤ length (now part) ⌝ }
-    ensures { λ _. ⌜ now (part .exit) ≡ nodesTo (between (now (table .entry)) c) (now (index .entry)) (N# (now (index .entry))) ++ drop (5 * N# (now (index .entry))) (now (part .entry)) ⌝ }
+    ensures { λ _. ⌜ now (part .exit) ≡ withNodes (between (now (table .entry)) c) (now (index .entry)) (now (part .entry)) ⌝ }
 {
     let total = nodes(index);
     let mut k = 0;
@@ -86,7 +86,7 @@ fn put_nodes(table: &[u16], c: usize, index: &[u32], part: &mut [u32])
 fn put_pairs(index: &[u32], part: &mut [u32])
     requires { ⌜ InShape (now index) ⌝ }
     requires { ⌜ 2 * n# (now index) ≤ length (now part) ⌝ }
-    ensures { λ _. ⌜ now (part .exit) ≡ pairsTo (now (index .entry)) (n# (now (index .entry))) ++ drop (2 * n# (now (index .entry))) (now (part .entry)) ⌝ }
+    ensures { λ _. ⌜ now (part .exit) ≡ withPairs (now (index .entry)) (now (part .entry)) ⌝ }
 {
     let n = rows(index);
     let mut p = 0;
