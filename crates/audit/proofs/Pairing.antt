@@ -1,31 +1,15 @@
--- A table and an index in shape over its rows: what the passes use of them. Assumes nothing.
-use Prim.Native.Nat.{_*_, _+_, _<_, _≤_, ℕ}
-use Rattle.audit.specs.Refusals.{Paired}
-use Rattle.limits.specs.Limits.{maxColumns}
-use Rattle.measure.proofs.Rows.{row-ends}
-use Rattle.measure.specs.Table.{rowsOf}
+-- An index in shape: what the passes use of its nodes. Assumes nothing.
+use Prim.Native.Nat.{_+_, _<_, _≤_, ℕ}
 use Rattle.tree.specs.Check.{inRun}
 use Rattle.words.specs.InShape.{InShape}
 use Rattle.words.specs.Shape.{inner}
-use Rattle.words.specs.Words.{N#, child#, count#, m#, n#, start#}
-use borrow.Author.Tests.{le-leb, le-ltb, lt-leb, lt-ltb, ne-eqb}
+use Rattle.words.specs.Words.{N#, child#, count#, m#, start#}
+use borrow.Author.Tests.{le-ltb, lt-leb, ne-eqb}
 use lib.Dec.{eqb, leb}
-use lib.ListN.{length}
 use mathlib.Core.Bool.{and-false, false, not, true}
 use mathlib.Core.List.{List}
 use mathlib.Core.Path.{_∙_, _≡_, ap, sym}
-use native.Mathlib.Nat.{le-trans, mul-div-le}
 use native.Mathlib.Omega.{arith}
-
--- ---- the table
-module _ (T : List ℕ) (c : ℕ) (w : List ℕ) (P : Paired T c w) where
-  -- the table has no more columns than there may be: the header says as many
-  pub columns-low : c ≤ maxColumns
-  columns-low = omega (arith, P .columns, P .shape .whole .columns .1)
-
-  -- a row below n lies in the table
-  pub in-table : (i : ℕ) → i < n# w → c * i + c ≤ length T
-  in-table i h = le-trans (row-ends c (rowsOf T c) i (omega (arith, P .rows))) (mul-div-le (length T) c)
 
 -- ---- a node's kind, by its third word, read as r
 -- one that is not 0 is a child's number: the node is inner

@@ -1,12 +1,13 @@
 -- Why a check is refused before its passes: one law for each return of the code, and what holds where nothing is refused. Assumes nothing.
 use Prim.Native.Nat.{_*_, _<_, _≤_, ℕ}
-use Rattle.audit.specs.Refusals.{Paired, refusals}
+use Rattle.audit.specs.Refusals.{refusals}
 use Rattle.laws.proofs.Every.{every-append}
 use Rattle.laws.specs.Every.{Every}
 use Rattle.limits.proofs.Faults.{Early, Numbered, early-numbered, fault-early, fault-first, fault-next, fault-none, numberOf, says-first, says-next, says-none}
 use Rattle.limits.proofs.Sized.{Sized, sized, sized-none, table-early, table-numbered}
 use Rattle.limits.specs.Said.{Said, fault, said, tableFaults}
 use Rattle.measure.specs.Table.{rowsOf}
+use Rattle.reach.specs.Runs.{Paired}
 use Rattle.words.proofs.Index.{index-early, index-tests, none-wrong, over}
 use Rattle.words.specs.Calls.{indexFaults}
 use Rattle.words.specs.Shape.{shapeOk}

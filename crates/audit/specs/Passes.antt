@@ -2,7 +2,7 @@
 use Prim.Native.Nat.{_+_, ℕ}
 use Rattle.audit.specs.declared.Checked.{Checked}
 use Rattle.laws.specs.First.{First}
-use Rattle.laws.specs.Lists.{any, each, greatest, keep, range}
+use Rattle.laws.specs.Lists.{any, each, keep, range}
 use Rattle.limits.specs.Said.{Said}
 use Rattle.tree.specs.Check.{inRun, strays, wrongDist, wrongReach}
 use Rattle.words.specs.Shape.{inner}
@@ -23,10 +23,6 @@ module _ (d : ℕ → ℕ → ℕ) (w : List ℕ) where
   -- 11, of one node: it is a leaf with position p, whose stored distance is wrong
   unfoldable pub leafWrong : ℕ → ℕ → Bool
   leafWrong k p = not (inner w k) && inRun w p k && not (eqb (dist# w p) (d (first# w k) (row# w p)))
-
-  -- 12, of one node: how far its members reach from its first
-  abbrev pub reachOf : ℕ → ℕ
-  reachOf k = greatest (map (λ p. d (first# w k) (row# w p)) (run# w k))
 
   -- 13, of one centre: the row at p is closer than x to the first of node i
   abbrev pub closer : ℕ → ℕ → ℕ → Bool

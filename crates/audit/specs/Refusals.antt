@@ -1,9 +1,8 @@
--- What comes before the passes: the refusals 1 to 9, and what holds past them. Assumes nothing.
+-- What comes before the passes: the refusals 1 to 9. Assumes nothing.
 use Prim.Native.Nat.{_*_, ℕ}
 use Rattle.limits.specs.Said.{Said, fault, tableFaults}
 use Rattle.measure.specs.Table.{rowsOf}
 use Rattle.words.specs.Calls.{indexFaults}
-use Rattle.words.specs.InShape.{Over}
 use lib.Dec.{ltb}
 use lib.ListN.{length}
 use mathlib.Core.List.{List, _++_}
@@ -11,7 +10,3 @@ use mathlib.Core.List.{List, _++_}
 -- 01, Numbers given back, 1 to 9 of a check; `room` is the number of workspace words lent
 unfoldable pub refusals : List ℕ → ℕ → List ℕ → ℕ → List Said
 refusals T c w room = tableFaults (length T) c ++ fault 5 (ltb room (6 * rowsOf T c)) ++ indexFaults w (rowsOf T c) c
-
--- the index is in shape and the table's
-abbrev pub Paired : List ℕ → ℕ → List ℕ → Type 0
-Paired T c w = Over w (rowsOf T c) c

@@ -1,14 +1,14 @@
 // 11: a stored distance is wrong. Leaves come in the order of nodes, which is not that of their positions, so that the least of all is taken.
 ghost use Prim.Native.Nat.{_<_};
 ghost use Rattle.audit.specs.Passes.{leafWrong};
-ghost use Rattle.audit.specs.Refusals.{Paired};
 ghost use Rattle.laws.specs.First.{First};
 ghost use Rattle.measure.specs.Table.{between};
+ghost use Rattle.reach.specs.Runs.{Paired};
 ghost use Rattle.tree.specs.Check.{wrongDist};
 ghost use Rattle.words.specs.Words.{N#, n#};
-use crate::runs::apart;
-use crate::runs::lesser;
-use crate::runs::node_end;
+use crate::lesser;
+use reach::apart;
+use reach::node_end;
 use words::places::node_child;
 use words::places::node_first;
 use words::places::node_start;

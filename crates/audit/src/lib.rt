@@ -3,15 +3,15 @@ mod leaves;
 mod nearness;
 mod radii;
 mod repeats;
-mod runs;
 
-ghost use Prim.Native.Nat.{_*_, _≤_};
+ghost use Prim.Native.Nat.{_*_, _≤_, min};
 ghost use Rattle.audit.specs.Calls.{Checks};
 ghost use Rattle.audit.specs.Passes.{measuredFaults, told};
-ghost use Rattle.audit.specs.Refusals.{Paired, refusals};
+ghost use Rattle.audit.specs.Refusals.{refusals};
 ghost use Rattle.buffers.specs.Wiped.{wiped};
 ghost use Rattle.limits.specs.Said.{said};
 ghost use Rattle.measure.specs.Table.{between};
+ghost use Rattle.reach.specs.Runs.{Paired};
 ghost use Rattle.tree.specs.Check.{faults};
 ghost use Rattle.words.specs.Words.{n#};
 ghost use lib.ListN.{length};
@@ -31,6 +31,13 @@ pub struct Checked {
     pub number: u32,
     pub place: usize,
     pub second: usize,
+}
+
+// The lesser of two.
+fn lesser(a: usize, b: usize) -> usize
+    ensures { λ r. ⌜ r ≡ min a b ⌝ }
+{
+    if a < b { a } else { b }
 }
 
 // 1 to 9: what refuses the call before the passes, or 0. `room` is the workspace's length.
@@ -94,7 +101,7 @@ fn first_fault(table: &[u16], c: usize, index: &[u32], work: &mut [u32]) -> Chec
 }
 
 // The full check of an index for a table of c columns: 0 where it is accepted, else the number and the places of the first refusal or fault.
-// Each row is measured once for its stored distance, and at each level of the tree once for the radius and at most m times for the centres.
+// Each row is measured once for its stored distance, and at each level of the tree once for the radius and the inner reach and at most m times for the centres.
 pub fn check(table: &[u16], c: usize, index: &[u32], work: &mut [u32]) -> Checked
     ensures { λ r. ⌜ Checks (now (table .entry)) c (now (index .entry)) (now (work .entry)) (now (work .exit)) (r .number) (r .place) (r .second) ⌝ }
 {

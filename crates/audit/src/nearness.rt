@@ -1,19 +1,19 @@
 // 13: a row is closer to the centre of another child.
 ghost use Prim.Native.Nat.{_+_, _<_, _≤_};
 ghost use Rattle.audit.specs.Passes.{FirstIn, allStrays, closer, kidStrays, told};
-ghost use Rattle.audit.specs.Refusals.{Paired};
 ghost use Rattle.laws.specs.Lists.{any, range};
 ghost use Rattle.limits.specs.Said.{said};
 ghost use Rattle.measure.specs.Table.{between};
+ghost use Rattle.reach.specs.Runs.{Paired};
 ghost use Rattle.tree.specs.Check.{strays};
 ghost use Rattle.words.specs.Shape.{inner};
 ghost use Rattle.words.specs.Words.{N#, child#, first#, m#, n#, row#};
 ghost use mathlib.Core.Bool.{true};
 ghost use mathlib.Core.Path.{_≡_};
 use crate::Checked;
-use crate::runs::apart;
-use crate::runs::lesser;
-use crate::runs::node_end;
+use crate::lesser;
+use reach::apart;
+use reach::node_end;
 use words::places::centres;
 use words::places::node_child;
 use words::places::node_first;

@@ -1,5 +1,5 @@
 -- The three demands, as theorems on what the calls give: an index is accepted where a check of it gave 0. Assumes nothing.
-use Prim.Native.Nat.{_*_, _<_, _^_, _≤_, min, ℕ}
+use Prim.Native.Nat.{_*_, _+_, _<_, _^_, _≤_, min, ℕ}
 use Rattle.answers.specs.Records.{made}
 use Rattle.answers.specs.declared.Answer.{Answer}
 use Rattle.audit.proofs.Theorems.{check-exact, check-only, check-placeless}
@@ -17,6 +17,7 @@ use Rattle.image.specs.Below.{Below}
 use Rattle.image.specs.Calls.{Writes}
 use Rattle.laws.specs.Every.{Every}
 use Rattle.laws.specs.Lists.{last, times}
+use Rattle.limits.proofs.Sized.{sized-of}
 use Rattle.measure.specs.Table.{between, from, row, rowsOf}
 use Rattle.nearest.proofs.Promises.{nearest-exact as call-exact, nearest-measured, nearest-measured-all, nearest-two-tables}
 use Rattle.nearest.specs.Calls.{Answered, Settled}
@@ -27,9 +28,12 @@ use Rattle.tree.proofs.Theorems.{one-home}
 use Rattle.tree.specs.Grove.{treeOf}
 use Rattle.tree.specs.Homes.{homes}
 use Rattle.tree.specs.Nearest.{answers, isMeasured, lastDistance, measured}
+use Rattle.widen.proofs.Theorems.{widen-call-accepted, widen-exact, widen-headed, widen-refused}
+use Rattle.widen.specs.Calls.{Widens}
+use Rattle.words.proofs.InShape.{in-shape}
 use Rattle.words.proofs.Listed.{list-only, node-there, part-none, part-pairs}
 use Rattle.words.specs.Calls.{Lists, listed, lists}
-use Rattle.words.specs.Words.{n#, wordsOf}
+use Rattle.words.specs.Words.{edition#, n#, wordsOf}
 use borrow.Author.Tests.{le-leb, lt-leb, ne-eqb}
 use lib.Dec.{T, eqb}
 use lib.ListN.{drop, getD, length, replicate, take}
@@ -197,3 +201,43 @@ module _ {t : List ℕ} {c : ℕ} {w work₀ work₁ : List ℕ} {place second :
 pub measured-counted : {t : List ℕ} {c : ℕ} {w q : List ℕ} {wanted room : ℕ} {rs rs′ ds ds′ how how′ work work′ : List ℕ} {given met : ℕ}
     → Answered t c w q wanted room rs rs′ ds ds′ how how′ work work′ 0 given met → met ≡ measured (take (n# w) how′)
 measured-counted s = s .counted refl
+
+-- ---- AN EDITION 1 INDEX WIDENED: DEMAND 1 AND DEMAND 2
+module _ {t : List ℕ} {c : ℕ} {w room room′ : List ℕ} {number words : ℕ} (s : Widens t c w room room′ number words) where
+  -- a refused widening
+  pub widened-refused : (number ≡ 0 → ⊥) → (words ≡ 0) × (room′ ≡ room)
+  widened-refused = widen-refused s
+
+  -- an index of which a check gave 0
+  module _ {work₀ work₁ : List ℕ} {place second : ℕ} (ok : Checks t c w work₀ work₁ 0 place second) where
+    -- it is widened where it is edition 1 and the room has 12n + 8 words
+    pub widened-taken : edition# w ≡ 1 → 12 * n# w + 8 ≤ length room → number ≡ 0
+    widened-taken e h =
+        let p = passed ok in
+        let a = p .accepted in
+        widen-exact s .1 (record {
+          table = sized-of (length t) c (p .columns) (p .multiple) (p .few);
+          space = omega (arith, p .same-rows);
+          index = record { shape = in-shape w (a .words) (a .shape); rows = p .same-rows; columns = p .same-columns };
+          edition = e;
+          there = a .words;
+          shape = a .shape;
+        })
+
+    -- and a check of what then stands in the room gives 0 too, in a workspace that is long enough
+    pub widened-passes : {work₂ work₃ : List ℕ} {number₂ place₂ second₂ : ℕ} → number ≡ 0 → 6 * rowsOf t c ≤ length work₂
+        → Checks t c (take words room′) work₂ work₃ number₂ place₂ second₂ → (number₂ ≡ 0) × (place₂ ≡ 0) × (second₂ ≡ 0)
+    widened-passes z enough s₂ =
+        let p = passed ok in
+        let h = widen-headed s z in
+        let y = check-exact s₂ .1 (record {
+          columns = p .columns;
+          multiple = p .multiple;
+          few = p .few;
+          room = enough;
+          same-rows = h .0;
+          same-columns = h .1;
+          accepted = widen-call-accepted s z (p .accepted);
+        }) in
+        let q = check-placeless s₂ (omega arith) in
+        (y, q .0, q .1)

@@ -9,7 +9,6 @@ pub mod Halfway
 pub mod Opening
 pub mod Levelling
 pub mod Laying
-pub mod Headed
 pub mod Pairing
 pub mod Rooting
 pub mod Growing

@@ -44,11 +44,24 @@ four-sets (x ∷ y ∷ []) a b c d h = absurd (omega arith)
 four-sets (x ∷ y ∷ z ∷ []) a b c d h = absurd (omega arith)
 four-sets (x ∷ y ∷ z ∷ v ∷ l) a b c d h = refl
 
--- five stores
+-- five stores at the front
 pub five-sets : (l : List ℕ) (a b c d e : ℕ) → 5 ≤ length l → set (set (set (set (set l 0 a) 1 b) 2 c) 3 d) 4 e ≡ a ∷ b ∷ c ∷ d ∷ e ∷ drop 5 l
 five-sets [] a b c d e h = absurd (omega arith)
 five-sets (x ∷ []) a b c d e h = absurd (omega arith)
 five-sets (x ∷ y ∷ []) a b c d e h = absurd (omega arith)
 five-sets (x ∷ y ∷ z ∷ []) a b c d e h = absurd (omega arith)
 five-sets (x ∷ y ∷ z ∷ v ∷ []) a b c d e h = absurd (omega arith)
-five-sets (x ∷ y ∷ z ∷ v ∷ w ∷ l) a b c d e h = refl
+five-sets (x ∷ y ∷ z ∷ v ∷ u ∷ l) a b c d e h = refl
+
+-- eight stores at the front
+pub eight-sets : (w : List ℕ) (a b c d e f g h : ℕ) → 8 ≤ length w
+    → set (set (set (set (set (set (set (set w 0 a) 1 b) 2 c) 3 d) 4 e) 5 f) 6 g) 7 h ≡ a ∷ b ∷ c ∷ d ∷ e ∷ f ∷ g ∷ h ∷ drop 8 w
+eight-sets [] a b c d e f g h l = absurd (omega arith)
+eight-sets (x ∷ []) a b c d e f g h l = absurd (omega arith)
+eight-sets (x ∷ y ∷ []) a b c d e f g h l = absurd (omega arith)
+eight-sets (x ∷ y ∷ z ∷ []) a b c d e f g h l = absurd (omega arith)
+eight-sets (x ∷ y ∷ z ∷ u ∷ []) a b c d e f g h l = absurd (omega arith)
+eight-sets (x ∷ y ∷ z ∷ u ∷ v ∷ []) a b c d e f g h l = absurd (omega arith)
+eight-sets (x ∷ y ∷ z ∷ u ∷ v ∷ p ∷ []) a b c d e f g h l = absurd (omega arith)
+eight-sets (x ∷ y ∷ z ∷ u ∷ v ∷ p ∷ q ∷ []) a b c d e f g h l = absurd (omega arith)
+eight-sets (x ∷ y ∷ z ∷ u ∷ v ∷ p ∷ q ∷ r ∷ w) a b c d e f g h l = refl

@@ -1,8 +1,8 @@
 -- `build::put_header` meets its contract: eight stores at the front.
 -- Assumes nothing.
-use Rattle.build.proofs.Headed.{eight-sets}
 use Rattle.build.proofs.put_header.Statement.{statement}
 use Rattle.build.proofs.put_header.Tie as tie
+use Rattle.laws.proofs.Parts.{eight-sets}
 use borrow.Author.Needs.{needs}
 use lib.ListN.{length-set}
 use native.Mathlib.Omega.{arith}

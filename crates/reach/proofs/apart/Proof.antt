@@ -1,9 +1,9 @@
--- `audit::runs::apart` meets its contract: both rows lie in the table.
+-- `reach::apart` meets its contract: both rows lie in the table.
 -- Assumes nothing.
-use Rattle.audit.proofs.Pairing.{columns-low, in-table}
-use Rattle.audit.proofs.runs.apart.Statement.{statement}
-use Rattle.audit.proofs.runs.apart.Tie as tie
 use Rattle.measure.specs.Table.{between}
+use Rattle.reach.proofs.Runs.{columns-low, in-table}
+use Rattle.reach.proofs.apart.Statement.{statement}
+use Rattle.reach.proofs.apart.Tie as tie
 use borrow.Author.Needs.{needs}
 use mathlib.Core.Path.{_∙_, ap}
 use native.Mathlib.Omega.{arith}

@@ -1,0 +1,5 @@
+pub mod Writing
+pub mod Refusals
+pub mod Contract
+pub mod Theorems
+pub mod Cases

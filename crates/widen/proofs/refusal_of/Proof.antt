@@ -1,0 +1,48 @@
+-- `widen::refusal_of` meets its contract: the table's refusals, the room's and the index's come in the order of their numbers.
+-- Assumes nothing.
+use Rattle.limits.proofs.Sized.{sized}
+use Rattle.widen.proofs.Refusals.{by-index, by-table, five}
+use Rattle.widen.proofs.refusal_of.Statement.{statement}
+use Rattle.widen.proofs.refusal_of.Tie as tie
+use borrow.Author.Needs.{needs}
+use mathlib.Core.Path.{_∙_, sym}
+use native.Mathlib.Omega.{arith}
+
+table-number-requires : tie.Need-table-number-requires
+table-number-requires c κs = search needs
+
+returns : tie.Need-returns
+returns c = by-table _ _ _ _ (c .before .table-number .ensures) (c .if1 .taken)
+
+div-n : tie.Need-div-n
+div-n c = omega (arith, sized _ _ (sym (c .before .table-number .ensures) ∙ c .if1 .left) .some)
+
+mul-if2 : tie.Need-mul-if2
+mul-if2 c = omega (arith, sized _ _ (sym (c .before .table-number .ensures) ∙ c .if1 .left) .rows)
+
+add-if2 : tie.Need-add-if2
+add-if2 c = omega (arith, sized _ _ (sym (c .before .table-number .ensures) ∙ c .if1 .left) .rows)
+
+returns-2 : tie.Need-returns-2
+returns-2 c = five _ _ _ _ (c .before .before .table-number .ensures) (c .before .if1 .left) (omega (arith, c .if2 .taken))
+
+old-number-requires : tie.Need-old-number-requires
+old-number-requires c κs = search needs
+
+returns-3 : tie.Need-returns-3
+returns-3 c =
+    by-index _ _ _ _ (c .before .before .before .table-number .ensures) (c .before .before .if1 .left) (omega (arith, c .before .if2 .left))
+    (c .old-number .ensures)
+
+pub refusal-of-spec : {M : Type 1} → statement M
+refusal-of-spec =
+    tie.close
+    (tie.spec
+    table-number-requires
+    returns
+    div-n
+    mul-if2
+    add-if2
+    returns-2
+    old-number-requires
+    returns-3)
