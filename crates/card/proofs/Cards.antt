@@ -1,18 +1,22 @@
 -- The index words that a card holds: each is the image's, their header is the image's, and they are whole. Assumes nothing.
-use Prim.Native.Nat.{_/_, _<_, _≤_, suc, zero, ℕ}
+use Prim.Native.Nat.{_%_, _/_, _<_, _≤_, suc, zero, ℕ}
 use Rattle.card.specs.Cards.{Carded, Held, cardWords}
 use Rattle.image.proofs.Places.{blocks-hold, image-length}
 use Rattle.image.proofs.RoundTrip.{header-take, total-take}
 use Rattle.image.proofs.Standing.{at-snoc}
+use Rattle.image.specs.Lowest.{wrongBlocks}
+use Rattle.image.specs.Sound.{restZero}
+use Rattle.limits.specs.Said.{fault, said}
 use Rattle.words.proofs.Headers.{good-words}
 use Rattle.words.proofs.InShape.{whole}
-use Rattle.words.specs.Image.{imageTotal, imageWord, imageWords}
+use Rattle.words.specs.Image.{blocksFor, imageFaults, imageTotal, imageWord, imageWords}
 use Rattle.words.specs.Words.{at, headerOk, wordsOf, wordsOk}
-use borrow.Author.Tests.{le-leb}
+use borrow.Author.Tests.{eqb-true, le-leb}
+use lib.Dec.{eqb}
 use lib.ListN.{length, take}
 use lib.Seq.{ext-getD, getD-take, length-take-le}
-use mathlib.Core.Bool.{true}
-use mathlib.Core.List.{List}
+use mathlib.Core.Bool.{Bool, _||_, false, not, true}
+use mathlib.Core.List.{List, [], _++_, _∷_, map}
 use mathlib.Core.Path.{_∙_, _≡_, ap, refl, sym}
 use native.Mathlib.Nat.{not-suc-le-zero}
 use native.Mathlib.Omega.{arith}
@@ -32,6 +36,25 @@ front-is i k t h =
     (λ j l.
     let q : j < k = omega (arith, e) in
     getD-take k (imageWords i t) j 0 q ∙ word-is i t j (omega arith) ∙ sym (word-is i k j q))
+
+-- ---- the faults of an image
+-- WITH 0 AN IMAGE'S HEADER AND BLOCKS ARE RIGHT
+pub carded : (i : List ℕ) → said (imageFaults i) .0 ≡ 0 → Carded i
+unfolding imageFaults
+carded i e =
+    let h = headerOk (imageWords i 8) in
+    let k = eqb (length i / 512) (blocksFor (imageTotal i)) in
+    let r = go (eqb (length i) 0 || not (eqb (length i % 512) 0)) (wrongBlocks i 0 (length i / 512)) h k (restZero i (imageTotal i)) e in
+    record { header = r .0; blocks = eqb-true (length i / 512) (blocksFor (imageTotal i)) (r .1) }
+  where
+    -- by the tests and the wrong blocks
+    go : (a : Bool) (bs : List ℕ) (h k z : Bool)
+        → said (fault 14 a ++ map (λ b. (15, b, 0)) bs ++ fault 16 (not h || not k) ++ fault 17 (not z)) .0 ≡ 0 → (h ≡ true) × (k ≡ true)
+    go true bs h k z e = absurd (omega arith)
+    go false (b ∷ bs) h k z e = absurd (omega arith)
+    go false [] true true z e = (refl, refl)
+    go false [] true false z e = absurd (omega arith)
+    go false [] false k z e = absurd (omega arith)
 
 -- ---- the words of a card
 module _ (i : List ℕ) where
