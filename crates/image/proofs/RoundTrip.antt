@@ -26,14 +26,14 @@ use native.Mathlib.Omega.{arith}
 
 -- ---- the header
 -- the header test looks at the first eight words only
-header-take : (w : List ℕ) → headerOk (take 8 w) ≡ headerOk w
+pub header-take : (w : List ℕ) → headerOk (take 8 w) ≡ headerOk w
 unfolding headerOk
 header-take w =
     let f : (j : ℕ) → j < 8 → at (take 8 w) j ≡ at w j = λ j h. getD-take 8 w j 0 h in
     rw (f 0 (lit< tt), f 1 (lit< tt), f 2 (lit< tt), f 3 (lit< tt), f 4 (lit< tt), f 5 (lit< tt), f 6 (lit< tt), f 7 (lit< tt))
 
 -- the number of words that a header asks for is told by the first eight words
-total-take : (w : List ℕ) → wordsOf (take 8 w) ≡ wordsOf w
+pub total-take : (w : List ℕ) → wordsOf (take 8 w) ≡ wordsOf w
 total-take w = rw (getD-take 8 w 0 0 (lit< tt), getD-take 8 w 1 0 (lit< tt), getD-take 8 w 5 0 (lit< tt))
 
 -- the first entries of words are words

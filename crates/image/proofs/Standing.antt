@@ -69,7 +69,7 @@ cell-bytes ws b =
     ∙ ap (λ (l : List ℕ). each bytes (window ws (127 * b) 127) ++ l) (append-nil (bytes (checkWord b (window ws (127 * b) 127)))))
 
 -- a list whose entries below k are those of f, and one more, f k: its entries below k + 1 are those of f
-at-snoc : (l : List ℕ) (x : ℕ) (f : ℕ → ℕ) (k j : ℕ) → length l ≡ k → x ≡ f k → (j < k → at l j ≡ f j) → j < suc k
+pub at-snoc : (l : List ℕ) (x : ℕ) (f : ℕ → ℕ) (k j : ℕ) → length l ≡ k → x ≡ f k → (j < k → at l j ≡ f j) → j < suc k
     → at (l ++ (x ∷ [])) j ≡ f j
 at-snoc l x f k j e q g h = go (leb k j) refl
   where

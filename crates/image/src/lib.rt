@@ -10,7 +10,7 @@ use words::header::words_ok;
 
 mod check;
 mod reading;
-mod word;
+pub mod word;
 mod writing;
 
 // What writing says: a number, and how many blocks it wrote.

@@ -13,6 +13,7 @@ pub mod Forks
 pub mod Rows
 pub mod Fitting
 pub mod NoFaults
+pub mod Nearest
 pub mod Accepted
 pub mod Encode
 pub mod Shaped

@@ -140,7 +140,7 @@ fn tree_fits(index: &[u32]) -> bool
 }
 
 // The greater of two.
-fn greater(a: u32, b: u32) -> u32
+pub fn greater(a: u32, b: u32) -> u32
     ensures { λ r. ⌜ r ≡ max a b ⌝ }
 {
     if a < b { b } else { a }

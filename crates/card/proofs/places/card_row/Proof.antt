@@ -1,0 +1,22 @@
+-- `card::places::card_row` meets its contract: the first of the position's two words.
+-- Assumes nothing.
+use Rattle.card.proofs.places.card_row.Statement.{statement}
+use Rattle.card.proofs.places.card_row.Tie as tie
+use Rattle.card.specs.Cards.{cardWords}
+use Rattle.words.specs.Words.{at}
+use borrow.Author.Needs.{needs}
+use mathlib.Core.Path.{_∙_, ap}
+
+card-pair-at-requires : tie.Need-card-pair-at-requires
+card-pair-at-requires c κs = search needs
+
+card-word-requires : tie.Need-card-word-requires
+card-word-requires c κs = search needs
+
+returns : tie.Need-returns
+returns c =
+    let w = cardWords (c .before .before .before .args .image .now) in
+    (c .card-word .ensures .0 ∙ ap (at w) (c .before .card-pair-at .ensures), c .card-word .ensures .1)
+
+pub card-row-spec : {M : Type 1} → statement M
+card-row-spec = tie.close (tie.spec card-pair-at-requires card-word-requires returns)

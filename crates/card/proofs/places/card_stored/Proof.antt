@@ -1,0 +1,26 @@
+-- `card::places::card_stored` meets its contract: the second of the position's two words.
+-- Assumes nothing.
+use Prim.Native.Nat.{_+_, ℕ}
+use Rattle.card.proofs.places.card_stored.Statement.{statement}
+use Rattle.card.proofs.places.card_stored.Tie as tie
+use Rattle.card.specs.Cards.{cardWords}
+use Rattle.words.specs.Words.{at}
+use borrow.Author.Needs.{needs}
+use mathlib.Core.Path.{_∙_, ap}
+
+card-pair-at-requires : tie.Need-card-pair-at-requires
+card-pair-at-requires c κs = search needs
+
+add-held-word : tie.Need-add-held-word
+add-held-word c = search needs
+
+held-word-requires : tie.Need-held-word-requires
+held-word-requires c κs = search needs
+
+returns : tie.Need-returns
+returns c =
+    let w = cardWords (c .before .before .before .args .image .now) in
+    c .held-word .ensures ∙ ap (λ (z : ℕ). at w (z + 1)) (c .before .card-pair-at .ensures)
+
+pub card-stored-spec : {M : Type 1} → statement M
+card-stored-spec = tie.close (tie.spec card-pair-at-requires add-held-word held-word-requires returns)

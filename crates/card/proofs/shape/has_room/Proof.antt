@@ -1,0 +1,37 @@
+-- `card::shape::has_room` meets its contract: a leaf needs no room, and an inner node's last child is a node.
+-- Assumes nothing.
+use Rattle.card.proofs.shape.has_room.Statement.{statement}
+use Rattle.card.proofs.shape.has_room.Tie as tie
+use Rattle.card.specs.Cards.{cardWords}
+use Rattle.words.proofs.Fits.{room-inner, room-leaf}
+use borrow.Author.Needs.{needs}
+use mathlib.Core.Path.{_∙_, sym}
+
+card-child-requires : tie.Need-card-child-requires
+card-child-requires c κs = search needs
+
+returns : tie.Need-returns
+returns c =
+    let a = c .before .before .before .args in
+    room-leaf (cardWords (a .image .now)) (a .k) (a .next) (sym (c .before .card-child .ensures .0) ∙ c .if1 .taken)
+
+card-centres-requires : tie.Need-card-centres-requires
+card-centres-requires c κs = search needs
+
+add-result : tie.Need-add-result
+add-result c = search needs
+
+card-nodes-requires : tie.Need-card-nodes-requires
+card-nodes-requires c κs = search needs
+
+returns-2 : tie.Need-returns-2
+returns-2 c =
+    let a = c .before .before .before .before .before .args in
+    let none = c .before .before .if1 .left in
+    rw (c .before .card-centres .ensures .0, c .card-nodes .ensures .0)
+    (room-inner (cardWords (a .image .now)) (a .k) (a .next) (λ e. none (c .before .before .before .card-child .ensures .0 ∙ e)))
+
+pub has-room-spec : {M : Type 1} → statement M
+has-room-spec =
+    tie.close
+    (tie.spec card-child-requires returns card-centres-requires add-result card-nodes-requires returns-2)

@@ -1,0 +1,165 @@
+-- `card::shape::positions_fit` meets its contract: `row` and `far` are the greatest so far. The measure is what is left of the positions.
+-- Assumes nothing.
+use Prim.Native.Nat.{_*_, _+_, _-_, _<_, _≤_}
+use Rattle.card.proofs.Sweep.{few, greatest-next, greatest-start}
+use Rattle.card.proofs.shape.positions_fit.Statement.{statement}
+use Rattle.card.proofs.shape.positions_fit.Tie as tie
+use Rattle.card.specs.Cards.{GreatestTo, cardWords}
+use Rattle.laws.specs.Upto.{mostTo}
+use Rattle.words.proofs.Positions.{dist-word, row-word, rows-high, rows-low}
+use Rattle.words.specs.Words.{dist#, n#, row#}
+use borrow.Author.Needs.{needs}
+use mathlib.Core.Path.{_∙_, _≡_, ap, sym}
+use native.Mathlib.Omega.{arith}
+
+abbrev Inv-loop : tie.InvT-loop
+Inv-loop image n base row₀ far₀ p₀ row far p = (p ≤ n) × GreatestTo (cardWords image) p row far
+
+abbrev μ-loop : tie.MeasureT-loop
+μ-loop image n base row₀ far₀ p₀ row far p = n - p
+
+-- the start, seen from the loop
+abbrev start : tie.At-loop Inv-loop μ-loop → tie.Start Inv-loop μ-loop
+start l = l .before .before .before .before .before
+
+-- base and n, seen from the loop, leave room for their sums
+small : (l : tie.At-loop Inv-loop μ-loop) → l .before .card-pair-at .result + 2 * l .before .before .before .card-rows .result < 4294967296
+small l =
+    omega (arith, few (start l .args .image .now) (start l .pre), l .before .card-pair-at .ensures, l .before .before .before .card-rows .ensures .0)
+
+-- with position p the greatest so far are those of one position more
+next : (c : tie.After-greater2 Inv-loop μ-loop)
+    → GreatestTo (cardWords (start (c .before .before .before .before .before) .args .image .now))
+    (c .before .before .before .before .before .loop .p + 1) (c .before .before .greater .result) (c .greater2 .result)
+next c =
+    let l = c .before .before .before .before .before in
+    let w = cardWords (start l .args .image .now) in
+    let at = l .before .card-pair-at in
+    greatest-next w (l .loop .inv .1) (c .before .before .before .held-word .ensures ∙ row-word w (at .result) (l .loop .p) (at .ensures))
+    (c .before .held-word2 .ensures ∙ dist-word w (at .result) (l .loop .p) (at .ensures))
+    (c .before .before .greater .ensures) (c .greater2 .ensures)
+
+card-rows-requires : tie.Need-card-rows-requires Inv-loop μ-loop
+card-rows-requires c κs = search needs
+
+returns : tie.Need-returns Inv-loop μ-loop
+returns c = rw (sym (c .before .card-rows .ensures .0) ∙ c .if1 .taken)
+
+card-pair-at-requires : tie.Need-card-pair-at-requires Inv-loop μ-loop
+card-pair-at-requires c κs = search needs
+
+loop-holds : tie.Need-loop-holds Inv-loop μ-loop
+loop-holds c = (search needs, greatest-start (cardWords (c .before .before .before .before .args .image .now)))
+
+mul-held-word : tie.Need-mul-held-word Inv-loop μ-loop
+mul-held-word c = search needs
+
+add-held-word : tie.Need-add-held-word Inv-loop μ-loop
+add-held-word c = omega (arith, small (c .before))
+
+held-word-requires : tie.Need-held-word-requires Inv-loop μ-loop
+held-word-requires c κs = search needs
+
+greater-requires : tie.Need-greater-requires Inv-loop μ-loop
+greater-requires c κs = search needs
+
+mul-held-word-2 : tie.Need-mul-held-word-2 Inv-loop μ-loop
+mul-held-word-2 c = search needs
+
+add-held-word-2 : tie.Need-add-held-word-2 Inv-loop μ-loop
+add-held-word-2 c = omega (arith, small (c .before .before .before))
+
+add-held-word-3 : tie.Need-add-held-word-3 Inv-loop μ-loop
+add-held-word-3 c = omega (arith, small (c .before .before .before))
+
+held-word-requires-2 : tie.Need-held-word-requires-2 Inv-loop μ-loop
+held-word-requires-2 c κs = search needs
+
+greater-requires-2 : tie.Need-greater-requires-2 Inv-loop μ-loop
+greater-requires-2 c κs = search needs
+
+add-p : tie.Need-add-p Inv-loop μ-loop
+add-p c = search needs
+
+mul-b : tie.Need-mul-b Inv-loop μ-loop
+mul-b c = search needs
+
+add-b : tie.Need-add-b Inv-loop μ-loop
+add-b c = omega (arith, small (c .before .before .before .before .before))
+
+block-stop-requires : tie.Need-block-stop-requires Inv-loop μ-loop
+block-stop-requires c κs =
+    let l = c .before .before .before .before .before in
+    (omega arith, omega arith, omega arith, small l)
+
+block-greatest-requires : tie.Need-block-greatest-requires Inv-loop μ-loop
+block-greatest-requires c κs =
+    let l = c .before .before .before .before .before .before in
+    let r = l .before .before .before .card-rows .ensures .0 in (
+      start l .pre,
+      (
+        record {
+          first = l .before .card-pair-at .ensures;
+          from = omega arith;
+          to = omega (arith, c .block-stop .ensures .2);
+          upto = omega (arith, c .block-stop .ensures .0);
+          some = omega (arith, c .block-stop .ensures .1, r);
+        },
+        next (c .before),
+      ),
+    )
+
+loop-less : tie.Need-loop-less Inv-loop μ-loop
+loop-less c = omega (arith, c .before .block-stop .ensures .0, c .before .block-stop .ensures .1)
+
+loop-again : tie.Need-loop-again Inv-loop μ-loop
+loop-again c = (omega (arith, c .before .block-stop .ensures .1), c .block-greatest .ensures)
+
+cast-if2 : tie.Need-cast-if2 Inv-loop μ-loop
+cast-if2 c = search needs
+
+returns-2 : tie.Need-returns-2 Inv-loop μ-loop
+returns-2 c =
+    let l = c .before .before in
+    let r = l .before .before .before .card-rows .ensures .0 in
+    let w = cardWords (start l .args .image .now) in
+    let n : l .loop .p ≡ n# w = omega (arith, r) in
+    rows-high w (omega (arith, r)) (l .loop .inv .1 .rows ∙ ap (mostTo (row# w)) n) (omega (arith, r))
+
+returns-3 : tie.Need-returns-3 Inv-loop μ-loop
+returns-3 c =
+    let l = c .before .before in
+    let r = l .before .before .before .card-rows .ensures .0 in
+    let w = cardWords (start l .args .image .now) in
+    let n : l .loop .p ≡ n# w = omega (arith, r) in
+    rows-low w (l .loop .inv .1 .rows ∙ ap (mostTo (row# w)) n) (l .loop .inv .1 .fars ∙ ap (mostTo (dist# w)) n) (omega (arith, r))
+
+pub positions-fit-spec : {M : Type 1} → statement M
+positions-fit-spec =
+    tie.close
+    (tie.spec
+    Inv-loop
+    μ-loop
+    card-rows-requires
+    returns
+    card-pair-at-requires
+    loop-holds
+    mul-held-word
+    add-held-word
+    held-word-requires
+    greater-requires
+    mul-held-word-2
+    add-held-word-2
+    add-held-word-3
+    held-word-requires-2
+    greater-requires-2
+    add-p
+    mul-b
+    add-b
+    block-stop-requires
+    block-greatest-requires
+    loop-less
+    loop-again
+    cast-if2
+    returns-2
+    returns-3)

@@ -1,0 +1,30 @@
+-- `card::shape::root_fits` meets its contract: the two tests, one after the other.
+-- Assumes nothing.
+use Rattle.card.proofs.shape.root_fits.Statement.{statement}
+use Rattle.card.proofs.shape.root_fits.Tie as tie
+use Rattle.card.specs.Cards.{cardWords}
+use Rattle.words.proofs.Fits.{root-off, root-on}
+use borrow.Author.Needs.{needs}
+use mathlib.Core.Path.{_∙_, sym}
+
+card-start-requires : tie.Need-card-start-requires
+card-start-requires c κs = search needs
+
+returns : tie.Need-returns
+returns c = root-off (cardWords (c .before .before .before .args .image .now)) (λ e. c .if1 .taken (c .before .card-start .ensures .0 ∙ e))
+
+card-count-requires : tie.Need-card-count-requires
+card-count-requires c κs = search needs
+
+card-rows-requires : tie.Need-card-rows-requires
+card-rows-requires c κs = search needs
+
+returns-2 : tie.Need-returns-2
+returns-2 c =
+    let at1 = c .before .before in
+    let w = cardWords (at1 .before .before .before .args .image .now) in
+    rw (c .before .card-count .ensures .0, c .card-rows .ensures .0) (root-on w (sym (at1 .before .card-start .ensures .0) ∙ at1 .if1 .left))
+
+pub root-fits-spec : {M : Type 1} → statement M
+root-fits-spec =
+    tie.close (tie.spec card-start-requires returns card-count-requires card-rows-requires returns-2)
