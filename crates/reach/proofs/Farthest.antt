@@ -70,7 +70,8 @@ module _ (d : ℕ → ℕ → ℕ) (w : List ℕ) (k : ℕ) where
       let most : max far (max (off p) (greatest (left (p + 1)))) ≡ reachOf d w k = sym (ap (λ l. max far (greatest l)) on) ∙ R .outer in
       record {
         outer = omega (arith, most);
-        inner = ap (λ z. least z (left (p + 1))) (el ∙ ap (min near) here) ∙ least-min near (off p) (left (p + 1)) ∙ sym (ap (least near) on) ∙ R .inner;
+        inner = ap (λ z. least z (left (p + 1))) (el ∙ ap (min near) here) ∙ least-min near (off p) (left (p + 1)) ∙ sym (ap (least near) on)
+            ∙ R .inner;
       }
 
   -- at the run's end that is how far the node reaches

@@ -153,7 +153,8 @@ module _ (d : ℕ → ℕ → ℕ) (w : List ℕ) where
       let la : length A ≡ 8 + 5 * N# w = length-append (topOf w) (nodesTo d w (N# w)) ∙ ap (λ (k : ℕ). 8 + k) (nodes-long d w (N# w)) in
       let top : length (topOf w) ≡ a = sym ea in
       let one : room₂ ≡ A ++ drop (a + 5 * N# w) room =
-      e₂ ∙ put-more (topOf w) (nodesTo d w (N# w)) room room₁ ns a (5 * N# w) top (omega arith) (e₁ ∙ ap (λ (k : ℕ). topOf w ++ drop k room) (sym ea)) en in
+      e₂ ∙ put-more (topOf w) (nodesTo d w (N# w)) room room₁ ns a (5 * N# w) top (omega arith)
+      (e₁ ∙ ap (λ (k : ℕ). topOf w ++ drop k room) (sym ea)) en in
       let at : a + 5 * N# w ≡ b = omega arith in
       let two : room₃ ≡ (A ++ pairsTo w (n# w)) ++ drop (b + 2 * n# w) room =
       e₃ ∙ put-more A (pairsTo w (n# w)) room room₂ ps b (2 * n# w) (la ∙ sym eb) (omega arith) (one ∙ ap (λ (k : ℕ). A ++ drop k room) at) ep in

@@ -9,13 +9,13 @@ use native.Mathlib.Omega.{arith}
 build-requires : tie.Need-build-requires
 build-requires c κs = search needs
 
-cast-t15 : tie.Need-cast-t15
-cast-t15 c =
+cast-t17 : tie.Need-cast-t17
+cast-t17 c =
     let build = c .before .before .before .before .before .build in
     let small = build-small (build .ensures) in omega (arith, small .0, small .1)
 
-cast-t16 : tie.Need-cast-t16
-cast-t16 c =
+cast-t18 : tie.Need-cast-t18
+cast-t18 c =
     let build = c .before .before .before .before .before .before .build in
     let small = build-small (build .ensures) in omega (arith, small .0, small .1)
 
@@ -30,4 +30,4 @@ returns c = search needs
 
 pub bourascul-build-spec : {M : Type 1} → statement M
 bourascul-build-spec =
-    tie.close (tie.spec build-requires cast-t15 cast-t16 same-length same-length-2 returns)
+    tie.close (tie.spec build-requires cast-t17 cast-t18 same-length same-length-2 returns)

@@ -89,7 +89,8 @@ loop-again c =
     let l = st .before .before in
     let s = start l in (
       noded-step (dist s) (s .args .index .now) (l .loop .inv .0) (omega (arith, s .pre .1)) (w .put-wide .ensures) (st .node-start .ensures .0)
-          (ch .before .node-count .ensures .0) (ch .node-child .ensures .0) (r .before .node-radius .ensures) (r .reaches .ensures .inner) (search needs),
+          (ch .before .node-count .ensures .0) (ch .node-child .ensures .0) (r .before .node-radius .ensures) (r .reaches .ensures .inner)
+          (search needs),
       l .loop .inv .1,
       omega arith,
     )

@@ -66,7 +66,8 @@ loop-again c =
     let r = c .before in
     let l = r .before .before in
     let s = start l in (
-      placed-step (s .args .index .now) (l .loop .inv .0) (omega (arith, s .pre .1)) (r .row-at .ensures .0) (c .stored-at .ensures) (simp length-set),
+      placed-step (s .args .index .now) (l .loop .inv .0) (omega (arith, s .pre .1)) (r .row-at .ensures .0) (c .stored-at .ensures)
+          (simp length-set),
       l .loop .inv .1,
       omega arith,
     )

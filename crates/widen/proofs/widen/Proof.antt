@@ -15,7 +15,8 @@ abbrev start : tie.Else1 → tie.Start
 start c = c .before .before .before .before .before
 
 -- there is no refusal in that branch
-none : (c : tie.Else1) → saidWiden (start c .args .table .now) (start c .args .c) (start c .args .index .now) (length (start c .args .room .now)) .0 ≡ 0
+none : (c : tie.Else1)
+    → saidWiden (start c .args .table .now) (start c .args .c) (start c .args .index .now) (length (start c .args .room .now)) .0 ≡ 0
 none c = sym (c .before .refusal-of .ensures) ∙ c .if1 .left
 
 refusal-of-requires : tie.Need-refusal-of-requires
