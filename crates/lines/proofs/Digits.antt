@@ -1,0 +1,32 @@
+-- How many digits a number has, and a number put into a text. Assumes nothing.
+use Prim.Native.Nat.{_+_, _-_, _<_, _^_, _≤_, ℕ}
+use Rattle.io.specs.Digits.{Fewest, digits}
+use Rattle.lines.specs.Told.{Told}
+use lib.ListN.{length, set, take}
+use lib.Seq.{paste, take-all}
+use mathlib.Core.List.{List}
+use mathlib.Core.Logic.{by-cases}
+use mathlib.Core.Path.{_∙_, _≡_, ap, sym}
+use native.Mathlib.Decide.{decLt}
+use native.Mathlib.Nat.{pow-le-pow-right}
+use native.Mathlib.Omega.{arith}
+
+-- a number of 64 bits has at most twenty digits
+pub twenty : (n k : ℕ) → n < 2 ^ 64 → Fewest 10 1 n k → k ≤ 20
+twenty n k h f =
+    by-cases (decLt 20 k)
+    (λ (l : 20 < k).
+    let a : 10 ^ 20 ≤ 10 ^ (k - 1) = pow-le-pow-right (omega arith) (omega arith) in
+    absurd (omega (arith, a, f .2 (omega arith), h)))
+    (λ l. omega (arith, l))
+
+-- k digits copied to the place `at`, and the mark stored behind them
+pub told : {n k : ℕ} (text ds : List ℕ) (at mark : ℕ) {text₁ : List ℕ} → n < 2 ^ 64 → Fewest 10 1 n k → k ≡ length ds → ds ≡ digits 10 k n
+    → text₁ ≡ paste text at ds (length ds) → Told text at n mark (set text₁ (at + k) mark) (at + k + 1)
+told {n} {k} text ds at mark h f l e c = record {
+  places = k;
+  few = twenty n k h f;
+  fewest = f;
+  ends = omega arith;
+  content = rw (c, ← l, e) ;
+}
