@@ -2,11 +2,11 @@
 use Prim.Native.Nat.{_+_, _-_, _<_, _^_, _≤_, ℕ}
 use Rattle.io.specs.Digits.{Fewest, digits}
 use Rattle.lines.specs.Told.{Told}
-use lib.ListN.{length, set, take}
-use lib.Seq.{paste, take-all}
+use lib.ListN.{length, set}
+use lib.Seq.{paste}
 use mathlib.Core.List.{List}
 use mathlib.Core.Logic.{by-cases}
-use mathlib.Core.Path.{_∙_, _≡_, ap, sym}
+use mathlib.Core.Path.{_≡_}
 use native.Mathlib.Decide.{decLt}
 use native.Mathlib.Nat.{pow-le-pow-right}
 use native.Mathlib.Omega.{arith}
@@ -21,12 +21,7 @@ twenty {k} h f =
     (λ l. omega (arith, l))
 
 -- k digits copied to the place `at`, and the mark stored behind them
-pub told : {n k : ℕ} (text ds : List ℕ) (at mark : ℕ) {text₁ : List ℕ} → n < 2 ^ 64 → Fewest 10 1 n k → k ≡ length ds → ds ≡ digits 10 k n
-    → text₁ ≡ paste text at ds (length ds) → Told text at n mark (set text₁ (at + k) mark) (at + k + 1)
-told {n} {k} text ds at mark h f l e c = record {
-  places = k;
-  few = twenty h f;
-  fewest = f;
-  ends = omega arith;
-  content = rw (c, ← l, e);
-}
+pub told : {n k next : ℕ} (text ds : List ℕ) (at mark : ℕ) {text₁ : List ℕ} → n < 2 ^ 64 → Fewest 10 1 n k → k ≡ length ds → ds ≡ digits 10 k n
+    → text₁ ≡ paste text at ds (length ds) → next ≡ at + k + 1 → Told text at n mark (set text₁ (at + k) mark) next
+told {k} text ds at mark h f l e c g =
+    record { places = k; few = twenty h f; fewest = f; ends = g; content = rw (c, ← l, e) }

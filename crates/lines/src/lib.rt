@@ -35,10 +35,10 @@ pub fn put_number(text: &mut [u8], at: usize, n: u64, mark: u8) -> usize
     end + 1
 }
 
-// Makes room for `need` bytes behind the first `at`, which are written where fewer are left. Gives where the room starts.
+// Makes room for `need` bytes behind the first `at`, which are written where fewer are left. Gives where the room starts: behind them, if it can.
 pub fn make_room(text: &[u8], at: usize, need: usize) -> usize
     requires { ⌜ (at ≤ length (now text)) × (need ≤ length (now text)) ⌝ }
-    ensures { λ r. ⌜ r + need ≤ length (now (text .entry)) ⌝ }
+    ensures { λ r. ⌜ (r + need ≤ length (now (text .entry))) × (at + need ≤ length (now (text .entry)) → r ≡ at) ⌝ }
 {
     if need <= text.len() - at {
         return at;

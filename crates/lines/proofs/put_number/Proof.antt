@@ -1,6 +1,5 @@
 -- `lines::put_number` meets its contract: the digits are copied, and the mark stands behind them.
 -- Assumes nothing.
-use Prim.Native.Nat.{_≤_}
 use Rattle.lines.proofs.Digits.{told, twenty}
 use Rattle.lines.proofs.put_number.Statement.{statement}
 use Rattle.lines.proofs.put_number.Tie as tie
@@ -38,7 +37,7 @@ same-length c = search needs
 returns : tie.Need-returns
 returns c =
     let d = c .before .before .before .before .before .decimal .ensures in
-    told _ _ _ _ (omega arith) (d .1 .0) (d .0 .1) (d .1 .1) (c .before .before .copy .ensures)
+    told _ _ _ _ (omega arith) (d .1 .0) (d .0 .1) (d .1 .1) (c .before .before .copy .ensures) (omega arith)
 
 pub put-number-spec : {M : Type 1} → statement M
 put-number-spec =
