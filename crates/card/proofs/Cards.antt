@@ -10,7 +10,7 @@ use Rattle.limits.specs.Said.{fault, said}
 use Rattle.words.proofs.Headers.{good-words}
 use Rattle.words.proofs.InShape.{whole}
 use Rattle.words.specs.Image.{blocksFor, imageFaults, imageTotal, imageWord, imageWords}
-use Rattle.words.specs.Words.{at, headerOk, wordsOf, wordsOk}
+use Rattle.words.specs.Words.{at, cardOk, wordsOf, wholeOk}
 use borrow.Author.Tests.{eqb-true, le-leb}
 use lib.Dec.{eqb}
 use lib.ListN.{length, take}
@@ -42,7 +42,7 @@ front-is i k t h =
 pub carded : (i : List ℕ) → said (imageFaults i) .0 ≡ 0 → Carded i
 unfolding imageFaults
 carded i e =
-    let h = headerOk (imageWords i 8) in
+    let h = cardOk (imageWords i 8) in
     let k = eqb (length i / 512) (blocksFor (imageTotal i)) in
     let r = go (eqb (length i) 0 || not (eqb (length i % 512) 0)) (wrongBlocks i 0 (length i / 512)) h k (restZero i (imageTotal i)) e in
     record { header = r .0; blocks = eqb-true (length i / 512) (blocksFor (imageTotal i)) (r .1) }
@@ -79,9 +79,9 @@ module _ (i : List ℕ) where
   card-total = sym (total-take (cardWords i)) ∙ ap wordsOf card-header ∙ sym card-long
 
   -- under a possible header no word is missing
-  pub card-words : headerOk (imageWords i 8) ≡ true → wordsOk (cardWords i) ≡ true
+  pub card-words : cardOk (imageWords i 8) ≡ true → wholeOk (cardWords i) ≡ true
   card-words e =
-      sym (good-words (cardWords i) (omega (arith, card-total)) (sym (header-take (cardWords i)) ∙ ap headerOk card-header ∙ e))
+      sym (good-words (cardWords i) (omega (arith, card-total)) (sym (header-take (cardWords i)) ∙ ap cardOk card-header ∙ e))
       ∙ le-leb (wordsOf (cardWords i)) (length (cardWords i)) (omega (arith, card-total))
 
   -- WHAT IS KNOWN OF A CARD WHOSE HEADER AND BLOCKS ARE RIGHT

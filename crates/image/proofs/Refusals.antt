@@ -8,7 +8,7 @@ use Rattle.laws.proofs.Tests.{or-l, or-none, or-parts, or-r}
 use Rattle.limits.proofs.Faults.{Numbered, fault-first, fault-next, fault-none, fault-numbered, none-listed, numberOf, says-none}
 use Rattle.limits.specs.Said.{Said, fault, said}
 use Rattle.words.specs.Image.{blocksFor, imageFaults, imageTotal, imageWords}
-use Rattle.words.specs.Words.{headerOk}
+use Rattle.words.specs.Words.{cardOk}
 use borrow.Author.Tests.{eq-eqb, eqb-true, ne-eqb, not-false}
 use lib.Dec.{eqb}
 use lib.ListN.{length}
@@ -25,7 +25,7 @@ module _ (i : List ℕ) where
   -- ---- 16 and 17: what the blocks hold
   -- the header's test
   abbrev header : Bool
-  header = headerOk (imageWords i 8)
+  header = cardOk (imageWords i 8)
 
   -- the block count's
   abbrev counted : Bool

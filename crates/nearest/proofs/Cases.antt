@@ -72,7 +72,7 @@ no-table-fault = refl
 
 -- nor has the index
 no-index-fault : 0 ≡ said (indexFaults fiveWords 5 1) .0
-unfolding headerOk wordsOk born level tile nodeOk shapeOk indexFaults
+unfolding cardOk headerOk wholeOk wordsOk born level tile nodeOk shapeOk indexFaults
 no-index-fault = refl
 
 -- where the definition gives it, so does every outcome of the call

@@ -39,7 +39,7 @@ same-is (x ∷ a) (y ∷ b) h = ap₂ (λ z l. z ∷ l) (eqb→eq x y (and-l (eq
 
 -- the table of a case and the index built over it are not refused, and each row stands once
 unfoldable fit : List ℕ → Bool
-unfolding sumTo tableFaults l1 between headerOk wordsOk born level tile nodeOk shapeOk indexFaults again family broods levelNodes nodes numbered encode choose split grow build
+unfolding sumTo tableFaults l1 between cardOk headerOk wholeOk wordsOk born level tile nodeOk shapeOk indexFaults again family broods levelNodes nodes numbered encode choose split grow build
 fit t =
     let w = build t 1 1 2 2 in
     eqb (rowsOf t 1) (length t) && eqb (n# w) (length t) && eqb (said (tableFaults (length t) 1) .0) 0 && eqb (said (indexFaults w (rowsOf t 1) 1) .0) 0

@@ -20,7 +20,7 @@ use Rattle.words.proofs.Levels.{born-le, inner-is}
 use Rattle.words.proofs.Nodes.{closed, node-ok, root-ok}
 use Rattle.words.specs.InShape.{InShape}
 use Rattle.words.specs.Shape.{born, brood, inner, level, nodeOk, positionOk, rootFits, rootOk, shapeOk, tile, treeFits}
-use Rattle.words.specs.Words.{N#, child#, count#, dist#, edition#, first#, inner#, kept, l#, m#, n#, radius#, row#, run#, start#, wordsOk}
+use Rattle.words.specs.Words.{N#, child#, count#, dist#, edition#, first#, inner#, kept, l#, m#, n#, radius#, row#, run#, start#, wholeOk}
 use borrow.Author.Tests.{eq-eqb, eqb-true, le-leb, not-false}
 use lib.Dec.{T, eqb, leb, le→leb, ltb, lt→ltb}
 use mathlib.Core.Bool.{Bool, _&&_, _||_, cond, false, not, true}
@@ -232,7 +232,7 @@ module _ (d : ℕ → ℕ → ℕ) (w : List ℕ) (O : NoFaults d w) where
       omega (arith, a, ap lowest (rest-map f (run# w k)), radius-is k h)
 
 -- AN INDEX THAT READS AS AN ACCEPTED ONE, WITH THE INNER REACHES THAT ITS EDITION KEEPS, IS ACCEPTED
-pub alike-accepted : (d : ℕ → ℕ → ℕ) {w v : List ℕ} → Alike w v → Accepted d w → wordsOk v ≡ true
+pub alike-accepted : (d : ℕ → ℕ → ℕ) {w v : List ℕ} → Alike w v → Accepted d w → wholeOk v ≡ true
     → ((k : ℕ) → k < N# w → inner# v k ≡ kept (edition# v) (nearest# d w k)) → Accepted d v
 alike-accepted d {w} {v} A C words r =
     let S = shape-of d w C in

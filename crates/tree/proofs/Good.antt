@@ -20,7 +20,7 @@ use Rattle.tree.specs.Check.{Accepted, faults}
 use Rattle.tree.specs.Encode.{below, broods, encode, family, levelNodes, members, nodeWords, nodes, numbered, pairWords, span}
 use Rattle.tree.specs.Grove.{Grove, bare, entries, fork, leaf, rowsIn}
 use Rattle.words.specs.Shape.{shapeOk}
-use Rattle.words.specs.Words.{headerOk, nodesOk, row#, width, wordsOf, wordsOk}
+use Rattle.words.specs.Words.{cardOk, nodesOk, row#, width, wordsOf, wholeOk}
 use lib.Dec.{T, leb, le→leb}
 use lib.ListN.{length, length-append}
 use mathlib.Core.Bool.{_&&_, true}
@@ -108,21 +108,21 @@ pairs-length [] = refl
 pairs-length (e ∷ es) = omega (arith, pairs-length es)
 
 -- the words that the header asks for are there
-encode-words : (e c m l : ℕ) (t : Grove) → Edition e → T (headerOk (encode e c m l t)) → wordsOk (encode e c m l t) ≡ true
-unfolding encode wordsOk
+encode-words : (e c m l : ℕ) (t : Grove) → Edition e → T (cardOk (encode e c m l t)) → wholeOk (encode e c m l t) ≡ true
+unfolding encode wholeOk
 encode-words e c m l t ed h =
     let w : List ℕ = encode e c m l t in
     let B : List ℕ = each (nodeWords e) (numbered t) in
     let Z : List ℕ = each pairWords (entries t) in
     let len : length w ≡ wordsOf w = omega (arith, length-append B Z, each-words e (numbered t) ed, pairs-length (entries t)) in
-    is-true (leb 8 (length w) && headerOk w && leb (wordsOf w) (length w))
-    (and-of (leb 8 (length w) && headerOk w) (leb (wordsOf w) (length w))
-    (and-of (leb 8 (length w)) (headerOk w) (le→leb 8 (length w) (omega arith)) h) (le→leb (wordsOf w) (length w) (omega arith)))
+    is-true (leb 8 (length w) && cardOk w && leb (wordsOf w) (length w))
+    (and-of (leb 8 (length w) && cardOk w) (leb (wordsOf w) (length w))
+    (and-of (leb 8 (length w)) (cardOk w) (le→leb 8 (length w) (omega arith)) h) (le→leb (wordsOf w) (length w) (omega arith)))
 
 -- A WELL-MADE TREE, NUMBERED AND WRITTEN, IS ACCEPTED
 pub encode-accepted : (d : ℕ → ℕ → ℕ) (e c m l : ℕ) (t : Grove) → editionOk e ≡ true → columnsOk c ≡ true → shareOk m l ≡ true → length (entries t) ≤ maxRows
     → Good d m l t → Accepted d (encode e c m l t)
-unfolding encode numbered headerOk
+unfolding encode numbered cardOk
 encode-accepted d e c m l t he hc hs hn G =
     let ed : Edition e = within-both 1 2 e he in
     let w : List ℕ = encode e c m l t in
@@ -151,7 +151,7 @@ encode-accepted d e c m l t he hc hs hn G =
 
 -- the tree of no rows
 pub empty-accepted : (d : ℕ → ℕ → ℕ) (e c m l : ℕ) → editionOk e ≡ true → columnsOk c ≡ true → shareOk m l ≡ true → Accepted d (encode e c m l bare)
-unfolding encode numbered nodes levelNodes family broods headerOk shapeOk faults
+unfolding encode numbered nodes levelNodes family broods cardOk shapeOk faults
 empty-accepted d e c m l he hc hs =
     let E = editionOk e && true in
     let C = columnsOk c in

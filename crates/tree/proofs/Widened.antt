@@ -18,7 +18,7 @@ use Rattle.tree.specs.Encode.{Node, nodeWords, pairWords}
 use Rattle.tree.specs.Grove.{treeOf}
 use Rattle.tree.specs.Radius.{radiusHow}
 use Rattle.tree.specs.Widen.{widen, widened}
-use Rattle.words.specs.Words.{N#, at, c#, child#, count#, dist#, edition#, headerOk, inner#, kept, kind#, l#, last#, m#, n#, nodesOk, radius#, row#, start#, wordsOf, wordsOk}
+use Rattle.words.specs.Words.{N#, at, c#, child#, count#, dist#, edition#, cardOk, inner#, kept, kind#, l#, last#, m#, n#, nodesOk, radius#, row#, start#, wordsOf, wholeOk}
 use lib.Dec.{T, eqb, leb, le→leb}
 use lib.ListN.{getD, length, length-append, length-map}
 use mathlib.Core.Bool.{Bool, _&&_, false, true}
@@ -122,8 +122,8 @@ module _ (d : ℕ → ℕ → ℕ) (w : List ℕ) where
       )
 
   -- its header is possible where the old one was
-  widen-header : headerOk w ≡ true → headerOk (widen d w) ≡ true
-  unfolding widen headerOk
+  widen-header : cardOk w ≡ true → cardOk (widen d w) ≡ true
+  unfolding widen cardOk
   widen-header e = go (editionOk (edition# w)) e
     where
       go : (a : Bool) → (a && leb (n# w) maxRows && columnsOk (c# w) && shareOk (m# w) (l# w) && nodesOk (n# w) (N# w) && eqb (kind# w) 1
@@ -134,16 +134,16 @@ module _ (d : ℕ → ℕ → ℕ) (w : List ℕ) where
       go false e = absurd (subst T (sym e) tt)
 
   -- so are its words
-  widen-words : wordsOk w ≡ true → wordsOk (widen d w) ≡ true
-  unfolding wordsOk
+  widen-words : wholeOk w ≡ true → wholeOk (widen d w) ≡ true
+  unfolding wholeOk
   widen-words e =
       let v : List ℕ = widen d w in
-      let h : T (headerOk w) = and-r (leb 8 (length w)) (headerOk w) (and-l (leb 8 (length w) && headerOk w) (leb (wordsOf w) (length w))
-      (holds (leb 8 (length w) && headerOk w && leb (wordsOf w) (length w)) e)) in
-      is-true (leb 8 (length v) && headerOk v && leb (wordsOf v) (length v))
-      (and-of (leb 8 (length v) && headerOk v) (leb (wordsOf v) (length v))
-      (and-of (leb 8 (length v)) (headerOk v) (le→leb 8 (length v) (omega (arith, widen-length)))
-      (holds (headerOk v) (widen-header (is-true (headerOk w) h)))) (le→leb (wordsOf v) (length v) (omega (arith, widen-length))))
+      let h : T (cardOk w) = and-r (leb 8 (length w)) (cardOk w) (and-l (leb 8 (length w) && cardOk w) (leb (wordsOf w) (length w))
+      (holds (leb 8 (length w) && cardOk w && leb (wordsOf w) (length w)) e)) in
+      is-true (leb 8 (length v) && cardOk v && leb (wordsOf v) (length v))
+      (and-of (leb 8 (length v) && cardOk v) (leb (wordsOf v) (length v))
+      (and-of (leb 8 (length v)) (cardOk v) (le→leb 8 (length v) (omega (arith, widen-length)))
+      (holds (cardOk v) (widen-header (is-true (cardOk w) h)))) (le→leb (wordsOf v) (length v) (omega (arith, widen-length))))
 
   -- WHAT IS ACCEPTED IS ACCEPTED WHEN WIDENED
   pub widen-accepted : Accepted d w → Accepted d (widen d w)

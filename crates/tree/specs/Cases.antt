@@ -90,7 +90,7 @@ pub data Case : Type 0 where
 
 -- a case comes out as it says
 unfoldable pub right : Case → Bool
-unfolding sumTo tableFaults l1 between from headerOk wordsOk born level tile nodeOk shapeOk indexFaults again wrongDist wrongRadius wrongInner widen strays faults treeAt treeOf family broods levelNodes nodes numbered encode choose split grow build homesIn homes answers passes nearHow marksIn marks radiusHow rotate step checkFrom checkWord window saidBuild saidCheck saidRadius saidNearest
+unfolding sumTo tableFaults l1 between from cardOk headerOk wholeOk wordsOk born level tile nodeOk shapeOk indexFaults again wrongDist wrongRadius wrongInner widen strays faults treeAt treeOf family broods levelNodes nodes numbered encode choose split grow build homesIn homes answers passes nearHow marksIn marks radiusHow rotate step checkFrom checkWord window saidBuild saidCheck saidRadius saidNearest
 right (words T w) = same (build T 1 1 2 2) w && eqb (saidCheck T 1 w 30 .0) 0
 right (order T is N) = let w = build T 1 1 2 2 in same (map (row# w) (range 0 (n# w))) is && eqb (N# w) N
 right (radius T q r how i k) =

@@ -3,7 +3,7 @@ use Prim.Native.Nat.{_+_, ℕ}
 use Rattle.laws.specs.Lists.{any, each, greatest, has, keep, lowest, range, rest}
 use Rattle.limits.specs.Said.{Said}
 use Rattle.words.specs.Shape.{inner, shapeOk}
-use Rattle.words.specs.Words.{N#, child#, count#, dist#, edition#, first#, inner#, m#, n#, radius#, row#, run#, start#, wordsOk}
+use Rattle.words.specs.Words.{N#, child#, count#, dist#, edition#, first#, inner#, m#, n#, radius#, row#, run#, start#, wholeOk}
 use lib.Dec.{eqb, leb, ltb}
 use mathlib.Core.Bool.{Bool, _&&_, _||_, cond, not, true}
 use mathlib.Core.List.{List, [], _++_, map}
@@ -55,6 +55,6 @@ module _ (d : ℕ → ℕ → ℕ) where
 
   -- the full check accepts: words and header, shape, and no fault
   pub record Accepted (w : List ℕ) : Type 0 where
-    pub words : wordsOk w ≡ true
+    pub words : wholeOk w ≡ true
     pub shape : shapeOk w ≡ true
     pub sound : faults w ≡ []

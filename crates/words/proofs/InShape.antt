@@ -4,13 +4,14 @@ use Rattle.laws.proofs.Tests.{and-l, and-r, holds, is-true}
 use Rattle.laws.specs.Lists.{all, range}
 use Rattle.limits.proofs.Ranges.{columns-are, shared, within-both}
 use Rattle.limits.specs.Limits.{columnsOk, editionOk, maxDepth, maxRows, shareOk}
+use Rattle.words.proofs.Headers.{words-whole}
 use Rattle.words.proofs.Levels.{born-le}
 use Rattle.words.proofs.Nodes.{closed, node-at, not-orphan, room-for, root-ok, root-some}
 use Rattle.words.proofs.Positions.{position-is}
 use Rattle.words.proofs.Tiles.{tile-first, tile-part}
 use Rattle.words.specs.InShape.{InShape, Kids, Left, Node, Place, Whole}
 use Rattle.words.specs.Shape.{born, inner, level, positionOk, rootFits, shapeOk, treeFits}
-use Rattle.words.specs.Words.{N#, c#, child#, count#, edition#, headerOk, kind#, l#, last#, m#, n#, nodesOk, start#, wordsOf, wordsOk}
+use Rattle.words.specs.Words.{N#, c#, cardOk, child#, count#, edition#, kind#, l#, last#, m#, n#, nodesOk, start#, wholeOk, wordsOf, wordsOk}
 use lib.Dec.{T, eqb, eqb→eq, leb, leb→le}
 use lib.ListN.{length}
 use mathlib.Core.Bool.{Bool, _&&_, cond, false, true}
@@ -30,8 +31,8 @@ nodes-are (suc n) N t =
     (omega arith, λ h. q .0)
 
 -- WHAT THE WORDS' TEST SAYS
-pub whole : (w : List ℕ) → wordsOk w ≡ true → Whole w
-unfolding wordsOk headerOk
+pub whole : (w : List ℕ) → wholeOk w ≡ true → Whole w
+unfolding wholeOk cardOk
 whole w e =
     let a = editionOk (edition# w) in
     let b = leb (n# w) maxRows in
@@ -59,15 +60,15 @@ whole w e =
     }
 
 -- and its header is possible
-pub header-possible : (w : List ℕ) → wordsOk w ≡ true → headerOk w ≡ true
-unfolding wordsOk
+pub header-possible : (w : List ℕ) → wholeOk w ≡ true → cardOk w ≡ true
+unfolding wholeOk
 header-possible w e =
-    is-true (headerOk w) (and-r (leb 8 (length w)) (headerOk w) (and-l (leb 8 (length w) && headerOk w) (leb (wordsOf w) (length w))
-    (holds (leb 8 (length w) && headerOk w && leb (wordsOf w) (length w)) e)))
+    is-true (cardOk w) (and-r (leb 8 (length w)) (cardOk w) (and-l (leb 8 (length w) && cardOk w) (leb (wordsOf w) (length w))
+    (holds (leb 8 (length w) && cardOk w && leb (wordsOf w) (length w)) e)))
 
 -- the header's words are there
 pub header-there : (w : List ℕ) → wordsOk w ≡ true → 8 ≤ length w
-header-there w e = omega (arith, whole w e .words)
+header-there w e = omega (arith, whole w (words-whole w e .1) .words)
 
 -- ---- the shape
 module _ (w : List ℕ) (W : Whole w) (t : T (treeFits w)) where
@@ -155,7 +156,7 @@ place-in w t p h =
     record { row = q .0; near = q .1 }
 
 -- WHAT THE SHAPE TEST SAYS
-pub in-shape : (w : List ℕ) → wordsOk w ≡ true → shapeOk w ≡ true → InShape w
+pub in-shape : (w : List ℕ) → wholeOk w ≡ true → shapeOk w ≡ true → InShape w
 unfolding shapeOk
 in-shape w e s =
     let W = whole w e in

@@ -5,6 +5,7 @@ use Rattle.laws.proofs.Tests.{and-l, and-r, holds, is-true}
 use Rattle.laws.specs.Every.{Every}
 use Rattle.limits.proofs.Faults.{Early, fault-early, fault-first, fault-next, fault-none, fault-not, numberOf}
 use Rattle.limits.specs.Said.{Said, fault, said}
+use Rattle.words.proofs.Headers.{words-whole}
 use Rattle.words.proofs.InShape.{in-shape}
 use Rattle.words.specs.Calls.{indexFaults}
 use Rattle.words.specs.InShape.{Over}
@@ -88,4 +89,4 @@ module _ (w : List ℕ) (n c : ℕ) where
   pub over : 0 ≡ said (indexFaults w n c) .0 → Over w n c
   over z =
       let t = index-tests z in
-      record { shape = in-shape w (t .0) (t .3); rows = t .1; columns = t .2 }
+      record { shape = in-shape w (words-whole w (t .0) .1) (t .3); rows = t .1; columns = t .2 }

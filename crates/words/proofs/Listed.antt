@@ -2,6 +2,7 @@
 use Prim.Native.Nat.{_*_, _+_, _<_, _≤_, ℕ}
 use Rattle.laws.proofs.Tests.{and-l, and-r, holds, is-true}
 use Rattle.limits.specs.Limits.{maxRows}
+use Rattle.words.proofs.Headers.{words-whole}
 use Rattle.words.proofs.InShape.{in-shape}
 use Rattle.words.proofs.Strides.{words-few}
 use Rattle.words.specs.Calls.{Lists, Unlisted, beyond, impossible, listed, lists, missing, pairs, wrong}
@@ -45,7 +46,7 @@ module _ (w : List ℕ) (k : ℕ) where
   node-there e =
       let t : T (wordsOk w && shapeOk w && ltb k (N# w)) = holds (lists w k) e in
       let u = and-l (wordsOk w && shapeOk w) (ltb k (N# w)) t in (
-        in-shape w (is-true (wordsOk w) (and-l (wordsOk w) (shapeOk w) u)) (is-true (shapeOk w) (and-r (wordsOk w) (shapeOk w) u)),
+        in-shape w (words-whole w (is-true (wordsOk w) (and-l (wordsOk w) (shapeOk w) u)) .1) (is-true (shapeOk w) (and-r (wordsOk w) (shapeOk w) u)),
         ltb-true k (N# w) (is-true (ltb k (N# w)) (and-r (wordsOk w && shapeOk w) (ltb k (N# w)) t)),
       )
 
@@ -114,7 +115,7 @@ module _ (w : List ℕ) (k : ℕ) where
       go true true false p q r = beyond (ltb-false k (N# w) r)
       go true true true p q r =
           let h = ltb-true k (N# w) r in
-          let S = in-shape w p q in
+          let S = in-shape w (words-whole w p .1) q in
           absurd (omega (arith, ap length e, ap length (listed-pairs (all-right p q h)), pairs-long S h, S .node k h .some))
 
   -- where words are missing the test of the words fails

@@ -2,7 +2,7 @@
 use Prim.Native.Nat.{_%_, _*_, _+_, _-_, _/_, _^_, suc, zero, ℕ}
 use Rattle.laws.specs.Lists.{all, each, keep, range}
 use Rattle.limits.specs.Said.{Said, fault, said}
-use Rattle.words.specs.Words.{at, headerOk, wordsOf, wordsOk}
+use Rattle.words.specs.Words.{at, cardOk, wordsOf, wordsOk}
 use lib.Dec.{eqb, ltb}
 use lib.ListN.{length, take}
 use mathlib.Core.Bool.{Bool, _||_, not}
@@ -89,7 +89,7 @@ unfoldable pub imageFaults : List ℕ → List Said
 imageFaults i =
     let n = length i / 512 in
     fault 14 (eqb (length i) 0 || not (eqb (length i % 512) 0)) ++ map (λ b. (15, b, 0)) (keep (λ b. not (blockGood i b)) (range 0 n))
-    ++ fault 16 (not (headerOk (imageWords i 8)) || not (eqb n (blocksFor (imageTotal i))))
+    ++ fault 16 (not (cardOk (imageWords i 8)) || not (eqb n (blocksFor (imageTotal i))))
     ++ fault 17 (not (all (λ j. eqb (imageWord i j) 0) (range (imageTotal i) (127 * n - imageTotal i))))
 
 -- 5 comes last

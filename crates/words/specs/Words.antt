@@ -49,11 +49,15 @@ abbrev pub nodesOk : ℕ → ℕ → Bool
 nodesOk zero N = eqb N 0
 nodesOk (suc n) N = within 1 (2 * suc n - 1) N
 
--- the header is not impossible
-unfoldable pub headerOk : List ℕ → Bool
-headerOk w =
+-- a header is possible on a card, which may be of either edition (02, R-11)
+unfoldable pub cardOk : List ℕ → Bool
+cardOk w =
     editionOk (edition# w) && leb (n# w) maxRows && columnsOk (c# w) && shareOk (m# w) (l# w)
     && nodesOk (n# w) (N# w) && eqb (kind# w) 1 && eqb (last# w) 0
+
+-- the header is not impossible: edition 2, and possible on a card
+unfoldable pub headerOk : List ℕ → Bool
+headerOk w = eqb (edition# w) 2 && cardOk w
 
 -- ---- the nodes, `width` words each after the header: start, count, first child's number (0 for a leaf), radius, and in edition 2 the inner reach
 -- how many words a node has: 4 in edition 1, 5 in edition 2
@@ -108,6 +112,10 @@ wordsOf w = pairAt w (n# w)
 -- a header is there and possible, and no word is missing
 unfoldable pub wordsOk : List ℕ → Bool
 wordsOk w = leb 8 (length w) && headerOk w && leb (wordsOf w) (length w)
+
+-- the same of words that may be of either edition, as a card's
+unfoldable pub wholeOk : List ℕ → Bool
+wholeOk w = leb 8 (length w) && cardOk w && leb (wordsOf w) (length w)
 
 -- ---- a node's positions, and its first
 -- the positions of node k's run

@@ -1,7 +1,7 @@
 // The header's test, and that no word is missing.
 ghost use Prim.Native.Nat.{_≤_};
 ghost use Rattle.limits.specs.Limits.{maxRows};
-ghost use Rattle.words.specs.Words.{headerOk, nodesOk, wordsOk};
+ghost use Rattle.words.specs.Words.{cardOk, headerOk, nodesOk, wordsOk};
 ghost use lib.ListN.{length};
 ghost use mathlib.Core.Path.{_≡_};
 use crate::places::HEADER;
@@ -23,31 +23,42 @@ fn nodes_ok(n: usize, nodes: usize) -> bool
     is_within(1, 2 * n - 1, nodes)
 }
 
+// The eight header words are possible on a card, which may be of either edition.
+pub fn card_ok(header: &[u32]) -> bool
+    requires { ⌜ 8 ≤ length (now header) ⌝ }
+    ensures { λ r. ⌜ r ≡ cardOk (now (header .entry)) ⌝ }
+{
+    if !edition_ok(word(header, 0)) {
+        return false;
+    }
+    let n = word(header, 1);
+    if Params::MOST_ROWS < n {
+        return false;
+    }
+    if !columns_ok(word(header, 2)) {
+        return false;
+    }
+    if !share_ok(word(header, 3), word(header, 4)) {
+        return false;
+    }
+    if !nodes_ok(n, word(header, 5)) {
+        return false;
+    }
+    if word(header, 6) != 1 {
+        return false;
+    }
+    word(header, 7) == 0
+}
+
 // The eight header words are possible.
 pub fn header_ok(index: &[u32]) -> bool
     requires { ⌜ 8 ≤ length (now index) ⌝ }
     ensures { λ r. ⌜ r ≡ headerOk (now (index .entry)) ⌝ }
 {
-    if !edition_ok(word(index, 0)) {
+    if word(index, 0) != Params::LAST_EDITION {
         return false;
     }
-    let n = word(index, 1);
-    if Params::MOST_ROWS < n {
-        return false;
-    }
-    if !columns_ok(word(index, 2)) {
-        return false;
-    }
-    if !share_ok(word(index, 3), word(index, 4)) {
-        return false;
-    }
-    if !nodes_ok(n, word(index, 5)) {
-        return false;
-    }
-    if word(index, 6) != 1 {
-        return false;
-    }
-    word(index, 7) == 0
+    card_ok(index)
 }
 
 // The header words are there and possible, and no word is missing.

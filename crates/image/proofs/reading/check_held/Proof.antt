@@ -8,7 +8,7 @@ use Rattle.image.specs.Sound.{restZero}
 use Rattle.laws.proofs.Tests.{no, yes}
 use Rattle.limits.specs.Said.{said}
 use Rattle.words.specs.Image.{blocksFor, imageTotal, imageWords}
-use Rattle.words.specs.Words.{headerOk, wordsOf}
+use Rattle.words.specs.Words.{cardOk, wordsOf}
 use borrow.Author.Needs.{needs}
 use lib.ListN.{length}
 use mathlib.Core.Bool.{true}
@@ -20,8 +20,8 @@ use native.Mathlib.Omega.{arith}
 abbrev I : tie.After-header-of → List ℕ
 I c = c .before .before .args .image .now
 
-header : (c : tie.Else1) → headerOk (imageWords (I (c .before .before .before)) 8) ≡ true
-header c = yes (c .before .header-ok .ensures ∙ ap headerOk (c .before .before .before .header-of .ensures)) (c .if1 .left)
+header : (c : tie.Else1) → cardOk (imageWords (I (c .before .before .before)) 8) ≡ true
+header c = yes (c .before .header-ok .ensures ∙ ap cardOk (c .before .before .before .header-of .ensures)) (c .if1 .left)
 
 abbrev W : tie.After-words-of → tie.After-header-of
 W c = c .before .before .before .before .before
@@ -55,7 +55,7 @@ returns : tie.Need-returns
 returns c =
     let ho = c .before .before in
     let r = c .refused .ensures in
-    let e = no (ho .header-ok .ensures ∙ ap headerOk (ho .before .before .header-of .ensures)) (c .before .if1 .taken) in
+    let e = no (ho .header-ok .ensures ∙ ap cardOk (ho .before .before .header-of .ensures)) (c .before .if1 .taken) in
     sound-refused _ _ _ _ _ 16 0 (λ q. omega arith) (sixteen-header (I (ho .before .before)) e) (r .0) (r .1) (r .2)
 
 slice-aggregate-words-of : tie.Need-slice-aggregate-words-of

@@ -1,110 +1,23 @@
--- `words::header::header_ok` meets its contract: each return is one bad word, and the last has all the others good.
+-- `words::header::header_ok` meets its contract: any edition but 2 is impossible, and with 2 a card's test decides.
 -- Assumes nothing.
-use Rattle.laws.proofs.Tests.{no, no-at, yes, yes-at}
-use Rattle.limits.specs.Limits.{columnsOk, editionOk, shareOk}
-use Rattle.words.proofs.Headers.{bad-columns, bad-edition, bad-kind, bad-nodes, bad-rows, bad-share, good-header}
+use Rattle.words.proofs.Headers.{edition-two, other-edition}
 use Rattle.words.proofs.header.header_ok.Statement.{statement}
 use Rattle.words.proofs.header.header_ok.Tie as tie
-use Rattle.words.specs.Words.{nodesOk}
 use borrow.Author.Needs.{needs}
-use mathlib.Core.Path.{_∙_, ap, sym}
+use mathlib.Core.Path.{_∙_}
 use native.Mathlib.Omega.{arith}
 
 word-requires : tie.Need-word-requires
 word-requires c κs = search needs
 
 returns : tie.Need-returns
-returns c = bad-edition _ (no (c .before .edition-ok .ensures ∙ ap editionOk (c .before .before .word .ensures .0)) (c .if1 .taken))
+returns c = other-edition _ (λ e. omega arith)
 
-edition-ok-requires : tie.Need-edition-ok-requires
-edition-ok-requires c κs = search needs
-
-word-requires-2 : tie.Need-word-requires-2
-word-requires-2 c κs = search needs
+card-ok-requires : tie.Need-card-ok-requires
+card-ok-requires c κs = search needs
 
 returns-2 : tie.Need-returns-2
-returns-2 c = bad-rows _ (omega arith)
-
-word-requires-3 : tie.Need-word-requires-3
-word-requires-3 c κs = search needs
-
-columns-ok-requires : tie.Need-columns-ok-requires
-columns-ok-requires c κs = search needs
-
-returns-3 : tie.Need-returns-3
-returns-3 c = bad-columns _ (no (c .before .columns-ok .ensures ∙ ap columnsOk (c .before .before .word3 .ensures .0)) (c .if3 .taken))
-
-word-requires-4 : tie.Need-word-requires-4
-word-requires-4 c κs = search needs
-
-word-requires-5 : tie.Need-word-requires-5
-word-requires-5 c κs = search needs
-
-share-ok-requires : tie.Need-share-ok-requires
-share-ok-requires c κs = search needs
-
-returns-4 : tie.Need-returns-4
-returns-4 c =
-    bad-share _ (no-at shareOk (c .before .share-ok .ensures) (c .before .before .before .word4 .ensures .0)
-    (c .before .before .word5 .ensures .0) (c .if4 .taken))
-
-word-requires-6 : tie.Need-word-requires-6
-word-requires-6 c κs = search needs
-
-nodes-ok-requires : tie.Need-nodes-ok-requires
-nodes-ok-requires c κs = search needs
-
-returns-5 : tie.Need-returns-5
-returns-5 c =
-    let n = c .before .before .before .before .before .before .before .before .before .before .before in
-    bad-nodes _ (no-at nodesOk (c .before .nodes-ok .ensures) (n .word2 .ensures .0) (c .before .before .word6 .ensures .0) (c .if5 .taken))
-
-word-requires-7 : tie.Need-word-requires-7
-word-requires-7 c κs = search needs
-
-returns-6 : tie.Need-returns-6
-returns-6 c = bad-kind _ (omega arith)
-
-word-requires-8 : tie.Need-word-requires-8
-word-requires-8 c κs = search needs
-
-returns-7 : tie.Need-returns-7
-returns-7 c =
-    let at6 = c .before in
-    let at5 = at6 .before .before in
-    let at4 = at5 .before .before .before in
-    let at3 = at4 .before .before .before .before in
-    let at2 = at3 .before .before .before in
-    let at1 = at2 .before .before in
-    let n = at2 .before .word2 .ensures .0 in
-    rw (c .word8 .ensures .0)
-    (good-header _ (yes (at1 .before .edition-ok .ensures ∙ ap editionOk (at1 .before .before .word .ensures .0)) (at1 .if1 .left)) (omega (arith, n, at2 .if2 .left))
-    (yes (at3 .before .columns-ok .ensures ∙ ap columnsOk (at3 .before .before .word3 .ensures .0)) (at3 .if3 .left))
-    (yes-at shareOk (at4 .before .share-ok .ensures) (at4 .before .before .before .word4 .ensures .0) (at4 .before .before .word5 .ensures .0)
-    (at4 .if4 .left))
-    (yes-at nodesOk (at5 .before .nodes-ok .ensures) n (at5 .before .before .word6 .ensures .0) (at5 .if5 .left))
-    (omega (arith, at6 .before .word7 .ensures .0, at6 .if6 .left)))
+returns-2 c = c .card-ok .ensures ∙ edition-two _ (omega arith)
 
 pub header-ok-spec : {M : Type 1} → statement M
-header-ok-spec =
-    tie.close
-    (tie.spec
-    word-requires
-    edition-ok-requires
-    returns
-    word-requires-2
-    returns-2
-    word-requires-3
-    columns-ok-requires
-    returns-3
-    word-requires-4
-    word-requires-5
-    share-ok-requires
-    returns-4
-    word-requires-6
-    nodes-ok-requires
-    returns-5
-    word-requires-7
-    returns-6
-    word-requires-8
-    returns-7)
+header-ok-spec = tie.close (tie.spec word-requires returns card-ok-requires returns-2)

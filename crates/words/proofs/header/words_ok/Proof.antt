@@ -2,7 +2,7 @@
 -- Assumes nothing.
 use Prim.Native.Nat.{_*_, _≤_}
 use Rattle.laws.proofs.Tests.{no, yes}
-use Rattle.words.proofs.Headers.{bad-header, few-words, good-words, nodes-words}
+use Rattle.words.proofs.Headers.{bad-header, few-words, good-words, header-card, nodes-words}
 use Rattle.words.proofs.header.words_ok.Statement.{statement}
 use Rattle.words.proofs.header.words_ok.Tie as tie
 use Rattle.words.specs.Words.{N#, edition#, width}
@@ -13,7 +13,8 @@ use native.Mathlib.Omega.{arith}
 -- the nodes' words, by the edition
 product : (c : tie.After-nodes)
     → (c .before .width .result * c .nodes .result ≡ width (edition# (c .before .before .before .before .before .before .args .index .now)) * N# (c .before .before .before .before .before .before .args .index .now)) × (c .before .width .result * c .nodes .result ≤ 5 * c .nodes .result)
-product c = nodes-words _ (yes (c .before .before .before .header-ok .ensures) (c .before .before .if2 .left)) (c .before .width .ensures .0) (c .nodes .ensures .0)
+product c =
+    nodes-words _ (header-card _ (yes (c .before .before .before .header-ok .ensures) (c .before .before .if2 .left)) .1) (c .before .width .ensures .0) (c .nodes .ensures .0)
 
 returns : tie.Need-returns
 returns c = few-words _ (c .if1 .taken)

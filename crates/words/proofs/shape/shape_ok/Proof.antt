@@ -1,6 +1,7 @@
 -- `words::shape::shape_ok` meets its contract: the two passes, one after the other.
 -- Assumes nothing.
 use Rattle.laws.proofs.Tests.{no, yes}
+use Rattle.words.proofs.Headers.{words-whole}
 use Rattle.words.proofs.InShape.{whole}
 use Rattle.words.proofs.Pass.{shape-go-on, shape-stop}
 use Rattle.words.proofs.shape.shape_ok.Statement.{statement}
@@ -8,13 +9,13 @@ use Rattle.words.proofs.shape.shape_ok.Tie as tie
 use mathlib.Core.Path.{_∙_}
 
 tree-fits-requires : tie.Need-tree-fits-requires
-tree-fits-requires c κs = whole (c .before .args .index .now) (c .before .pre)
+tree-fits-requires c κs = whole _ (words-whole (c .before .args .index .now) (c .before .pre) .1)
 
 returns : tie.Need-returns
 returns c = shape-stop (c .before .before .before .args .index .now) (no (c .before .tree-fits .ensures) (c .if1 .taken))
 
 positions-fit-requires : tie.Need-positions-fit-requires
-positions-fit-requires c κs = whole (c .before .before .before .args .index .now) (c .before .before .before .pre)
+positions-fit-requires c κs = whole _ (words-whole (c .before .before .before .args .index .now) (c .before .before .before .pre) .1)
 
 returns-2 : tie.Need-returns-2
 returns-2 c =
