@@ -19,7 +19,7 @@ use Rattle.tree.specs.Homes.{homes, homesIn}
 use Rattle.tree.specs.Nearest.{answers, measured, nearHow, passes}
 use Rattle.words.specs.Calls.{indexFaults}
 use Rattle.words.specs.Shape.{born, level, nodeOk, shapeOk, tile}
-use Rattle.words.specs.Words.{headerOk, wordsOk}
+use Rattle.words.specs.Words.{cardOk, headerOk, wholeOk, wordsOk}
 use lib.ListN.{drop, length}
 use mathlib.Core.List.{List, [], _++_, _∷_, map}
 use mathlib.Core.Path.{_∙_, _≡_, ap, ap₂, refl, subst, sym}

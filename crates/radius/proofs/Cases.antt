@@ -21,7 +21,7 @@ use Rattle.tree.specs.Nearest.{measured}
 use Rattle.tree.specs.Radius.{inside, radiusHow}
 use Rattle.words.specs.Calls.{indexFaults}
 use Rattle.words.specs.Shape.{born, level, nodeOk, shapeOk, tile}
-use Rattle.words.specs.Words.{headerOk, n#, wordsOk}
+use Rattle.words.specs.Words.{cardOk, headerOk, n#, wholeOk, wordsOk}
 use borrow.Author.Tests.{not-true}
 use lib.Dec.{T, eqb, eqb→eq}
 use lib.ListN.{drop, length}

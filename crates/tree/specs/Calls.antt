@@ -1,6 +1,6 @@
 -- What the calls on a table say: 01, Numbers given back. Each lists its faults in order. Assumes nothing.
 use Prim.Native.Nat.{_*_, _+_, min, ℕ}
-use Rattle.limits.specs.Limits.{editionOk, shareOk}
+use Rattle.limits.specs.Limits.{shareOk}
 use Rattle.limits.specs.Said.{Said, columnsFault, fault, lengthFaults, said, tableFaults}
 use Rattle.measure.specs.Table.{between, rowsOf}
 use Rattle.tree.specs.Check.{faults}
@@ -18,7 +18,7 @@ roomOf e n = (8 + 2 * e) * n + 8
 unfoldable pub saidBuild : List ℕ → ℕ → ℕ → ℕ → ℕ → ℕ → ℕ → Said
 saidBuild T c e m l room work =
     let n = rowsOf T c in
-    said (columnsFault c ++ fault 2 (not (shareOk m l && editionOk e)) ++ lengthFaults (length T) c
+    said (columnsFault c ++ fault 2 (not (shareOk m l && eqb e 2)) ++ lengthFaults (length T) c
     ++ fault 5 (ltb room (roomOf e n) || ltb work (6 * n)))
 
 -- check: 1, 3, 4, 5, 8, 9, and then what the full check finds

@@ -17,7 +17,7 @@ use Rattle.tree.specs.Radius.{inside, marks, marksIn, radiusHow}
 use Rattle.words.specs.Calls.{indexFaults}
 use Rattle.words.specs.Image.{checkFrom, checkWord, rotate, step, window}
 use Rattle.words.specs.Shape.{born, level, nodeOk, shapeOk, tile}
-use Rattle.words.specs.Words.{N#, headerOk, n#, row#, wordsOk}
+use Rattle.words.specs.Words.{N#, cardOk, headerOk, n#, row#, wholeOk, wordsOk}
 use lib.Dec.{eqb}
 use lib.ListN.{length, set, take}
 use mathlib.Core.Bool.{Bool, _&&_}
@@ -30,17 +30,6 @@ five = 0 ∷ 1 ∷ 10 ∷ 11 ∷ 20 ∷ []
 -- the index of the five rows
 abbrev pub fiveWords : List ℕ
 fiveWords =
-    1 ∷ 5 ∷ 1 ∷ 2 ∷ 2 ∷ 5 ∷ 1 ∷ 0
-    ∷ 0 ∷ 5 ∷ 1 ∷ 20
-    ∷ 0 ∷ 3 ∷ 3 ∷ 10
-    ∷ 3 ∷ 2 ∷ 0 ∷ 9
-    ∷ 0 ∷ 2 ∷ 0 ∷ 1
-    ∷ 2 ∷ 1 ∷ 0 ∷ 0
-    ∷ 0 ∷ 0 ∷ 1 ∷ 1 ∷ 2 ∷ 0 ∷ 4 ∷ 0 ∷ 3 ∷ 9 ∷ []
-
--- the same in edition 2
-abbrev pub wideWords : List ℕ
-wideWords =
     2 ∷ 5 ∷ 1 ∷ 2 ∷ 2 ∷ 5 ∷ 1 ∷ 0
     ∷ 0 ∷ 5 ∷ 1 ∷ 20 ∷ 1
     ∷ 0 ∷ 3 ∷ 3 ∷ 10 ∷ 1
@@ -49,15 +38,26 @@ wideWords =
     ∷ 2 ∷ 1 ∷ 0 ∷ 0 ∷ 0
     ∷ 0 ∷ 0 ∷ 1 ∷ 1 ∷ 2 ∷ 0 ∷ 4 ∷ 0 ∷ 3 ∷ 9 ∷ []
 
+-- the same as an old card has it, in edition 1
+abbrev pub oldWords : List ℕ
+oldWords =
+    1 ∷ 5 ∷ 1 ∷ 2 ∷ 2 ∷ 5 ∷ 1 ∷ 0
+    ∷ 0 ∷ 5 ∷ 1 ∷ 20
+    ∷ 0 ∷ 3 ∷ 3 ∷ 10
+    ∷ 3 ∷ 2 ∷ 0 ∷ 9
+    ∷ 0 ∷ 2 ∷ 0 ∷ 1
+    ∷ 2 ∷ 1 ∷ 0 ∷ 0
+    ∷ 0 ∷ 0 ∷ 1 ∷ 1 ∷ 2 ∷ 0 ∷ 4 ∷ 0 ∷ 3 ∷ 9 ∷ []
+
 -- the same rows with 10 and 11 exchanged: row 3, at 11, stands with the centre 0 and is closer to 20
 abbrev pub strayWords : List ℕ
 strayWords =
-    1 ∷ 5 ∷ 1 ∷ 2 ∷ 2 ∷ 5 ∷ 1 ∷ 0
-    ∷ 0 ∷ 5 ∷ 1 ∷ 20
-    ∷ 0 ∷ 3 ∷ 3 ∷ 11
-    ∷ 3 ∷ 2 ∷ 0 ∷ 10
-    ∷ 0 ∷ 2 ∷ 0 ∷ 1
-    ∷ 2 ∷ 1 ∷ 0 ∷ 0
+    2 ∷ 5 ∷ 1 ∷ 2 ∷ 2 ∷ 5 ∷ 1 ∷ 0
+    ∷ 0 ∷ 5 ∷ 1 ∷ 20 ∷ 1
+    ∷ 0 ∷ 3 ∷ 3 ∷ 11 ∷ 1
+    ∷ 3 ∷ 2 ∷ 0 ∷ 10 ∷ 10
+    ∷ 0 ∷ 2 ∷ 0 ∷ 1 ∷ 1
+    ∷ 2 ∷ 1 ∷ 0 ∷ 0 ∷ 0
     ∷ 0 ∷ 0 ∷ 1 ∷ 1 ∷ 3 ∷ 0 ∷ 4 ∷ 0 ∷ 2 ∷ 10 ∷ []
 
 pub data Case : Type 0 where
@@ -71,12 +71,8 @@ pub data Case : Type 0 where
   nearest : List ℕ → ℕ → ℕ → List (ℕ × ℕ) → ℕ → Case
   -- in the table, query and w give these how-bytes
   near : List ℕ → ℕ → ℕ → List ℕ → Case
-  -- in edition 2, the table is built to these words, the edition 1 words are widened to them, and the check accepts them
-  wide : List ℕ → List ℕ → Case
-  -- in edition 2, query and r give these how-bytes
-  wideRadius : List ℕ → ℕ → ℕ → List ℕ → Case
-  -- in edition 2, query and w give these how-bytes
-  wideNear : List ℕ → ℕ → ℕ → List ℕ → Case
+  -- over the table the edition 1 words of an old card are widened to these, and the check accepts them
+  old : List ℕ → List ℕ → List ℕ → Case
   -- a block with this number, these words and zeros has this check word
   block : ℕ → List ℕ → ℕ → Case
   -- the check of these words for the five-row table gives a number and two places
@@ -91,18 +87,16 @@ pub data Case : Type 0 where
 -- a case comes out as it says
 unfoldable pub right : Case → Bool
 unfolding sumTo tableFaults l1 between from cardOk headerOk wholeOk wordsOk born level tile nodeOk shapeOk indexFaults again wrongDist wrongRadius wrongInner widen strays faults treeAt treeOf family broods levelNodes nodes numbered encode choose split grow build homesIn homes answers passes nearHow marksIn marks radiusHow rotate step checkFrom checkWord window saidBuild saidCheck saidRadius saidNearest
-right (words T w) = same (build T 1 1 2 2) w && eqb (saidCheck T 1 w 30 .0) 0
-right (order T is N) = let w = build T 1 1 2 2 in same (map (row# w) (range 0 (n# w))) is && eqb (N# w) N
+right (words T w) = same (build T 1 2 2 2) w && eqb (saidCheck T 1 w 30 .0) 0
+right (order T is N) = let w = build T 1 2 2 2 in same (map (row# w) (range 0 (n# w))) is && eqb (N# w) N
 right (radius T q r how i k) =
-    let h = radiusHow (from T 1 (q ∷ [])) r (length T) (treeOf (build T 1 1 2 2)) in
+    let h = radiusHow (from T 1 (q ∷ [])) r (length T) (treeOf (build T 1 2 2 2)) in
     same h how && eqb (inside h) i && eqb (measured h) k
 right (nearest T q w as′ k) =
     let x = from T 1 (q ∷ []) in
-    same (each pairWords (answers x (length T) w)) (each pairWords as′) && eqb (measured (nearHow x (length T) (treeOf (build T 1 1 2 2)) w)) k
-right (near T q w how) = same (nearHow (from T 1 (q ∷ [])) (length T) (treeOf (build T 1 1 2 2)) w) how
-right (wide T w) = same (build T 1 2 2 2) w && same (widen (between T 1) (build T 1 1 2 2)) w && eqb (saidCheck T 1 w 30 .0) 0
-right (wideRadius T q r how) = same (radiusHow (from T 1 (q ∷ [])) r (length T) (treeOf (build T 1 2 2 2))) how
-right (wideNear T q w how) = same (nearHow (from T 1 (q ∷ [])) (length T) (treeOf (build T 1 2 2 2)) w) how
+    same (each pairWords (answers x (length T) w)) (each pairWords as′) && eqb (measured (nearHow x (length T) (treeOf (build T 1 2 2 2)) w)) k
+right (near T q w how) = same (nearHow (from T 1 (q ∷ [])) (length T) (treeOf (build T 1 2 2 2)) w) how
+right (old T v w) = same (widen (between T 1) v) w && eqb (saidCheck T 1 w 30 .0) 0
 right (block b ws s) = eqb (checkWord b (window ws 0 127)) s
 right (check w k p p′) = let s = saidCheck five 1 w 30 in eqb (s .0) k && eqb (s .1) p && eqb (s .2) p′
 right (buildSays c e m l room work k) = eqb (saidBuild five c e m l room work .0) k
@@ -123,11 +117,12 @@ marked =
     ∷ order (7 ∷ 7 ∷ 7 ∷ 7 ∷ []) (0 ∷ 3 ∷ 2 ∷ 1 ∷ []) 5
     ∷ block 0 [] 2_147_483_648
     ∷ block 1 [] 1
-    ∷ words [] (1 ∷ 0 ∷ 1 ∷ 2 ∷ 2 ∷ 0 ∷ 1 ∷ 0 ∷ [])
-    ∷ block 0 (1 ∷ 0 ∷ 1 ∷ 2 ∷ 2 ∷ 0 ∷ 1 ∷ 0 ∷ []) 3_909_091_328
+    ∷ words [] (2 ∷ 0 ∷ 1 ∷ 2 ∷ 2 ∷ 0 ∷ 1 ∷ 0 ∷ [])
+    ∷ block 0 (2 ∷ 0 ∷ 1 ∷ 2 ∷ 2 ∷ 0 ∷ 1 ∷ 0 ∷ []) 687_865_857
     ∷ []
 
--- ours: (x - y)/2 rounded down, a home bound equal to D left out, a stray, each other fault of the check, and each refusal of a call
+-- ours: (x - y)/2 rounded down, a home bound equal to D left out, a stray, each other fault of the check, each refusal of a call, old cards, and
+-- groups that only their inner reach closes
 abbrev pub ours : List Case
 ours =
     radius (4 ∷ 2 ∷ 2 ∷ 6 ∷ 7 ∷ []) 6 0 (1 ∷ 0 ∷ 0 ∷ 3 ∷ 1 ∷ []) 1 3
@@ -135,40 +130,37 @@ ours =
     ∷ near five 6 2 (1 ∷ 3 ∷ 3 ∷ 1 ∷ 1 ∷ [])
     ∷ check strayWords 13 0 2
     ∷ check (set fiveWords 0 3) 8 0 0
+    ∷ check oldWords 8 0 0
     ∷ check (set fiveWords 1 4) 8 0 0
     ∷ check (set fiveWords 5 4) 9 0 0
     ∷ check (set fiveWords 8 1) 9 0 0
     ∷ check (set fiveWords 10 0) 9 0 0
-    ∷ check (set fiveWords 13 2) 9 0 0
-    ∷ check (set fiveWords 28 5) 9 0 0
-    ∷ check (set fiveWords 30 0) 10 1 0
-    ∷ check (set fiveWords 31 2) 11 1 0
+    ∷ check (set fiveWords 12 1_048_561) 9 0 0
+    ∷ check (set fiveWords 14 2) 9 0 0
+    ∷ check (set fiveWords 33 5) 9 0 0
+    ∷ check (set fiveWords 35 0) 10 1 0
+    ∷ check (set fiveWords 36 2) 11 1 0
     ∷ check (set fiveWords 11 19) 12 0 0
-    ∷ buildSays 17 1 2 1 0 0 1
-    ∷ buildSays 1 1 2 1 0 0 2
-    ∷ buildSays 2 1 2 2 0 0 3
-    ∷ buildSays 1 1 2 2 57 30 5
-    ∷ buildSays 1 1 2 2 58 29 5
-    ∷ buildSays 1 1 2 2 58 30 0
+    ∷ check (set fiveWords 12 2) 12 0 0
+    ∷ buildSays 17 2 2 1 0 0 1
+    ∷ buildSays 1 2 2 1 0 0 2
     ∷ buildSays 1 3 2 2 99 30 2
+    ∷ buildSays 1 1 2 2 99 30 2
     ∷ buildSays 1 0 2 2 99 30 2
+    ∷ buildSays 2 2 2 2 0 0 3
     ∷ buildSays 1 2 2 2 67 30 5
+    ∷ buildSays 1 2 2 2 68 29 5
     ∷ buildSays 1 2 2 2 68 30 0
-    ∷ wide five wideWords
-    ∷ wide [] (2 ∷ 0 ∷ 1 ∷ 2 ∷ 2 ∷ 0 ∷ 1 ∷ 0 ∷ [])
-    ∷ wideRadius five 9 1 (1 ∷ 0 ∷ 3 ∷ 0 ∷ 1 ∷ [])
-    ∷ wideRadius five 0 19 (3 ∷ 2 ∷ 2 ∷ 3 ∷ 1 ∷ [])
-    ∷ wideNear five 6 2 (1 ∷ 3 ∷ 3 ∷ 1 ∷ 1 ∷ [])
-    ∷ wideNear (0 ∷ 10 ∷ 20 ∷ []) 0 1 (3 ∷ 0 ∷ 1 ∷ [])
-    ∷ radius (4 ∷ 2 ∷ 2 ∷ 8 ∷ []) 5 0 (1 ∷ 1 ∷ 0 ∷ 1 ∷ []) 0 3
-    ∷ wideRadius (4 ∷ 2 ∷ 2 ∷ 8 ∷ []) 5 0 (1 ∷ 0 ∷ 0 ∷ 1 ∷ [])
-    ∷ near (7 ∷ 4 ∷ 4 ∷ 1 ∷ []) 7 1 (3 ∷ 1 ∷ 0 ∷ 1 ∷ [])
-    ∷ wideNear (7 ∷ 4 ∷ 4 ∷ 1 ∷ []) 7 1 (3 ∷ 0 ∷ 0 ∷ 1 ∷ [])
-    ∷ check (set wideWords 12 2) 12 0 0
-    ∷ check (set wideWords 12 1_048_561) 9 0 0
+    ∷ old five oldWords fiveWords
+    ∷ old [] (1 ∷ 0 ∷ 1 ∷ 2 ∷ 2 ∷ 0 ∷ 1 ∷ 0 ∷ []) (2 ∷ 0 ∷ 1 ∷ 2 ∷ 2 ∷ 0 ∷ 1 ∷ 0 ∷ [])
+    ∷ near (0 ∷ 10 ∷ 20 ∷ []) 0 1 (3 ∷ 0 ∷ 1 ∷ [])
+    ∷ radius five 0 19 (3 ∷ 2 ∷ 2 ∷ 3 ∷ 1 ∷ []) 4 3
+    ∷ radius (4 ∷ 2 ∷ 2 ∷ 8 ∷ []) 5 0 (1 ∷ 0 ∷ 0 ∷ 1 ∷ []) 0 2
+    ∷ near (7 ∷ 4 ∷ 4 ∷ 1 ∷ []) 7 1 (3 ∷ 0 ∷ 0 ∷ 1 ∷ [])
     ∷ radiusSays fiveWords (9 ∷ []) 4 5
     ∷ radiusSays fiveWords [] 5 6
-    ∷ radiusSays (take 37 fiveWords) (9 ∷ []) 5 8
+    ∷ radiusSays (take 42 fiveWords) (9 ∷ []) 5 8
+    ∷ radiusSays oldWords (9 ∷ []) 5 8
     ∷ radiusSays (set fiveWords 9 4) (9 ∷ []) 5 9
     ∷ radiusSays fiveWords (9 ∷ []) 5 0
     ∷ nearestSays fiveWords (9 ∷ []) 2 1 5 30 5
