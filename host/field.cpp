@@ -25,15 +25,16 @@ namespace {
 
 const uint32_t columns = MINUTE_COLUMNS, queries = 60, wanted = 10, neighbour = 20, passes = 6, centres = 16, leaf = 128;
 
-/* The table as nanoflann asks for it. */
+/* The table as nanoflann asks for it. It counts in float, which holds every distance here exactly: with whole numbers, or numbers without a sign, it would
+   cut every node at the first column. */
 struct Rows {
     std::vector<uint16_t> table;
     size_t kdtree_get_point_count() const { return table.size() / columns; }
-    uint16_t kdtree_get_pt(size_t row, size_t column) const { return table[row * columns + column]; }
+    float kdtree_get_pt(size_t row, size_t column) const { return table[row * columns + column]; }
     template <class Box> bool kdtree_get_bbox(Box &) const { return false; }
 };
 
-using Tree = nanoflann::KDTreeSingleIndexAdaptor<nanoflann::L1_Adaptor<uint16_t, Rows, int32_t>, Rows, columns, uint32_t>;
+using Tree = nanoflann::KDTreeSingleIndexAdaptor<nanoflann::L1_Adaptor<float, Rows, float>, Rows, columns, uint32_t>;
 
 /* Everything that the library is lent. */
 struct Index {
@@ -80,7 +81,7 @@ std::vector<uint16_t> draw_queries(const Rows &rows)
     for (uint32_t q = 0; q < queries; q++) {
         uint32_t row = draw_below(&d, static_cast<uint32_t>(rows.kdtree_get_point_count()));
         for (uint32_t j = 0; j < columns; j++)
-            drawn.push_back(static_cast<uint16_t>(rows.kdtree_get_pt(row, j) + draw_below(&d, 9)));
+            drawn.push_back(static_cast<uint16_t>(rows.table[row * columns + j] + draw_below(&d, 9)));
     }
     return drawn;
 }
@@ -120,13 +121,15 @@ std::pair<double, double> time_both(uint32_t calls, const std::function<void(uin
 bool compare(Index &index, const Tree &tree, const std::vector<uint16_t> &query, uint32_t r, const std::string &folder)
 {
     std::vector<uint32_t> inside, rows, far;
+    std::vector<float> as_float(query.begin(), query.end());
+    /* nanoflann takes what is nearer than its radius, so r + 1 takes what is at r. */
+    const float beyond = static_cast<float>(r) + 1;
     bool same = true;
     for (uint32_t q = 0; q < queries; q++) {
-        std::vector<std::pair<uint32_t, int32_t>> found;
+        std::vector<std::pair<uint32_t, float>> found;
         std::vector<uint32_t> theirs, near(wanted);
-        std::vector<int32_t> near_far(wanted);
-        /* nanoflann takes what is nearer than its radius, so r + 1 takes what is at r. */
-        tree.radiusSearch(&query[q * columns], static_cast<int32_t>(r) + 1, found, nanoflann::SearchParams());
+        std::vector<float> near_far(wanted);
+        tree.radiusSearch(&as_float[q * columns], beyond, found, nanoflann::SearchParams());
         for (const auto &f : found)
             theirs.push_back(f.first);
         std::sort(theirs.begin(), theirs.end());
@@ -137,9 +140,9 @@ bool compare(Index &index, const Tree &tree, const std::vector<uint16_t> &query,
                 rows.push_back(i);
         same = same && theirs == std::vector<uint32_t>(rows.begin() + static_cast<std::ptrdiff_t>(before), rows.end());
         index.closest(&query[q * columns], wanted);
-        tree.knnSearch(&query[q * columns], wanted, near.data(), near_far.data());
+        tree.knnSearch(&as_float[q * columns], wanted, near.data(), near_far.data());
         same = same && std::equal(near_far.begin(), near_far.end(), index.distances.begin(),
-                                  [](int32_t a, uint32_t b) { return static_cast<uint32_t>(a) == b; });
+                                  [](float a, uint32_t b) { return static_cast<uint32_t>(a) == b; });
         far.insert(far.end(), index.distances.begin(), index.distances.begin() + wanted);
     }
     keep(folder + "/inside", inside);
@@ -171,13 +174,14 @@ int main(int count, char **word)
         std::puts("DIFFERENCE: nanoflann");
         return 1;
     }
-    std::vector<std::pair<uint32_t, int32_t>> found;
+    std::vector<std::pair<uint32_t, float>> found;
     std::vector<uint32_t> near(wanted);
-    std::vector<int32_t> far(wanted);
+    std::vector<float> far(wanted), as_float(query.begin(), query.end());
+    const float beyond = static_cast<float>(r) + 1;
     auto radius = time_both(queries, [&](uint32_t q) { index.within(&query[q * columns], r); },
-                            [&](uint32_t q) { tree.radiusSearch(&query[q * columns], static_cast<int32_t>(r) + 1, found, nanoflann::SearchParams()); });
+                            [&](uint32_t q) { tree.radiusSearch(&as_float[q * columns], beyond, found, nanoflann::SearchParams()); });
     auto nearest = time_both(queries, [&](uint32_t q) { index.closest(&query[q * columns], wanted); },
-                             [&](uint32_t q) { tree.knnSearch(&query[q * columns], wanted, near.data(), far.data()); });
+                             [&](uint32_t q) { tree.knnSearch(&as_float[q * columns], wanted, near.data(), far.data()); });
     std::printf("| %u | library, m = %u, l = %u | %.1f | %.1f | %.1f |\n", n, centres, leaf, built.first / 1e3, radius.first, nearest.first);
     std::printf("| %u | nanoflann, L1, leaves of 10 | %.1f | %.1f | %.1f |\n", n, built.second / 1e3, radius.second, nearest.second);
     return 0;
