@@ -10,7 +10,7 @@ enum {
     HEIGHT = 320,
     LEFT = 70,
     TOP = 76,
-    RIGHT = 24,
+    RIGHT = 40,
     BOTTOM = 48,
     NAMES = 3, /* to a line above a panel */
     TEXT = 14
