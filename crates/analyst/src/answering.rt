@@ -7,36 +7,65 @@ use crate::rooms::answer_room;
 use crate::rooms::byte_room;
 use crate::rooms::index_room;
 use crate::rooms::workspace;
-use crate::say_answer;
+use crate::say;
 use crate::say_found;
 use crate::say_refused;
 use finder::find_nearest;
 use finder::mark_like;
+use lines::make_room;
+use lines::put_number;
 use measure::query_distance;
 use measure::row_of;
 
 // A how-byte of 2 or 3 says that the row is in.
 const IN: u8 = 2;
 
-// Writes a row that is marked in, with its distance. A row that is in without having been measured has no distance yet, so it is measured here for
-// the line alone: the count of measured rows is the search's own.
-fn say_marked(table: &[u16], c: usize, query: &[u16], row: usize, mark: u8)
-    requires { ⌜ (c ≤ maxColumns) × (c * row + c ≤ length (now table)) × (length (now query) ≡ c) ⌝ }
+// How many bytes a line with two numbers takes at most.
+const LINE: usize = 42;
+
+// Puts one answer into the text: a row and its distance, a line. Gives where that ends.
+fn put_answer(text: &mut [u8], at: usize, row: usize, distance: u32) -> usize
+    requires { ⌜ (at ≤ length (now text)) × (42 ≤ length (now text)) ⌝ }
+    ensures { λ r. ⌜ r ≤ length (now (text .entry)) ⌝ }
 {
-    if IN <= mark {
-        say_answer(row, query_distance(table, c, query, row));
+    let from = make_room(text, at, LINE);
+    let middle = put_number(text, from, row as u64, b' ');
+    put_number(text, middle, distance as u64, b'\n')
+}
+
+// Puts a row that is marked in, with its distance. A row that is in without having been measured has no distance yet, so it is measured here for
+// the line alone: the count of measured rows is the search's own.
+fn put_marked(
+    table: &[u16],
+    c: usize,
+    query: &[u16],
+    row: usize,
+    mark: u8,
+    text: &mut [u8],
+    at: usize,
+) -> usize
+    requires { ⌜ (c ≤ maxColumns) × (c * row + c ≤ length (now table)) × (length (now query) ≡ c) ⌝ }
+    requires { ⌜ (at ≤ length (now text)) × (42 ≤ length (now text)) ⌝ }
+    ensures { λ r. ⌜ r ≤ length (now (text .entry)) ⌝ }
+{
+    if mark < IN {
+        return at;
     }
+    put_answer(text, at, row, query_distance(table, c, query, row))
 }
 
 // Writes every row that is marked in.
 fn say_rows(table: &[u16], c: usize, query: &[u16], n: usize, how: &[u8])
     requires { ⌜ (c ≤ maxColumns) × (c * n ≤ length (now table)) × (length (now query) ≡ c) × (n ≤ length (now how)) ⌝ }
 {
+    let mut text = io::buffer();
+    let mut at = 0;
     let mut i = 0;
     while i < n {
-        say_marked(table, c, query, i, how[i]);
+        at = put_marked(table, c, query, i, how[i], &mut text, at);
         i += 1;
     }
+    say(&text[..at]);
 }
 
 fn wide(x: u32) -> usize {
@@ -47,11 +76,14 @@ fn wide(x: u32) -> usize {
 fn say_answers(rows: &[u32], distances: &[u32], given: usize)
     requires { ⌜ (given ≤ length (now rows)) × (given ≤ length (now distances)) ⌝ }
 {
+    let mut text = io::buffer();
+    let mut at = 0;
     let mut i = 0;
     while i < given {
-        say_answer(wide(rows[i]), distances[i]);
+        at = put_answer(&mut text, at, wide(rows[i]), distances[i]);
         i += 1;
     }
+    say(&text[..at]);
 }
 
 // Every row within r of row `row` of n, in row order. Gives 0 where they are written.

@@ -44,14 +44,6 @@ fn say_count(n: usize, one: &[u8]) {
     }
 }
 
-// One answer: a row and its distance.
-fn say_answer(row: usize, distance: u32) {
-    say_number(row);
-    say(b" ");
-    say_number(distance as usize);
-    say(b"\n");
-}
-
 // The last line: how many rows were found, and how many distances this took.
 fn say_found(found: usize, measured: usize, rows: usize) {
     say_count(found, b"row");

@@ -1,17 +1,62 @@
-// Numbers printed to standard output, so many to a line.
-ghost use Prim.Native.Nat.{_≤_};
+// Numbers as text. They are put into a lent buffer, which is written to standard output where the next may not fit, so that many numbers take
+// few writes.
+ghost use Prim.Native.Nat.{_+_, _≤_};
+ghost use Rattle.lines.specs.Told.{Told};
 ghost use lib.ListN.{length};
+ghost use lib.Seq.{paste};
 ghost use mathlib.Core.Path.{_≡_};
 use libc::STDOUT_FILENO;
 
-// Prints a word, and behind it a newline or a space.
-fn print_word(word: u32, last: bool) {
-    io::print_decimal(STDOUT_FILENO, word as u64);
-    if last {
-        io::write_all(STDOUT_FILENO, b"\n");
-    } else {
-        io::write_all(STDOUT_FILENO, b" ");
+// How many bytes a number and the byte behind it take at most.
+pub const MOST: usize = 21;
+
+// Copies some bytes into the text, from byte `at` on.
+fn copy(from: &[u8], text: &mut [u8], at: usize)
+    requires { ⌜ at + length (now from) ≤ length (now text) ⌝ }
+    ensures { λ _. ⌜ now (text .exit) ≡ paste (now (text .entry)) at (now (from .entry)) (length (now (from .entry))) ⌝ }
+{
+    let mut i = 0;
+    while i < from.len() {
+        text[at + i] = from[i];
+        i += 1;
     }
+}
+
+// Puts n in decimal into the text, from byte `at` on, and `mark` behind it. Gives where that ends.
+pub fn put_number(text: &mut [u8], at: usize, n: u64, mark: u8) -> usize
+    requires { ⌜ at + 21 ≤ length (now text) ⌝ }
+    ensures { λ r. ⌜ Told (now (text .entry)) at n mark (now (text .exit)) r ⌝ }
+{
+    let mut digits = [0u8; 20];
+    let k = io::decimal(n, &mut digits);
+    copy(&digits[..k], text, at);
+    let end = at + k;
+    text[end] = mark;
+    end + 1
+}
+
+// Makes room for `need` bytes behind the first `at`, which are written where fewer are left. Gives where the room starts: behind them, if it can.
+pub fn make_room(text: &[u8], at: usize, need: usize) -> usize
+    requires { ⌜ (at ≤ length (now text)) × (need ≤ length (now text)) ⌝ }
+    ensures { λ r. ⌜ (r + need ≤ length (now (text .entry))) × (at + need ≤ length (now (text .entry)) → r ≡ at) ⌝ }
+{
+    if need <= text.len() - at {
+        return at;
+    }
+    io::write_all(STDOUT_FILENO, &text[..at]);
+    0
+}
+
+// Puts a word into the text, and behind it a newline or a space. Gives where that ends.
+fn put_word(text: &mut [u8], at: usize, word: u32, last: bool) -> usize
+    requires { ⌜ (at ≤ length (now text)) × (21 ≤ length (now text)) ⌝ }
+    ensures { λ r. ⌜ r ≤ length (now (text .entry)) ⌝ }
+{
+    let from = make_room(text, at, MOST);
+    if last {
+        return put_number(text, from, word as u64, b'\n');
+    }
+    put_number(text, from, word as u64, b' ')
 }
 
 // Prints the words, `width` to a line. Gives how many it printed.
@@ -19,11 +64,14 @@ pub fn print_lines(words: &[u32], width: usize) -> usize
     requires { ⌜ 1 ≤ width ⌝ }
     ensures { λ r. ⌜ r ≡ length (now (words .entry)) ⌝ }
 {
+    let mut text = io::buffer();
+    let mut at = 0;
     let mut i = 0;
     while i < words.len() {
         let next = i + 1;
-        print_word(words[i], next % width == 0);
+        at = put_word(&mut text, at, words[i], next % width == 0);
         i = next;
     }
+    io::write_all(STDOUT_FILENO, &text[..at]);
     i
 }

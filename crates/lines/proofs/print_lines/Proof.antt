@@ -1,16 +1,22 @@
--- `lines::print_lines` meets its contract: each turn prints one word, and all are printed.
+-- `lines::print_lines` meets its contract: each turn puts one word into the text, and all are printed.
 -- Assumes nothing.
 use Prim.Native.Nat.{_-_, _≤_}
 use Rattle.lines.proofs.print_lines.Statement.{statement}
 use Rattle.lines.proofs.print_lines.Tie as tie
 use borrow.Author.Needs.{needs}
 use lib.ListN.{length}
+use lib.Seq.{length-take-le}
+use mathlib.Core.Path.{_≡_, sym}
+use native.Mathlib.Omega.{arith}
 
 abbrev Inv-loop : tie.InvT-loop
-Inv-loop words width i₀ i = i ≤ length words
+Inv-loop words width text₀ at₀ i₀ text at i = (i ≤ length words) × (4096 ≡ length text) × (at ≤ 4096)
 
 abbrev μ-loop : tie.MeasureT-loop
-μ-loop words width i₀ i = length words - i
+μ-loop words width text₀ at₀ i₀ text at i = length words - i
+
+buffer-requires : tie.Need-buffer-requires Inv-loop μ-loop
+buffer-requires c κs = search needs
 
 loop-holds : tie.Need-loop-holds Inv-loop μ-loop
 loop-holds c = search needs
@@ -18,23 +24,35 @@ loop-holds c = search needs
 add-next : tie.Need-add-next Inv-loop μ-loop
 add-next c = search needs
 
-mul-print-word : tie.Need-mul-print-word Inv-loop μ-loop
-mul-print-word c = search needs
+slice-aggregate-put-word : tie.Need-slice-aggregate-put-word Inv-loop μ-loop
+slice-aggregate-put-word c = search needs
 
-shared-slice-read-print-word : tie.Need-shared-slice-read-print-word Inv-loop μ-loop
-shared-slice-read-print-word c = search needs
+mul-put-word : tie.Need-mul-put-word Inv-loop μ-loop
+mul-put-word c = search needs
 
-rem-print-word : tie.Need-rem-print-word Inv-loop μ-loop
-rem-print-word c = search needs
+shared-slice-read-put-word : tie.Need-shared-slice-read-put-word Inv-loop μ-loop
+shared-slice-read-put-word c = search needs
 
-print-word-requires : tie.Need-print-word-requires Inv-loop μ-loop
-print-word-requires c κs = search needs
+rem-put-word : tie.Need-rem-put-word Inv-loop μ-loop
+rem-put-word c = search needs
+
+put-word-requires : tie.Need-put-word-requires Inv-loop μ-loop
+put-word-requires c κs = search needs
 
 loop-less : tie.Need-loop-less Inv-loop μ-loop
 loop-less c = search needs
 
 loop-again : tie.Need-loop-again Inv-loop μ-loop
 loop-again c = search needs
+
+array-share-prefix-text : tie.Need-array-share-prefix-text Inv-loop μ-loop
+array-share-prefix-text c = search needs
+
+slice-aggregate-write-all : tie.Need-slice-aggregate-write-all Inv-loop μ-loop
+slice-aggregate-write-all c = sym (length-take-le _ _ (omega arith))
+
+write-all-requires : tie.Need-write-all-requires Inv-loop μ-loop
+write-all-requires c κs = search needs
 
 returns : tie.Need-returns Inv-loop μ-loop
 returns c = search needs
@@ -45,12 +63,17 @@ print-lines-spec =
     (tie.spec
     Inv-loop
     μ-loop
+    buffer-requires
     loop-holds
     add-next
-    mul-print-word
-    shared-slice-read-print-word
-    rem-print-word
-    print-word-requires
+    slice-aggregate-put-word
+    mul-put-word
+    shared-slice-read-put-word
+    rem-put-word
+    put-word-requires
     loop-less
     loop-again
+    array-share-prefix-text
+    slice-aggregate-write-all
+    write-all-requires
     returns)

@@ -1,31 +1,43 @@
--- `analyst::answering::say_rows` meets its contract: row i ends inside the table.
+-- `analyst::answering::say_rows` meets its contract: row i ends inside the table, and each line fits into the text.
 -- Assumes nothing.
 use Prim.Native.Nat.{_-_, _≤_}
 use Rattle.analyst.proofs.answering.say_rows.Statement.{statement}
 use Rattle.analyst.proofs.answering.say_rows.Tie as tie
 use Rattle.measure.proofs.Rows.{row-ends}
 use borrow.Author.Needs.{needs}
+use lib.ListN.{length}
+use lib.Seq.{length-take-le}
+use mathlib.Core.Path.{_≡_, sym}
 use native.Mathlib.Omega.{arith}
 
 abbrev Inv-loop : tie.InvT-loop
-Inv-loop table c query n how i₀ i = i ≤ n
+Inv-loop table c query n how text₀ at₀ i₀ text at i = (i ≤ n) × (4096 ≡ length text) × (at ≤ 4096)
 
 abbrev μ-loop : tie.MeasureT-loop
-μ-loop table c query n how i₀ i = n - i
+μ-loop table c query n how text₀ at₀ i₀ text at i = n - i
+
+buffer-requires : tie.Need-buffer-requires Inv-loop μ-loop
+buffer-requires c κs = search needs
 
 loop-holds : tie.Need-loop-holds Inv-loop μ-loop
 loop-holds c = search needs
 
-shared-slice-read-say-marked : tie.Need-shared-slice-read-say-marked Inv-loop μ-loop
-shared-slice-read-say-marked c = search needs
+shared-slice-read-put-marked : tie.Need-shared-slice-read-put-marked Inv-loop μ-loop
+shared-slice-read-put-marked c = search needs
 
-say-marked-requires : tie.Need-say-marked-requires Inv-loop μ-loop
-say-marked-requires c κs =
-    let turn = c .before in
-    let start = turn .before .before .before .before .before in (
-      start .pre .0,
-      omega (arith, start .pre .1, row-ends (start .args .c) (start .args .n) (turn .before .loop .i) (turn .loop-test .taken)),
-      start .pre .2,
+slice-aggregate-put-marked : tie.Need-slice-aggregate-put-marked Inv-loop μ-loop
+slice-aggregate-put-marked c = search needs
+
+put-marked-requires : tie.Need-put-marked-requires Inv-loop μ-loop
+put-marked-requires c κs =
+    let turn = c .before .before in
+    let start = turn .before .before .before .before .before .before in (
+      (
+        start .pre .0,
+        omega (arith, start .pre .1, row-ends (start .args .c) (start .args .n) (turn .before .loop .i) (turn .loop-test .taken)),
+        start .pre .2,
+      ),
+      search needs,
     )
 
 add-i : tie.Need-add-i Inv-loop μ-loop
@@ -37,6 +49,15 @@ loop-less c = search needs
 loop-again : tie.Need-loop-again Inv-loop μ-loop
 loop-again c = search needs
 
+array-share-prefix-text : tie.Need-array-share-prefix-text Inv-loop μ-loop
+array-share-prefix-text c = search needs
+
+slice-aggregate-say : tie.Need-slice-aggregate-say Inv-loop μ-loop
+slice-aggregate-say c = sym (length-take-le _ _ (omega arith))
+
+say-requires : tie.Need-say-requires Inv-loop μ-loop
+say-requires c κs = search needs
+
 returns : tie.Need-returns Inv-loop μ-loop
 returns c = search needs
 
@@ -46,10 +67,15 @@ say-rows-spec =
     (tie.spec
     Inv-loop
     μ-loop
+    buffer-requires
     loop-holds
-    shared-slice-read-say-marked
-    say-marked-requires
+    shared-slice-read-put-marked
+    slice-aggregate-put-marked
+    put-marked-requires
     add-i
     loop-less
     loop-again
+    array-share-prefix-text
+    slice-aggregate-say
+    say-requires
     returns)

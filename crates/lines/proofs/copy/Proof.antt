@@ -1,0 +1,58 @@
+-- `lines::copy` meets its contract: a turn copies one byte.
+-- Assumes nothing.
+use Prim.Native.Nat.{_-_}
+use Rattle.laws.proofs.Copying.{Copied, copied-all, copied-long, copied-next, copied-start}
+use Rattle.lines.proofs.copy.Statement.{statement}
+use Rattle.lines.proofs.copy.Tie as tie
+use borrow.Author.Needs.{needs}
+use lib.ListN.{length}
+use native.Mathlib.Omega.{arith}
+
+abbrev Inv-loop : tie.InvT-loop
+Inv-loop from text₀ at i₀ text i = Copied from text₀ at (length from) text i
+
+abbrev μ-loop : tie.MeasureT-loop
+μ-loop from text₀ at i₀ text i = length from - i
+
+loop-holds : tie.Need-loop-holds Inv-loop μ-loop
+loop-holds c = copied-start _ _ _ _ (c .pre) (omega arith)
+
+shared-slice-read-text : tie.Need-shared-slice-read-text Inv-loop μ-loop
+shared-slice-read-text c = search needs
+
+add-text : tie.Need-add-text Inv-loop μ-loop
+add-text c = search needs
+
+slice-write-text : tie.Need-slice-write-text Inv-loop μ-loop
+slice-write-text c = omega (arith, copied-long _ _ _ _ _ _ (c .before .before .loop .inv))
+
+add-i : tie.Need-add-i Inv-loop μ-loop
+add-i c = search needs
+
+loop-less : tie.Need-loop-less Inv-loop μ-loop
+loop-less c = search needs
+
+loop-again : tie.Need-loop-again Inv-loop μ-loop
+loop-again c = copied-next _ _ _ _ _ _ (c .before .before .loop .inv) (c .before .loop-test .taken)
+
+same-length : tie.Need-same-length Inv-loop μ-loop
+same-length c = copied-long _ _ _ _ _ _ (c .before .loop .inv)
+
+returns : tie.Need-returns Inv-loop μ-loop
+returns c = copied-all _ _ _ _ _ _ (c .before .loop .inv) (c .loop-test .left)
+
+pub copy-spec : {M : Type 1} → statement M
+copy-spec =
+    tie.close
+    (tie.spec
+    Inv-loop
+    μ-loop
+    loop-holds
+    shared-slice-read-text
+    add-text
+    slice-write-text
+    add-i
+    loop-less
+    loop-again
+    same-length
+    returns)
