@@ -96,6 +96,7 @@ rename_other() {
 with=''
 compile trial -O2 trial kinds samples spoil calls lend self naive naive_tree naive_search
 compile season -O2 season minutes
+compile stack -O2 stack
 
 yardstick "$cc" plain_first
 with="$out/plain_first.o"
