@@ -1,9 +1,9 @@
 -- `radius::descent::open_inner` meets its contract: after j turns the centres 1 .. j - 1 are marked and their distances stand in the array.
 -- Assumes nothing.
 use Prim.Native.Nat.{_+_, _-_, _<_, _≤_, ℕ}
+use Rattle.laws.proofs.Gathered.{Holds, holds-more, holds-one}
 use Rattle.limits.specs.Limits.{maxDistance}
 use Rattle.measure.specs.Table.{from}
-use Rattle.radius.proofs.Distances.{Holds, holds-more, holds-one}
 use Rattle.radius.proofs.Fitted.{lent-same, measurable}
 use Rattle.radius.proofs.Ways.{centre-did}
 use Rattle.radius.proofs.Written.{marked-end, marked-next, marked-none}
