@@ -32,7 +32,8 @@ test s = closer (between (s .args .table .now) (s .args .c)) (s .args .index .no
 
 -- the test of the i-th centre is that of its node
 tested : (c : tie.After-is-closer Inv-loop μ-loop)
-    → c .is-closer .result ≡ test (start (c .before .before .before)) (start (c .before .before .before) .args .child + c .before .before .before .loop .i)
+    → c .is-closer .result
+    ≡ test (start (c .before .before .before)) (start (c .before .before .before) .args .child + c .before .before .before .loop .i)
 tested c =
     let l = c .before .before .before in
     let s = start l in
@@ -67,7 +68,8 @@ returns c =
     let f = test (start l) in
     let a = start l .args in
     let m = m# (a .index .now) in
-    let F = search-stop f (a .child) (a .child + m) (a .child + l .loop .i) (l .loop .inv .2) (omega arith) (sym (tested (c .before)) ∙ c .if1 .taken) in
+    let here = sym (tested (c .before)) ∙ c .if1 .taken in
+    let F = search-stop f (a .child) (a .child + m) (a .child + l .loop .i) (l .loop .inv .2) (omega arith) here in
     sym (any-first f (a .child) m (a .child + l .loop .i) F (omega arith))
 
 add-i : tie.Need-add-i Inv-loop μ-loop

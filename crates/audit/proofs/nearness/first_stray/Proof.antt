@@ -66,8 +66,9 @@ child-stray-requires c κs =
     let l = c .before .before in
     let e = branch l in
     let s = start e in
-    let fs = subst (λ (i : ℕ). Firsts (s .args .index .now) i (l .before .firsts .result)) (e .before .node-child .ensures .0) (l .before .firsts .ensures) in
-    (s .pre .0, (s .pre .1, is-inner e, omega arith, fs))
+    let fs = l .before .firsts in
+    let kids = subst (λ (i : ℕ). Firsts (s .args .index .now) i (fs .result)) (e .before .node-child .ensures .0) (fs .ensures) in
+    (s .pre .0, (s .pre .1, is-inner e, omega arith, kids))
 
 lesser-requires : tie.Need-lesser-requires Inv-loop μ-loop
 lesser-requires c κs = search needs

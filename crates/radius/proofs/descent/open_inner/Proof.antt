@@ -30,33 +30,33 @@ Inv-loop table c index query ch x r how₀ m base ds₀ j₀ how ds j =
 abbrev μ-loop : tie.MeasureT-loop
 μ-loop table c index query ch x r how₀ m base ds₀ j₀ how ds j = m - j
 
--- the start, and the node whose first is read, seen from the reading
-abbrev start : tie.After-word Inv-loop μ-loop → tie.Start Inv-loop μ-loop
-start c = c .before .before .before .before .before .before .before .before .before .before
+-- the start, and the node whose first is read, seen from the reading of its start
+abbrev start : tie.After-node-start Inv-loop μ-loop → tie.Start Inv-loop μ-loop
+start c = c .before .before .before .before .before .before .before .before .before
 
-abbrev kid : tie.After-word Inv-loop μ-loop → ℕ
-kid c = (start c) .args .ch + c .before .before .before .loop .j
+abbrev kid : tie.After-node-start Inv-loop μ-loop → ℕ
+kid c = start c .args .ch + c .before .before .loop .j
 
--- its first stands where it is read
-there : (c : tie.After-node-start Inv-loop μ-loop) → c .node-start .result < n# (c .before .before .before .before .before .before .before .before .before .args .index .now)
+-- its first stands at a position
+there : (c : tie.After-node-start Inv-loop μ-loop) → c .node-start .result < n# (start c .args .index .now)
 there c =
     let l = c .before .before .loop in
-    let s = c .before .before .before .before .before .before .before .before .before in
-    let v = l .inv .0 .shape .node (s .args .ch + l .j) (omega (arith, l .inv .4, l .inv .5, c .before .loop-test .taken)) in
+    let v = l .inv .0 .shape .node (kid c) (omega (arith, l .inv .4, l .inv .5, c .before .loop-test .taken)) in
     omega (arith, v .run, v .some, c .node-start .ensures .0)
 
-first : (c : tie.After-word Inv-loop μ-loop) → c .word .result ≡ first# (start c .args .index .now) (kid c)
+-- where it is read
+first : (c : tie.After-word Inv-loop μ-loop) → c .word .result ≡ first# (start (c .before) .args .index .now) (kid (c .before))
 first c =
-    let w = start c .args .index .now in
+    let w = start (c .before) .args .index .now in
     c .word .ensures .0 ∙ row-word w _ (c .before .node-start .result) (c .before .before .before .before .pair-at .ensures)
     ∙ ap (row# w) (c .before .node-start .ensures .0)
 
 -- and is one of the n
-low : (c : tie.After-word Inv-loop μ-loop) → c .word .result < n# (start c .args .index .now)
+low : (c : tie.After-word Inv-loop μ-loop) → c .word .result < n# (start (c .before) .args .index .now)
 low c =
     let l = c .before .before .before .loop in
-    let at = c .before .node-start .ensures .0 in
-    omega (arith, first c, l .inv .0 .shape .place (start# (start c .args .index .now) (kid c)) (omega (arith, there (c .before), at)) .row)
+    let at = start# (start (c .before) .args .index .now) (kid (c .before)) in
+    omega (arith, first c, l .inv .0 .shape .place at (omega (arith, there (c .before), c .before .node-start .ensures .0)) .row)
 
 centres-requires : tie.Need-centres-requires Inv-loop μ-loop
 centres-requires c κs = search needs
@@ -91,10 +91,14 @@ mul-word : tie.Need-mul-word Inv-loop μ-loop
 mul-word c = search needs
 
 add-word : tie.Need-add-word Inv-loop μ-loop
-add-word c = omega (arith, there c, c .before .before .loop .inv .0 .shape .whole .words, c .before .before .before .pair-at .ensures, c .before .before .before .before .before .before .before .before .before .good)
+add-word c =
+    let W = c .before .before .loop .inv .0 .shape .whole in
+    omega (arith, there c, W .words, c .before .before .before .pair-at .ensures, start c .good)
 
 word-requires : tie.Need-word-requires Inv-loop μ-loop
-word-requires c κs = omega (arith, there c, c .before .before .loop .inv .0 .shape .whole .words, c .before .before .before .pair-at .ensures)
+word-requires c κs =
+    let W = c .before .before .loop .inv .0 .shape .whole in
+    omega (arith, there c, W .words, c .before .before .before .pair-at .ensures)
 
 measure-row-requires : tie.Need-measure-row-requires Inv-loop μ-loop
 measure-row-requires c κs = measurable (c .before .before .before .before .loop .inv .0) _ (low (c .before))
@@ -114,7 +118,8 @@ loop-less c = search needs
 loop-again : tie.Need-loop-again Inv-loop μ-loop
 loop-again c =
     let read = c .before .before .before .before in
-    let s = start read in
+    let s = start (read .before) in
+    let x = from (s .args .table .now) (s .args .c) (s .args .query .now) in
     let l = read .before .before .before .loop in
     let row = c .before .before .measure-row in
     let k = row .kept .1 .1 .1 .1 .1 .0 in (
@@ -125,8 +130,8 @@ loop-again c =
       l .inv .4,
       l .inv .5,
       simp length-set (l .inv .6),
-      holds-more _ maxDistance (l .ds) (l .j) (omega arith) (row .ensures .0 .0 ∙ ap (from (s .args .table .now) (s .args .c) (s .args .query .now)) (first read)) (row .ensures .0 .1) (l .inv .7),
-      marked-next _ 1 (l .j) _ (l .inv .2) (l .inv .8) (centre-did (from (s .args .table .now) (s .args .c) (s .args .query .now)) _ (s .args .index .now) _ _ (first read) (row .ensures .1)),
+      holds-more _ maxDistance (l .ds) (l .j) (omega arith) (row .ensures .0 .0 ∙ ap x (first read)) (row .ensures .0 .1) (l .inv .7),
+      marked-next _ 1 (l .j) _ (l .inv .2) (l .inv .8) (centre-did x _ (s .args .index .now) _ _ (first read) (row .ensures .1)),
     )
 
 same-length : tie.Need-same-length Inv-loop μ-loop

@@ -26,15 +26,20 @@ out-only In p q = ⊎-elim (λ e. absurd (omega arith)) (λ e. absurd (omega ari
 out-only Out p q = refl
 out-only Measure p q = ⊎-elim (λ e. absurd (omega arith)) (λ e. absurd (omega arith)) p
 
--- the row read is that of position p, one of the n
-row : (c : tie.After-word) → c .word .result ≡ row# (c .before .before .before .before .before .args .index .now) (c .before .before .before .before .before .args .p)
+-- the start, seen from the reading of the row
+abbrev start : tie.After-word → tie.Start
+start c = c .before .before .before .before .before
+
+-- the row read is that of position p
+row : (c : tie.After-word) → c .word .result ≡ row# (start c .args .index .now) (start c .args .p)
 row c =
-    let s = c .before .before .before .before .before in
+    let s = start c in
     c .word .ensures .0 ∙ row-word (s .args .index .now) (s .args .base) (s .args .p) (s .pre .1 .2)
 
-row-low : (c : tie.After-word) → c .word .result < n# (c .before .before .before .before .before .args .index .now)
+-- one of the n
+row-low : (c : tie.After-word) → c .word .result < n# (start c .args .index .now)
 row-low c =
-    let s = c .before .before .before .before .before in
+    let s = start c in
     omega (arith, s .pre .0 .shape .place (s .args .p) (s .pre .1 .0), row c)
 
 -- the distance read is the stored one
@@ -88,15 +93,16 @@ returns : tie.Need-returns
 returns c =
     let s = c .before .before .before .before .before .before .before .before .before .before in
     byte-in (c .before .before .before .before .before .word .result) (s .args .how .now)
-    ∙ leaf-did (from (s .args .table .now) (s .args .c) (s .args .query .now)) (s .args .r) (s .args .index .now) In _ _ _ (row (c .before .before .before .before .before))
-    (stored s) (c .before .before .before .decide .ensures) (c .enum-told2 .given .1)
+    ∙ leaf-did (from (s .args .table .now) (s .args .c) (s .args .query .now)) (s .args .r) (s .args .index .now) In _ _ _
+    (row (c .before .before .before .before .before)) (stored s) (c .before .before .before .decide .ensures) (c .enum-told2 .given .1)
 
 returns-2 : tie.Need-returns-2
 returns-2 c =
     let s = c .before .before .before .before .before .before .before .before .before in
     byte-out (c .before .before .before .before .word .result) (s .args .how .now)
-    ∙ leaf-did (from (s .args .table .now) (s .args .c) (s .args .query .now)) (s .args .r) (s .args .index .now) Out _ _ _ (row (c .before .before .before .before))
-    (stored s) (c .before .before .decide .ensures) (out-only _ (c .before .match .keys2) (c .match2 .keys2))
+    ∙ leaf-did (from (s .args .table .now) (s .args .c) (s .args .query .now)) (s .args .r) (s .args .index .now) Out _ _ _
+    (row (c .before .before .before .before)) (stored s) (c .before .before .decide .ensures)
+    (out-only _ (c .before .match .keys2) (c .match2 .keys2))
 
 measure-row-requires : tie.Need-measure-row-requires
 measure-row-requires c κs =
@@ -111,8 +117,8 @@ returns-3 c =
     let s = c .before .before .before .before .before .before .before .before .before .before .before .before .before in
     let verdict = c .before .before .before .before .before .before in
     c .before .before .measure-row .ensures .1
-    ∙ leaf-did (from (s .args .table .now) (s .args .c) (s .args .query .now)) (s .args .r) (s .args .index .now) Measure _ _ _ (row (verdict .before .before))
-    (stored s) (verdict .decide .ensures) (c .before .before .before .before .enum-told .given .1)
+    ∙ leaf-did (from (s .args .table .now) (s .args .c) (s .args .query .now)) (s .args .r) (s .args .index .now) Measure _ _ _
+    (row (verdict .before .before)) (stored s) (verdict .decide .ensures) (c .before .before .before .before .enum-told .given .1)
 
 pub leaf-row-spec : {M : Type 1} → statement M
 leaf-row-spec =

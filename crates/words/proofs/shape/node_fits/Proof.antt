@@ -118,18 +118,20 @@ returns-5 : tie.Need-returns-5
 returns-5 c =
     let e = c .before .before .before in
     let a = start (read e) .args in
-    let many : l# (a .index .now) < count# (a .index .now) (a .k) = omega (arith, c .before .if4 .left, c .before .before .leaf-size .ensures .0, count (read e)) in
+    let many : l# (a .index .now) < count# (a .index .now) (a .k) =
+    omega (arith, c .before .if4 .left, c .before .before .leaf-size .ensures .0, count (read e)) in
     rw (child (read e))
     (fit-anyway (a .index .now) (a .k) (a .next) (a .depth) (room-none (a .index .now) (a .k) (a .next))
-    (λ room. fit-deep (a .index .now) (a .k) (a .next) (a .depth) room (some e) (near e) (nearer e) many (c .if5 .taken)))
+    (λ room. fit-deep (a .index .now) (a .k) (a .next) (a .depth) room (some e) (near e) (nearer e) many (omega (arith, c .if5 .taken))))
 
 returns-6 : tie.Need-returns-6
 returns-6 c =
     let e = c .before .before .before .before in
     let a = start (read e) .args in
-    let many : l# (a .index .now) < count# (a .index .now) (a .k) = omega (arith, c .before .before .if4 .left, c .before .before .before .leaf-size .ensures .0, count (read e)) in
+    let many : l# (a .index .now) < count# (a .index .now) (a .k) =
+    omega (arith, c .before .before .if4 .left, c .before .before .before .leaf-size .ensures .0, count (read e)) in
     fit-anyway (a .index .now) (a .k) (a .next) (a .depth) (λ n. refl)
-    (λ room. fit-other (a .index .now) (a .k) (a .next) (a .depth) room (some e) (near e) (nearer e) many (c .before .if5 .left)
+    (λ room. fit-other (a .index .now) (a .k) (a .next) (a .depth) room (some e) (near e) (nearer e) many (omega (arith, c .before .if5 .left))
     (λ q. c .if6 .taken (child (read e) ∙ q)))
 
 has-room-requires : tie.Need-has-room-requires
@@ -164,11 +166,15 @@ returns-8 c =
     let e = c .before .before .before .before .before .before .before .before .before in
     let s = start (read e) in
     let a = s .args in
-    let many : l# (a .index .now) < count# (a .index .now) (a .k) = omega (arith, c .before .before .before .before .before .before .before .if4 .left, c .before .before .before .before .before .before .before .before .leaf-size .ensures .0, count (read e)) in
+    let size = c .before .before .before .before .before .before .before .before .leaf-size .ensures .0 in
+    let many : l# (a .index .now) < count# (a .index .now) (a .k) =
+    omega (arith, c .before .before .before .before .before .before .before .if4 .left, size, count (read e)) in
+    let from = c .before .before .word3 .ensures .0 ∙ ap (at (W s)) (s .pre .1 .1) in
     let room = yes (c .before .before .before .before .has-room .ensures) (c .before .before .before .if7 .left) in
     c .tiles .ensures
-    ∙ tile-same (W s) (child (read e)) (c .before .centres .ensures .0) (c .before .before .word3 .ensures .0 ∙ ap (at (W s)) (s .pre .1 .1)) (count (read e))
-    ∙ fit-tiled (W s) (K s) (a .next) (a .depth) room (some e) (near e) (nearer e) many (c .before .before .before .before .before .before .if5 .left)
+    ∙ tile-same (W s) (child (read e)) (c .before .centres .ensures .0) from (count (read e))
+    ∙ fit-tiled (W s) (K s) (a .next) (a .depth) room (some e) (near e) (nearer e) many
+    (omega (arith, c .before .before .before .before .before .before .if5 .left))
     (sym (child (read e)) ∙ c .before .before .before .before .before .if6 .left)
 
 pub node-fits-spec : {M : Type 1} → statement M

@@ -55,7 +55,7 @@ loop-holds c =
 returns-3 : tie.Need-returns-3 Inv-loop μ-loop
 returns-3 c =
     let at-loop = c .before .before in
-    going-orphan (start at-loop .args .index .now) (at-loop .loop .inv .0) (c .before .loop-test .taken) (c .if3 .taken)
+    going-orphan (start at-loop .args .index .now) (at-loop .loop .inv .0) (c .before .loop-test .taken) (omega (arith, c .if3 .taken))
 
 node-fits-requires : tie.Need-node-fits-requires Inv-loop μ-loop
 node-fits-requires c κs = search needs
@@ -64,7 +64,8 @@ returns-4 : tie.Need-returns-4 Inv-loop μ-loop
 returns-4 c =
     let at3 = c .before .before in
     let at-loop = at3 .before .before in
-    going-unfit (start at-loop .args .index .now) (at-loop .loop .inv .0) (at3 .before .loop-test .taken) (at3 .if3 .left) (no (c .before .node-fits .ensures) (c .if4 .taken))
+    going-unfit (start at-loop .args .index .now) (at-loop .loop .inv .0) (at3 .before .loop-test .taken) (omega (arith, at3 .if3 .left))
+    (no (c .before .node-fits .ensures) (c .if4 .taken))
 
 brood-of-requires : tie.Need-brood-of-requires Inv-loop μ-loop
 brood-of-requires c κs = search needs
@@ -83,7 +84,8 @@ add-here c =
     let at-loop = c .before .before .before .before .before in
     let s = start at-loop in
     let k = at-loop .loop .k in
-    let inside = nodes-there (s .args .index .now) (s .pre) (k + 1) (omega (arith, at-loop .loop .inv .0, c .before .before .before .before .loop-test .taken)) in
+    let last = c .before .before .before .before .loop-test .taken in
+    let inside = nodes-there (s .args .index .now) (s .pre) (k + 1) (omega (arith, at-loop .loop .inv .0, last)) in
     omega (arith, ahead at-loop, inside, s .good)
 
 add-depth : tie.Need-add-depth Inv-loop μ-loop
@@ -98,8 +100,8 @@ loop-again c =
     let at3 = at4 .before .before in
     let at-loop = at3 .before .before in
     let s = start at-loop in
-    let going = going-turn (s .args .index .now) (at-loop .loop .inv .0) (at3 .before .loop-test .taken) (at3 .if3 .left) (s .pre .fan .1)
-    (yes (at4 .before .node-fits .ensures) (at4 .if4 .left)) (c .before .brood-of .ensures) (c .if5 .taken) in
+    let going = going-turn (s .args .index .now) (at-loop .loop .inv .0) (at3 .before .loop-test .taken) (omega (arith, at3 .if3 .left))
+    (s .pre .fan .1) (yes (at4 .before .node-fits .ensures) (at4 .if4 .left)) (c .before .brood-of .ensures) (c .if5 .taken) in
     (going, ahead at-loop, at-loop .loop .inv .2)
 
 loop-less-2 : tie.Need-loop-less-2 Inv-loop μ-loop
@@ -111,8 +113,8 @@ loop-again-2 c =
     let at3 = at4 .before .before in
     let at-loop = at3 .before .before in
     let s = start at-loop in
-    let going = going-on (s .args .index .now) (at-loop .loop .inv .0) (at3 .before .loop-test .taken) (at3 .if3 .left) (s .pre .fan .1)
-    (yes (at4 .before .node-fits .ensures) (at4 .if4 .left)) (c .before .brood-of .ensures) (c .if5 .left) in
+    let going = going-on (s .args .index .now) (at-loop .loop .inv .0) (at3 .before .loop-test .taken) (omega (arith, at3 .if3 .left))
+    (s .pre .fan .1) (yes (at4 .before .node-fits .ensures) (at4 .if4 .left)) (c .before .brood-of .ensures) (c .if5 .left) in
     (going, ahead at-loop, at-loop .loop .inv .2)
 
 returns-5 : tie.Need-returns-5 Inv-loop μ-loop
