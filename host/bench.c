@@ -1,9 +1,11 @@
 /* Times the library against a plain scan and against the same algorithms in plain C, all in one run:
      bench PLOT.svg [MOST_ROWS]      prints Markdown tables, writes the plot
+     bench --shares [MOST_ROWS]      single calls over a season, by m and l
    Every outcome is compared as well; exit status 1 where two differ. Every buffer is touched before a time is taken, and
    times are the processor's, so that a busy machine shows less. */
 #define _DEFAULT_SOURCE
-#include <stdbool.h>
+#include "bench.h"
+
 #include <stdio.h>
 #include <stdlib.h>
 #include <string.h>
@@ -13,37 +15,69 @@
 #include "draw.h"
 #include "minutes.h"
 #include "plain.h"
-#include "plot.h"
 
 enum {
-    CENTRES = 16,
-    LEAF = 32,
     EDITION = 1,
     QUERIES = 60,
-    WANTED = 10,
-    NEIGHBOUR = 20, /* r is the median distance of this neighbour */
     SIZES = 4,
-    SETS = 4
+    SETS = 6,
+    SHARES = 6
 };
 
 static const uint32_t sizes[SIZES] = { 1000, 10000, 100000, 1048576 };
+static const uint32_t columns[SETS / 2] = { 4, 6, 16 };
+static const uint32_t shares[SHARES][2] = { { 8, 32 }, { 16, 32 }, { 16, 64 }, { 16, 128 }, { 16, 256 }, { 32, 128 } };
+static const uint32_t share_sizes[2] = { 100000, 500000 };
 
-/* One table with all that a call can be lent. `how` and `room` come twice, to be compared. */
-struct set {
-    bool season;
-    struct plain_table table;
-    uint16_t *columns, query[QUERIES][16];
-    uint32_t *room[2], *work, rows[2][WANTED], distances[2][WANTED], words, r;
-    uint8_t *how[2];
+/* The calls of an archive. */
+struct library {
+    __typeof__(bourascul_build) *build;
+    __typeof__(bourascul_check) *check;
+    __typeof__(bourascul_write) *write;
+    __typeof__(bourascul_read) *read;
+    __typeof__(bourascul_radius) *radius;
+    __typeof__(bourascul_nearest) *nearest;
 };
 
-/* Microseconds a call, for library, plain C and scan. */
-struct times {
-    double build[2], check[2], radius[3], nearest[3], shape, bytes, words;
-    double inside, radius_measured, nearest_measured;
+static const struct library own = { bourascul_build, bourascul_check, bourascul_write, bourascul_read, bourascul_radius, bourascul_nearest };
+
+#ifdef BENCH_OTHER
+extern __typeof__(bourascul_build) other_build;
+extern __typeof__(bourascul_check) other_check;
+extern __typeof__(bourascul_write) other_write;
+extern __typeof__(bourascul_read) other_read;
+extern __typeof__(bourascul_radius) other_radius;
+extern __typeof__(bourascul_nearest) other_nearest;
+static const struct library others = { other_build, other_check, other_write, other_read, other_radius, other_nearest };
+#define OTHERS &others
+#else
+#define OTHERS NULL
+#endif
+
+#ifdef BENCH_SECOND
+#define YARD_SECOND &plain_second
+#else
+#define YARD_SECOND NULL
+#endif
+
+static const struct library *const libraries[2] = { &own, OTHERS };
+static const struct plain_calls *const yards[2] = { &plain_first, YARD_SECOND };
+
+/* One table with all that a call can be lent. What a call writes comes twice, to be compared: the library's, and another's. */
+struct set {
+    struct line *line;
+    struct plain_table table;
+    uint16_t *columns, query[QUERIES][16];
+    uint32_t *room[2], *work, rows[2][WANTED], distances[2][WANTED];
+    uint8_t *how[2], *image[2];
 };
 
 static bool all_same = true;
+
+const char *bench_compiler(int k)
+{
+    return yards[k] == NULL ? NULL : yards[k]->compiler;
+}
 
 static double now(void)
 {
@@ -112,36 +146,38 @@ static uint32_t choose_r(struct set *s)
 {
     uint32_t far[15], rows[NEIGHBOUR], distances[NEIGHBOUR];
     for (uint32_t q = 0; q < 15; q++) {
-        plain_scan_nearest(s->table, s->query[q], NEIGHBOUR, rows, distances);
+        plain_first.scan_nearest(s->table, s->query[q], NEIGHBOUR, rows, distances);
         far[q] = distances[NEIGHBOUR - 1];
     }
     qsort(far, 15, sizeof *far, by_size);
     return far[7];
 }
 
-static struct set make_set(bool season, uint32_t c, uint32_t n)
+static void *touched(size_t bytes, int by)
 {
+    return memset(must(malloc(bytes)), by, bytes);
+}
+
+static struct set make_set(struct line *l)
+{
+    size_t words = BOURASCUL_ROOM_WORDS(l->n, EDITION);
     struct set s;
     memset(&s, 0, sizeof s);
-    s.season = season;
-    s.columns = must(malloc((size_t)n * c * sizeof *s.columns));
-    s.table.columns = s.columns;
-    s.table.n = n;
-    s.table.c = c;
-    if (season)
+    s.line = l;
+    s.columns = must(malloc((size_t)l->n * l->c * sizeof *s.columns));
+    s.table = (struct plain_table){ s.columns, l->n, l->c };
+    if (l->season)
         fill_season(&s);
     else
         fill_uniform(&s);
     for (int k = 0; k < 2; k++) {
-        s.room[k] = must(calloc(BOURASCUL_ROOM_WORDS(n, EDITION), sizeof(uint32_t)));
-        s.how[k] = must(calloc(n, 1));
-        memset(s.room[k], k + 1, BOURASCUL_ROOM_WORDS(n, EDITION) * sizeof(uint32_t));
-        memset(s.how[k], k + 1, n);
+        s.room[k] = touched(words * sizeof(uint32_t), k + 1);
+        s.image[k] = touched(BOURASCUL_BLOCKS(words) * BOURASCUL_BLOCK_BYTES, k + 1);
+        s.how[k] = touched(l->n, k + 1);
     }
-    s.work = must(calloc(BOURASCUL_WORK_WORDS(n), sizeof(uint32_t)));
-    memset(s.work, 1, BOURASCUL_WORK_WORDS(n) * sizeof(uint32_t));
+    s.work = touched(BOURASCUL_WORK_WORDS(l->n) * sizeof(uint32_t), 1);
     draw_queries(&s);
-    s.r = choose_r(&s);
+    l->r = choose_r(&s);
     return s;
 }
 
@@ -149,254 +185,256 @@ static void free_set(struct set *s)
 {
     for (int k = 0; k < 2; k++) {
         free(s->room[k]);
+        free(s->image[k]);
         free(s->how[k]);
     }
     free(s->work);
     free(s->columns);
 }
 
-/* ---- One call of each kind ---- */
+/* ---- One call of each kind, by each way ---- */
 
-static size_t length_of(const struct set *s)
+static bool is_there(int kind, int way)
 {
-    return (size_t)s->table.n * s->table.c;
+    switch (way) {
+    case LIBRARY: return true;
+    case OTHER: return libraries[1] != NULL && kind < SHAPE;
+    case FIRST: return kind < SHAPE;
+    case SECOND: return yards[1] != NULL && kind < SHAPE;
+    case SCAN_FIRST: return kind == RADIUS || kind == NEAREST;
+    default: return yards[1] != NULL && (kind == RADIUS || kind == NEAREST);
+    }
 }
 
-static void build_library(struct set *s)
-{
-    bourascul_built b = bourascul_build(s->columns, length_of(s), s->table.c, CENTRES, LEAF, EDITION, s->room[0],
-                                        BOURASCUL_ROOM_WORDS(s->table.n, EDITION), s->work, BOURASCUL_WORK_WORDS(s->table.n));
-    agree(b.number == 0, "build refused");
-    s->words = b.words;
-}
-
-static void build_plain(struct set *s)
-{
-    agree(plain_build(s->table, CENTRES, LEAF, EDITION, s->room[1], s->work) == s->words, "words of a build");
-}
-
-static void check_library(struct set *s)
-{
-    agree(bourascul_check(s->columns, length_of(s), s->table.c, s->room[0], s->words, s->work, BOURASCUL_WORK_WORDS(s->table.n)).number == 0,
-          "check refused");
-}
-
-static void check_plain(struct set *s)
-{
-    agree(plain_check(s->table, s->room[0], s->work).number == 0, "plain check refused");
-}
-
-static bourascul_within radius_library(struct set *s, uint32_t q)
-{
-    return bourascul_radius(s->columns, length_of(s), s->table.c, s->room[0], s->words, s->query[q], s->table.c, s->r, s->how[0], s->table.n);
-}
-
-static bourascul_closest nearest_library(struct set *s, uint32_t q)
-{
-    return bourascul_nearest(s->columns, length_of(s), s->table.c, s->room[0], s->words, s->query[q], s->table.c, WANTED, s->rows[0], WANTED,
-                             s->distances[0], WANTED, s->how[0], s->table.n, s->work, BOURASCUL_WORK_WORDS(s->table.n));
-}
-
-/* One query of a kind: radius or nearest, each by library, plain C and scan; and alone what every call does, whatever it finds: the shape test, and
-   the clearing of how-bytes and workspace. */
-enum job {
-    RADIUS,
-    NEAREST = 3,
-    SHAPE = 6,
-    CLEAR_BYTES,
-    CLEAR_WORDS,
-    JOBS
+/* What a call gives back: of a search, how many were found and measured; else how many words or blocks, or the number of a refusal. */
+struct gives {
+    size_t one, two;
 };
 
-static void run_query(struct set *s, int job, uint32_t q)
+static size_t blocks_of(const struct set *s)
 {
-    switch (job) {
-    case RADIUS: radius_library(s, q); break;
-    case RADIUS + 1: plain_radius(s->table, s->room[0], s->query[q], s->r, s->how[1]); break;
-    case RADIUS + 2: plain_scan_radius(s->table, s->query[q], s->r, s->how[1]); break;
-    case NEAREST: nearest_library(s, q); break;
-    case NEAREST + 1: plain_nearest(s->table, s->room[0], s->query[q], WANTED, s->rows[1], s->distances[1], s->how[1], s->work); break;
-    case NEAREST + 2: plain_scan_nearest(s->table, s->query[q], WANTED, s->rows[1], s->distances[1]); break;
-    case CLEAR_BYTES: memset(s->how[1], 0, s->table.n); break;
-    case CLEAR_WORDS: memset(s->work, 0, BOURASCUL_WORK_WORDS(s->table.n) * sizeof *s->work); break;
+    return BOURASCUL_BLOCKS(s->line->words);
+}
+
+/* The library's own calls write to `k` = 0, another's to 1. An image is read from the library's, always to the second room. */
+static struct gives by_library(struct set *s, const struct library *by, int kind, uint32_t q, int k)
+{
+    const struct line *l = s->line;
+    size_t length = (size_t)l->n * l->c, room = BOURASCUL_ROOM_WORDS(l->n, EDITION), work = BOURASCUL_WORK_WORDS(l->n);
+    bourascul_built built;
+    bourascul_within within;
+    bourascul_closest closest;
+    switch (kind) {
+    case BUILD:
+        built = by->build(s->columns, length, l->c, l->m, l->l, EDITION, s->room[k], room, s->work, work);
+        return (struct gives){ built.words, built.number };
+    case CHECK: return (struct gives){ by->check(s->columns, length, l->c, s->room[0], l->words, s->work, work).number, 0 };
+    case WRITE: return (struct gives){ by->write(s->room[0], l->words, s->image[k], blocks_of(s) * BOURASCUL_BLOCK_BYTES).blocks, 0 };
+    case READ: return (struct gives){ by->read(s->image[0], blocks_of(s) * BOURASCUL_BLOCK_BYTES, s->room[1], room).words, 0 };
+    case RADIUS:
+        within = by->radius(s->columns, length, l->c, s->room[0], l->words, s->query[q], l->c, l->r, s->how[k], l->n);
+        return (struct gives){ within.inside, within.measured };
+    case NEAREST:
+        closest = by->nearest(s->columns, length, l->c, s->room[0], l->words, s->query[q], l->c, WANTED, s->rows[k], WANTED, s->distances[k],
+                              WANTED, s->how[k], l->n, s->work, work);
+        return (struct gives){ closest.given, closest.measured };
+    case CLEAR_BYTES: memset(s->how[1], 0, l->n); break;
+    case CLEAR_WORDS: memset(s->work, 0, work * sizeof *s->work); break;
     /* A listing tests header and shape as a search does and then only reads two words. */
-    default: bourascul_list(s->room[0], s->words, 0); break;
+    default: bourascul_list(s->room[0], l->words, 0); break;
+    }
+    return (struct gives){ 0, 0 };
+}
+
+static struct gives by_plain(struct set *s, const struct plain_calls *by, int kind, uint32_t q)
+{
+    const struct line *l = s->line;
+    struct plain_counts counts;
+    switch (kind) {
+    case BUILD: return (struct gives){ by->build(s->table, l->m, l->l, EDITION, s->room[1], s->work), 0 };
+    case CHECK: return (struct gives){ by->check(s->table, s->room[0], s->work).number, 0 };
+    case WRITE: return (struct gives){ by->write(s->room[0], s->image[1]), 0 };
+    case READ: return (struct gives){ by->read(s->image[0], blocks_of(s), s->room[1]), 0 };
+    case RADIUS: counts = by->radius(s->table, s->room[0], s->query[q], l->r, s->how[1]); break;
+    default: counts = by->nearest(s->table, s->room[0], s->query[q], WANTED, s->rows[1], s->distances[1], s->how[1], s->work); break;
+    }
+    return (struct gives){ counts.found, counts.measured };
+}
+
+static struct gives by_scan(struct set *s, const struct plain_calls *by, int kind, uint32_t q)
+{
+    if (kind == RADIUS)
+        return (struct gives){ by->scan_radius(s->table, s->query[q], s->line->r, s->how[1]), 0 };
+    return (struct gives){ by->scan_nearest(s->table, s->query[q], WANTED, s->rows[1], s->distances[1]), 0 };
+}
+
+static struct gives run(struct set *s, int kind, int way, uint32_t q)
+{
+    if (way >= SCAN_FIRST)
+        return by_scan(s, yards[way - SCAN_FIRST], kind, q);
+    if (way >= FIRST)
+        return by_plain(s, yards[way - FIRST], kind, q);
+    return by_library(s, libraries[way], kind, q, way);
+}
+
+/* ---- Outcomes ---- */
+
+static bool same_bytes(int kind, const struct set *s, bool scan)
+{
+    const struct line *l = s->line;
+    switch (kind) {
+    case BUILD:
+    case READ: return memcmp(s->room[0], s->room[1], l->words * sizeof(uint32_t)) == 0;
+    case WRITE: return memcmp(s->image[0], s->image[1], blocks_of(s) * BOURASCUL_BLOCK_BYTES) == 0;
+    case RADIUS: return scan || memcmp(s->how[0], s->how[1], l->n) == 0;
+    case NEAREST:
+        return memcmp(s->rows[0], s->rows[1], sizeof s->rows[0]) == 0 && memcmp(s->distances[0], s->distances[1], sizeof s->distances[0]) == 0 &&
+               (scan || memcmp(s->how[0], s->how[1], l->n) == 0);
+    default: return true;
+    }
+}
+
+/* One call by every way, held to the library's, whose outcome it gives. */
+static struct gives compare(struct set *s, int kind, uint32_t q)
+{
+    static const char *const names[SHAPE] = { "build", "check", "write", "read", "radius", "nearest" };
+    struct gives ours = run(s, kind, LIBRARY, q);
+    if (kind == BUILD)
+        s->line->words = (uint32_t)ours.one;
+    for (int way = LIBRARY; way < WAYS; way++) {
+        if (!is_there(kind, way) || (way == LIBRARY && kind != READ))
+            continue;
+        bool scan = way >= SCAN_FIRST;
+        if (kind == BUILD || kind == READ)
+            memset(s->room[1], 0xff, BOURASCUL_ROOM_WORDS(s->line->n, EDITION) * sizeof(uint32_t));
+        struct gives theirs = run(s, kind, way, q);
+        agree(ours.one == theirs.one && (scan || ours.two == theirs.two) && same_bytes(kind, s, scan), names[kind]);
+    }
+    return ours;
+}
+
+/* The index, its image, and every query, each by every way; gives the means of the counts. */
+static void compare_all(struct set *s)
+{
+    struct line *l = s->line;
+    agree(compare(s, BUILD, 0).two == 0, "build refused");
+    agree(compare(s, CHECK, 0).one == 0, "check refused");
+    compare(s, WRITE, 0);
+    compare(s, READ, 0);
+    for (uint32_t q = 0; q < QUERIES; q++) {
+        struct gives in = compare(s, RADIUS, q), close = compare(s, NEAREST, q);
+        l->inside += (double)in.one / QUERIES;
+        l->radius_measured += (double)in.two / QUERIES;
+        l->nearest_measured += (double)close.two / QUERIES;
     }
 }
 
 /* ---- Times ---- */
 
-/* The least mean over several passes through the queries; the jobs take turns, so that a busy moment hits all of them. */
-static void time_queries(struct set *s, double *best)
+/* How many calls a pass has: one of what takes long, so many of an image that a pass is not too short, every query. */
+static uint32_t calls_of(int kind, uint32_t n)
 {
-    uint32_t queries = s->table.n > 500000 ? QUERIES / 3 : QUERIES, passes = s->table.n > 50000 ? 4 : 12;
-    for (int job = 0; job < JOBS; job++)
-        best[job] = 1e18;
+    if (kind <= CHECK)
+        return 1;
+    if (kind <= READ)
+        return 1 + 200000 / n;
+    return n > 500000 ? QUERIES / 3 : QUERIES;
+}
+
+static uint32_t passes_of(int kind, uint32_t n)
+{
+    if (kind <= CHECK)
+        return n > 500000 ? 3 : n > 50000 ? 6 : 20;
+    return n > 50000 ? 6 : 12;
+}
+
+/* The mean of one pass, where it is less than the least so far. */
+static void time_pass(struct set *s, int kind, int way)
+{
+    double *best = &s->line->took[kind][way], begin = now();
+    uint32_t calls = calls_of(kind, s->table.n);
+    for (uint32_t q = 0; q < calls; q++)
+        run(s, kind, way, q % QUERIES);
+    double mean = (now() - begin) / calls;
+    *best = *best == 0 || mean < *best ? mean : *best;
+}
+
+/* The least mean over several passes; the ways take turns, so that a busy moment hits all of them. */
+static void time_kind(struct set *s, int kind)
+{
+    uint32_t passes = passes_of(kind, s->table.n);
     for (uint32_t pass = 0; pass < passes; pass++)
-        for (int job = 0; job < JOBS; job++) {
-            double begin = now();
-            for (uint32_t q = 0; q < queries; q++)
-                run_query(s, job, q);
-            double mean = (now() - begin) / queries;
-            best[job] = mean < best[job] ? mean : best[job];
+        for (int way = 0; way < WAYS; way++)
+            if (is_there(kind, way))
+                time_pass(s, kind, way);
+}
+
+static void time_line(struct line *l)
+{
+    fprintf(stderr, "bench: %s, %u columns, %u rows\n", bench_data(l), l->c, l->n);
+    struct set s = make_set(l);
+    compare_all(&s);
+    for (int kind = 0; kind < KINDS; kind++)
+        time_kind(&s, kind);
+    free_set(&s);
+}
+
+/* Builds and single searches of the library over one season, by m and l, which take turns. */
+static void time_shares(struct line *lines, uint32_t n)
+{
+    for (size_t i = 0; i < SHARES; i++)
+        lines[i] = (struct line){ .season = true, .c = MINUTE_COLUMNS, .n = n, .m = shares[i][0], .l = shares[i][1] };
+    fprintf(stderr, "bench: shares, %u rows\n", n);
+    struct set s = make_set(&lines[0]);
+    for (int pass = 0; pass < 5; pass++)
+        for (size_t i = 0; i < SHARES; i++) {
+            s.line = &lines[i];
+            s.line->r = lines[0].r;
+            if (pass == 0)
+                compare_all(&s);
+            time_pass(&s, BUILD, LIBRARY);
+            time_pass(&s, RADIUS, LIBRARY);
+            time_pass(&s, NEAREST, LIBRARY);
         }
+    free_set(&s);
 }
 
-static double time_once(struct set *s, void (*call)(struct set *), double least)
+/* ---- Runs ---- */
+
+static bool tables(const char *path, uint32_t most)
 {
-    double begin = now();
-    call(s);
-    double took = now() - begin;
-    return took < least ? took : least;
-}
-
-static void time_builds(struct set *s, struct times *t)
-{
-    t->build[0] = t->build[1] = t->check[0] = t->check[1] = 1e18;
-    uint32_t passes = s->table.n > 50000 ? 2 : 8;
-    for (uint32_t pass = 0; pass < passes; pass++) {
-        t->build[0] = time_once(s, build_library, t->build[0]);
-        t->build[1] = time_once(s, build_plain, t->build[1]);
-        t->check[0] = time_once(s, check_library, t->check[0]);
-        t->check[1] = time_once(s, check_plain, t->check[1]);
-    }
-    agree(memcmp(s->room[0], s->room[1], s->words * sizeof(uint32_t)) == 0, "index of a build");
-}
-
-/* Every query once more, with its outcome compared; gives the means of the counts. */
-static void compare_queries(struct set *s, struct times *t)
-{
-    for (uint32_t q = 0; q < QUERIES; q++) {
-        bourascul_within in = radius_library(s, q);
-        struct plain_counts plain = plain_radius(s->table, s->room[0], s->query[q], s->r, s->how[1]);
-        agree(in.inside == plain.found && in.measured == plain.measured && memcmp(s->how[0], s->how[1], s->table.n) == 0, "radius");
-        agree(in.inside == plain_scan_radius(s->table, s->query[q], s->r, s->how[1]), "radius and scan");
-        t->inside += (double)in.inside / QUERIES;
-        t->radius_measured += (double)in.measured / QUERIES;
-        bourascul_closest close = nearest_library(s, q);
-        plain = plain_nearest(s->table, s->room[0], s->query[q], WANTED, s->rows[1], s->distances[1], s->how[1], s->work);
-        agree(close.measured == plain.measured && memcmp(s->how[0], s->how[1], s->table.n) == 0, "nearest");
-        plain_scan_nearest(s->table, s->query[q], WANTED, s->rows[1], s->distances[1]);
-        agree(memcmp(s->rows[0], s->rows[1], sizeof s->rows[0]) == 0 && memcmp(s->distances[0], s->distances[1], sizeof s->distances[0]) == 0,
-              "nearest and scan");
-        t->nearest_measured += (double)close.measured / QUERIES;
-    }
-}
-
-static struct times time_set(struct set *s)
-{
-    struct times t;
-    double best[JOBS];
-    memset(&t, 0, sizeof t);
-    time_builds(s, &t);
-    compare_queries(s, &t);
-    time_queries(s, best);
-    memcpy(t.radius, best + RADIUS, sizeof t.radius);
-    memcpy(t.nearest, best + NEAREST, sizeof t.nearest);
-    t.shape = best[SHAPE];
-    t.bytes = best[CLEAR_BYTES];
-    t.words = best[CLEAR_WORDS];
-    return t;
-}
-
-/* ---- Telling ---- */
-
-struct line {
-    bool season;
-    uint32_t c, n, r;
-    struct times times;
-};
-
-static const char *name_of(const struct line *l)
-{
-    return l->season ? "season" : "uniform";
-}
-
-static void tell_builds(const struct line *lines, size_t count)
-{
-    printf("Build and check, milliseconds; m = %d, l = %d.\n\n", CENTRES, LEAF);
-    puts("| data | c | rows | build | plain C | ratio | check | plain C | ratio |\n|---|---|---|---|---|---|---|---|---|");
-    for (size_t i = 0; i < count; i++) {
-        const struct times *t = &lines[i].times;
-        printf("| %s | %u | %u | %.2f | %.2f | %.2f | %.2f | %.2f | %.2f |\n", name_of(&lines[i]), lines[i].c, lines[i].n, t->build[0] / 1e3,
-               t->build[1] / 1e3, t->build[0] / t->build[1], t->check[0] / 1e3, t->check[1] / 1e3, t->check[0] / t->check[1]);
-    }
-}
-
-static void tell_radius(const struct line *lines, size_t count)
-{
-    printf("\nRadius, microseconds a call; r is the median distance of the %dth neighbour. Shape: the share of a call that the shape test takes, timed as\n"
-           "a listing of node 0, which does nothing else of weight. Clearing: that of the n how-bytes.\n\n", NEIGHBOUR);
-    puts("| data | c | rows | r | in | measured | of rows | library | plain C | scan | library / plain C | scan / library | shape | clearing |\n"
-         "|---|---|---|---|---|---|---|---|---|---|---|---|---|---|");
-    for (size_t i = 0; i < count; i++) {
-        const struct times *t = &lines[i].times;
-        printf("| %s | %u | %u | %u | %.1f | %.1f | %.2f%% | %.1f | %.1f | %.1f | %.2f | %.2f | %.0f%% | %.1f%% |\n", name_of(&lines[i]), lines[i].c,
-               lines[i].n, lines[i].r, t->inside, t->radius_measured, 100 * t->radius_measured / lines[i].n, t->radius[0], t->radius[1], t->radius[2],
-               t->radius[0] / t->radius[1], t->radius[2] / t->radius[0], 100 * t->shape / t->radius[0], 100 * t->bytes / t->radius[0]);
-    }
-}
-
-static void tell_nearest(const struct line *lines, size_t count)
-{
-    printf("\nNearest, %d wanted, microseconds a call. Shape as above; clearing: that of the n how-bytes and of the 6n words.\n\n", WANTED);
-    puts("| data | c | rows | measured | of rows | library | plain C | scan | library / plain C | scan / library | shape | clearing |\n"
-         "|---|---|---|---|---|---|---|---|---|---|---|---|");
-    for (size_t i = 0; i < count; i++) {
-        const struct times *t = &lines[i].times;
-        printf("| %s | %u | %u | %.1f | %.2f%% | %.1f | %.1f | %.1f | %.2f | %.2f | %.0f%% | %.0f%% |\n", name_of(&lines[i]), lines[i].c, lines[i].n,
-               t->nearest_measured, 100 * t->nearest_measured / lines[i].n, t->nearest[0], t->nearest[1], t->nearest[2],
-               t->nearest[0] / t->nearest[1], t->nearest[2] / t->nearest[0], 100 * t->shape / t->nearest[0],
-               100 * (t->bytes + t->words) / t->nearest[0]);
-    }
-}
-
-/* Radius panels above, nearest panels below; lines come set by set, each with `each` sizes. */
-static bool plot(const char *path, const struct line *lines, size_t each)
-{
-    static const char *const names[PLOT_LINES] = { "library", "plain C", "scan" };
-    struct plot_panel panels[PLOT_PANELS];
-    memset(panels, 0, sizeof panels);
-    for (size_t p = 0; p < PLOT_PANELS; p++) {
-        const struct line *first = lines + (p % SETS) * each;
-        snprintf(panels[p].title, sizeof panels[p].title, "%s, %s, %u columns", p < SETS ? "radius" : "nearest", name_of(first), first->c);
-        panels[p].sizes = each;
-        for (size_t i = 0; i < each; i++) {
-            panels[p].rows[i] = first[i].n;
-            for (size_t k = 0; k < PLOT_LINES; k++)
-                panels[p].time[k][i] = p < SETS ? first[i].times.radius[k] : first[i].times.nearest[k];
+    static struct line lines[SETS * SIZES];
+    size_t each = 0, made = 0;
+    while (each < SIZES && sizes[each] <= most)
+        each++;
+    for (size_t k = 0; k < SETS; k++)
+        for (size_t i = 0; i < each; i++, made++) {
+            lines[made] = (struct line){ .season = k < SETS / 2, .c = columns[k % (SETS / 2)], .n = sizes[i], .m = CENTRES, .l = LEAF };
+            time_line(&lines[made]);
         }
-    }
-    return plot_write(path, names, panels, PLOT_PANELS) != 0;
+    bench_tell(lines, made, each);
+    return bench_plot(path, lines, made, each);
+}
+
+static void tell_shares(uint32_t most)
+{
+    static struct line lines[2 * SHARES];
+    size_t made = 0;
+    for (size_t i = 0; i < 2 && share_sizes[i] <= most; i++, made += SHARES)
+        time_shares(lines + made, share_sizes[i]);
+    bench_tell_shares(lines, made);
 }
 
 int main(int count, char **word)
 {
-    static struct line lines[SETS * SIZES];
     uint32_t most = count > 2 ? (uint32_t)strtoul(word[2], NULL, 10) : sizes[SIZES - 1];
-    size_t each = 0, made = 0;
-    while (each < SIZES && sizes[each] <= most)
-        each++;
-    if (count < 2 || count > 3 || each == 0) {
-        fputs("usage: bench PLOT.svg [MOST_ROWS]    (MOST_ROWS at least 1000)\n", stderr);
+    if (count < 2 || count > 3 || most < sizes[0]) {
+        fputs("usage: bench PLOT.svg [MOST_ROWS]    (MOST_ROWS at least 1000)\n       bench --shares [MOST_ROWS]\n", stderr);
         return 2;
     }
-    for (size_t k = 0; k < SETS; k++)
-        for (size_t i = 0; i < each; i++, made++) {
-            struct line *l = &lines[made];
-            struct set s = make_set(k < 2, k % 2 == 0 ? 6 : 16, sizes[i]);
-            l->season = s.season;
-            l->c = s.table.c;
-            l->n = s.table.n;
-            l->r = s.r;
-            fprintf(stderr, "bench: %s, %u columns, %u rows\n", name_of(l), l->c, l->n);
-            l->times = time_set(&s);
-            free_set(&s);
-        }
-    tell_builds(lines, made);
-    tell_radius(lines, made);
-    tell_nearest(lines, made);
-    if (!plot(word[1], lines, each)) {
+    if (strcmp(word[1], "--shares") == 0) {
+        tell_shares(most);
+    } else if (!tables(word[1], most)) {
         perror("bench");
         return 2;
     }

@@ -5,6 +5,8 @@
 #   host/build.sh --checked        the C code with gcc's address and undefined-behaviour checks
 # The archive is for x86-64. On another processor the programs are cross-compiled and run under an emulator.
 # CC, EMULATOR: another compiler or emulator. BOURASCUL_ARCHIVE: an archive to link in the place of rt's.
+# SECOND_CC: the compiler that the bench's yardstick is compiled by as well (clang beside gcc, gcc beside clang, where there is one).
+# BOURASCUL_OTHER: an archive of the library at another commit, for the bench to time beside this one.
 set -eu
 cd "$(dirname "$0")/.."
 
@@ -72,10 +74,46 @@ compile() {
     files=''
     for name in "$@"; do files="$files host/$name.c"; done
     # shellcheck disable=SC2086
-    "$cc" -std=c99 $level $checks $static -Wall -Wextra -Wpedantic -Iinclude -Ihost -o "$out/$program" $files "$archive" -lm
+    "$cc" -std=c99 $level $checks $static -Wall -Wextra -Wpedantic -Iinclude -Ihost $with -o "$out/$program" $files "$archive" -lm
     echo "host: $out/$program"
 }
 
+# The yardstick by the compiler $1, under the name $2.
+yardstick() {
+    # shellcheck disable=SC2086
+    $1 -std=c99 -O3 $checks -fPIE -Wall -Wextra -Wpedantic -Ihost -DPLAIN_BY="$2" -c -o "$out/$2.o" host/plain_by.c
+}
+
+# The other archive as one object, in which every name but the calls is local, and these begin with other_.
+rename_other() {
+    ld -r --whole-archive "$BOURASCUL_OTHER" -o "$out/other.o"
+    for call in build check write read radius nearest; do
+        objcopy --redefine-sym "bourascul_$call=other_$call" "$out/other.o"
+    done
+    objcopy --wildcard --keep-global-symbol='other_*' "$out/other.o"
+}
+
+with=''
 compile trial -O2 trial kinds samples spoil calls lend self naive naive_tree naive_search
-compile bench -O3 bench plot minutes plain plain_search
 compile season -O2 season minutes
+compile stack -O2 stack
+
+yardstick "$cc" plain_first
+with="$out/plain_first.o"
+case $("$cc" --version) in
+*clang*) second=${SECOND_CC:-gcc} ;;
+*) second=${SECOND_CC:-clang} ;;
+esac
+# On another processor clang compiles for x86-64 when told to, if it finds a C library's headers for it.
+if [ -n "$static" ]; then second="$second --target=x86_64-linux-gnu"; fi
+# The two compilers' run-time checks can't be linked together.
+if [ -z "$checks" ] && has "${second%% *}" && yardstick "$second" plain_second 2>"$out/second.log"; then
+    with="$with $out/plain_second.o -DBENCH_SECOND"
+else
+    echo "host: the yardstick by one compiler alone"
+fi
+if [ -n "${BOURASCUL_OTHER:-}" ]; then
+    rename_other
+    with="$with $out/other.o -DBENCH_OTHER"
+fi
+compile bench -O3 bench bench_tell plot minutes

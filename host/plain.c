@@ -232,10 +232,11 @@ static void check_child(struct plain_table t, const uint32_t *index, uint32_t pa
     uint32_t most = 0, nearest = v[1] > 1 ? UINT32_MAX : 0, width = width_of(index);
     for (uint32_t p = v[0]; p < v[0] + v[1]; p++) {
         const uint16_t *row = row_of(t, pair[2 * (size_t)p]);
-        uint32_t d = far(centre[own], row, t.c), least = d;
+        uint32_t d = 0, least = MOST_DISTANCE;
         for (uint32_t j = 0; j < centres; j++) {
-            uint32_t other = far(centre[j], row, t.c);
-            least = other < least ? other : least;
+            uint32_t x = far(centre[j], row, t.c);
+            least = x < least ? x : least;
+            d = j == own ? x : d;
         }
         most = greater(most, d);
         nearest = p > v[0] && d < nearest ? d : nearest;

@@ -20,16 +20,42 @@ struct plain_verdict {
     uint32_t number, place, second;
 };
 
+/* The bench has the yardstick from each compiler at hand (plain_by.c), with names of its own for each. */
+#ifndef PLAIN_CALL
+#define PLAIN_CALL
+#endif
+
 /* Gives the number of words; work is 6n words, and is zero afterwards. */
-uint32_t plain_build(struct plain_table t, uint32_t m, uint32_t l, uint32_t edition, uint32_t *room, uint32_t *work);
-bool plain_shape(const uint32_t *index);
-struct plain_verdict plain_check(struct plain_table t, const uint32_t *index, uint32_t *work);
-struct plain_counts plain_radius(struct plain_table t, const uint32_t *index, const uint16_t *query, uint32_t r, uint8_t *how);
-struct plain_counts plain_nearest(struct plain_table t, const uint32_t *index, const uint16_t *query, uint32_t w, uint32_t *rows,
-                                  uint32_t *distances, uint8_t *how, uint32_t *work);
+PLAIN_CALL uint32_t plain_build(struct plain_table t, uint32_t m, uint32_t l, uint32_t edition, uint32_t *room, uint32_t *work);
+PLAIN_CALL bool plain_shape(const uint32_t *index);
+PLAIN_CALL struct plain_verdict plain_check(struct plain_table t, const uint32_t *index, uint32_t *work);
+PLAIN_CALL struct plain_counts plain_radius(struct plain_table t, const uint32_t *index, const uint16_t *query, uint32_t r, uint8_t *how);
+PLAIN_CALL struct plain_counts plain_nearest(struct plain_table t, const uint32_t *index, const uint16_t *query, uint32_t w, uint32_t *rows,
+                                             uint32_t *distances, uint8_t *how, uint32_t *work);
+
+/* Gives the number of blocks. */
+PLAIN_CALL size_t plain_write(const uint32_t *index, uint8_t *image);
+
+/* Gives the number of words, 0 where a check word, the header or the rest after the last word is wrong. */
+PLAIN_CALL size_t plain_read(const uint8_t *image, size_t blocks, uint32_t *room);
 
 /* The same answers by a scan of every row. */
-uint32_t plain_scan_radius(struct plain_table t, const uint16_t *query, uint32_t r, uint8_t *how);
-uint32_t plain_scan_nearest(struct plain_table t, const uint16_t *query, uint32_t w, uint32_t *rows, uint32_t *distances);
+PLAIN_CALL uint32_t plain_scan_radius(struct plain_table t, const uint16_t *query, uint32_t r, uint8_t *how);
+PLAIN_CALL uint32_t plain_scan_nearest(struct plain_table t, const uint16_t *query, uint32_t w, uint32_t *rows, uint32_t *distances);
+
+/* All of them, from one compiler. */
+struct plain_calls {
+    const char *compiler;
+    __typeof__(plain_build) *build;
+    __typeof__(plain_check) *check;
+    __typeof__(plain_radius) *radius;
+    __typeof__(plain_nearest) *nearest;
+    __typeof__(plain_write) *write;
+    __typeof__(plain_read) *read;
+    __typeof__(plain_scan_radius) *scan_radius;
+    __typeof__(plain_scan_nearest) *scan_nearest;
+};
+
+extern const struct plain_calls plain_first, plain_second;
 
 #endif

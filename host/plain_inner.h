@@ -4,18 +4,59 @@
 
 #include "plain.h"
 
+#include <stdlib.h>
+
 enum {
     MOST_DEPTH = 24,
     MOST_CENTRES = 64,
     MOST_DISTANCE = 1048560
 };
 
-static inline uint32_t far(const uint16_t *a, const uint16_t *b, uint32_t c)
+/* How far two numbers of one column are apart, in the form that each compiler makes its fastest code of, and whether it gains by knowing that there
+   are sixteen columns: gcc then takes them one by one. */
+#ifdef __clang__
+enum {
+    SIXTEEN = 16
+};
+
+static inline uint16_t over(uint16_t x, uint16_t y)
+{
+    return x > y ? (uint16_t)(x - y) : 0;
+}
+
+static inline uint32_t column(uint16_t x, uint16_t y)
+{
+    return (uint16_t)(over(x, y) | over(y, x));
+}
+#else
+enum {
+    SIXTEEN = -1
+};
+
+static inline uint32_t column(uint16_t x, uint16_t y)
+{
+    return (uint32_t)abs(x - y);
+}
+#endif
+
+static inline uint32_t far_over(const uint16_t *a, const uint16_t *b, uint32_t c)
 {
     uint32_t sum = 0;
     for (uint32_t j = 0; j < c; j++)
-        sum += a[j] > b[j] ? (uint32_t)(a[j] - b[j]) : (uint32_t)(b[j] - a[j]);
+        sum += column(a[j], b[j]);
     return sum;
+}
+
+/* The distance of two rows. A loop to a constant is compiled without a loop. */
+static inline uint32_t far(const uint16_t *a, const uint16_t *b, uint32_t c)
+{
+    if (c == 6)
+        return far_over(a, b, 6);
+    if (c == 4)
+        return far_over(a, b, 4);
+    if ((int)c == SIXTEEN)
+        return far_over(a, b, 16);
+    return far_over(a, b, c);
 }
 
 static inline const uint16_t *row_of(struct plain_table t, uint32_t i)

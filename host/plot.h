@@ -1,4 +1,4 @@
-/* A small plot of times over table sizes, written as SVG with nothing but stdio. */
+/* A small plot over table sizes, written as SVG with nothing but stdio. */
 #ifndef HOST_PLOT_H
 #define HOST_PLOT_H
 
@@ -6,18 +6,28 @@
 
 enum {
     PLOT_SIZES = 8,
-    PLOT_LINES = 3,
-    PLOT_PANELS = 8
+    PLOT_LINES = 6
 };
 
-/* Times in microseconds, by line and size. Both axes go by powers of ten. */
+/* Microseconds, or percent. */
+enum plot_unit {
+    PLOT_TIME,
+    PLOT_SHARE
+};
+
+/* Both axes go by powers of ten. The first line is drawn last, so that it is on top. */
 struct plot_panel {
     char title[64];
-    size_t sizes;
-    double rows[PLOT_SIZES], time[PLOT_LINES][PLOT_SIZES];
+    enum plot_unit unit;
+    size_t sizes, lines;
+    double rows[PLOT_SIZES];
+    struct {
+        char name[32];
+        double at[PLOT_SIZES];
+    } line[PLOT_LINES];
 };
 
 /* 1 where the file was written. */
-int plot_write(const char *path, const char *const *lines, const struct plot_panel *panels, size_t count);
+int plot_write(const char *path, const struct plot_panel *panels, size_t count);
 
 #endif

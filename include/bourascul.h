@@ -135,7 +135,8 @@ typedef struct bourascul_part {
    Lent: table of n * c numbers; room of at least 10n + 8 words in edition 1, 12n + 8 in edition 2; work of at least 6n words.
    Numbers: 0, 1, 2, 3, 4, 5.
    Done: the first `words` words of room are the index, which bourascul_check accepts, and the rest stays; the first 6n
-   words of work are 0, and the rest stays. The same table, m, l and edition always give the same index. */
+   words of work are 0, and the rest stays. The same table, m, l and edition always give the same index.
+   For single searches m = 16 and l = 128 are a good choice: a search tests every node, and larger leaves have fewer. */
 bourascul_built bourascul_build(const uint16_t *table, size_t table_length, uint32_t c, uint32_t m, uint32_t l, uint32_t edition,
                                 uint32_t *room, size_t room_length, uint32_t *work, size_t work_length);
 

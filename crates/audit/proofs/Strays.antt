@@ -18,14 +18,14 @@ use mathlib.Core.Path.{_∙_, _≡_, ap, ap₂, refl, subst, sym}
 use native.Mathlib.Omega.{arith}
 
 module _ (d : ℕ → ℕ → ℕ) (w : List ℕ) where
-  -- ---- one centre, that of node i
-  -- no row is closer to its own centre than it is
-  pub closer-own : (p x i j : ℕ) → i ≡ j → x ≡ d (first# w j) (row# w p) → false ≡ closer d w p x i
-  closer-own p x i j e q = sym (le-ltb (d (first# w i) (row# w p)) x (omega (arith, q, ap (λ (k : ℕ). d (first# w k) (row# w p)) e)))
+  -- ---- one centre
+  -- the row at p is no closer to the centre f than x where f is the row g, from which it is x away
+  pub closer-own : (p x f g : ℕ) → f ≡ g → x ≡ d g (row# w p) → false ≡ ltb (d f (row# w p)) x
+  closer-own p x f g e q = sym (le-ltb (d f (row# w p)) x (omega (arith, q, ap (λ (k : ℕ). d k (row# w p)) e)))
 
-  -- any other centre is closer where its distance is less: f is the first of node i, and a its distance
-  pub closer-is : (p x i : ℕ) {f a : ℕ} → f ≡ first# w i → a ≡ d f (row# w p) → ltb a x ≡ closer d w p x i
-  closer-is p x i e q = rw (q, e)
+  -- f is the first of node i
+  pub closer-is : (p x i : ℕ) {f : ℕ} → f ≡ first# w i → ltb (d f (row# w p)) x ≡ closer d w p x i
+  closer-is p x i e = rw e
 
   -- ---- one child j of node k
   -- no position outside its run strays from it

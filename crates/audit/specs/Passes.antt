@@ -1,5 +1,5 @@
 -- The tests of the full check by node and by child, as the passes make them. Over the distance d between rows. Assumes nothing.
-use Prim.Native.Nat.{_+_, ℕ}
+use Prim.Native.Nat.{_+_, _<_, ℕ}
 use Rattle.audit.specs.declared.Checked.{Checked}
 use Rattle.laws.specs.First.{First}
 use Rattle.laws.specs.Lists.{any, each, keep, range}
@@ -8,8 +8,10 @@ use Rattle.tree.specs.Check.{inRun, strays, wrongDist, wrongReach}
 use Rattle.words.specs.Shape.{inner}
 use Rattle.words.specs.Words.{N#, child#, count#, dist#, first#, m#, n#, row#, run#, start#}
 use lib.Dec.{eqb, ltb}
+use lib.ListN.{getD}
 use mathlib.Core.Bool.{Bool, _&&_, not}
 use mathlib.Core.List.{List, _++_, map}
+use mathlib.Core.Path.{_≡_}
 
 -- what the code hands back, as a number and two places
 abbrev pub told : Checked → Said
@@ -18,6 +20,11 @@ told r = (r .number, r .place, r .second)
 -- r is the first position of node k's run that passes f, or the run's end
 abbrev pub FirstIn : List ℕ → ℕ → (ℕ → Bool) → ℕ → Type 0
 FirstIn w k f r = First f (start# w k) (start# w k + count# w k) r
+
+-- fs are the firsts of the m nodes from number j on
+pub record Firsts (w : List ℕ) (j : ℕ) (fs : List ℕ) : Type 0 where
+  pub at : (i : ℕ) → i < m# w → getD fs i 0 ≡ first# w (j + i)
+  pub low : (i : ℕ) → i < m# w → getD fs i 0 < n# w
 
 module _ (d : ℕ → ℕ → ℕ) (w : List ℕ) where
   -- 11, of one node: it is a leaf with position p, whose stored distance is wrong

@@ -1,13 +1,15 @@
 // 13: a row is closer to the centre of another child.
 ghost use Prim.Native.Nat.{_+_, _<_, _≤_};
-ghost use Rattle.audit.specs.Passes.{FirstIn, allStrays, closer, kidStrays, told};
+ghost use Rattle.audit.specs.Passes.{FirstIn, Firsts, allStrays, closer, kidStrays, told};
 ghost use Rattle.laws.specs.Lists.{any, range};
 ghost use Rattle.limits.specs.Said.{said};
 ghost use Rattle.measure.specs.Table.{between};
 ghost use Rattle.reach.specs.Runs.{Paired};
 ghost use Rattle.tree.specs.Check.{strays};
+ghost use Rattle.words.specs.InShape.{InShape};
 ghost use Rattle.words.specs.Shape.{inner};
-ghost use Rattle.words.specs.Words.{N#, child#, first#, m#, n#, row#};
+ghost use Rattle.words.specs.Words.{N#, child#, m#, n#, row#};
+ghost use lib.Dec.{ltb};
 ghost use mathlib.Core.Bool.{true};
 ghost use mathlib.Core.Path.{_≡_};
 use crate::Checked;
@@ -20,37 +22,54 @@ use words::places::node_first;
 use words::places::node_start;
 use words::places::nodes;
 
-// The row at p is closer to node i's first than to node j's, from which it is x away. Node j's own first is not measured again.
-fn is_closer(table: &[u16], c: usize, index: &[u32], i: usize, j: usize, x: u32, p: usize) -> bool
-    requires { ⌜ Paired (now table) c (now index) ⌝ }
-    requires { ⌜ (i < N# (now index)) × (p < n# (now index)) × (x ≡ between (now table) c (first# (now index) j) (row# (now index) p)) ⌝ }
-    ensures { λ r. ⌜ r ≡ closer (between (now (table .entry)) c) (now (index .entry)) p x i ⌝ }
+// The firsts of the m nodes from number `child` on.
+fn firsts(index: &[u32], child: usize) -> [usize; 64]
+    requires { ⌜ InShape (now index) ⌝ }
+    requires { ⌜ child + m# (now index) ≤ N# (now index) ⌝ }
+    ensures { λ fs. ⌜ Firsts (now (index .entry)) child fs ⌝ }
 {
-    if i == j {
+    let m = centres(index);
+    let mut fs = [0usize; 64];
+    let mut i = 0;
+    while i < m {
+        let f = node_first(index, child + i);
+        fs[i] = f;
+        i += 1;
+    }
+    fs
+}
+
+// The row at p is closer to row f than to row g, from which it is x away. Row g is not measured again.
+fn is_closer(table: &[u16], c: usize, index: &[u32], f: usize, g: usize, x: u32, p: usize) -> bool
+    requires { ⌜ Paired (now table) c (now index) ⌝ }
+    requires { ⌜ (f < n# (now index)) × (p < n# (now index)) × (x ≡ between (now table) c g (row# (now index) p)) ⌝ }
+    ensures { λ r. ⌜ r ≡ ltb (between (now (table .entry)) c f (row# (now (index .entry)) p)) x ⌝ }
+{
+    if f == g {
         return false;
     }
-    let f = node_first(index, i);
     apart(table, c, index, f, p) < x
 }
 
-// The row at p, which is x away from the first of node j, is closer to that of one of the m nodes from number `child` on.
+// The row at p, which is x away from row g, is closer to the first of one of the m nodes from number `child` on: fs are these.
 fn closer_to_other(
     table: &[u16],
     c: usize,
     index: &[u32],
     child: usize,
-    j: usize,
+    fs: &[usize; 64],
+    g: usize,
     x: u32,
     p: usize,
 ) -> bool
     requires { ⌜ Paired (now table) c (now index) ⌝ }
-    requires { ⌜ (child + m# (now index) ≤ N# (now index)) × (p < n# (now index)) × (x ≡ between (now table) c (first# (now index) j) (row# (now index) p)) ⌝ }
+    requires { ⌜ Firsts (now index) child (now fs) × (p < n# (now index)) × (x ≡ between (now table) c g (row# (now index) p)) ⌝ }
     ensures { λ r. ⌜ r ≡ any (closer (between (now (table .entry)) c) (now (index .entry)) p x) (range child (m# (now (index .entry)))) ⌝ }
 {
-    let end = child + centres(index);
-    let mut i = child;
-    while i < end {
-        if is_closer(table, c, index, i, j, x, p) {
+    let m = centres(index);
+    let mut i = 0;
+    while i < m {
+        if is_closer(table, c, index, fs[i], g, x, p) {
             return true;
         }
         i += 1;
@@ -58,10 +77,18 @@ fn closer_to_other(
     false
 }
 
-// In child a of inner node k: the lowest position whose row is closer to another child's centre, or the end of k's run.
-fn child_stray(table: &[u16], c: usize, index: &[u32], k: usize, a: usize) -> usize
+// In child a of inner node k, whose children's firsts are fs: the lowest position whose row is closer to another child's centre, or the end of k's
+// run.
+fn child_stray(
+    table: &[u16],
+    c: usize,
+    index: &[u32],
+    fs: &[usize; 64],
+    k: usize,
+    a: usize,
+) -> usize
     requires { ⌜ Paired (now table) c (now index) ⌝ }
-    requires { ⌜ (k < N# (now index)) × (inner (now index) k ≡ true) × (a < m# (now index)) ⌝ }
+    requires { ⌜ (k < N# (now index)) × (inner (now index) k ≡ true) × (a < m# (now index)) × Firsts (now index) (child# (now index) k) (now fs) ⌝ }
     ensures { λ r. ⌜ FirstIn (now (index .entry)) k (kidStrays (between (now (table .entry)) c) (now (index .entry)) k (child# (now (index .entry)) k + a)) r ⌝ }
 {
     let child = node_child(index, k);
@@ -71,7 +98,7 @@ fn child_stray(table: &[u16], c: usize, index: &[u32], k: usize, a: usize) -> us
     let mut p = node_start(index, j);
     while p < end {
         let x = apart(table, c, index, f, p);
-        if closer_to_other(table, c, index, child, j, x, p) {
+        if closer_to_other(table, c, index, child, fs, f, x, p) {
             return p;
         }
         p += 1;
@@ -86,13 +113,15 @@ fn first_stray(table: &[u16], c: usize, index: &[u32], k: usize) -> usize
     ensures { λ r. ⌜ FirstIn (now (index .entry)) k (strays (between (now (table .entry)) c) (now (index .entry)) k) r ⌝ }
 {
     let mut low = node_end(index, k);
-    if node_child(index, k) == 0 {
+    let child = node_child(index, k);
+    if child == 0 {
         return low;
     }
     let m = centres(index);
+    let fs = firsts(index, child);
     let mut a = 0;
     while a < m {
-        low = lesser(low, child_stray(table, c, index, k, a));
+        low = lesser(low, child_stray(table, c, index, &fs, k, a));
         a += 1;
     }
     low

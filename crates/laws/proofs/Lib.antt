@@ -15,6 +15,7 @@ pub mod Bags
 pub mod Outside
 pub mod Parts
 pub mod Copying
+pub mod Gathered
 pub mod First
 pub mod Joins
 pub mod Ones

@@ -65,12 +65,30 @@ pub fn distance(a: &[u16], b: &[u16]) -> u32
     columns(a, b, 0, 0, c)
 }
 
+// The same for more than six columns. Sixteen, the most there can be, are compiled without a loop too. That is too large to stand where it is called, so
+// that the two calls below share it, and neither is in the way of the few columns' code.
+fn many(a: &[u16], b: &[u16]) -> u32
+    requires { ⌜ (length (now a) ≡ length (now b)) × (length (now a) ≤ maxColumns) ⌝ }
+    ensures { λ r. ⌜ (r ≡ l1 (length (now (a .entry))) (now (a .entry)) (now (b .entry))) × (r ≤ maxDistance) ⌝ }
+{
+    let c = a.len();
+    if c == 16 {
+        return columns(a, b, 0, 0, 16);
+    }
+    columns(a, b, 0, 0, c)
+}
+
 // The distance of rows i and j.
 pub fn row_distance(table: &[u16], c: usize, i: usize, j: usize) -> u32
     requires { ⌜ (c ≤ maxColumns) × (c * i + c ≤ length (now table)) × (c * j + c ≤ length (now table)) ⌝ }
     ensures { λ r. ⌜ (r ≡ between (now (table .entry)) c i j) × (r ≤ maxDistance) ⌝ }
 {
-    distance(row_of(table, c, i), row_of(table, c, j))
+    let a = row_of(table, c, i);
+    let b = row_of(table, c, j);
+    if 6 < c {
+        return many(a, b);
+    }
+    distance(a, b)
 }
 
 // The distance of a query from row i.
@@ -78,5 +96,9 @@ pub fn query_distance(table: &[u16], c: usize, query: &[u16], i: usize) -> u32
     requires { ⌜ (c ≤ maxColumns) × (c * i + c ≤ length (now table)) × (length (now query) ≡ c) ⌝ }
     ensures { λ r. ⌜ (r ≡ from (now (table .entry)) c (now (query .entry)) i) × (r ≤ maxDistance) ⌝ }
 {
-    distance(query, row_of(table, c, i))
+    let b = row_of(table, c, i);
+    if 6 < c {
+        return many(query, b);
+    }
+    distance(query, b)
 }

@@ -1,4 +1,4 @@
--- The centres' distances, as the code gathers them, and the least of them. Assumes nothing.
+-- The least of the centres' distances, as the code gathers them. Assumes nothing.
 use Prim.Native.Nat.{_+_, _<_, _≤_, min, suc, zero, ℕ}
 use Rattle.laws.proofs.Lists.{map-append}
 use Rattle.laws.proofs.Maps.{map-shift}
@@ -8,37 +8,14 @@ use Rattle.radius.specs.Descent.{Distances, firstAt, leastFrom}
 use Rattle.tree.specs.Grove.{Reach}
 use Rattle.tree.specs.Homes.{childBound}
 use Rattle.words.specs.Words.{m#}
-use lib.ListN.{getD, length, set, take}
-use lib.Seq.{getD-set-other, getD-set-same, take-suc}
+use lib.ListN.{getD, length, take}
+use lib.Seq.{take-suc}
 use mathlib.Core.List.{List, [], _++_, _∷_, map}
-use mathlib.Core.Logic.{⊎-elim}
-use mathlib.Core.Path.{_∙_, _≡_, ap, ap₂, refl, subst⁻¹, sym}
-use native.Mathlib.Nat.{add-zero, eq-or-lt-of-le, zero-add}
+use mathlib.Core.Path.{_∙_, _≡_, ap, ap₂, refl, sym}
+use native.Mathlib.Nat.{add-zero, zero-add}
 use native.Mathlib.Numerals.{add-one}
 use native.Mathlib.Omega.{arith}
 
--- ---- gathered: the list holds f 0, f 1, .. f (j - 1), all at most B
-module _ (f : ℕ → ℕ) (B : ℕ) where
-  -- the first j places hold f, none above B
-  abbrev pub Holds : List ℕ → ℕ → Type 0
-  Holds ds j = (i : ℕ) → i < j → (getD ds i 0 ≡ f i) × (getD ds i 0 ≤ B)
-
-  -- the first stands there
-  pub holds-one : (ds : List ℕ) → getD ds 0 0 ≡ f 0 → getD ds 0 0 ≤ B → Holds ds 1
-  holds-one ds e b zero h = (e, b)
-  holds-one ds e b (suc i) h = absurd (omega arith)
-
-  -- a turn adds the next
-  pub holds-more : (ds : List ℕ) (j : ℕ) {d : ℕ} → j < length ds → d ≡ f j → d ≤ B → Holds ds j → Holds (set ds j d) (j + 1)
-  holds-more ds j {d} l e b h i lt =
-      ⊎-elim (λ (q : i ≡ j). subst⁻¹ (λ (i : ℕ). (getD (set ds j d) i 0 ≡ f i) × (getD (set ds j d) i 0 ≤ B)) q (rw (getD-set-same ds j d 0) at-j))
-      (λ (q : i < j). rw (getD-set-other ds j i d 0 (λ (r : i ≡ j). omega arith)) (h i q))
-      (eq-or-lt-of-le (omega arith))
-    where
-      at-j : (d ≡ f j) × (d ≤ B)
-      at-j = (e, b)
-
--- ---- the least of them
 -- one number more
 least-snoc : (a v : ℕ) (xs : List ℕ) → least a (xs ++ v ∷ []) ≡ min v (least a xs)
 least-snoc a v [] = refl

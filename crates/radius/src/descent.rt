@@ -16,10 +16,10 @@ use tree::bounds::kid_bound;
 use words::places::centres;
 use words::places::node_child;
 use words::places::node_count;
-use words::places::node_first;
 use words::places::node_radius;
 use words::places::node_start;
-use words::places::row_at;
+use words::places::pair_at;
+use words::places::word;
 
 // A swept node: all its rows but the first are in, unmeasured.
 fn sweep(index: &[u32], k: usize, how: &mut [u8])
@@ -29,9 +29,10 @@ fn sweep(index: &[u32], k: usize, how: &mut [u8])
 {
     let start = node_start(index, k);
     let end = start + node_count(index, k);
+    let base = pair_at(index, 0);
     let mut p = start + 1;
     while p < end {
-        let row = row_at(index, p);
+        let row = word(index, base + 2 * p);
         how[row] = 2;
         p += 1;
     }
@@ -55,10 +56,12 @@ fn open_inner(
     ensures distances { λ ds. ⌜ Distances (from (now (table .entry)) c (now (query .entry))) (now (index .entry)) ch ds ⌝ }
 {
     let m = centres(index);
+    let base = pair_at(index, 0);
     let mut ds = [x; 64];
     let mut j = 1;
     while j < m {
-        let d = measure_row(table, c, query, node_first(index, ch + j), r, how);
+        let row = word(index, base + 2 * node_start(index, ch + j));
+        let d = measure_row(table, c, query, row, r, how);
         ds[j] = d;
         j += 1;
     }

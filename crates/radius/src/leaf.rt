@@ -5,14 +5,14 @@ ghost use Rattle.measure.specs.Table.{from};
 ghost use Rattle.radius.specs.Descent.{decision, leafAt, leafMark};
 ghost use Rattle.radius.specs.Lent.{Lent};
 ghost use Rattle.radius.specs.Written.{byte, marked};
-ghost use Rattle.words.specs.Words.{N#, count#, n#, row#, start#};
+ghost use Rattle.words.specs.Words.{N#, count#, n#, pairAt, row#, start#};
 ghost use mathlib.Core.Path.{_≡_};
 use crate::marking::measure_row;
 use tree::bounds::apart;
 use words::places::node_count;
 use words::places::node_start;
-use words::places::row_at;
-use words::places::stored_at;
+use words::places::pair_at;
+use words::places::word;
 
 // What the stored distance says of a row.
 pub enum Verdict {
@@ -36,23 +36,24 @@ fn decide(x: u32, s: u32, r: u32) -> Verdict
     }
 }
 
-// The row at position p of an opened leaf whose first is at x.
+// The row at position p of an opened leaf whose first is at x. The positions' words stand from `base` on.
 fn leaf_row(
     table: &[u16],
     c: usize,
     index: &[u32],
     query: &[u16],
+    base: usize,
     p: usize,
     x: u32,
     r: u32,
     how: &mut [u8],
 )
     requires { ⌜ Lent (now index) (now table) c (now query) (now how) ⌝ }
-    requires { ⌜ (p < n# (now index)) × (x ≤ maxDistance) ⌝ }
+    requires { ⌜ (p < n# (now index)) × (x ≤ maxDistance) × (base ≡ pairAt (now index) 0) ⌝ }
     ensures { λ _. ⌜ now (how .exit) ≡ byte (row# (now (index .entry)) p) (leafMark (from (now (table .entry)) c (now (query .entry))) r (now (index .entry)) x p) (now (how .entry)) ⌝ }
 {
-    let row = row_at(index, p);
-    let verdict = decide(x, stored_at(index, p), r);
+    let row = word(index, base + 2 * p);
+    let verdict = decide(x, index[base + 2 * p + 1], r);
     let Verdict::Measure = verdict else {
         if let Verdict::In = verdict {
             how[row] = 2;
@@ -79,9 +80,10 @@ pub fn open_leaf(
 {
     let start = node_start(index, k);
     let end = start + node_count(index, k);
+    let base = pair_at(index, 0);
     let mut p = start + 1;
     while p < end {
-        leaf_row(table, c, index, query, p, x, r, how);
+        leaf_row(table, c, index, query, base, p, x, r, how);
         p += 1;
     }
 }

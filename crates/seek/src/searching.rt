@@ -7,6 +7,7 @@ use queue::key_of;
 use queue::pop;
 use queue::push;
 use words::places::node_first;
+use words::places::pair_at;
 use words::places::rows;
 
 // The best-first search of an index that is not empty, with all how-bytes 0: how many answers are held at its end.
@@ -23,6 +24,7 @@ pub fn search(
     ensures { λ k. ⌜ Searched (now (table .entry)) c (now (query .entry)) (now (index .entry)) w (now (how .entry)) (now (how .exit)) (now (work .entry)) (now (work .exit)) k ⌝ }
 {
     let n = rows(index);
+    let base = pair_at(index, 0);
     let first = node_first(index, 0);
     let mut held = measure_row(table, c, query, n, w, how, work, 0, first);
     push(work, 0, 0, 0);
@@ -32,7 +34,20 @@ pub fn search(
         if last(work, 3 * n, w, held) < key_of(e) {
             return held;
         }
-        let sizes = take_item(table, c, query, index, n, w, how, work, len - 1, held, e);
+        let sizes = take_item(
+            table,
+            c,
+            query,
+            index,
+            n,
+            base,
+            w,
+            how,
+            work,
+            len - 1,
+            held,
+            e,
+        );
         len = sizes.len;
         held = sizes.held;
     }

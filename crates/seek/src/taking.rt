@@ -7,7 +7,7 @@ ghost use Rattle.measure.specs.Table.{from};
 ghost use Rattle.seek.specs.Frontier.{Taken, Takes, itemOf};
 ghost use Rattle.seek.specs.Standing.{Ready, Took};
 ghost use Rattle.words.specs.InShape.{InShape};
-ghost use Rattle.words.specs.Words.{N#, child#, first#, n#};
+ghost use Rattle.words.specs.Words.{N#, child#, first#, n#, pairAt};
 ghost use mathlib.Core.Path.{_≡_};
 use crate::held::enter;
 use crate::held::last;
@@ -21,7 +21,7 @@ use queue::key_of;
 use words::places::centres;
 use words::places::node_child;
 use words::places::node_first;
-use words::places::row_at;
+use words::places::word;
 
 // How many entries the frontier and the answers have.
 pub struct Sizes {
@@ -140,13 +140,15 @@ fn open_node(
     open_inner(table, c, query, index, n, w, how, work, len, held, k, b)
 }
 
-// Takes the item of the entry e, which is out of the frontier: a node is opened, a position's row is measured.
+// Takes the item of the entry e, which is out of the frontier: a node is opened, a position's row is measured. The positions' words stand from
+// `base` on.
 pub fn take_item(
     table: &[u16],
     c: usize,
     query: &[u16],
     index: &[u32],
     n: usize,
+    base: usize,
     w: usize,
     how: &mut [u8],
     work: &mut [u32],
@@ -155,7 +157,7 @@ pub fn take_item(
     e: u64,
 ) -> Sizes
     requires { ⌜ Takes (now table) c (now query) (now index) w (now how) (now work) len held (itemOf (now index) (from (now table) c (now query)) e) ⌝ }
-    requires { ⌜ n ≡ n# (now index) ⌝ }
+    requires { ⌜ (n ≡ n# (now index)) × (base ≡ pairAt (now index) 0) ⌝ }
     ensures { λ s. ⌜ Taken (now (index .entry)) (from (now (table .entry)) c (now (query .entry))) w (now (how .entry)) (now (how .exit)) (now (work .entry)) (now (work .exit)) len (s .len) held (s .held) (itemOf (now (index .entry)) (from (now (table .entry)) c (now (query .entry))) e) ⌝ }
 {
     let id = id_of(e) as usize;
@@ -175,7 +177,7 @@ pub fn take_item(
             key_of(e),
         );
     }
-    let r = row_at(index, id - 2 * n);
+    let r = word(index, base + 2 * (id - 2 * n));
     let now_held = measure_row(table, c, query, n, w, how, work, held, r);
     Sizes {
         len: len,

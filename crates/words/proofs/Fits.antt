@@ -5,11 +5,11 @@ use Rattle.limits.specs.Limits.{maxDepth, maxDistance}
 use Rattle.words.specs.Pass.{fits, roomy}
 use Rattle.words.specs.Shape.{brood, nodeFits, rootFits, tile}
 use Rattle.words.specs.Words.{N#, child#, count#, inner#, l#, m#, n#, radius#, start#}
-use borrow.Author.Tests.{eq-eqb, le-leb, leb-true, lt-leb, ne-eqb}
+use borrow.Author.Tests.{eq-eqb, eqb-true, le-leb, leb-true, lt-leb, ne-eqb}
 use lib.Dec.{eqb, leb}
-use mathlib.Core.Bool.{and-false, false, true}
+use mathlib.Core.Bool.{Bool, and-false, false, true}
 use mathlib.Core.List.{List}
-use mathlib.Core.Path.{_∙_, _≡_}
+use mathlib.Core.Path.{_∙_, _≡_, refl}
 
 module _ (w : List ℕ) where
   -- a leaf has no children
@@ -46,11 +46,27 @@ module _ (w : List ℕ) (k next : ℕ) where
   pub room-is : roomy w k next ≡ true → (child# w k ≡ 0 → ⊥) → next + m# w ≤ N# w
   room-is e h = leb-true (next + m# w) (N# w) (room-inner h ∙ e)
 
+  -- a node without room for its children is no leaf
+  pub room-none : roomy w k next ≡ false → eqb (child# w k) 0 ≡ false
+  room-none e = go (eqb (child# w k) 0) refl
+    where
+      go : (b : Bool) → eqb (child# w k) 0 ≡ b → b ≡ false
+      go true q = room-leaf (eqb-true (child# w k) 0 q) ∙ e
+      go false q = refl
+
 -- ---- a node's test, by its ends in the code's order
 module _ (w : List ℕ) (k next depth : ℕ) where
   -- there is no room for its children
   pub fit-crowd : roomy w k next ≡ false → false ≡ fits w k next depth
   fit-crowd e = stop (nodeFits w k next (leb maxDepth depth)) e
+
+  -- it fails without the room that was not looked at
+  pub fit-anyway : {b : Bool} → (roomy w k next ≡ false → b ≡ false) → (roomy w k next ≡ true → b ≡ fits w k next depth) → b ≡ fits w k next depth
+  fit-anyway {b} without with-room = go (roomy w k next) refl
+    where
+      go : (r : Bool) → roomy w k next ≡ r → b ≡ fits w k next depth
+      go true e = with-room e
+      go false e = without e ∙ fit-crowd e
 
   module _ (room : roomy w k next ≡ true) where
     -- its run is empty

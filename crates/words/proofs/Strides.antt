@@ -7,11 +7,16 @@ use lib.ListN.{length}
 use mathlib.Core.List.{List}
 use mathlib.Core.Path.{_≡_, subst}
 use native.Mathlib.Nat.{add-mul, mul-assoc, mul-left-comm, mul-le-mul-left, mul-le-mul-right, mul-suc}
+use native.Mathlib.Numerals.{add-one}
 use native.Mathlib.Omega.{arith}
 
 -- the records before the k-th end where it starts, or sooner
 pub stride : (b j k : ℕ) → j < k → b * j + b ≤ b * k
 stride b j k h = subst (λ (z : ℕ). z ≤ b * k) (mul-suc b j) (mul-le-mul-left b h)
+
+-- a node's words stand a width after those of the one before it
+pub node-next : (w : List ℕ) (k : ℕ) → nodeAt w k + width (edition# w) ≡ nodeAt w (k + 1)
+node-next w k = rw (add-one k) (omega (arith, mul-suc (width (edition# w)) k))
 
 -- a node's words stand before those of a later one
 pub node-under : (w : List ℕ) (j k : ℕ) → 1 ≤ edition# w → j < k → nodeAt w k ≤ length w → (8 ≤ length w) × (nodeAt w j + 3 < length w)

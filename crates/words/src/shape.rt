@@ -4,19 +4,21 @@ ghost use Rattle.laws.specs.Lists.{all, range};
 ghost use Rattle.words.specs.InShape.{Whole};
 ghost use Rattle.words.specs.Pass.{fits, roomy};
 ghost use Rattle.words.specs.Shape.{brood, positionOk, rootFits, shapeOk, tile, treeFits};
-ghost use Rattle.words.specs.Words.{N#, n#, wordsOk};
+ghost use Rattle.words.specs.Words.{N#, n#, nodeAt, wordsOk};
 ghost use mathlib.Core.Bool.{true};
 ghost use mathlib.Core.Path.{_≡_};
+use crate::places::HEADER;
 use crate::places::centres;
 use crate::places::leaf_size;
 use crate::places::node_child;
 use crate::places::node_count;
 use crate::places::node_inner;
-use crate::places::node_radius;
 use crate::places::node_start;
 use crate::places::nodes;
 use crate::places::pair_at;
 use crate::places::rows;
+use crate::places::width;
+use crate::places::word;
 use limits::Params;
 
 // The runs of m nodes from number j on tile the positions s up to e, in order.
@@ -49,22 +51,18 @@ fn has_room(index: &[u32], k: usize, next: usize) -> bool
     next + centres(index) <= nodes(index)
 }
 
-// Node k fits, at the given depth, if `next` is the number that its first child must have.
-fn node_fits(index: &[u32], k: usize, next: usize, depth: usize) -> bool
+// Node k, whose words stand from `here` on, fits, at the given depth, if `next` is the number that its first child must have.
+fn node_fits(index: &[u32], k: usize, here: usize, next: usize, depth: usize) -> bool
     requires { ⌜ Whole (now index) ⌝ }
-    requires { ⌜ (k < N# (now index)) × (k < next) × (next ≤ 64 * k + 1) ⌝ }
+    requires { ⌜ (k < N# (now index)) × (here ≡ nodeAt (now index) k) × (k < next) × (next ≤ 64 * k + 1) ⌝ }
     ensures { λ r. ⌜ r ≡ fits (now (index .entry)) k next depth ⌝ }
 {
-    if !has_room(index, k, next) {
-        return false;
-    }
-    let start = node_start(index, k);
-    let count = node_count(index, k);
-    let child = node_child(index, k);
+    let count = word(index, here + 1);
+    let child = word(index, here + 2);
     if count < 1 {
         return false;
     }
-    if Params::MOST_DISTANCE < node_radius(index, k) {
+    if Params::MOST_DISTANCE < index[here + 3] {
         return false;
     }
     if Params::MOST_DISTANCE < node_inner(index, k) {
@@ -79,16 +77,20 @@ fn node_fits(index: &[u32], k: usize, next: usize, depth: usize) -> bool
     if child != next {
         return false;
     }
+    if !has_room(index, k, next) {
+        return false;
+    }
+    let start = word(index, here);
     tiles(index, child, centres(index), start, start + count)
 }
 
-// How many children node k has.
-fn brood_of(index: &[u32], k: usize) -> usize
+// How many children node k has, whose words stand from `here` on.
+fn brood_of(index: &[u32], k: usize, here: usize) -> usize
     requires { ⌜ Whole (now index) ⌝ }
-    requires { ⌜ k < N# (now index) ⌝ }
+    requires { ⌜ (k < N# (now index)) × (here ≡ nodeAt (now index) k) ⌝ }
     ensures { λ r. ⌜ r ≡ brood (now (index .entry)) k ⌝ }
 {
-    if node_child(index, k) == 0 {
+    if word(index, here + 2) == 0 {
         return 0;
     }
     centres(index)
@@ -106,7 +108,8 @@ fn root_fits(index: &[u32]) -> bool
     node_count(index, 0) == rows(index)
 }
 
-// The nodes in number order: `next` is the number that the next first child must have, `edge` where the next level starts.
+// The nodes in number order: `next` is the number that the next first child must have, `edge` where the next level starts, `here` where the node's
+// words stand.
 fn tree_fits(index: &[u32]) -> bool
     requires { ⌜ Whole (now index) ⌝ }
     ensures { λ r. ⌜ r ≡ treeFits (now (index .entry)) ⌝ }
@@ -122,15 +125,18 @@ fn tree_fits(index: &[u32]) -> bool
     let mut edge: usize = 1;
     let mut depth: usize = 0;
     let mut k: usize = 0;
+    let step = width(index);
+    let mut here: usize = HEADER;
     while k < total {
         if next <= k {
             return false;
         }
-        if !node_fits(index, k, next, depth) {
+        if !node_fits(index, k, here, next, depth) {
             return false;
         }
-        next += brood_of(index, k);
+        next += brood_of(index, k, here);
         k += 1;
+        here += step;
         if k == edge {
             edge = next;
             depth += 1;

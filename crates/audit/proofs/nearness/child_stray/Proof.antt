@@ -6,21 +6,21 @@ use Rattle.audit.proofs.Pairing.{Kid, kid-of}
 use Rattle.audit.proofs.Strays.{kid-end, kid-named, kid-on, kid-stop}
 use Rattle.audit.proofs.nearness.child_stray.Statement.{statement}
 use Rattle.audit.proofs.nearness.child_stray.Tie as tie
-use Rattle.audit.specs.Passes.{kidStrays}
+use Rattle.audit.specs.Passes.{Firsts, kidStrays}
 use Rattle.laws.proofs.First.{search-start}
 use Rattle.laws.specs.First.{First}
 use Rattle.measure.specs.Table.{between}
-use Rattle.words.specs.Words.{count#, n#, row#, start#}
+use Rattle.words.specs.Words.{count#, n#, start#}
 use borrow.Author.Needs.{needs}
 use mathlib.Core.List.{List}
-use mathlib.Core.Path.{_∙_, ap}
+use mathlib.Core.Path.{subst, sym}
 use native.Mathlib.Omega.{arith}
 
 abbrev Inv-loop : tie.InvT-loop
-Inv-loop table c index k a child j f end p₀ p = (p ≤ end) × First (kidStrays (between table c) index k j) (start# index j) p p
+Inv-loop table c index fs k a child j f end p₀ p = (p ≤ end) × First (kidStrays (between table c) index k j) (start# index j) p p
 
 abbrev μ-loop : tie.MeasureT-loop
-μ-loop table c index k a child j f end p₀ p = end - p
+μ-loop table c index fs k a child j f end p₀ p = end - p
 
 -- the reading of the child's first, seen from the loop
 abbrev first : tie.At-loop Inv-loop μ-loop → tie.After-node-first Inv-loop μ-loop
@@ -80,8 +80,8 @@ closer-to-other-requires c κs =
     let l = c .before .before in
     let f = first l in
     let n = f .before in
-    let x = c .apart .ensures ∙ ap (λ (i : ℕ). dist n i (row# (words n) (l .loop .p))) (f .node-first .ensures .0) in
-    (start n .pre .0, (kid n .all, omega (arith, inside n), x))
+    let fs = subst (λ (i : ℕ). Firsts (words n) i (start n .args .fs .now)) (sym (n .node-child .ensures .0)) (start n .pre .1 .3) in
+    (start n .pre .0, (fs, omega (arith, inside n), c .apart .ensures))
 
 returns : tie.Need-returns Inv-loop μ-loop
 returns c =

@@ -1,29 +1,29 @@
 -- `audit::nearness::first_stray` meets its contract: `low` is the lowest position in the children passed that is closer to another centre.
 -- The measure is what is left of the children.
 -- Assumes nothing.
-use Prim.Native.Nat.{_-_, _≤_}
+use Prim.Native.Nat.{_-_, _≤_, ℕ}
 use Rattle.audit.proofs.Pairing.{inner-no, inner-yes}
 use Rattle.audit.proofs.Strays.{near-done, near-leaf, near-more, near-start, straysTo}
 use Rattle.audit.proofs.nearness.first_stray.Statement.{statement}
 use Rattle.audit.proofs.nearness.first_stray.Tie as tie
-use Rattle.audit.specs.Passes.{FirstIn}
+use Rattle.audit.specs.Passes.{FirstIn, Firsts}
 use Rattle.measure.specs.Table.{between}
 use Rattle.words.specs.Shape.{inner}
 use Rattle.words.specs.Words.{m#}
 use borrow.Author.Needs.{needs}
 use mathlib.Core.Bool.{true}
-use mathlib.Core.Path.{_≡_}
+use mathlib.Core.Path.{_≡_, subst}
 use native.Mathlib.Omega.{arith}
 
 abbrev Inv-loop : tie.InvT-loop
-Inv-loop table c index k low₀ m a₀ low a = (m ≡ m# index) × (a ≤ m) × FirstIn index k (straysTo (between table c) index k a) low
+Inv-loop table c index k low₀ child m fs a₀ low a = (m ≡ m# index) × (a ≤ m) × FirstIn index k (straysTo (between table c) index k a) low
 
 abbrev μ-loop : tie.MeasureT-loop
-μ-loop table c index k low₀ m a₀ low a = m - a
+μ-loop table c index k low₀ child m fs a₀ low a = m - a
 
 -- the branch of an inner node, seen from the loop
 abbrev branch : tie.At-loop Inv-loop μ-loop → tie.Else1 Inv-loop μ-loop
-branch l = l .before .before
+branch l = l .before .before .before
 
 -- the start, seen from that branch
 abbrev start : tie.Else1 Inv-loop μ-loop → tie.Start Inv-loop μ-loop
@@ -49,16 +49,26 @@ returns c =
 centres-requires : tie.Need-centres-requires Inv-loop μ-loop
 centres-requires c κs = search needs
 
+firsts-requires : tie.Need-firsts-requires Inv-loop μ-loop
+firsts-requires c κs =
+    let e = c .before in
+    let s = start e in
+    (s .pre .0 .shape, omega (arith, s .pre .0 .shape .node (s .args .k) (s .pre .1) .kids (is-inner e) .inside, e .before .node-child .ensures .0))
+
 loop-holds : tie.Need-loop-holds Inv-loop μ-loop
 loop-holds c =
-    let a = c .before .before .before .before .before .before .args in
+    let a = c .before .before .before .before .before .before .before .args in
     let start = near-start (between (a .table .now) (a .c)) (a .index .now) (a .k) in
-    (c .centres .ensures .0, omega arith, rw (c .before .before .before .node-end .ensures) start)
+    (c .before .centres .ensures .0, omega arith, rw (c .before .before .before .before .node-end .ensures) start)
 
 child-stray-requires : tie.Need-child-stray-requires Inv-loop μ-loop
 child-stray-requires c κs =
-    let e = branch (c .before) in
-    (start e .pre .0, (start e .pre .1, is-inner e, omega arith))
+    let l = c .before .before in
+    let e = branch l in
+    let s = start e in
+    let fs = l .before .firsts in
+    let kids = subst (λ (i : ℕ). Firsts (s .args .index .now) i (fs .result)) (e .before .node-child .ensures .0) (fs .ensures) in
+    (s .pre .0, (s .pre .1, is-inner e, omega arith, kids))
 
 lesser-requires : tie.Need-lesser-requires Inv-loop μ-loop
 lesser-requires c κs = search needs
@@ -71,7 +81,7 @@ loop-less c = search needs
 
 loop-again : tie.Need-loop-again Inv-loop μ-loop
 loop-again c =
-    let at-loop = c .before .before .before in
+    let at-loop = c .before .before .before .before in
     let l = at-loop .loop in
     let a = start (branch at-loop) .args in
     let child = c .before .child-stray in
@@ -95,6 +105,7 @@ first-stray-spec =
     node-child-requires
     returns
     centres-requires
+    firsts-requires
     loop-holds
     child-stray-requires
     lesser-requires

@@ -6,8 +6,9 @@ use Rattle.radius.proofs.descent.sweep.Statement.{statement}
 use Rattle.radius.proofs.descent.sweep.Tie as tie
 use Rattle.radius.specs.Descent.{sweptAt}
 use Rattle.radius.specs.Written.{marked, write}
+use Rattle.words.proofs.Positions.{row-word}
 use Rattle.words.specs.InShape.{InShape, Node}
-use Rattle.words.specs.Words.{count#, n#, start#}
+use Rattle.words.specs.Words.{count#, n#, row#, start#}
 use borrow.Author.Needs.{needs}
 use lib.ListN.{length, length-set}
 use mathlib.Core.List.{[], _∷_}
@@ -15,13 +16,20 @@ use mathlib.Core.Path.{_∙_, _≡_, ap, refl}
 use native.Mathlib.Omega.{arith}
 
 abbrev Inv-loop : tie.InvT-loop
-Inv-loop index k how₀ start end p₀ how p =
+Inv-loop index k how₀ start end base p₀ how p =
     InShape index × Node index k × (n# index ≤ length how₀) × (length how ≡ length how₀)
     × (start# index k + 1 ≤ p) × (p ≤ end) × (end ≡ start# index k + count# index k)
     × (how ≡ marked (sweptAt index) (start# index k + 1) p how₀)
 
 abbrev μ-loop : tie.MeasureT-loop
-μ-loop index k how₀ start end p₀ how p = end - p
+μ-loop index k how₀ start end base p₀ how p = end - p
+
+-- the row read is that of position p
+row : (c : tie.After-word Inv-loop μ-loop)
+    → c .word .result ≡ row# (c .before .before .before .before .before .before .before .before .args .index .now) (c .before .before .loop .p)
+row c =
+    let w = c .before .before .before .before .before .before .before .before .args .index .now in
+    c .word .ensures .0 ∙ row-word w _ (c .before .before .loop .p) (c .before .before .before .pair-at .ensures)
 
 node-start-requires : tie.Need-node-start-requires Inv-loop μ-loop
 node-start-requires c κs = search needs
@@ -32,22 +40,31 @@ node-count-requires c κs = search needs
 add-end : tie.Need-add-end Inv-loop μ-loop
 add-end c = search needs
 
+pair-at-requires : tie.Need-pair-at-requires Inv-loop μ-loop
+pair-at-requires c κs = search needs
+
 add-p : tie.Need-add-p Inv-loop μ-loop
 add-p c = search needs
 
 loop-holds : tie.Need-loop-holds Inv-loop μ-loop
 loop-holds c =
-    let s = c .before .before .before .before in
+    let s = c .before .before .before .before .before in
     let nd = s .pre .0 .node (s .args .k) (s .pre .1 .0) in
     (s .pre .0, nd, s .pre .1 .1, refl, omega arith, omega (arith, nd .some), omega arith, marked-none _ _ _ _ (omega arith))
 
-row-at-requires : tie.Need-row-at-requires Inv-loop μ-loop
-row-at-requires c κs = search needs
+mul-word : tie.Need-mul-word Inv-loop μ-loop
+mul-word c = search needs
+
+add-word : tie.Need-add-word Inv-loop μ-loop
+add-word c = search needs
+
+word-requires : tie.Need-word-requires Inv-loop μ-loop
+word-requires c κs = search needs
 
 slice-write-how : tie.Need-slice-write-how Inv-loop μ-loop
 slice-write-how c =
     let l = c .before .before .loop in
-    omega (arith, l .inv .0 .place (l .p) (omega (arith, l .inv .1 .run)), c .row-at .ensures .0)
+    omega (arith, l .inv .0 .place (l .p) (omega (arith, l .inv .1 .run)), row c)
 
 add-p-2 : tie.Need-add-p-2 Inv-loop μ-loop
 add-p-2 c = search needs
@@ -65,7 +82,7 @@ loop-again c =
       omega arith,
       omega arith,
       l .inv .6,
-      marked-next _ _ (l .p) _ (l .inv .4) (l .inv .7) (byte-in _ _ ∙ write-one _ 2 _ ∙ ap (λ (i : ℕ). write ((i, 2) ∷ []) (l .how)) (c .row-at .ensures .0)),
+      marked-next _ _ (l .p) _ (l .inv .4) (l .inv .7) (byte-in _ _ ∙ write-one _ 2 _ ∙ ap (λ (i : ℕ). write ((i, 2) ∷ []) (l .how)) (row c)),
     )
 
 same-length : tie.Need-same-length Inv-loop μ-loop
@@ -85,9 +102,12 @@ sweep-spec =
     node-start-requires
     node-count-requires
     add-end
+    pair-at-requires
     add-p
     loop-holds
-    row-at-requires
+    mul-word
+    add-word
+    word-requires
     slice-write-how
     add-p-2
     loop-less

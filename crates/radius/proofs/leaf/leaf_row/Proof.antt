@@ -1,6 +1,6 @@
 -- `radius::leaf::leaf_row` meets its contract: the verdict is taken apart, and each case leaves that case's byte.
 -- Assumes nothing.
-use Prim.Native.Nat.{_<_}
+use Prim.Native.Nat.{_*_, _+_, _<_}
 use Rattle.measure.specs.Table.{from}
 use Rattle.radius.proofs.Fitted.{measurable}
 use Rattle.radius.proofs.Ways.{leaf-did}
@@ -10,7 +10,8 @@ use Rattle.radius.proofs.leaf.leaf_row.Statement.{statement}
 use Rattle.radius.proofs.leaf.leaf_row.Tie as tie
 use Rattle.radius.specs.declared.leaf.Verdict.the-variants.{In, Measure, Out}
 use Rattle.radius.specs.declared.leaf.Verdict.{Verdict}
-use Rattle.words.specs.Words.{n#}
+use Rattle.words.proofs.Positions.{dist-word, row-word}
+use Rattle.words.specs.Words.{at, dist#, n#, row#}
 use borrow.Author.Needs.{needs}
 use denote.Enum.Declared.{tagOf}
 use mathlib.Core.List.{[], _∷_}
@@ -25,22 +26,54 @@ out-only In p q = ⊎-elim (λ e. absurd (omega arith)) (λ e. absurd (omega ari
 out-only Out p q = refl
 out-only Measure p q = ⊎-elim (λ e. absurd (omega arith)) (λ e. absurd (omega arith)) p
 
--- the row is one of the n
-row-low : (c : tie.After-row-at) → c .row-at .result < n# (c .before .before .before .before .before .args .index .now)
+-- the start, seen from the reading of the row
+abbrev start : tie.After-word → tie.Start
+start c = c .before .before .before .before .before
+
+-- the row read is that of position p
+row : (c : tie.After-word) → c .word .result ≡ row# (start c .args .index .now) (start c .args .p)
+row c =
+    let s = start c in
+    c .word .ensures .0 ∙ row-word (s .args .index .now) (s .args .base) (s .args .p) (s .pre .1 .2)
+
+-- one of the n
+row-low : (c : tie.After-word) → c .word .result < n# (start c .args .index .now)
 row-low c =
-    let s = c .before .before .before .before .before in
-    omega (arith, s .pre .0 .shape .place (s .args .p) (s .pre .1 .0))
+    let s = start c in
+    omega (arith, s .pre .0 .shape .place (s .args .p) (s .pre .1 .0), row c)
 
-row-at-requires : tie.Need-row-at-requires
-row-at-requires c κs = search needs
+-- the distance read is the stored one
+stored : (s : tie.Start) → at (s .args .index .now) (s .args .base + 2 * s .args .p + 1) ≡ dist# (s .args .index .now) (s .args .p)
+stored s = dist-word (s .args .index .now) (s .args .base) (s .args .p) (s .pre .1 .2)
 
-stored-at-requires : tie.Need-stored-at-requires
-stored-at-requires c κs = search needs
+mul-word : tie.Need-mul-word
+mul-word c = search needs
+
+add-word : tie.Need-add-word
+add-word c = search needs
+
+word-requires : tie.Need-word-requires
+word-requires c κs = search needs
+
+mul-decide : tie.Need-mul-decide
+mul-decide c = search needs
+
+add-decide : tie.Need-add-decide
+add-decide c = search needs
+
+add-decide-2 : tie.Need-add-decide-2
+add-decide-2 c = search needs
+
+mul-decide-2 : tie.Need-mul-decide-2
+mul-decide-2 c = search needs
+
+shared-slice-read-decide : tie.Need-shared-slice-read-decide
+shared-slice-read-decide c = search needs
 
 decide-requires : tie.Need-decide-requires
 decide-requires c κs =
     let s = c .before .before .before .before .before .before in
-    omega (arith, s .pre .0 .shape .place (s .args .p) (s .pre .1 .0))
+    (s .pre .1 .1, omega (arith, s .pre .0 .shape .place (s .args .p) (s .pre .1 .0) .near, stored s))
 
 enum-told : tie.Need-enum-told
 enum-told c = search needs
@@ -59,16 +92,17 @@ same-length c = search needs
 returns : tie.Need-returns
 returns c =
     let s = c .before .before .before .before .before .before .before .before .before .before in
-    byte-in (c .before .before .before .before .before .row-at .result) (s .args .how .now)
-    ∙ leaf-did (from (s .args .table .now) (s .args .c) (s .args .query .now)) (s .args .r) (s .args .index .now) In _ _ _ (c .before .before .before .before .before .row-at .ensures .0)
-    (c .before .before .before .before .stored-at .ensures) (c .before .before .before .decide .ensures) (c .enum-told2 .given .1)
+    byte-in (c .before .before .before .before .before .word .result) (s .args .how .now)
+    ∙ leaf-did (from (s .args .table .now) (s .args .c) (s .args .query .now)) (s .args .r) (s .args .index .now) In _ _ _
+    (row (c .before .before .before .before .before)) (stored s) (c .before .before .before .decide .ensures) (c .enum-told2 .given .1)
 
 returns-2 : tie.Need-returns-2
 returns-2 c =
     let s = c .before .before .before .before .before .before .before .before .before in
-    byte-out (c .before .before .before .before .row-at .result) (s .args .how .now)
-    ∙ leaf-did (from (s .args .table .now) (s .args .c) (s .args .query .now)) (s .args .r) (s .args .index .now) Out _ _ _ (c .before .before .before .before .row-at .ensures .0)
-    (c .before .before .before .stored-at .ensures) (c .before .before .decide .ensures) (out-only _ (c .before .match .keys2) (c .match2 .keys2))
+    byte-out (c .before .before .before .before .word .result) (s .args .how .now)
+    ∙ leaf-did (from (s .args .table .now) (s .args .c) (s .args .query .now)) (s .args .r) (s .args .index .now) Out _ _ _
+    (row (c .before .before .before .before)) (stored s) (c .before .before .decide .ensures)
+    (out-only _ (c .before .match .keys2) (c .match2 .keys2))
 
 measure-row-requires : tie.Need-measure-row-requires
 measure-row-requires c κs =
@@ -83,15 +117,21 @@ returns-3 c =
     let s = c .before .before .before .before .before .before .before .before .before .before .before .before .before in
     let verdict = c .before .before .before .before .before .before in
     c .before .before .measure-row .ensures .1
-    ∙ leaf-did (from (s .args .table .now) (s .args .c) (s .args .query .now)) (s .args .r) (s .args .index .now) Measure _ _ _ (verdict .before .before .row-at .ensures .0)
-    (verdict .before .stored-at .ensures) (verdict .decide .ensures) (c .before .before .before .before .enum-told .given .1)
+    ∙ leaf-did (from (s .args .table .now) (s .args .c) (s .args .query .now)) (s .args .r) (s .args .index .now) Measure _ _ _
+    (row (verdict .before .before)) (stored s) (verdict .decide .ensures) (c .before .before .before .before .enum-told .given .1)
 
 pub leaf-row-spec : {M : Type 1} → statement M
 leaf-row-spec =
     tie.close
     (tie.spec
-    row-at-requires
-    stored-at-requires
+    mul-word
+    add-word
+    word-requires
+    mul-decide
+    add-decide
+    add-decide-2
+    mul-decide-2
+    shared-slice-read-decide
     decide-requires
     enum-told
     enum-told-2

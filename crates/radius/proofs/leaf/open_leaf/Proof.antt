@@ -18,13 +18,13 @@ use mathlib.Core.Path.{_∙_, _≡_, refl}
 use native.Mathlib.Omega.{arith}
 
 abbrev Inv-loop : tie.InvT-loop
-Inv-loop table c index query k x r how₀ start end p₀ how p =
+Inv-loop table c index query k x r how₀ start end base p₀ how p =
     Lent index table c query how × Node index k × (length how ≡ length how₀)
     × (start# index k + 1 ≤ p) × (p ≤ end) × (end ≡ start# index k + count# index k) × (x ≤ maxDistance)
     × (how ≡ marked (leafAt (from table c query) r index x) (start# index k + 1) p how₀)
 
 abbrev μ-loop : tie.MeasureT-loop
-μ-loop table c index query k x r how₀ start end p₀ how p = end - p
+μ-loop table c index query k x r how₀ start end base p₀ how p = end - p
 
 node-start-requires : tie.Need-node-start-requires Inv-loop μ-loop
 node-start-requires c κs = search needs
@@ -35,19 +35,22 @@ node-count-requires c κs = search needs
 add-end : tie.Need-add-end Inv-loop μ-loop
 add-end c = search needs
 
+pair-at-requires : tie.Need-pair-at-requires Inv-loop μ-loop
+pair-at-requires c κs = search needs
+
 add-p : tie.Need-add-p Inv-loop μ-loop
 add-p c = search needs
 
 loop-holds : tie.Need-loop-holds Inv-loop μ-loop
 loop-holds c =
-    let s = c .before .before .before .before .before .before in
+    let s = c .before .before .before .before .before .before .before in
     let nd = s .pre .0 .shape .node (s .args .k) (s .pre .1 .0) in
     (s .pre .0, nd, refl, omega arith, omega (arith, nd .some), omega arith, s .pre .1 .1, marked-none _ _ _ _ (omega arith))
 
 leaf-row-requires : tie.Need-leaf-row-requires Inv-loop μ-loop
 leaf-row-requires c κs =
     let l = c .before .before .loop in
-    (l .inv .0, (omega (arith, l .inv .1 .run), l .inv .6))
+    (l .inv .0, (omega (arith, l .inv .1 .run), l .inv .6, c .before .before .before .pair-at .ensures))
 
 add-p-2 : tie.Need-add-p-2 Inv-loop μ-loop
 add-p-2 c = search needs
@@ -59,7 +62,7 @@ loop-again : tie.Need-loop-again Inv-loop μ-loop
 loop-again c =
     let l = c .before .before .before .before .before .loop in
     let lr = c .before .before .leaf-row in
-    let k = lr .kept .1 .1 .1 .1 .1 .1 .1 .0 in (
+    let k = lr .kept .1 .1 .1 .1 .1 .1 .1 .1 .0 in (
       lent-same (l .inv .0) _ k,
       l .inv .1,
       k ∙ l .inv .2,
@@ -87,6 +90,7 @@ open-leaf-spec =
     node-start-requires
     node-count-requires
     add-end
+    pair-at-requires
     add-p
     loop-holds
     leaf-row-requires

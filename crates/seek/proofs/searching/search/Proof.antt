@@ -17,11 +17,11 @@ use mathlib.Core.Path.{_∙_}
 use native.Mathlib.Omega.{arith}
 
 abbrev Inv-loop : tie.InvT-loop
-Inv-loop table c query index w how₀ work₀ n first held₀ len₀ how work held len =
+Inv-loop table c query index w how₀ work₀ n base first held₀ len₀ how work held len =
     State table c query index w how work len held × Since (n# index) how₀ how work₀ work
 
 abbrev μ-loop : tie.MeasureT-loop
-μ-loop table c query index w how₀ work₀ n first held₀ len₀ how work held len = total (cost index) (items index (from table c query) work len)
+μ-loop table c query index w how₀ work₀ n base first held₀ len₀ how work held len = total (cost index) (items index (from table c query) work len)
 
 -- seen from the loop: the root as it is queued, its first as it is measured, the number of rows as it is read, and the start
 abbrev queued : tie.At-loop Inv-loop μ-loop → tie.After-push Inv-loop μ-loop
@@ -31,7 +31,7 @@ abbrev met : tie.At-loop Inv-loop μ-loop → tie.After-measure-row Inv-loop μ-
 met l = queued l .before .before .before .before .before .before
 
 abbrev counted : tie.At-loop Inv-loop μ-loop → tie.After-rows Inv-loop μ-loop
-counted l = met l .before .before .before .before
+counted l = met l .before .before .before .before .before
 
 abbrev start : tie.At-loop Inv-loop μ-loop → tie.Start Inv-loop μ-loop
 start l = counted l .before .before .before .before .before .before
@@ -50,23 +50,26 @@ since l =
 rows-requires : tie.Need-rows-requires Inv-loop μ-loop
 rows-requires c κs = omega (arith, c .before .before .before .before .before .pre .shape .whole .words)
 
+pair-at-requires : tie.Need-pair-at-requires Inv-loop μ-loop
+pair-at-requires c κs = omega (arith, c .before .before .before .before .before .before .pre .shape .whole .words)
+
 node-first-requires : tie.Need-node-first-requires Inv-loop μ-loop
 node-first-requires c κs =
-    let pre = c .before .before .before .before .before .before .pre in
+    let pre = c .before .before .before .before .before .before .before .pre in
     (pre .shape, pre .shape .root (pre .filled) .there)
 
 measure-row-requires : tie.Need-measure-row-requires Inv-loop μ-loop
 measure-row-requires c κs =
-    let s = c .before .before .before .before .before .before .before .before .before in
-    let rows = c .before .before .before .rows in
+    let s = c .before .before .before .before .before .before .before .before .before .before in
+    let rows = c .before .before .before .before .rows in
     let node-first = c .before .before .node-first in
     (ready-at _ _ _ (s .args .index .now) _ _ _ _ _ (rows .ensures .0) (s .pre .ready), omega (arith, node-first .ensures .1, rows .ensures .0))
 
 push-requires : tie.Need-push-requires Inv-loop μ-loop
 push-requires c κs =
     let m = c .before .before .before .before .before in
-    let rows = m .before .before .before .before .rows in
-    let pre = m .before .before .before .before .before .before .before .before .before .before .pre in
+    let rows = m .before .before .before .before .before .rows in
+    let pre = m .before .before .before .before .before .before .before .before .before .before .before .pre in
     (empty-queue _ 0 (omega arith), omega (arith, m .measure-row .ensures .grew .stands .room, rows .ensures .0, pre .filled))
 
 loop-holds : tie.Need-loop-holds Inv-loop μ-loop
@@ -74,8 +77,8 @@ loop-holds c =
     let p = c .before .before in
     let m = p .before .before .before .before .before .before in
     let node-first = m .before .before .before .node-first in
-    let rows = m .before .before .before .before .rows in
-    let s = m .before .before .before .before .before .before .before .before .before .before in (
+    let rows = m .before .before .before .before .before .rows in
+    let s = m .before .before .before .before .before .before .before .before .before .before .before in (
       begins-state _ _ _ (s .args .index .now) _ (s .pre .filled) _ _ _ _ _ _ _ _ (rows .ensures .0) (m .measure-row .ensures) (p .push .ensures)
           (s .pre .shape) (node-first .ensures .0) (s .pre .blank) (s .pre .ready),
       since-none _ _ _,
@@ -121,7 +124,7 @@ take-item-requires c κs =
     let p = c .before .before .before .before .before .before .before .before in
     let l = turn p in (
       takes _ _ _ _ _ (start l .pre .shape) _ _ _ _ (l .loop .inv .0) _ _ (p .pop .ensures) (p .before .before .loop-test .taken),
-      counted l .rows .ensures .0,
+      (counted l .rows .ensures .0, met l .before .before .before .before .pair-at .ensures),
     )
 
 loop-less : tie.Need-loop-less Inv-loop μ-loop
@@ -163,6 +166,7 @@ search-spec =
     Inv-loop
     μ-loop
     rows-requires
+    pair-at-requires
     node-first-requires
     measure-row-requires
     push-requires

@@ -1,18 +1,34 @@
 -- `words::shape::brood_of` meets its contract: a leaf has no children, any other node m.
 -- Assumes nothing.
+use Prim.Native.Nat.{_+_, _<_, ℕ}
 use Rattle.words.proofs.Fits.{brood-inner, brood-leaf}
+use Rattle.words.proofs.Strides.{words-there}
 use Rattle.words.proofs.shape.brood_of.Statement.{statement}
 use Rattle.words.proofs.shape.brood_of.Tie as tie
+use Rattle.words.specs.Words.{at, child#}
 use borrow.Author.Needs.{needs}
-use mathlib.Core.Path.{_∙_, sym}
+use lib.ListN.{length}
+use mathlib.Core.Path.{_∙_, _≡_, ap, sym}
+use native.Mathlib.Omega.{arith}
 
-node-child-requires : tie.Need-node-child-requires
-node-child-requires c κs = search needs
+-- the node's words are there
+there : (s : tie.Start) → s .args .here + 3 < length (s .args .index .now)
+there s = omega (arith, words-there (s .args .index .now) (s .pre .0) (s .args .k) (s .pre .1 .0) .1, s .pre .1 .1)
+
+-- the third is its first child's number
+child : (c : tie.After-word) → c .word .result ≡ child# (c .before .before .args .index .now) (c .before .before .args .k)
+child c = c .word .ensures .0 ∙ ap (λ (z : ℕ). at (c .before .before .args .index .now) (z + 2)) (c .before .before .pre .1 .1)
+
+add-word : tie.Need-add-word
+add-word c = omega (arith, there (c .before), c .before .good)
+
+word-requires : tie.Need-word-requires
+word-requires c κs = omega (arith, there (c .before))
 
 returns : tie.Need-returns
 returns c =
     let a = c .before .before .before .args in
-    brood-leaf (a .index .now) (a .k) (sym (c .before .node-child .ensures .0) ∙ c .if1 .taken)
+    brood-leaf (a .index .now) (a .k) (sym (child (c .before)) ∙ c .if1 .taken)
 
 centres-requires : tie.Need-centres-requires
 centres-requires c κs = search needs
@@ -20,7 +36,7 @@ centres-requires c κs = search needs
 returns-2 : tie.Need-returns-2
 returns-2 c =
     let a = c .before .before .before .before .args in
-    c .centres .ensures .0 ∙ brood-inner (a .index .now) (a .k) (λ e. c .before .if1 .left (c .before .before .node-child .ensures .0 ∙ e))
+    c .centres .ensures .0 ∙ brood-inner (a .index .now) (a .k) (λ e. c .before .if1 .left (child (c .before .before) ∙ e))
 
 pub brood-of-spec : {M : Type 1} → statement M
-brood-of-spec = tie.close (tie.spec node-child-requires returns centres-requires returns-2)
+brood-of-spec = tie.close (tie.spec add-word word-requires returns centres-requires returns-2)
