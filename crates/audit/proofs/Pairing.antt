@@ -31,9 +31,8 @@ module _ (w : List ℕ) (p k : ℕ) where
   no-more h = rw (le-ltb p (start# w k + count# w k) h) (and-false (leb (start# w k) p))
 
 -- ---- a child
--- child a of inner node k, whose first child is read as ch: all m children are nodes, and its run lies in node k's
+-- child a of inner node k, whose first child is read as ch: it is a node, and its run lies in node k's
 pub record Kid (w : List ℕ) (k a ch : ℕ) : Type 0 where
-  pub all : ch + m# w ≤ N# w
   pub node : ch + a < N# w
   pub low : start# w k ≤ start# w (ch + a)
   pub high : start# w (ch + a) + count# w (ch + a) ≤ start# w k + count# w k
@@ -44,7 +43,6 @@ kid-of w S k a e h i q =
     let K = S .node k h .kids i in
     let p = K .part a q in
     record {
-      all = omega (arith, K .inside);
       node = omega (arith, K .inside);
       low = rw e (p .0);
       high = rw e (p .1);

@@ -112,7 +112,8 @@ module _ {T : List ℕ} {c e m l : ℕ} {room work : List ℕ} {p : Params} (pas
       }
 
   -- the index is filled in: the contract is met
-  pub built-builds : {room′ part′ work′ : List ℕ} {nodes words : ℕ} → Filled T c (p .edition) (p .centres) (p .leaf) (rowsOf T c) room room′ part′ nodes
+  pub built-builds : {room′ part′ work′ : List ℕ} {nodes words : ℕ}
+      → Filled T c (p .edition) (p .centres) (p .leaf) (rowsOf T c) room room′ part′ nodes
       → work′ ≡ part′ ++ drop (6 * rowsOf T c) work → words ≡ endOf (p .edition) nodes + 2 * rowsOf T c
       → Builds T c e m l room work room′ work′ 0 words nodes
   unfolding build encode
@@ -120,7 +121,10 @@ module _ {T : List ℕ} {c e m l : ℕ} {room work : List ℕ} {p : Params} (pas
       let got : Filled T c e m l (rowsOf T c) room room′ part′ nodes = rw (passed .m-is, passed .l-is, passed .e-is) at filled in
       record {
         said = sym (passed .none);
-        counted = (w ∙ ap (λ (k : ℕ). endOf k nodes + 2 * rowsOf T c) (passed .e-is) ∙ sym (encode-long built-fit e edition-is (got .count)), got .count);
+        counted = (
+          w ∙ ap (λ (k : ℕ). endOf k nodes + 2 * rowsOf T c) (passed .e-is) ∙ sym (encode-long built-fit e edition-is (got .count)),
+          got .count,
+        );
         index = got .index;
         cleared = h ∙ ap (λ (x : List ℕ). x ++ drop (6 * rowsOf T c) work) (got .cleared);
       }

@@ -30,7 +30,8 @@ module _ (long c e room work : ℕ) where
   -- the rooms decide
   pub by-rooms : {v : ℕ} → v ≡ said (lengthFaults long c) .0 → v ≡ 0 → {s : Bool} → s ≡ short
       → said (fault 5 s) .0 ≡ said (lengthFaults long c ++ fault 5 short) .0
-  by-rooms p z q = ap (λ b. said (fault 5 b) .0) q ∙ ap numberOf (says-next (lengthFaults long c) (fault 5 short) (length-numbered long c) (sym p ∙ z))
+  by-rooms p z q =
+      ap (λ b. said (fault 5 b) .0) q ∙ ap numberOf (says-next (lengthFaults long c) (fault 5 short) (length-numbered long c) (sym p ∙ z))
 
 -- ---- all five
 -- WITH 0 NOTHING IS WRONG: the table, m and l, the edition, the room and the workspace

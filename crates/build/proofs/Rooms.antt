@@ -25,13 +25,19 @@ run-nodes d m l at (r ∷ rs) = ap (λ (x : List ℕ). at ∷ length r ∷ 0 ∷
 module _ (o : List ℕ) (eight : 8 ≤ length o) where
   -- header and nodes take 8 + 5 words a node
   front-long : (ns : List Node) → length (take 8 o ++ each (nodeWords 2) ns) ≡ nodeAt (length ns)
-  front-long ns = length-append (take 8 o) (each (nodeWords 2) ns) ∙ omega (arith, each-words 2 ns (omega arith, omega arith), length-take-le 8 o eight)
+  front-long ns =
+      length-append (take 8 o) (each (nodeWords 2) ns) ∙ omega (arith, each-words 2 ns (omega arith, omega arith), length-take-le 8 o eight)
 
   -- the room is as long as it was
   pub room-long : (ns : List Node) → nodeAt (length ns) ≤ length o → length (withNodes o ns) ≡ length o
   room-long ns h =
       ap length (sym (append-assoc (take 8 o) (each (nodeWords 2) ns) (drop (nodeAt (length ns)) o)))
-      ∙ omega (arith, length-append (take 8 o ++ each (nodeWords 2) ns) (drop (nodeAt (length ns)) o), front-long ns, length-drop (nodeAt (length ns)) o)
+      ∙ omega (
+        arith,
+        length-append (take 8 o ++ each (nodeWords 2) ns) (drop (nodeAt (length ns)) o),
+        front-long ns,
+        length-drop (nodeAt (length ns)) o,
+      )
 
   module _ (ns : List Node) (s n x : ℕ) (r : Reach) (os : List Node) where
     -- the words before one node
@@ -49,19 +55,22 @@ module _ (o : List ℕ) (eight : 8 ≤ length o) where
         length-append ns ((s, n, y, r) ∷ os) ∙ sym (length-append ns ((s, n, x, r) ∷ os)) in
         ap₂ (λ (z : List ℕ) (j : ℕ). take 8 o ++ (z ++ drop (nodeAt j) o)) (each-append (nodeWords 2) ns ((s, n, y, r) ∷ os)) k
         ∙ ap (λ (z : List ℕ). take 8 o ++ z)
-        (append-assoc (each (nodeWords 2) ns) (s ∷ n ∷ y ∷ r .outer ∷ r .inner ∷ each (nodeWords 2) os) (drop (nodeAt (length (ns ++ (s, n, x, r) ∷ os))) o))
+        (append-assoc (each (nodeWords 2) ns) (s ∷ n ∷ y ∷ r .outer ∷ r .inner ∷ each (nodeWords 2) os)
+        (drop (nodeAt (length (ns ++ (s, n, x, r) ∷ os))) o))
         ∙ sym (append-assoc (take 8 o) (each (nodeWords 2) ns) (s ∷ n ∷ y ∷ r .outer ∷ r .inner ∷ rear))
 
     -- its start is read
     pub read-start : start# (withNodes o (ns ++ (s, n, x, r) ∷ os)) (length ns) ≡ s
     read-start =
-        ap (λ (z : List ℕ). getD z (nodeAt (length ns)) 0) (cut x) ∙ getD-at front s (n ∷ x ∷ r .outer ∷ r .inner ∷ rear) 0 (nodeAt (length ns)) (front-long ns)
+        ap (λ (z : List ℕ). getD z (nodeAt (length ns)) 0) (cut x)
+        ∙ getD-at front s (n ∷ x ∷ r .outer ∷ r .inner ∷ rear) 0 (nodeAt (length ns)) (front-long ns)
 
     -- its count is read
     pub read-count : count# (withNodes o (ns ++ (s, n, x, r) ∷ os)) (length ns) ≡ n
     read-count =
         ap (λ (z : List ℕ). getD z (nodeAt (length ns) + 1) 0) (cut x ∙ sym (append-assoc front (s ∷ []) (n ∷ x ∷ r .outer ∷ r .inner ∷ rear)))
-        ∙ getD-at (front ++ s ∷ []) n (x ∷ r .outer ∷ r .inner ∷ rear) 0 (nodeAt (length ns) + 1) (length-append front (s ∷ []) ∙ ap (λ (k : ℕ). k + 1) (front-long ns))
+        ∙ getD-at (front ++ s ∷ []) n (x ∷ r .outer ∷ r .inner ∷ rear) 0 (nodeAt (length ns) + 1)
+        (length-append front (s ∷ []) ∙ ap (λ (k : ℕ). k + 1) (front-long ns))
 
     -- its first child's number is written
     pub child-set : (y : ℕ) → set (withNodes o (ns ++ (s, n, x, r) ∷ os)) (nodeAt (length ns) + 2) y ≡ withNodes o (ns ++ (s, n, y, r) ∷ os)

@@ -42,7 +42,7 @@ struct Reach {
 
 // ---- the nodes, level by level, into the room
 
-// The root's entries: each row with its distance from row 0. Gives how far they reach.
+// The root's entries: each row with its distance from row 0. Gives how far they reach: row i is the i-th but the first, which is at 0.
 fn lay(table: &[u16], c: usize, n: usize, work: &mut [u32]) -> Reach
     requires { ⌜ (c ≤ maxColumns) × (n ≤ maxRows) × (c * n ≤ length (now table)) × (3 * n ≤ length (now work)) ⌝ }
     ensures { λ r. ⌜ RootLaid (between (now (table .entry)) c) n (now (work .entry)) (now (work .exit)) (r .radius) (r .inner) ⌝ }

@@ -263,7 +263,8 @@ module _ {room₀ work₀ : List ℕ} {n m s count made : ℕ} (asked : Sharable
             (append-assoc (take (nodeAt made) room₀) (take (5 * t) N) node ∙ ap (λ (l : List ℕ). take (nodeAt made) room₀ ++ l) (sym taken)) up
 
         -- the group and its node are written
-        pub sharing-step : {ys : List ℕ} → ys ≡ at ∷ k ∷ 0 ∷ radius ∷ inner ∷ drop 5 (midOf (nodeAt (made + t)) (length room - nodeAt (made + t)) room)
+        pub sharing-step : {ys : List ℕ}
+            → ys ≡ at ∷ k ∷ 0 ∷ radius ∷ inner ∷ drop 5 (midOf (nodeAt (made + t)) (length room - nodeAt (made + t)) room)
             → length work′ ≡ length work → length (putMid (nodeAt (made + t)) (length room - nodeAt (made + t)) room ys) ≡ length room
             → Sharing room₀ work₀ n m s count made (putMid (nodeAt (made + t)) (length room - nodeAt (made + t)) room ys) work′ (at + k) (t + 1)
         unfolding later

@@ -4,7 +4,6 @@ use Prim.Native.Nat.{_*_, _+_, _≤_}
 use Rattle.build.proofs.end_of.Statement.{statement}
 use Rattle.build.proofs.end_of.Tie as tie
 use borrow.Author.Needs.{needs}
-use mathlib.Core.Path.{refl}
 use native.Mathlib.Nat.{mul-le-mul-right}
 use native.Mathlib.Omega.{arith}
 
@@ -22,7 +21,7 @@ add-result-2 : tie.Need-add-result-2
 add-result-2 c = omega (arith, most c)
 
 returns : tie.Need-returns
-returns c = (refl, omega (arith, most c))
+returns c = (search needs, omega (arith, most c))
 
 pub end-of-spec : {M : Type 1} → statement M
 end-of-spec = tie.close (tie.spec add-result mul-result add-result-2 returns)
