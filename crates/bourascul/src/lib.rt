@@ -8,7 +8,6 @@ ghost use Rattle.build.specs.Calls.{Builds};
 ghost use Rattle.image.specs.Calls.{Writes};
 ghost use Rattle.nearest.specs.Calls.{Answered};
 ghost use Rattle.radius.specs.Calls.{Searched};
-ghost use Rattle.widen.specs.Calls.{Widens};
 ghost use Rattle.words.specs.Calls.{Lists};
 ghost use lib.ListN.{length};
 ghost use mathlib.Core.Path.{_≡_};
@@ -232,10 +231,10 @@ pub extern "C" fn bourascul_write(index: &[u32], image: &mut [u8]) -> Written
 }
 
 #[no_mangle]
-pub extern "C" fn bourascul_read(image: &[u8], room: &mut [u32]) -> Read
-    ensures { λ r. ⌜ ReadsBlock (now (image .entry)) (now (room .entry)) (now (room .exit)) (r .number) (r .place) (r .words) ⌝ }
+pub extern "C" fn bourascul_read(image: &[u8], table: &[u16], c: u32, room: &mut [u32]) -> Read
+    ensures { λ r. ⌜ ReadsBlock (now (table .entry)) c (now (image .entry)) (now (room .entry)) (now (room .exit)) (r .number) (r .place) (r .words) ⌝ }
 {
-    let read = image::read_image(image, room);
+    let read = card::read_image(image, table, c as usize, room);
     Read {
         number: read.number,
         place: block_number(read.place),
@@ -251,22 +250,5 @@ pub extern "C" fn bourascul_list(index: &[u32], node: u32) -> Part
     Part {
         start: part.start as u32,
         length: part.length as u32,
-    }
-}
-
-#[repr(C)]
-pub struct Widened {
-    pub number: u32,
-    pub words: u32,
-}
-
-#[no_mangle]
-pub extern "C" fn bourascul_widen(table: &[u16], c: u32, index: &[u32], room: &mut [u32]) -> Widened
-    ensures { λ r. ⌜ Widens (now (table .entry)) c (now (index .entry)) (now (room .entry)) (now (room .exit)) (r .number) (r .words) ⌝ }
-{
-    let widened = widen::widen(table, c as usize, index, room);
-    Widened {
-        number: widened.number,
-        words: widened.words as u32,
     }
 }
