@@ -18,7 +18,7 @@
 enum {
     CENTRES = 16,
     LEAF = 32,
-    EDITION = 1,
+    EDITION = 2,
     QUERIES = 60,
     WANTED = 10,
     NEIGHBOUR = 20, /* r is the median distance of this neighbour */
@@ -133,9 +133,9 @@ static struct set make_set(bool season, uint32_t c, uint32_t n)
     else
         fill_uniform(&s);
     for (int k = 0; k < 2; k++) {
-        s.room[k] = must(calloc(BOURASCUL_ROOM_WORDS(n, EDITION), sizeof(uint32_t)));
+        s.room[k] = must(calloc(BOURASCUL_ROOM_WORDS(n), sizeof(uint32_t)));
         s.how[k] = must(calloc(n, 1));
-        memset(s.room[k], k + 1, BOURASCUL_ROOM_WORDS(n, EDITION) * sizeof(uint32_t));
+        memset(s.room[k], k + 1, BOURASCUL_ROOM_WORDS(n) * sizeof(uint32_t));
         memset(s.how[k], k + 1, n);
     }
     s.work = must(calloc(BOURASCUL_WORK_WORDS(n), sizeof(uint32_t)));
@@ -165,14 +165,14 @@ static size_t length_of(const struct set *s)
 static void build_library(struct set *s)
 {
     bourascul_built b = bourascul_build(s->columns, length_of(s), s->table.c, CENTRES, LEAF, EDITION, s->room[0],
-                                        BOURASCUL_ROOM_WORDS(s->table.n, EDITION), s->work, BOURASCUL_WORK_WORDS(s->table.n));
+                                        BOURASCUL_ROOM_WORDS(s->table.n), s->work, BOURASCUL_WORK_WORDS(s->table.n));
     agree(b.number == 0, "build refused");
     s->words = b.words;
 }
 
 static void build_plain(struct set *s)
 {
-    agree(plain_build(s->table, CENTRES, LEAF, EDITION, s->room[1], s->work) == s->words, "words of a build");
+    agree(plain_build(s->table, CENTRES, LEAF, s->room[1], s->work) == s->words, "words of a build");
 }
 
 static void check_library(struct set *s)

@@ -21,7 +21,7 @@ struct plain_verdict {
 };
 
 /* Gives the number of words; work is 6n words, and is zero afterwards. */
-uint32_t plain_build(struct plain_table t, uint32_t m, uint32_t l, uint32_t edition, uint32_t *room, uint32_t *work);
+uint32_t plain_build(struct plain_table t, uint32_t m, uint32_t l, uint32_t *room, uint32_t *work);
 bool plain_shape(const uint32_t *index);
 struct plain_verdict plain_check(struct plain_table t, const uint32_t *index, uint32_t *work);
 struct plain_counts plain_radius(struct plain_table t, const uint32_t *index, const uint16_t *query, uint32_t r, uint8_t *how);

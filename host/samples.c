@@ -72,7 +72,7 @@ void draw_sample(struct draw *d, struct sample *s, uint32_t limit)
 {
     s->n = draw_below(d, limit + 1);
     s->c = draw_one_in(d, 3) ? draw_between(d, 1, 2) : draw_between(d, 1, 16);
-    s->edition = draw_between(d, 1, 2);
+    s->edition = 2;
     draw_centres(d, s);
     fill_table(d, s, draw_one_in(d, 2) ? TIES : (enum style)draw_below(d, STYLES));
     s->index_length = s->image_length = 0;
@@ -83,7 +83,7 @@ void draw_equal_rows(struct draw *d, struct sample *s, uint32_t n)
 {
     s->n = n;
     s->c = draw_between(d, 1, 16);
-    s->edition = draw_between(d, 1, 2);
+    s->edition = 2;
     s->m = draw_between(d, 2, 4);
     s->l = s->m + draw_below(d, 3);
     fill_table(d, s, EQUAL);
@@ -98,9 +98,16 @@ size_t node_words(uint32_t edition)
     return edition == 2 ? 5 : 4;
 }
 
-size_t build_words(size_t n, uint32_t edition)
+size_t build_words(size_t n)
 {
-    return edition == 2 ? 12 * n + 8 : 10 * n + 8;
+    return 12 * n + 8;
+}
+
+/* Where there is no telling, enough for a build. */
+size_t taken_words(const struct sample *s)
+{
+    bool told = s->index_length >= 8 && s->index[1] <= SAMPLE_ROWS && s->index[5] < 2 * SAMPLE_ROWS;
+    return told ? 8 + 5 * (size_t)s->index[5] + 2 * (size_t)s->index[1] : build_words(s->n);
 }
 
 static struct naive_table table_of(const struct sample *s)
@@ -113,7 +120,8 @@ void index_built(struct sample *s)
 {
     static uint32_t scratch[6 * SAMPLE_ROWS];
     struct naive_room room = { s->index, SAMPLE_WORDS }, work = { scratch, sizeof scratch / sizeof *scratch };
-    s->index_length = naive_build(table_of(s), s->m, s->l, s->edition, room, work).one;
+    s->index_length = s->edition == 1 ? naive_build_old(table_of(s), s->m, s->l, s->index)
+                                      : naive_build(table_of(s), s->m, s->l, s->edition, room, work).one;
 }
 
 /* How often something is wrong in an index: 0 for never, k for one time in k. */
@@ -346,8 +354,8 @@ struct lot fair_lot(struct draw *d, const struct sample *s)
     lot.w = draw_w(d, s);
     lot.node = draw_below(d, s->index_length > 5 && s->index[5] < 2 * SAMPLE_ROWS ? s->index[5] + 2 : 9);
     size_t asked = lot.w < s->n ? lot.w : s->n;
-    lot.room = longer(d, build_words(s->n, s->edition));
-    lot.wide = longer(d, build_words(s->n, 2));
+    lot.room = longer(d, build_words(s->n));
+    lot.taken = longer(d, taken_words(s));
     lot.work = longer(d, 6 * (size_t)s->n);
     lot.how = longer(d, s->n);
     lot.rows = longer(d, asked);

@@ -106,9 +106,7 @@ void spoil_index(struct draw *d, struct sample *s)
 
 void draw_image(struct sample *s)
 {
-    struct naive_index index = { s->index, s->index_length };
-    struct naive_bytes image = { s->image, sizeof s->image };
-    s->image_length = 512 * (size_t)naive_write(index, image).one;
+    s->image_length = 512 * naive_card(s->index, s->index_length, s->image);
 }
 
 void seal_block(struct sample *s, size_t block)
@@ -131,7 +129,7 @@ static void swap_blocks(struct draw *d, struct sample *s, size_t blocks)
     memcpy(s->image + 512 * b, held, 512);
 }
 
-/* A header word of the first block changed; where it is sealed again only 16 or 17 can notice. */
+/* A header word of the first block changed; where it is sealed again only 16, 17, 8 or 9 can notice. */
 static void change_header(struct draw *d, struct sample *s)
 {
     uint8_t *word = s->image + 4 * draw_below(d, 8);
