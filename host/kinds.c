@@ -369,23 +369,24 @@ static void refusals(struct trial *t, uint32_t limit)
 static void too_many_rows(struct trial *t, uint32_t limit)
 {
     (void)limit;
-    size_t length = (size_t)1048577 * draw_between(&t->draw, 1, 2);
-    uint16_t *table = calloc(length, sizeof *table);
+    uint16_t *table = calloc(2 * (size_t)1048577, sizeof *table);
     if (table == NULL)
         abort();
     draw_sample(&t->draw, &sample, 9);
+    sample.edition = draw_between(&t->draw, 1, 2);
     index_built(&sample);
     struct lot lot = fair_lot(&t->draw, &sample);
     lot.table = table;
-    lot.c = length == 1048577 ? 1 : 2;
+    lot.edition = 2;
     lot.query_length = draw_between(&t->draw, 1, 2);
-    for (size_t less = 0; less < 2; less++) {
-        lot.table_length = length - less;
-        try_build(t, &lot);
-        try_check(t, &lot);
-        try_searches(t, &lot);
-        try_card(t, &lot);
-    }
+    for (lot.c = 1; lot.c <= 2; lot.c++)
+        for (size_t less = 0; less < 2; less++) {
+            lot.table_length = (size_t)1048577 * lot.c - less;
+            try_build(t, &lot);
+            try_check(t, &lot);
+            try_searches(t, &lot);
+            try_card(t, &lot);
+        }
     free(table);
 }
 

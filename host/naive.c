@@ -96,8 +96,8 @@ static bool fields_possible(const uint32_t *w)
 {
     uint32_t n = w[1], c = w[2], m = w[3], l = w[4], nodes = w[5];
     bool nodes_fit = n == 0 ? nodes == 0 : nodes >= 1 && nodes <= 2 * (uint64_t)n - 1;
-    return n <= MOST_ROWS && c >= 1 && c <= MOST_COLUMNS && m >= 2 && m <= MOST_CENTRES && l >= m && l <= MOST_LEAF && nodes_fit && w[6] == 1
-        && w[7] == 0;
+    return n <= MOST_ROWS && c >= 1 && c <= MOST_COLUMNS && m >= 2 && m <= MOST_CENTRES && l >= m && l <= MOST_LEAF && nodes_fit
+        && w[6] == 1 && w[7] == 0;
 }
 
 static bool header_possible(const uint32_t *w)

@@ -298,11 +298,16 @@ static struct place wrong_distance(const struct tree *t, const struct node **lis
     return at;
 }
 
+static bool inner_reach_wrong(const struct tree *t, const struct node *v)
+{
+    return v->inner_reach != true_inner_reach(t, v);
+}
+
 static struct place wrong_reach(const struct tree *t, const struct node **list, uint32_t nodes)
 {
     struct place at = { false, 0, 0 };
     for (uint32_t k = 0; k < nodes && !at.found; k++)
-        if (list[k]->radius != true_radius(t, list[k]) || list[k]->inner_reach != true_inner_reach(t, list[k])) {
+        if (list[k]->radius != true_radius(t, list[k]) || inner_reach_wrong(t, list[k])) {
             at.found = true;
             at.one = k;
         }

@@ -124,9 +124,9 @@ void index_built(struct sample *s)
                                       : naive_build(table_of(s), s->m, s->l, s->edition, room, work).one;
 }
 
-/* How often something is wrong in an index: 0 for never, k for one time in k. */
+/* How often something is wrong in an index: 0 for never, k for one time in k. Groups are wrong from a depth on. */
 struct wrongs {
-    uint32_t group, radius, inner, stored, row;
+    uint32_t group, radius, inner, stored, row, depth;
 };
 
 /* A tree under way in number order: each node knows its run, and its depth. */
@@ -162,10 +162,10 @@ static bool is_wrong(struct draw *d, uint32_t chances)
 }
 
 /* A group for a row: that of one of its closest centres, or any. */
-static uint32_t draw_group(struct making *k, const uint32_t *centre, uint32_t row)
+static uint32_t draw_group(struct making *k, uint32_t depth, const uint32_t *centre, uint32_t row)
 {
     const struct sample *s = k->sample;
-    if (is_wrong(k->draw, k->wrongs.group))
+    if (depth >= k->wrongs.depth && is_wrong(k->draw, k->wrongs.group))
         return draw_below(k->draw, s->m);
     uint32_t best = draw_below(k->draw, s->m);
     for (uint32_t j = 0, at = best; j < s->m; j++, at = (at + 1) % s->m)
@@ -183,7 +183,7 @@ static void split(struct making *k, uint32_t number)
     shuffle(k->draw, run + 1, count - 1);
     memcpy(rows, run, count * sizeof *rows);
     for (uint32_t i = 0; i < count; i++)
-        group[i] = i < s->m ? i : draw_group(k, rows, rows[i]);
+        group[i] = i < s->m ? i : draw_group(k, k->depth[number], rows, rows[i]);
     node_at(s, number)[2] = k->nodes;
     for (uint32_t j = 0, at = 0; j < s->m; j++) {
         uint32_t begin = at;
@@ -260,7 +260,7 @@ static void make_index(struct draw *d, struct sample *s, struct wrongs wrongs)
 
 void index_foreign(struct draw *d, struct sample *s)
 {
-    const struct wrongs none = { 0, 0, 0, 0, 0 };
+    const struct wrongs none = { 0, 0, 0, 0, 0, 0 };
     make_index(d, s, none);
 }
 
@@ -271,15 +271,15 @@ static uint32_t draw_chances(struct draw *d)
 
 void index_wild(struct draw *d, struct sample *s)
 {
-    struct wrongs wrongs = { 0, 0, 0, 0, 0 };
-    const struct wrongs groups_alone = { draw_between(d, 1, 16), 0, 0, 0, 0 };
-    const struct wrongs reaches_alone = { 0, draw_chances(d), draw_between(d, 1, 16), 0, 0 };
+    struct wrongs wrongs = { 0, 0, 0, 0, 0, 0 };
+    const struct wrongs groups_alone = { draw_between(d, 1, 16), 0, 0, 0, 0, draw_below(d, 3) };
+    const struct wrongs reaches_alone = { 0, draw_chances(d), draw_between(d, 1, 16), 0, 0, 0 };
     wrongs.group = draw_chances(d);
     wrongs.radius = draw_chances(d);
     wrongs.inner = draw_chances(d);
     wrongs.stored = draw_chances(d);
     wrongs.row = draw_one_in(d, 5) ? draw_between(d, 1, 200) : 0;
-    /* All else right, or 10 to 12 would hide every 13, and 10 and 11 most of 12. */
+    /* All else right, or 10 to 12 would hide every 13, and 10 and 11 most of 12; and the root's 13 would hide those below. */
     if (draw_one_in(d, 3))
         wrongs = groups_alone;
     else if (draw_one_in(d, 3))

@@ -50,6 +50,19 @@ static void move_border(struct draw *d, struct sample *s)
     node[width + 1] -= 1;
 }
 
+/* One node more, after the last, that no parent has: the last node again. */
+static void add_node(struct sample *s)
+{
+    size_t width = node_words(s->index[0]), nodes = s->index[5];
+    uint32_t *end = s->index + 8 + width * nodes;
+    if (s->index_length + width > SAMPLE_WORDS)
+        return;
+    memmove(end + width, end, (s->index_length - 8 - width * nodes) * sizeof *end);
+    memcpy(end, end - width, width * sizeof *end);
+    s->index[5]++;
+    s->index_length += width;
+}
+
 /* A node's radius or, in edition 2, more often its inner reach set to something else: by one more or less, to another node's,
    to the node's other reach, or to an end of what is possible. */
 static void spoil_reach(struct draw *d, uint32_t *node, const uint32_t *other, size_t width)
@@ -72,7 +85,7 @@ static void spoil_records(struct draw *d, struct sample *s)
     size_t width = node_words(s->index[0]);
     uint32_t *node = s->index + 8, *pair = node + width * nodes;
     uint32_t a = draw_below(d, n), b = draw_below(d, n), u = draw_below(d, nodes), v = draw_below(d, nodes);
-    switch (draw_below(d, 8)) {
+    switch (draw_below(d, 9)) {
     case 0: swap_parts(node + width * u, node + width * v, width); break;
     case 1: swap_parts(pair + 2 * (size_t)a, pair + 2 * (size_t)b, 2); break;
     case 2: swap_parts(pair + 2 * (size_t)a, pair + 2 * (size_t)b, 1); break;
@@ -80,6 +93,7 @@ static void spoil_records(struct draw *d, struct sample *s)
     case 4: pair[2 * (size_t)a + 1] += draw_one_in(d, 2) ? 1 : UINT32_MAX; break;
     case 5:
     case 6: spoil_reach(d, node + width * u, node + width * v, width); break;
+    case 7: add_node(s); break;
     default: move_border(d, s); break;
     }
 }
