@@ -17,7 +17,7 @@
 #include "plain.h"
 
 enum {
-    EDITION = 1,
+    EDITION = 2,
     QUERIES = 60,
     SIZES = 4,
     SETS = 6,
@@ -160,7 +160,7 @@ static void *touched(size_t bytes, int by)
 
 static struct set make_set(struct line *l)
 {
-    size_t words = BOURASCUL_ROOM_WORDS(l->n, EDITION);
+    size_t words = BOURASCUL_ROOM_WORDS(l->n);
     struct set s;
     memset(&s, 0, sizeof s);
     s.line = l;
@@ -220,7 +220,7 @@ static size_t blocks_of(const struct set *s)
 static struct gives by_library(struct set *s, const struct library *by, int kind, uint32_t q, int k)
 {
     const struct line *l = s->line;
-    size_t length = (size_t)l->n * l->c, room = BOURASCUL_ROOM_WORDS(l->n, EDITION), work = BOURASCUL_WORK_WORDS(l->n);
+    size_t length = (size_t)l->n * l->c, room = BOURASCUL_ROOM_WORDS(l->n), work = BOURASCUL_WORK_WORDS(l->n);
     bourascul_built built;
     bourascul_within within;
     bourascul_closest closest;
@@ -230,7 +230,7 @@ static struct gives by_library(struct set *s, const struct library *by, int kind
         return (struct gives){ built.words, built.number };
     case CHECK: return (struct gives){ by->check(s->columns, length, l->c, s->room[0], l->words, s->work, work).number, 0 };
     case WRITE: return (struct gives){ by->write(s->room[0], l->words, s->image[k], blocks_of(s) * BOURASCUL_BLOCK_BYTES).blocks, 0 };
-    case READ: return (struct gives){ by->read(s->image[0], blocks_of(s) * BOURASCUL_BLOCK_BYTES, s->room[1], room).words, 0 };
+    case READ: return (struct gives){ by->read(s->image[0], blocks_of(s) * BOURASCUL_BLOCK_BYTES, s->columns, length, l->c, s->room[1], room).words, 0 };
     case RADIUS:
         within = by->radius(s->columns, length, l->c, s->room[0], l->words, s->query[q], l->c, l->r, s->how[k], l->n);
         return (struct gives){ within.inside, within.measured };
@@ -251,7 +251,7 @@ static struct gives by_plain(struct set *s, const struct plain_calls *by, int ki
     const struct line *l = s->line;
     struct plain_counts counts;
     switch (kind) {
-    case BUILD: return (struct gives){ by->build(s->table, l->m, l->l, EDITION, s->room[1], s->work), 0 };
+    case BUILD: return (struct gives){ by->build(s->table, l->m, l->l, s->room[1], s->work), 0 };
     case CHECK: return (struct gives){ by->check(s->table, s->room[0], s->work).number, 0 };
     case WRITE: return (struct gives){ by->write(s->room[0], s->image[1]), 0 };
     case READ: return (struct gives){ by->read(s->image[0], blocks_of(s), s->room[1]), 0 };
@@ -306,7 +306,7 @@ static struct gives compare(struct set *s, int kind, uint32_t q)
             continue;
         bool scan = way >= SCAN_FIRST;
         if (kind == BUILD || kind == READ)
-            memset(s->room[1], 0xff, BOURASCUL_ROOM_WORDS(s->line->n, EDITION) * sizeof(uint32_t));
+            memset(s->room[1], 0xff, BOURASCUL_ROOM_WORDS(s->line->n) * sizeof(uint32_t));
         struct gives theirs = run(s, kind, way, q);
         agree(ours.one == theirs.one && (scan || ours.two == theirs.two) && same_bytes(kind, s, scan), names[kind]);
     }

@@ -12,7 +12,6 @@
 
 enum call {
     BUILD,
-    WIDEN,
     CHECK,
     RADIUS,
     NEAREST,
@@ -23,7 +22,7 @@ enum call {
     CALLS
 };
 
-static const char *const call_names[CALLS] = { "build", "widen", "check", "radius", "nearest", "nearest_answers", "list", "write", "read" };
+static const char *const call_names[CALLS] = { "build", "check", "radius", "nearest", "nearest_answers", "list", "write", "read" };
 
 enum {
     NUMBERS = 19,
@@ -66,7 +65,7 @@ static void show_lot(const struct lot *lot)
 {
     printf("  c %" PRIu32 ", m %" PRIu32 ", l %" PRIu32 ", edition %" PRIu32 ", r %" PRIu32 ", w %" PRIu32 ", node %" PRIu32 "\n", lot->c, lot->m,
            lot->l, lot->edition, lot->r, lot->w, lot->node);
-    printf("  lengths: room %zu, wide %zu, work %zu, how %zu, rows %zu, distances %zu, answers %zu, image %zu\n", lot->room, lot->wide, lot->work,
+    printf("  lengths: room %zu, taken %zu, work %zu, how %zu, rows %zu, distances %zu, answers %zu, image %zu\n", lot->room, lot->taken, lot->work,
            lot->how, lot->rows, lot->distances, lot->answers, lot->image_length);
     show_columns("table", lot->table, lot->table_length);
     if (lot->fitting != NULL)
@@ -164,19 +163,29 @@ static struct naive_records model_records(enum lent which)
     return r;
 }
 
-uint32_t naive_verdict(const struct lot *lot)
+/* At least `need` bytes that stay from call to call. */
+struct kept {
+    void *at;
+    size_t bytes;
+};
+
+static void *keep(struct kept *k, size_t need)
 {
-    static uint32_t *scratch = NULL;
-    static size_t length = 0;
-    size_t need = lot->c == 0 ? 0 : 6 * (lot->table_length / lot->c);
-    if (need > length || scratch == NULL) {
-        free(scratch);
-        length = need + 4096;
-        scratch = malloc(length * sizeof *scratch);
-        if (scratch == NULL)
+    if (need > k->bytes || k->at == NULL) {
+        free(k->at);
+        k->bytes = need + 4096;
+        k->at = malloc(k->bytes);
+        if (k->at == NULL)
             abort();
     }
-    struct naive_room room = { scratch, length };
+    return k->at;
+}
+
+uint32_t naive_verdict(const struct lot *lot)
+{
+    static struct kept scratch;
+    size_t need = lot->c == 0 ? 0 : 6 * (lot->table_length / lot->c);
+    struct naive_room room = { keep(&scratch, need * sizeof(uint32_t)), need };
     return naive_check(model_table(lot), model_index(lot), room).number;
 }
 
@@ -220,18 +229,6 @@ void try_build(struct trial *t, const struct lot *lot)
                                          lot->room, lend_given(LENT_WORK), lot->work);
     struct naive_says should = naive_build(model_table(lot), lot->m, lot->l, lot->edition, model_room(LENT_ROOM), model_room(LENT_WORK));
     compare(t, lot, BUILD, three(is.number, is.words, is.nodes), should, lents, 3);
-}
-
-void try_widen(struct trial *t, const struct lot *lot)
-{
-    static const enum lent lents[] = { LENT_TABLE, LENT_INDEX, LENT_ROOM };
-    lend_table(t, lot);
-    lend_index(t, lot);
-    lend_words(t, LENT_ROOM, lot->wide);
-    bourascul_widened is = bourascul_widen(lend_given(LENT_TABLE), lot->table_length, lot->c, lend_given(LENT_INDEX), lot->index_length,
-                                           lend_given(LENT_ROOM), lot->wide);
-    struct naive_says should = naive_widen(model_table(lot), model_index(lot), model_room(LENT_ROOM));
-    compare(t, lot, WIDEN, three(is.number, is.words, 0), should, lents, 3);
 }
 
 void try_check(struct trial *t, const struct lot *lot)
@@ -372,10 +369,22 @@ void try_write(struct trial *t, const struct lot *lot)
 
 void try_read(struct trial *t, const struct lot *lot)
 {
-    static const enum lent lents[] = { LENT_IMAGE, LENT_ROOM };
+    static const enum lent lents[] = { LENT_IMAGE, LENT_TABLE, LENT_ROOM };
     lend(&t->draw, LENT_IMAGE, lot->image_length, lot->image);
-    lend_words(t, LENT_ROOM, lot->room);
-    bourascul_taken is = bourascul_read(lend_given(LENT_IMAGE), lot->image_length, lend_given(LENT_ROOM), lot->room);
-    struct naive_says should = naive_read(lot->image, lot->image_length, model_room(LENT_ROOM));
-    compare(t, lot, READ, three(is.number, is.place, is.words), should, lents, 2);
+    lend_table(t, lot);
+    lend_words(t, LENT_ROOM, lot->taken);
+    bourascul_taken is = bourascul_read(lend_given(LENT_IMAGE), lot->image_length, lend_given(LENT_TABLE), lot->table_length, lot->c,
+                                        lend_given(LENT_ROOM), lot->taken);
+    struct naive_says should = naive_read(lot->image, lot->image_length, model_table(lot), model_room(LENT_ROOM));
+    compare(t, lot, READ, three(is.number, is.place, is.words), should, lents, 3);
+}
+
+void try_card(struct trial *t, const struct lot *lot)
+{
+    static struct kept card;
+    struct lot image = *lot;
+    uint8_t *bytes = keep(&card, 512 * (lot->index_length / 127 + 1));
+    image.image_length = 512 * naive_card(lot->index, lot->index_length, bytes);
+    image.image = bytes;
+    try_read(t, &image);
 }

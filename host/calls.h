@@ -22,21 +22,22 @@ struct lot {
     const uint16_t *query;
     size_t query_length;
     uint32_t r, w, node;
-    size_t room, wide, work, how, rows, distances, answers; /* `wide` is a widening's room */
+    size_t room, taken, work, how, rows, distances, answers; /* `room` is a build's, `taken` a reading's */
     const uint8_t *image;
     size_t image_length;
 };
 
 void try_build(struct trial *t, const struct lot *lot);
-void try_widen(struct trial *t, const struct lot *lot);
 void try_check(struct trial *t, const struct lot *lot);
 void try_radius(struct trial *t, const struct lot *lot);
 void try_nearest(struct trial *t, const struct lot *lot);
 void try_nearest_answers(struct trial *t, const struct lot *lot);
 void try_list(struct trial *t, const struct lot *lot);
-/* Writing is lent `image_length` bytes of room, reading the image itself and `room` words. */
+/* Writing is lent `image_length` bytes of room, reading the image itself. */
 void try_write(struct trial *t, const struct lot *lot);
 void try_read(struct trial *t, const struct lot *lot);
+/* Reading, lent a card with right check words of the lot's index words, whatever they say. */
+void try_card(struct trial *t, const struct lot *lot);
 
 /* Radius, nearest and nearest with records. */
 void try_searches(struct trial *t, const struct lot *lot);

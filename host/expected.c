@@ -13,7 +13,8 @@
 enum {
     MOST_TEXT = 1 << 23,
     MOST_NUMBERS = 1 << 20,
-    EDITION = 1,  /* what both programs build */
+    EDITION = 2,  /* what both programs build */
+    NODE_WORDS = 5,
     CENTRES = 16, /* what the analyst's program builds with */
     LEAF = 32
 };
@@ -67,10 +68,12 @@ static size_t listed_numbers(size_t length)
     }
 }
 
-static void print_words(const uint32_t *words, size_t count, size_t width)
+/* Of `count` records of `width` words the first `shown` words of each, a line each. */
+static void print_records(const uint32_t *words, size_t count, size_t width, size_t shown)
 {
     for (size_t i = 0; i < count; i++)
-        printf("%u%c", words[i], (i + 1) % width == 0 ? '\n' : ' ');
+        for (size_t j = 0; j < shown; j++)
+            printf("%u%c", words[width * i + j], j + 1 == shown ? '\n' : ' ');
 }
 
 static int list(void)
@@ -80,13 +83,13 @@ static int list(void)
         puts("refused 18");
         return 0;
     }
-    struct naive_room room = { room_for(10248, 4), 10248 }, work = { room_for(6144, 4), 6144 };
+    struct naive_room room = { room_for(12296, 4), 12296 }, work = { room_for(6144, 4), 6144 };
     struct naive_says says = naive_build((struct naive_table){ number + 3, count - 3, number[0] }, number[1], number[2], EDITION, room, work);
     if (says.number != 0)
         printf("refused %u\n", says.number);
     else {
-        print_words(room.words + 8, 4 * (size_t)says.two, 4);
-        print_words(room.words + 8 + 4 * (size_t)says.two, says.one - 8 - 4 * (size_t)says.two, 2);
+        print_records(room.words + 8, says.two, NODE_WORDS, 4);
+        print_records(room.words + 8 + NODE_WORDS * (size_t)says.two, room.words[1], 2, 2);
     }
     return 0;
 }
@@ -136,7 +139,7 @@ static int minutes(const char *way, size_t row, uint32_t amount)
     uint32_t c = 0;
     size_t n = read_rows(&c);
     struct naive_table table = { number, n * c, c };
-    struct naive_room room = { room_for(10 * n + 8, 4), 10 * n + 8 }, work = { room_for(6 * n, 4), 6 * n };
+    struct naive_room room = { room_for(12 * n + 8, 4), 12 * n + 8 }, work = { room_for(6 * n, 4), 6 * n };
     struct naive_room rows = { room_for(n, 4), n }, distances = { room_for(n, 4), n };
     struct naive_bytes how = { room_for(n, 1), n };
     struct naive_index index = { room.words, naive_build(table, CENTRES, LEAF, EDITION, room, work).one };

@@ -9,15 +9,27 @@
 
 static struct sample sample;
 
+/* Too short for what is asked, half of the time by one. */
+static size_t shorter(struct draw *d, size_t length)
+{
+    return length == 0 ? 0 : draw_one_in(d, 2) ? length - 1 : draw_below(d, (uint32_t)length);
+}
+
+static size_t around(struct draw *d, size_t length)
+{
+    return draw_one_in(d, 4) ? shorter(d, length) : length + (draw_one_in(d, 2) ? 0 : draw_below(d, 40));
+}
+
+/* Each call but the build. */
 static void every_call(struct trial *t, const struct lot *lot)
 {
-    try_widen(t, lot);
     try_check(t, lot);
     try_searches(t, lot);
     try_list(t, lot);
     struct lot image = *lot;
     image.image_length = draw_below(&t->draw, (uint32_t)(512 * ((lot->index_length + 126) / 127) + 600));
     try_write(t, &image);
+    try_card(t, lot);
 }
 
 /* ---- Build ---- */
@@ -47,31 +59,28 @@ static void each_end(struct trial *t, uint32_t limit)
     }
 }
 
-/* Each edition and others beside: asked of a build with each length of room that matters, in the header of an index, and in
-   an image's first word. Behind an index of edition 1 stand words enough to be read as edition 2. */
+/* Edition 2 and others: asked of a build with each length of room that an edition ever asked for, in the header of an index,
+   and in a card's first word. Behind an index of edition 1 stand words enough to be read as edition 2. */
 static void each_edition(struct trial *t, uint32_t limit)
 {
     static const uint32_t editions[] = { 0, 1, 2, 3, 4, 5, 257, 258, 65537, 65538, 0x80000001u, 0x80000002u, UINT32_MAX };
     draw_sample(&t->draw, &sample, limit < 30 ? limit : 30);
+    sample.edition = draw_between(&t->draw, 1, 2);
     index_any(&t->draw, &sample);
-    for (uint32_t more = sample.edition == 1 ? sample.index[5] : 0; more > 0; more--)
-        sample.index[sample.index_length++] = draw_below(&t->draw, sample.n);
+    size_t own = sample.index_length, more = sample.edition == 1 ? sample.index[5] : 0;
+    for (size_t i = 0; i < more; i++)
+        sample.index[own + i] = draw_below(&t->draw, sample.n);
     for (size_t i = 0; i < sizeof editions / sizeof *editions; i++) {
         sample.index[0] = editions[i];
         struct lot lot = fair_lot(&t->draw, &sample);
         lot.edition = editions[i];
         for (uint32_t room = 0; room < 4; room++) {
-            lot.room = build_words(sample.n, 1 + room / 2) - room % 2;
+            lot.room = (room < 2 ? 10 : 12) * (size_t)sample.n + 8 - room % 2;
             try_build(t, &lot);
         }
+        try_card(t, &lot);
+        lot.index_length += more;
         every_call(t, &lot);
-        sample.index[0] = sample.edition;
-        draw_image(&sample);
-        for (size_t b = 0; b < 4; b++)
-            sample.image[b] = (uint8_t)(editions[i] >> (8 * b));
-        seal_block(&sample, 0);
-        lot = fair_lot(&t->draw, &sample);
-        try_read(t, &lot);
     }
 }
 
@@ -102,9 +111,25 @@ static void build_equal(struct trial *t, uint32_t limit)
         every_call(t, &lot);
         draw_query(&t->draw, &sample);
     }
+    sample.edition = 1;
+    index_built(&sample);
+    lot = fair_lot(&t->draw, &sample);
+    try_card(t, &lot);
 }
 
 /* ---- Accepted indexes ---- */
+
+/* What the library writes of an index it reads again the same, over the table. */
+static void comes_back(struct trial *t, const struct lot *lot)
+{
+    static uint8_t image[SAMPLE_BLOCKS * 512];
+    static uint32_t words[SAMPLE_WORDS];
+    bourascul_written there = bourascul_write(lot->index, lot->index_length, image, sizeof image);
+    bourascul_taken back = bourascul_read(image, BOURASCUL_BLOCK_BYTES * (size_t)(there.blocks < SAMPLE_BLOCKS ? there.blocks : 0), lot->table,
+                                          lot->table_length, lot->c, words, BOURASCUL_ROOM_WORDS(sample.n));
+    if (there.number != 0 || back.number != 0 || back.words != lot->index_length || memcmp(words, lot->index, back.words * sizeof *words) != 0)
+        tell_difference(t, lot, "write and read", "what was written is not read again the same");
+}
 
 static void accepted(struct trial *t, uint32_t limit, bool foreign)
 {
@@ -116,11 +141,12 @@ static void accepted(struct trial *t, uint32_t limit, bool foreign)
     struct lot lot = fair_lot(&t->draw, &sample);
     if (naive_verdict(&lot) != 0)
         tell_difference(t, &lot, "naive check", "refuses an index that was made to be accepted");
+    comes_back(t, &lot);
+    try_card(t, &lot);
     /* More words than the header asks for may be lent. */
     for (uint32_t more = draw_one_in(&t->draw, 3) ? draw_between(&t->draw, 1, 5) : 0; more > 0; more--)
         sample.index[sample.index_length++] = (uint32_t)draw_next(&t->draw);
     lot.index_length = sample.index_length;
-    try_widen(t, &lot);
     try_check(t, &lot);
     for (uint32_t i = 0; i < 6; i++) {
         draw_query(&t->draw, &sample);
@@ -133,81 +159,66 @@ static void accepted(struct trial *t, uint32_t limit, bool foreign)
 static void accepted_built(struct trial *t, uint32_t limit) { accepted(t, limit, false); }
 static void accepted_foreign(struct trial *t, uint32_t limit) { accepted(t, limit, true); }
 
-/* ---- Widening ---- */
+/* ---- Old cards ---- */
 
-static uint32_t wide[SAMPLE_WORDS];
-static size_t wide_length;
-
-/* Whether each how-byte is as good on the widened index as before: the same of in or out, and measured only where it was. */
-static bool as_good(const uint8_t *before, const uint8_t *after, uint32_t n)
+/* Leaves the fifth word of each node out of an index of edition 2, so that it is one of edition 1; gives its words. */
+static size_t make_old(uint32_t *words)
 {
-    for (uint32_t i = 0; i < n; i++)
-        if (before[i] >> 1 != after[i] >> 1 || (before[i] & 1) < (after[i] & 1))
-            return false;
-    return true;
+    size_t nodes = words[5], pairs = 2 * (size_t)words[1];
+    for (size_t k = 0; k < nodes; k++)
+        memmove(words + 8 + 4 * k, words + 8 + 5 * k, 4 * sizeof *words);
+    memmove(words + 8 + 4 * nodes, words + 8 + 5 * nodes, pairs * sizeof *words);
+    words[0] = 1;
+    return 8 + 4 * nodes + pairs;
 }
 
-/* The library's searches on the sample's index and on the widened one: the same rows in, the same answers. */
-static void same_answers(struct trial *t, const struct lot *lot)
+/* Another table of the same rows and columns. */
+static void change_table(struct draw *d, struct sample *s)
 {
-    static uint8_t how[2][SAMPLE_ROWS];
-    static uint32_t rows[2][SAMPLE_ROWS], distances[2][SAMPLE_ROWS], work[6 * SAMPLE_ROWS];
-    const uint32_t *index[2] = { lot->index, wide };
-    const size_t length[2] = { lot->index_length, wide_length };
-    uint32_t n = sample.n, given[2];
-    for (size_t k = 0; k < 2; k++)
-        bourascul_radius(lot->table, lot->table_length, lot->c, index[k], length[k], lot->query, lot->c, lot->r, how[k], SAMPLE_ROWS);
-    if (!as_good(how[0], how[1], n))
-        tell_difference(t, lot, "radius", "on the widened index other rows are in, or a row more is measured");
-    for (size_t k = 0; k < 2; k++)
-        given[k] = bourascul_nearest(lot->table, lot->table_length, lot->c, index[k], length[k], lot->query, lot->c, lot->w, rows[k], SAMPLE_ROWS,
-                                     distances[k], SAMPLE_ROWS, how[k], SAMPLE_ROWS, work, 6 * SAMPLE_ROWS).given;
-    if (given[0] != given[1] || given[0] > n || memcmp(rows[0], rows[1], given[0] * sizeof *rows[0]) != 0
-        || memcmp(distances[0], distances[1], given[0] * sizeof *distances[0]) != 0 || !as_good(how[0], how[1], n))
-        tell_difference(t, lot, "nearest", "on the widened index the answers are others, or a row more is measured");
+    for (uint32_t i = s->n == 0 ? 0 : draw_between(d, 1, s->n); i > 0; i--)
+        s->table[draw_below(d, s->n * s->c)] = (uint16_t)draw_below(d, draw_one_in(d, 2) ? 65536 : 8);
 }
 
-/* The build in edition 1 widened must be the build in edition 2, word for word. */
-static void same_as_built(struct trial *t, const struct lot *lot)
+/* An index of edition 1: all other calls on it, and its card read with each length of room that matters. What was accepted but
+   for the reach must come out with the reach it had; then all calls on what came out. */
+static void old_card(struct trial *t, uint32_t limit)
 {
-    static uint32_t room[SAMPLE_WORDS], work[6 * SAMPLE_ROWS];
-    bourascul_built built = bourascul_build(lot->table, lot->table_length, lot->c, lot->m, lot->l, 2, room, BOURASCUL_ROOM_WORDS(sample.n, 2), work,
-                                            BOURASCUL_WORK_WORDS(sample.n));
-    if (built.number != 0 || built.words != wide_length || memcmp(room, wide, wide_length * sizeof *wide) != 0)
-        tell_difference(t, lot, "widen", "a build in edition 1 widened is not the build in edition 2");
-}
-
-static void widened(struct trial *t, uint32_t limit)
-{
-    draw_sample(&t->draw, &sample, limit);
+    static uint32_t whole[SAMPLE_WORDS], taken[SAMPLE_WORDS];
+    struct draw *d = &t->draw;
+    draw_sample(d, &sample, limit);
+    index_any(d, &sample);
+    struct lot lot = fair_lot(d, &sample);
+    bool fits = naive_verdict(&lot) == 0;
+    memcpy(whole, sample.index, sample.index_length * sizeof *whole);
     sample.edition = 1;
-    bool foreign = draw_one_in(&t->draw, 2);
-    if (foreign)
-        index_foreign(&t->draw, &sample);
-    else
-        index_built(&sample);
-    struct lot lot = fair_lot(&t->draw, &sample);
-    try_widen(t, &lot);
-    bourascul_widened w = bourascul_widen(lot.table, lot.table_length, lot.c, lot.index, lot.index_length, wide, BOURASCUL_ROOM_WORDS(sample.n, 2));
-    wide_length = w.words;
-    if (w.number != 0 || wide_length > SAMPLE_WORDS) {
-        tell_difference(t, &lot, "widen", "does not widen with the header's own room");
+    sample.index_length = make_old(sample.index);
+    if (draw_one_in(d, 4)) {
+        change_table(d, &sample);
+        fits = false;
+    }
+    draw_image(&sample);
+    lot = fair_lot(d, &sample);
+    every_call(t, &lot);
+    size_t words = taken_words(&sample);
+    const size_t rooms[] = { 0, lot.index_length - 1, lot.index_length, words - 1, words, words + 9 };
+    for (size_t i = 0; i < sizeof rooms / sizeof *rooms; i++) {
+        lot.taken = rooms[i];
+        try_read(t, &lot);
+    }
+    bourascul_taken is = bourascul_read(lot.image, lot.image_length, lot.table, lot.table_length, lot.c, taken, BOURASCUL_ROOM_WORDS(sample.n));
+    if (is.number != 0 || is.words != words || (fits && memcmp(taken, whole, words * sizeof *taken) != 0)) {
+        tell_difference(t, &lot, "read", "an old card is not read as the index of edition 2");
         return;
     }
-    if (!foreign)
-        same_as_built(t, &lot);
-    for (uint32_t i = 0; i < 4; i++) {
-        draw_query(&t->draw, &sample);
-        lot = fair_lot(&t->draw, &sample);
-        same_answers(t, &lot);
-    }
-    memcpy(sample.index, wide, wide_length * sizeof *wide);
-    sample.index_length = wide_length;
+    memcpy(sample.index, taken, words * sizeof *taken);
+    sample.index_length = words;
     sample.edition = 2;
-    lot = fair_lot(&t->draw, &sample);
-    if (naive_verdict(&lot) != 0)
-        tell_difference(t, &lot, "widen", "the full check refuses what was accepted before");
-    every_call(t, &lot);
+    for (uint32_t i = 0; i < 3; i++) {
+        lot = fair_lot(d, &sample);
+        every_call(t, &lot);
+        draw_query(d, &sample);
+    }
+    comes_back(t, &lot);
 }
 
 /* ---- Spoilt indexes ---- */
@@ -223,10 +234,11 @@ static void wild(struct trial *t, uint32_t limit)
     }
 }
 
-/* Every word of a small index set to many values, one at a time; all calls on each. */
-static void each_word(struct trial *t, uint32_t limit)
+/* Every word of a small index set to many values, one at a time, and each given to the calls. */
+static void change_each_word(struct trial *t, uint32_t limit, uint32_t edition, void (*calls)(struct trial *, const struct lot *))
 {
     draw_sample(&t->draw, &sample, limit < 7 ? limit : 7);
+    sample.edition = edition;
     index_any(&t->draw, &sample);
     size_t length = sample.index_length;
     for (size_t i = 0; i < length; i++) {
@@ -236,22 +248,27 @@ static void each_word(struct trial *t, uint32_t limit)
         for (size_t v = 0; v < sizeof values / sizeof *values; v++) {
             sample.index[i] = values[v];
             struct lot lot = fair_lot(&t->draw, &sample);
-            every_call(t, &lot);
+            lot.taken = around(&t->draw, taken_words(&sample));
+            calls(t, &lot);
         }
         sample.index[i] = right;
     }
 }
 
+static void each_word(struct trial *t, uint32_t limit) { change_each_word(t, limit, 2, every_call); }
+static void each_word_of_card(struct trial *t, uint32_t limit) { change_each_word(t, limit, 1, try_card); }
+
 /* A small index cut at every length, and every two words changed about. */
-static void cut_and_swapped(struct trial *t, uint32_t limit)
+static void cut_and_swap(struct trial *t, uint32_t limit, uint32_t edition, void (*calls)(struct trial *, const struct lot *))
 {
     draw_sample(&t->draw, &sample, limit < 5 ? limit : 5);
+    sample.edition = edition;
     index_any(&t->draw, &sample);
     size_t length = sample.index_length;
     for (size_t cut = 0; cut < length; cut++) {
         sample.index_length = cut;
         struct lot lot = fair_lot(&t->draw, &sample);
-        every_call(t, &lot);
+        calls(t, &lot);
     }
     sample.index_length = length;
     for (size_t i = 0; i < length; i++)
@@ -262,27 +279,36 @@ static void cut_and_swapped(struct trial *t, uint32_t limit)
             sample.index[i] = b;
             sample.index[j] = a;
             struct lot lot = fair_lot(&t->draw, &sample);
-            every_call(t, &lot);
+            calls(t, &lot);
             sample.index[i] = a;
             sample.index[j] = b;
         }
 }
 
-static void spoilt_index(struct trial *t, uint32_t limit)
+static void cut_and_swapped(struct trial *t, uint32_t limit) { cut_and_swap(t, limit, 2, every_call); }
+static void cut_and_swapped_card(struct trial *t, uint32_t limit) { cut_and_swap(t, limit, 1, try_card); }
+
+static void spoil_at_random(struct trial *t, uint32_t limit, uint32_t edition, void (*calls)(struct trial *, const struct lot *))
 {
     draw_sample(&t->draw, &sample, limit);
+    sample.edition = edition;
     index_any(&t->draw, &sample);
     uint32_t times = draw_between(&t->draw, 1, 4);
     for (uint32_t i = 0; i < times; i++) {
         spoil_index(&t->draw, &sample);
         struct lot lot = fair_lot(&t->draw, &sample);
-        every_call(t, &lot);
+        lot.taken = around(&t->draw, taken_words(&sample));
+        calls(t, &lot);
     }
 }
+
+static void spoilt_index(struct trial *t, uint32_t limit) { spoil_at_random(t, limit, 2, every_call); }
+static void spoilt_card(struct trial *t, uint32_t limit) { spoil_at_random(t, limit, 1, try_card); }
 
 static void words_at_random(struct trial *t, uint32_t limit)
 {
     draw_sample(&t->draw, &sample, limit < 40 ? limit : 40);
+    sample.edition = draw_between(&t->draw, 1, 2);
     random_words(&t->draw, &sample);
     struct lot lot = fair_lot(&t->draw, &sample);
     every_call(t, &lot);
@@ -296,11 +322,6 @@ static uint32_t draw_bad_columns(struct draw *d, uint32_t c)
     return bad[draw_below(d, 8)];
 }
 
-static size_t shorter(struct draw *d, size_t length)
-{
-    return length == 0 ? 0 : draw_one_in(d, 2) ? length - 1 : draw_below(d, (uint32_t)length);
-}
-
 /* One thing made wrong, or nearly so. */
 static void one_fault(struct draw *d, struct sample *s, struct lot *lot)
 {
@@ -312,7 +333,7 @@ static void one_fault(struct draw *d, struct sample *s, struct lot *lot)
     case 1: lot->m = bad_m[draw_below(d, 5)]; break;
     case 2: lot->l = bad_l[draw_below(d, 7)]; break;
     case 3: lot->table_length = draw_one_in(d, 2) ? shorter(d, lot->table_length) : lot->table_length + 1; break;
-    case 4: lot->room = shorter(d, build_words(n, lot->edition)); break;
+    case 4: lot->room = shorter(d, build_words(n)); break;
     case 5: lot->work = shorter(d, 6 * n); break;
     case 6: lot->how = shorter(d, n); break;
     case 7: lot->rows = shorter(d, asked); break;
@@ -322,7 +343,7 @@ static void one_fault(struct draw *d, struct sample *s, struct lot *lot)
     case 11: lot->w = 0; break;
     case 12: lot->index_length = shorter(d, lot->index_length); break;
     case 13: lot->edition = bad_editions[draw_below(d, 4)]; break;
-    case 14: lot->wide = shorter(d, build_words(n, 2)); break;
+    case 14: lot->taken = shorter(d, taken_words(s)); break;
     default:
         spoil_index(d, s);
         lot->index_length = s->index_length;
@@ -334,6 +355,7 @@ static void refusals(struct trial *t, uint32_t limit)
 {
     struct draw *d = &t->draw;
     draw_sample(d, &sample, limit < 60 ? limit : 60);
+    sample.edition = draw_one_in(d, 6) ? 1 : 2;
     index_any(d, &sample);
     struct lot lot = fair_lot(d, &sample);
     uint32_t faults = draw_between(d, 1, 3);
@@ -347,47 +369,49 @@ static void refusals(struct trial *t, uint32_t limit)
 static void too_many_rows(struct trial *t, uint32_t limit)
 {
     (void)limit;
-    size_t length = (size_t)1048577 * draw_between(&t->draw, 1, 2);
-    uint16_t *table = calloc(length, sizeof *table);
+    uint16_t *table = calloc(2 * (size_t)1048577, sizeof *table);
     if (table == NULL)
         abort();
     draw_sample(&t->draw, &sample, 9);
+    sample.edition = draw_between(&t->draw, 1, 2);
     index_built(&sample);
     struct lot lot = fair_lot(&t->draw, &sample);
     lot.table = table;
-    lot.c = length == 1048577 ? 1 : 2;
+    lot.edition = 2;
     lot.query_length = draw_between(&t->draw, 1, 2);
-    for (size_t less = 0; less < 2; less++) {
-        lot.table_length = length - less;
-        try_build(t, &lot);
-        try_widen(t, &lot);
-        try_check(t, &lot);
-        try_searches(t, &lot);
-    }
+    for (lot.c = 1; lot.c <= 2; lot.c++)
+        for (size_t less = 0; less < 2; less++) {
+            lot.table_length = (size_t)1048577 * lot.c - less;
+            try_build(t, &lot);
+            try_check(t, &lot);
+            try_searches(t, &lot);
+            try_card(t, &lot);
+        }
     free(table);
 }
 
-/* The greatest table there is in each edition, with every room just long enough. */
+/* The greatest table there is, with every room just long enough; and the old card of its index. */
 static void largest_table(struct trial *t, uint32_t limit)
 {
     (void)limit;
     struct draw *d = &t->draw;
-    size_t n = 1048576;
+    size_t n = 1048576, asked = build_words(n);
     uint32_t c = draw_between(d, 1, 3);
     uint16_t *table = malloc(n * c * sizeof *table), query[3] = { 100, 60000, 7 };
-    uint32_t *room = malloc(build_words(n, 2) * sizeof *room), *work = malloc(6 * n * sizeof *work);
+    uint32_t *room = malloc(asked * sizeof *room), *work = malloc(6 * n * sizeof *work);
     if (table == NULL || room == NULL || work == NULL)
         abort();
     for (size_t i = 0; i < n * c; i++)
         table[i] = (uint16_t)draw_below(d, 65536);
-    for (uint32_t edition = 1; edition <= 2; edition++) {
-        size_t asked = build_words(n, edition);
-        bourascul_built built = bourascul_build(table, n * c, c, 32, 200, edition, room, asked, work, 6 * n);
-        struct lot lot = { .table = table, .table_length = n * c, .c = c, .m = 32, .l = 200, .edition = edition, .index = room,
-                           .index_length = built.words, .query = query, .query_length = c, .r = 900, .w = 20, .node = 3, .room = asked,
-                           .wide = build_words(n, 2), .work = 6 * n, .how = n, .rows = 20, .distances = 20, .answers = 20 };
-        try_build(t, &lot);
-        every_call(t, &lot);
+    bourascul_built built = bourascul_build(table, n * c, c, 32, 200, 2, room, asked, work, 6 * n);
+    struct lot lot = { .table = table, .table_length = n * c, .c = c, .m = 32, .l = 200, .edition = 2, .index = room,
+                       .index_length = built.words, .query = query, .query_length = c, .r = 900, .w = 20, .node = 3, .room = asked,
+                       .taken = built.words, .work = 6 * n, .how = n, .rows = 20, .distances = 20, .answers = 20 };
+    try_build(t, &lot);
+    every_call(t, &lot);
+    if (built.number == 0) {
+        lot.index_length = make_old(room);
+        try_card(t, &lot);
     }
     free(table);
     free(room);
@@ -442,10 +466,12 @@ static void two_tables(struct trial *t, uint32_t limit)
 
 /* ---- Images ---- */
 
-/* Words with a possible header: an index, or anything under such a header, since writing does not ask for the shape. */
+/* Words of either edition with a header that is possible on a card: an index, or anything under such a header, since writing
+   does not ask for the shape. */
 static void words_to_write(struct draw *d, struct sample *s, uint32_t limit)
 {
     draw_sample(d, s, limit);
+    s->edition = draw_between(d, 1, 2);
     index_any(d, s);
     if (!draw_one_in(d, 3))
         return;
@@ -454,11 +480,6 @@ static void words_to_write(struct draw *d, struct sample *s, uint32_t limit)
     s->index_length = 8 + node_words(s->edition) * s->index[5] + 2 * (size_t)s->n;
     for (size_t i = 8; i < s->index_length; i++)
         s->index[i] = (uint32_t)draw_next(d);
-}
-
-static size_t around(struct draw *d, size_t length)
-{
-    return draw_one_in(d, 4) ? shorter(d, length) : length + (draw_one_in(d, 2) ? 0 : draw_below(d, 40));
 }
 
 static void image_rooms(struct trial *t, uint32_t limit)
@@ -472,7 +493,7 @@ static void image_rooms(struct trial *t, uint32_t limit)
         sample.index[lot.index_length++] = (uint32_t)draw_next(d);
     try_write(t, &lot);
     lot.image_length = sample.image_length;
-    lot.room = around(d, sample.index_length);
+    lot.taken = around(d, taken_words(&sample));
     try_read(t, &lot);
 }
 
@@ -483,7 +504,7 @@ static void spoilt_image(struct trial *t, uint32_t limit)
     for (uint32_t i = 0; i < 4; i++) {
         spoil_image(&t->draw, &sample);
         struct lot lot = fair_lot(&t->draw, &sample);
-        lot.room = around(&t->draw, sample.index_length);
+        lot.taken = around(&t->draw, taken_words(&sample));
         try_read(t, &lot);
     }
 }
@@ -497,7 +518,7 @@ static void each_byte(struct trial *t, uint32_t limit)
     for (size_t i = 0; i < sample.image_length; i++) {
         size_t block = i / 512;
         struct lot lot = fair_lot(&t->draw, &sample);
-        lot.room = around(&t->draw, sample.index_length);
+        lot.taken = around(&t->draw, taken_words(&sample));
         memcpy(held, sample.image + 512 * block, 512);
         sample.image[i] ^= (uint8_t)(draw_one_in(&t->draw, 2) ? 1u << draw_below(&t->draw, 8) : draw_between(&t->draw, 1, 255));
         try_read(t, &lot);
@@ -522,12 +543,50 @@ static void bytes_at_random(struct trial *t, uint32_t limit)
     try_read(t, &lot);
 }
 
+/* Something about a card, its table or its room made wrong, or nearly so. */
+static void card_fault(struct draw *d, struct sample *s, struct lot *lot)
+{
+    size_t rows = draw_below(d, s->n + 4), columns = draw_between(d, 1, 16);
+    switch (draw_below(d, 8)) {
+    case 0: lot->c = draw_bad_columns(d, lot->c); break;
+    case 1: lot->table_length = draw_one_in(d, 2) ? shorter(d, lot->table_length) : lot->table_length + 1; break;
+    case 2: lot->table_length = rows * s->c; break;
+    case 3:
+        lot->c = (uint32_t)columns;
+        lot->table_length = columns * s->n;
+        break;
+    case 4: lot->taken = draw_one_in(d, 2) ? shorter(d, taken_words(s)) : 0; break;
+    case 5: lot->taken = s->index_length; break;
+    default:
+        spoil_image(d, s);
+        lot->image_length = s->image_length;
+        break;
+    }
+}
+
+/* The words spoilt under right check words, then up to three faults of the card, its table or its room. */
+static void card_refusals(struct trial *t, uint32_t limit)
+{
+    struct draw *d = &t->draw;
+    draw_sample(d, &sample, limit < 60 ? limit : 60);
+    sample.edition = draw_between(d, 1, 2);
+    index_any(d, &sample);
+    for (uint32_t times = draw_below(d, 3); times > 0; times--)
+        spoil_index(d, &sample);
+    draw_image(&sample);
+    struct lot lot = fair_lot(d, &sample);
+    for (uint32_t faults = draw_below(d, 4); faults > 0; faults--)
+        card_fault(d, &sample, &lot);
+    try_read(t, &lot);
+}
+
 /* ---- Listing ---- */
 
 static void listing(struct trial *t, uint32_t limit)
 {
     static const uint32_t far[] = { UINT32_MAX, 0x80000000u, 0x40000000u, 65536 };
     draw_sample(&t->draw, &sample, limit);
+    sample.edition = draw_one_in(&t->draw, 6) ? 1 : 2;
     index_any(&t->draw, &sample);
     if (draw_one_in(&t->draw, 3))
         spoil_index(&t->draw, &sample);
@@ -542,16 +601,19 @@ static void listing(struct trial *t, uint32_t limit)
 const struct kind kinds[] = {
     { "build of tables of every style", build_any, 1 },
     { "all calls with each end of m and l, and beyond", each_end, 4 },
-    { "all calls with each edition, and others", each_edition, 2 },
+    { "all calls with edition 2 and others", each_edition, 2 },
     { "build with m and l at their ends, all calls on it", build_ends, 2 },
     { "equal rows, 4 to 100 and more, all calls", build_equal, 2 },
     { "check and searches on built indexes", accepted_built, 1 },
     { "check and searches on accepted indexes of another hand", accepted_foreign, 1 },
-    { "widened indexes: the build of edition 2, and the same answers", widened, 1 },
+    { "old cards: the index of edition 1 in all calls, its card read, all calls on what comes out", old_card, 1 },
     { "all calls on indexes in shape that fit no table", wild, 1 },
     { "all calls, each word of a small index changed to 16 values", each_word, 8 },
+    { "each word of a small old card changed to 16 values", each_word_of_card, 8 },
     { "all calls, a small index cut at each length, each two words swapped", cut_and_swapped, 8 },
+    { "a small old card cut at each length, each two words swapped", cut_and_swapped_card, 8 },
     { "all calls on indexes spoilt at random", spoilt_index, 1 },
+    { "old cards spoilt at random under right check words", spoilt_card, 1 },
     { "all calls on random words as index", words_at_random, 1 },
     { "all calls with one to three faults at once", refusals, 1 },
     { "two tables that agree in the rows measured", two_tables, 1 },
@@ -559,6 +621,7 @@ const struct kind kinds[] = {
     { "images spoilt at random, sealed again or not", spoilt_image, 1 },
     { "each byte of a small image changed, sealed again or not", each_byte, 8 },
     { "random bytes as image", bytes_at_random, 1 },
+    { "cards of both editions with up to five faults at once", card_refusals, 1 },
     { "listings, each node and beyond", listing, 1 },
     { "1,048,577 rows", too_many_rows, 200 },
     { "1,048,576 rows, all calls", largest_table, 2000 },

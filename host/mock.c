@@ -1,5 +1,5 @@
 /* A library in the proved one's place, to try the trial on (host/wrong.sh): the naive implementation behind the header's
-   nine calls. Only nearest is searched as the yardstick does it: the naive one scans and reckons the marks afterwards,
+   eight calls. Only nearest is searched as the yardstick does it: the naive one scans and reckons the marks afterwards,
    which the trial of two tables finds. */
 #include "bourascul.h"
 #include "naive_inner.h"
@@ -12,16 +12,6 @@ bourascul_built bourascul_build(const uint16_t *table, size_t table_length, uint
     struct naive_room r = { room, room_length }, k = { work, work_length };
     struct naive_says s = naive_build(t, m, l, edition, r, k);
     return (bourascul_built){ s.number, s.one, s.two };
-}
-
-bourascul_widened bourascul_widen(const uint16_t *table, size_t table_length, uint32_t c, const uint32_t *index, size_t index_length, uint32_t *room,
-                                  size_t room_length)
-{
-    struct naive_table t = { table, table_length, c };
-    struct naive_index x = { index, index_length };
-    struct naive_room r = { room, room_length };
-    struct naive_says s = naive_widen(t, x, r);
-    return (bourascul_widened){ s.number, s.one };
 }
 
 bourascul_checked bourascul_check(const uint16_t *table, size_t table_length, uint32_t c, const uint32_t *index, size_t index_length,
@@ -107,10 +97,12 @@ bourascul_written bourascul_write(const uint32_t *index, size_t index_length, ui
     return (bourascul_written){ s.number, s.one };
 }
 
-bourascul_taken bourascul_read(const uint8_t *image, size_t image_length, uint32_t *room, size_t room_length)
+bourascul_taken bourascul_read(const uint8_t *image, size_t image_length, const uint16_t *table, size_t table_length, uint32_t c, uint32_t *room,
+                               size_t room_length)
 {
+    struct naive_table t = { table, table_length, c };
     struct naive_room r = { room, room_length };
-    struct naive_says s = naive_read(image, image_length, r);
+    struct naive_says s = naive_read(image, image_length, t, r);
     return (bourascul_taken){ s.number, s.one, s.two };
 }
 

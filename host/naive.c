@@ -1,4 +1,4 @@
-/* The scope paper (01) with edition 2 (02, R-4) in plain C: numbers given back, index words, shape, listing, image. The tree
+/* The scope paper (01) with edition 2 (02, R-4 and R-11) in plain C: numbers given back, index words, shape, listing, image. The tree
    and the searches stand in naive_tree.c and naive_search.c. Every condition is tested by itself, and of several faults the
    lowest number is taken. */
 #include "naive_inner.h"
@@ -91,12 +91,23 @@ size_t naive_words_asked(const uint32_t *w)
     return HEADER_WORDS + naive_node_words(w[0]) * w[5] + 2 * (size_t)w[1];
 }
 
-static bool header_possible(const uint32_t *w)
+/* The header's words but its edition. */
+static bool fields_possible(const uint32_t *w)
 {
     uint32_t n = w[1], c = w[2], m = w[3], l = w[4], nodes = w[5];
     bool nodes_fit = n == 0 ? nodes == 0 : nodes >= 1 && nodes <= 2 * (uint64_t)n - 1;
-    return (w[0] == 1 || w[0] == 2) && n <= MOST_ROWS && c >= 1 && c <= MOST_COLUMNS && m >= 2 && m <= MOST_CENTRES && l >= m && l <= MOST_LEAF
-        && nodes_fit && w[6] == 1 && w[7] == 0;
+    return n <= MOST_ROWS && c >= 1 && c <= MOST_COLUMNS && m >= 2 && m <= MOST_CENTRES && l >= m && l <= MOST_LEAF && nodes_fit
+        && w[6] == 1 && w[7] == 0;
+}
+
+static bool header_possible(const uint32_t *w)
+{
+    return w[0] == 2 && fields_possible(w);
+}
+
+static bool card_possible(const uint32_t *w)
+{
+    return (w[0] == 1 || w[0] == 2) && fields_possible(w);
 }
 
 static bool words_there(struct naive_index x)
@@ -104,14 +115,14 @@ static bool words_there(struct naive_index x)
     return x.length >= HEADER_WORDS && header_possible(x.words) && x.length >= naive_words_asked(x.words);
 }
 
-static bool index_of_table(struct naive_index x, struct naive_table t)
+static bool of_table(const uint32_t *w, struct naive_table t)
 {
-    return words_there(x) && x.words[1] == naive_rows_of(t) && x.words[2] == t.c;
+    return w[1] == naive_rows_of(t) && w[2] == t.c;
 }
 
 /* ---- Shape ---- */
 
-/* Both reaches of a node are at most the greatest distance there is. */
+/* Both reaches of a node, on an old card the radius alone, are at most the greatest distance there is. */
 static bool reaches_fit(const uint32_t *w, uint32_t k)
 {
     return radius_of(w, k) <= MOST_DISTANCE && (w[0] != 2 || node_words(w, k)[4] <= MOST_DISTANCE);
@@ -169,14 +180,9 @@ static bool in_shape(const uint32_t *w)
     return nodes_in_shape(w);
 }
 
-bool naive_words_in_shape(struct naive_index x)
-{
-    return words_there(x) && in_shape(x.words);
-}
-
 void naive_index_faults(struct faults *f, struct naive_index x, struct naive_table t)
 {
-    f->met[8] = !index_of_table(x, t);
+    f->met[8] = !words_there(x) || !of_table(x.words, t);
     f->met[9] = !f->met[8] && !in_shape(x.words);
 }
 
@@ -185,7 +191,7 @@ void naive_index_faults(struct faults *f, struct naive_index x, struct naive_tab
 struct naive_part naive_list(struct naive_index index, uint32_t node)
 {
     struct naive_part part = { 0, 0 };
-    if (!naive_words_in_shape(index) || node >= index.words[5])
+    if (!words_there(index) || !in_shape(index.words) || node >= index.words[5])
         return part;
     part.start = (uint32_t)naive_pair_place(index.words, start_of(index.words, node));
     part.length = 2 * count_of(index.words, node);
@@ -202,11 +208,6 @@ uint32_t naive_check_word(uint32_t block, const uint32_t *words)
     return check;
 }
 
-static size_t blocks_asked(const uint32_t *w)
-{
-    return (naive_words_asked(w) + BLOCK_WORDS - 1) / BLOCK_WORDS;
-}
-
 static void put_word(uint8_t *at, uint32_t word)
 {
     for (uint32_t b = 0; b < 4; b++)
@@ -218,22 +219,33 @@ static uint32_t get_word(const uint8_t *at)
     return at[0] | (uint32_t)at[1] << 8 | (uint32_t)at[2] << 16 | (uint32_t)at[3] << 24;
 }
 
+static size_t blocks_for(size_t words)
+{
+    return (words + BLOCK_WORDS - 1) / BLOCK_WORDS;
+}
+
+size_t naive_card(const uint32_t *words, size_t count, uint8_t *image)
+{
+    size_t blocks = count == 0 ? 1 : blocks_for(count);
+    for (size_t b = 0; b < blocks; b++) {
+        uint32_t block[BLOCK_WORDS] = { 0 };
+        for (size_t i = 0; i < BLOCK_WORDS && b * BLOCK_WORDS + i < count; i++)
+            block[i] = words[b * BLOCK_WORDS + i];
+        for (size_t i = 0; i < BLOCK_WORDS; i++)
+            put_word(image + b * BLOCK_BYTES + 4 * i, block[i]);
+        put_word(image + b * BLOCK_BYTES + 4 * BLOCK_WORDS, naive_check_word((uint32_t)b, block));
+    }
+    return blocks;
+}
+
 struct naive_says naive_write(struct naive_index index, struct naive_bytes image)
 {
     if (!words_there(index))
         return says(16, 0, 0);
-    size_t blocks = blocks_asked(index.words), asked = naive_words_asked(index.words);
-    if (image.length < blocks * BLOCK_BYTES)
+    size_t asked = naive_words_asked(index.words);
+    if (image.length < blocks_for(asked) * BLOCK_BYTES)
         return says(5, 0, 0);
-    for (size_t b = 0; b < blocks; b++) {
-        uint32_t words[BLOCK_WORDS] = { 0 };
-        for (size_t i = 0; i < BLOCK_WORDS && b * BLOCK_WORDS + i < asked; i++)
-            words[i] = index.words[b * BLOCK_WORDS + i];
-        for (size_t i = 0; i < BLOCK_WORDS; i++)
-            put_word(image.bytes + b * BLOCK_BYTES + 4 * i, words[i]);
-        put_word(image.bytes + b * BLOCK_BYTES + 4 * BLOCK_WORDS, naive_check_word((uint32_t)b, words));
-    }
-    return says(0, (uint32_t)blocks, 0);
+    return says(0, (uint32_t)naive_card(index.words, asked, image.bytes), 0);
 }
 
 /* The image's words without the check words; the lowest block whose check is wrong, or the block count, goes to `*wrong`. */
@@ -251,27 +263,38 @@ static uint32_t *image_words(const uint8_t *image, size_t blocks, size_t *wrong)
     return words;
 }
 
-static struct naive_says read_words(const uint32_t *words, size_t blocks, struct naive_room room)
+/* From the image's words on, each fault after the ones above it. What comes out is of edition 2. */
+static struct naive_says read_words(const uint32_t *words, size_t blocks, struct naive_table table, struct naive_room room)
 {
-    if (!header_possible(words) || blocks != blocks_asked(words))
+    size_t asked = naive_words_asked(words), given = HEADER_WORDS + naive_node_words(2) * words[5] + 2 * (size_t)words[1];
+    if (!card_possible(words) || blocks != blocks_for(asked))
         return says(16, 0, 0);
-    size_t asked = naive_words_asked(words);
     for (size_t i = asked; i < blocks * BLOCK_WORDS; i++)
         if (words[i] != 0)
             return says(17, 0, 0);
-    if (room.length < asked)
+    if (!of_table(words, table))
+        return says(8, 0, 0);
+    if (!in_shape(words))
+        return says(9, 0, 0);
+    if (room.length < given)
         return says(5, 0, 0);
-    memcpy(room.words, words, asked * sizeof *words);
-    return says(0, 0, (uint32_t)asked);
+    if (words[0] == 1)
+        naive_put_wide(words, table, room.words);
+    else
+        memcpy(room.words, words, given * sizeof *words);
+    return says(0, 0, (uint32_t)given);
 }
 
-struct naive_says naive_read(const uint8_t *image, size_t length, struct naive_room room)
+struct naive_says naive_read(const uint8_t *image, size_t length, struct naive_table table, struct naive_room room)
 {
+    struct faults f = naive_table_faults(table);
     size_t blocks = length / BLOCK_BYTES, wrong;
+    if (naive_lowest(&f) != 0)
+        return says(naive_lowest(&f), 0, 0);
     if (length == 0 || length % BLOCK_BYTES != 0)
         return says(14, 0, 0);
     uint32_t *words = image_words(image, blocks, &wrong);
-    struct naive_says s = wrong < blocks ? says(15, (uint32_t)wrong, 0) : read_words(words, blocks, room);
+    struct naive_says s = wrong < blocks ? says(15, (uint32_t)wrong, 0) : read_words(words, blocks, table, room);
     free(words);
     return s;
 }

@@ -1,5 +1,5 @@
-/* The scope paper (01) with edition 2 (02, R-4) once more, in plain C: clear rather than fast, and sharing nothing with the library.
-   Each call takes and gives what the library's call of the same name does (include/bourascul.h). */
+/* The scope paper (01) with edition 2 (02, R-4 and R-11) once more, in plain C: clear rather than fast, and sharing nothing with
+   the library. Each call takes and gives what the library's call of the same name does (include/bourascul.h). */
 #ifndef HOST_NAIVE_H
 #define HOST_NAIVE_H
 
@@ -56,7 +56,6 @@ struct naive_records {
 uint32_t naive_distance(const uint16_t *a, const uint16_t *b, uint32_t c);
 
 struct naive_says naive_build(struct naive_table table, uint32_t m, uint32_t l, uint32_t edition, struct naive_room room, struct naive_room work);
-struct naive_says naive_widen(struct naive_table table, struct naive_index index, struct naive_room room);
 struct naive_says naive_check(struct naive_table table, struct naive_index index, struct naive_room work);
 struct naive_says naive_radius(struct naive_table table, struct naive_index index, struct naive_query query, uint32_t r, struct naive_bytes how);
 struct naive_says naive_nearest(struct naive_table table, struct naive_index index, struct naive_query query, uint32_t w, struct naive_room rows,
@@ -65,11 +64,14 @@ struct naive_says naive_nearest_answers(struct naive_table table, struct naive_i
                                         struct naive_records answers, struct naive_room rows, struct naive_room distances, struct naive_bytes how,
                                         struct naive_room work);
 struct naive_says naive_write(struct naive_index index, struct naive_bytes image);
-struct naive_says naive_read(const uint8_t *image, size_t length, struct naive_room room);
+struct naive_says naive_read(const uint8_t *image, size_t length, struct naive_table table, struct naive_room room);
 struct naive_part naive_list(struct naive_index index, uint32_t node);
 
-/* For the trials alone: the check word over a block's 127 words, and whether words are an index in shape. */
+/* For the trials alone. The check word over a block's 127 words. */
 uint32_t naive_check_word(uint32_t block, const uint32_t *words);
-bool naive_words_in_shape(struct naive_index index);
+/* The blocks of a card with these words, whatever they say, and at least one; gives how many. */
+size_t naive_card(const uint32_t *words, size_t count, uint8_t *image);
+/* The index of edition 1 that old recorders built; m and l are in range, and the room is 10n + 8 words. Gives the words. */
+uint32_t naive_build_old(struct naive_table table, uint32_t m, uint32_t l, uint32_t *room);
 
 #endif

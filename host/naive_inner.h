@@ -24,7 +24,7 @@ struct faults {
 
 struct node {
     uint32_t start, count, radius;
-    uint32_t inner_reach; /* 0 in edition 1, where it adds nothing to a bound */
+    uint32_t inner_reach; /* not in edition 1 */
     struct node **child;  /* the m children, or NULL for a leaf */
 };
 
@@ -69,14 +69,16 @@ struct faults naive_table_faults(struct naive_table t);
 void naive_index_faults(struct faults *f, struct naive_index x, struct naive_table t);
 void naive_clear_work(struct naive_room work, size_t n);
 
-/* How many words a node takes in an edition. */
+/* How many words a node takes in an edition; edition 1 stands on old cards alone. */
 size_t naive_node_words(uint32_t edition);
-/* How many words a possible header asks for, and where position p's pair stands. */
+/* How many words a possible header of either edition asks for, and where position p's pair stands. */
 size_t naive_words_asked(const uint32_t *w);
 size_t naive_pair_place(const uint32_t *w, uint32_t p);
 
-/* The tree that an index in shape describes. */
-struct tree naive_read_tree(struct naive_index x, struct naive_table table);
+/* The tree that an index in shape describes, of either edition. */
+struct tree naive_read_tree(const uint32_t *w, struct naive_table table);
 void naive_free_tree(struct tree *t);
+/* Puts the edition 2 index of an edition 1 index in shape into the room: each node gets its inner reach (R-4's widening). */
+void naive_put_wide(const uint32_t *w, struct naive_table table, uint32_t *room);
 
 #endif

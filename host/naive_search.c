@@ -16,7 +16,7 @@ struct search {
 
 static struct search begin_search(struct naive_index index, struct naive_table table, const uint16_t *query, uint32_t r, uint8_t *how)
 {
-    struct search s = { naive_read_tree(index, table), NULL, r, how };
+    struct search s = { naive_read_tree(index.words, table), NULL, r, how };
     s.x = naive_fresh(s.tree.n, sizeof *s.x);
     for (uint32_t i = 0; i < s.tree.n; i++)
         s.x[i] = naive_distance(query, table.columns + (size_t)i * table.c, table.c);
@@ -43,7 +43,7 @@ static uint32_t least_over_centres(const struct search *s, const struct node *v)
     return y;
 }
 
-/* It speaks of the child's members other than its first. The root is no child, so its bound is 0 in both editions. */
+/* It speaks of the child's members other than its first. The root is no child, so its bound is 0. */
 static uint32_t child_bound(const struct search *s, const struct node *child, uint32_t parents, uint32_t y)
 {
     uint32_t x = first_distance(s, child);

@@ -1,4 +1,5 @@
-/* 01's tree: built by the definition, read from an index in shape, checked in full; and an edition 1 index widened (02, R-4). */
+/* 01's tree with 02's inner reach: built by the definition, read from an index in shape, checked in full; and what reading an
+   edition 1 card gives. */
 #include "naive_inner.h"
 
 #include <stdlib.h>
@@ -180,30 +181,37 @@ static void put_index(const struct tree *t, uint32_t nodes, uint32_t *w)
     free(list);
 }
 
-/* The words of room that a build in this edition asks for; a widening asks for edition 2's. */
-static size_t room_asked(size_t n, uint32_t edition)
+/* Puts the index into the room and gives the number of nodes. */
+static uint32_t build_in(uint32_t edition, struct naive_table table, uint32_t m, uint32_t l, uint32_t *room)
 {
-    return edition == 2 ? 12 * n + 8 : 10 * n + 8;
+    struct tree t = bare_tree(table, (uint32_t)naive_rows_of(table), m, l, edition);
+    for (uint32_t i = 0; i < t.n; i++)
+        t.row[i] = i;
+    if (t.n > 0)
+        t.root = grow(&t, 0, t.n, 0);
+    uint32_t nodes = t.n > 0 ? count_nodes(&t, t.root) : 0;
+    put_index(&t, nodes, room);
+    naive_free_tree(&t);
+    return nodes;
 }
 
 struct naive_says naive_build(struct naive_table table, uint32_t m, uint32_t l, uint32_t edition, struct naive_room room, struct naive_room work)
 {
     struct faults f = naive_table_faults(table);
     size_t n = naive_rows_of(table);
-    f.met[2] = m < 2 || m > MOST_CENTRES || l < m || l > MOST_LEAF || (edition != 1 && edition != 2);
-    f.met[5] = room.length < room_asked(n, edition) || work.length < 6 * n;
+    f.met[2] = m < 2 || m > MOST_CENTRES || l < m || l > MOST_LEAF || edition != 2;
+    f.met[5] = room.length < 12 * n + 8 || work.length < 6 * n;
     if (naive_lowest(&f) != 0)
         return says(naive_lowest(&f), 0, 0);
-    struct tree t = bare_tree(table, (uint32_t)n, m, l, edition);
-    for (uint32_t i = 0; i < n; i++)
-        t.row[i] = i;
-    if (n > 0)
-        t.root = grow(&t, 0, (uint32_t)n, 0);
-    uint32_t nodes = n > 0 ? count_nodes(&t, t.root) : 0;
-    put_index(&t, nodes, room.words);
+    uint32_t nodes = build_in(edition, table, m, l, room.words);
     naive_clear_work(work, n);
-    naive_free_tree(&t);
     return says(0, (uint32_t)naive_words_asked(room.words), nodes);
+}
+
+uint32_t naive_build_old(struct naive_table table, uint32_t m, uint32_t l, uint32_t *room)
+{
+    build_in(1, table, m, l, room);
+    return (uint32_t)naive_words_asked(room);
 }
 
 /* ---- Reading an index in shape ---- */
@@ -224,9 +232,8 @@ static struct node *read_node(const uint32_t *w, uint32_t k)
     return v;
 }
 
-struct tree naive_read_tree(struct naive_index x, struct naive_table table)
+struct tree naive_read_tree(const uint32_t *w, struct naive_table table)
 {
-    const uint32_t *w = x.words;
     struct tree t = bare_tree(table, w[1], w[3], w[4], w[0]);
     for (uint32_t p = 0; p < t.n; p++) {
         t.row[p] = w[naive_pair_place(w, p)];
@@ -237,7 +244,7 @@ struct tree naive_read_tree(struct naive_index x, struct naive_table table)
     return t;
 }
 
-/* ---- Widening ---- */
+/* ---- Reading an old card ---- */
 
 static void find_inner_reaches(const struct tree *t, struct node *v)
 {
@@ -246,21 +253,14 @@ static void find_inner_reaches(const struct tree *t, struct node *v)
         find_inner_reaches(t, v->child[j]);
 }
 
-struct naive_says naive_widen(struct naive_table table, struct naive_index index, struct naive_room room)
+void naive_put_wide(const uint32_t *w, struct naive_table table, uint32_t *room)
 {
-    struct faults f = naive_table_faults(table);
-    f.met[5] = room.length < room_asked(naive_rows_of(table), 2);
-    naive_index_faults(&f, index, table);
-    f.met[8] = f.met[8] || index.words[0] == 2;
-    if (naive_lowest(&f) != 0)
-        return says(naive_lowest(&f), 0, 0);
-    struct tree t = naive_read_tree(index, table);
+    struct tree t = naive_read_tree(w, table);
     t.edition = 2;
     if (t.root != NULL)
         find_inner_reaches(&t, t.root);
-    put_index(&t, index.words[5], room.words);
+    put_index(&t, w[5], room);
     naive_free_tree(&t);
-    return says(0, (uint32_t)naive_words_asked(room.words), 0);
 }
 
 /* ---- The full check ---- */
@@ -300,7 +300,7 @@ static struct place wrong_distance(const struct tree *t, const struct node **lis
 
 static bool inner_reach_wrong(const struct tree *t, const struct node *v)
 {
-    return t->edition == 2 && v->inner_reach != true_inner_reach(t, v);
+    return v->inner_reach != true_inner_reach(t, v);
 }
 
 static struct place wrong_reach(const struct tree *t, const struct node **list, uint32_t nodes)
@@ -359,7 +359,7 @@ struct naive_says naive_check(struct naive_table table, struct naive_index index
     naive_index_faults(&f, index, table);
     if (naive_lowest(&f) != 0)
         return says(naive_lowest(&f), 0, 0);
-    struct tree t = naive_read_tree(index, table);
+    struct tree t = naive_read_tree(index.words, table);
     struct naive_says s = full_check(&t, index.words[5]);
     naive_clear_work(work, t.n);
     naive_free_tree(&t);

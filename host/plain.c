@@ -5,12 +5,12 @@
 
 static inline const uint32_t *node_of(const uint32_t *index, uint32_t k)
 {
-    return index + 8 + width_of(index) * (size_t)k;
+    return index + 8 + NODE_WORDS * (size_t)k;
 }
 
 static inline const uint32_t *pairs_of(const uint32_t *index)
 {
-    return index + 8 + width_of(index) * (size_t)index[5];
+    return index + 8 + NODE_WORDS * (size_t)index[5];
 }
 
 /* ---- Build ---- */
@@ -105,7 +105,7 @@ static uint32_t least_of_others(const uint32_t *at, uint32_t count)
     return least;
 }
 
-static uint32_t make_nodes(struct making *k, uint32_t l, uint32_t *node, uint32_t width)
+static uint32_t make_nodes(struct making *k, uint32_t l, uint32_t *node)
 {
     uint32_t nodes = k->table.n > 0, depth = 0, level_end = 1, size[MOST_CENTRES];
     node[0] = 0;
@@ -115,43 +115,41 @@ static uint32_t make_nodes(struct making *k, uint32_t l, uint32_t *node, uint32_
             depth++;
             level_end = nodes;
         }
-        uint32_t *at = node + width * (size_t)v, start = at[0], count = at[1];
+        uint32_t *at = node + NODE_WORDS * (size_t)v, start = at[0], count = at[1];
         at[2] = 0;
         at[3] = greatest(k->least + start, count);
-        if (width == 5)
-            at[4] = least_of_others(k->least + start, count);
+        at[4] = least_of_others(k->least + start, count);
         if (count <= l || depth == MOST_DEPTH)
             continue;
         split(k, start, count, size);
         at[2] = nodes;
         for (uint32_t j = 0; j < k->m; start += size[j], j++, nodes++) {
-            node[width * (size_t)nodes] = start;
-            node[width * (size_t)nodes + 1] = size[j];
+            node[NODE_WORDS * (size_t)nodes] = start;
+            node[NODE_WORDS * (size_t)nodes + 1] = size[j];
         }
     }
     return nodes;
 }
 
-uint32_t plain_build(struct plain_table t, uint32_t m, uint32_t l, uint32_t edition, uint32_t *room, uint32_t *work)
+uint32_t plain_build(struct plain_table t, uint32_t m, uint32_t l, uint32_t *room, uint32_t *work)
 {
     size_t n = t.n;
-    uint32_t width = edition == 2 ? 5 : 4;
     struct making k = { t, m, work, work + n, work + 2 * n, work + 3 * n, work + 4 * n };
     for (uint32_t i = 0; i < t.n; i++) {
         k.order[i] = i;
         k.least[i] = far(row_of(t, 0), row_of(t, i), t.c);
     }
     /* With no rows the root's first two words would be written; the header is then all there is. */
-    uint32_t nodes = n == 0 ? 0 : make_nodes(&k, l, room + 8, width);
-    const uint32_t header[8] = { edition, t.n, t.c, m, l, nodes, 1, 0 };
+    uint32_t nodes = n == 0 ? 0 : make_nodes(&k, l, room + 8);
+    const uint32_t header[8] = { 2, t.n, t.c, m, l, nodes, 1, 0 };
     memcpy(room, header, sizeof header);
-    uint32_t *pair = room + 8 + width * (size_t)nodes;
+    uint32_t *pair = room + 8 + NODE_WORDS * (size_t)nodes;
     for (size_t p = 0; p < n; p++) {
         pair[2 * p] = k.order[p];
         pair[2 * p + 1] = k.least[p];
     }
     memset(work, 0, 6 * n * sizeof *work);
-    return 8 + width * nodes + 2 * t.n;
+    return 8 + NODE_WORDS * nodes + 2 * t.n;
 }
 
 /* ---- Shape ---- */
@@ -181,7 +179,7 @@ static bool children_tile(const uint32_t *index, const uint32_t *v, uint32_t m)
 
 bool plain_shape(const uint32_t *index)
 {
-    uint32_t n = index[1], m = index[3], l = index[4], nodes = index[5], next = 1, depth = 0, level_end = 1, width = width_of(index);
+    uint32_t n = index[1], m = index[3], l = index[4], nodes = index[5], next = 1, depth = 0, level_end = 1;
     if (nodes > 0 && (node_of(index, 0)[0] != 0 || node_of(index, 0)[1] != n))
         return false;
     for (uint32_t k = 0; k < nodes; k++) {
@@ -190,7 +188,7 @@ bool plain_shape(const uint32_t *index)
             level_end = next;
         }
         const uint32_t *v = node_of(index, k);
-        if (k >= next || v[1] == 0 || v[3] > MOST_DISTANCE || inner_of(v, width) > MOST_DISTANCE)
+        if (k >= next || v[1] == 0 || v[3] > MOST_DISTANCE || v[4] > MOST_DISTANCE)
             return false;
         if (v[1] <= l || depth == MOST_DEPTH) {
             if (v[2] != 0)
@@ -229,7 +227,7 @@ static void check_child(struct plain_table t, const uint32_t *index, uint32_t pa
                         uint32_t own, struct faults *f)
 {
     const uint32_t *v = node_of(index, k), *pair = pairs_of(index);
-    uint32_t most = 0, nearest = v[1] > 1 ? UINT32_MAX : 0, width = width_of(index);
+    uint32_t most = 0, nearest = v[1] > 1 ? UINT32_MAX : 0;
     for (uint32_t p = v[0]; p < v[0] + v[1]; p++) {
         const uint16_t *row = row_of(t, pair[2 * (size_t)p]);
         uint32_t d = 0, least = MOST_DISTANCE;
@@ -247,7 +245,7 @@ static void check_child(struct plain_table t, const uint32_t *index, uint32_t pa
             f->position = p;
         }
     }
-    if ((v[3] != most || (width == 5 && v[4] != nearest)) && k < f->radius)
+    if ((v[3] != most || v[4] != nearest) && k < f->radius)
         f->radius = k;
 }
 

@@ -26,7 +26,7 @@ struct plain_verdict {
 #endif
 
 /* Gives the number of words; work is 6n words, and is zero afterwards. */
-PLAIN_CALL uint32_t plain_build(struct plain_table t, uint32_t m, uint32_t l, uint32_t edition, uint32_t *room, uint32_t *work);
+PLAIN_CALL uint32_t plain_build(struct plain_table t, uint32_t m, uint32_t l, uint32_t *room, uint32_t *work);
 PLAIN_CALL bool plain_shape(const uint32_t *index);
 PLAIN_CALL struct plain_verdict plain_check(struct plain_table t, const uint32_t *index, uint32_t *work);
 PLAIN_CALL struct plain_counts plain_radius(struct plain_table t, const uint32_t *index, const uint16_t *query, uint32_t r, uint8_t *how);
@@ -36,7 +36,8 @@ PLAIN_CALL struct plain_counts plain_nearest(struct plain_table t, const uint32_
 /* Gives the number of blocks. */
 PLAIN_CALL size_t plain_write(const uint32_t *index, uint8_t *image);
 
-/* Gives the number of words, 0 where a check word, the header or the rest after the last word is wrong. */
+/* Gives the number of words, 0 where a check word, the header, the rest after the last word or the shape is wrong. Unlike the library it looks at
+   the shape in the room. */
 PLAIN_CALL size_t plain_read(const uint8_t *image, size_t blocks, uint32_t *room);
 
 /* The same answers by a scan of every row. */

@@ -10,7 +10,7 @@ enum {
 
 static inline size_t words_of(const uint32_t *header)
 {
-    return 8 + (3 + (size_t)header[0]) * header[5] + 2 * (size_t)header[1];
+    return 8 + 5 * (size_t)header[5] + 2 * (size_t)header[1];
 }
 
 static inline size_t blocks_for(size_t words)
@@ -79,5 +79,5 @@ size_t plain_read(const uint8_t *image, size_t blocks, uint32_t *room)
             return 0;
     for (size_t b = 0; b < blocks; b++)
         memcpy(room + HELD * b, image + BLOCK * b, 4 * held_by(b, words));
-    return words;
+    return plain_shape(room) ? words : 0;
 }

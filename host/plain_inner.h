@@ -9,7 +9,8 @@
 enum {
     MOST_DEPTH = 24,
     MOST_CENTRES = 64,
-    MOST_DISTANCE = 1048560
+    MOST_DISTANCE = 1048560,
+    NODE_WORDS = 5 /* start, count, first child, radius, inner reach */
 };
 
 /* How far two numbers of one column are apart, in the form that each compiler makes its fastest code of, and whether it gains by knowing that there
@@ -67,18 +68,6 @@ static inline const uint16_t *row_of(struct plain_table t, uint32_t i)
 static inline uint32_t greater(uint32_t a, uint32_t b)
 {
     return a > b ? a : b;
-}
-
-/* A node's words: start, count, first child, radius, and in edition 2 the inner reach. */
-static inline uint32_t width_of(const uint32_t *index)
-{
-    return index[0] == 2 ? 5 : 4;
-}
-
-/* A node's inner reach; edition 1 has none, and 0 adds nothing to a bound. */
-static inline uint32_t inner_of(const uint32_t *node, uint32_t width)
-{
-    return width == 5 ? node[4] : 0;
 }
 
 #endif

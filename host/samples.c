@@ -72,7 +72,7 @@ void draw_sample(struct draw *d, struct sample *s, uint32_t limit)
 {
     s->n = draw_below(d, limit + 1);
     s->c = draw_one_in(d, 3) ? draw_between(d, 1, 2) : draw_between(d, 1, 16);
-    s->edition = draw_between(d, 1, 2);
+    s->edition = 2;
     draw_centres(d, s);
     fill_table(d, s, draw_one_in(d, 2) ? TIES : (enum style)draw_below(d, STYLES));
     s->index_length = s->image_length = 0;
@@ -83,7 +83,7 @@ void draw_equal_rows(struct draw *d, struct sample *s, uint32_t n)
 {
     s->n = n;
     s->c = draw_between(d, 1, 16);
-    s->edition = draw_between(d, 1, 2);
+    s->edition = 2;
     s->m = draw_between(d, 2, 4);
     s->l = s->m + draw_below(d, 3);
     fill_table(d, s, EQUAL);
@@ -98,9 +98,16 @@ size_t node_words(uint32_t edition)
     return edition == 2 ? 5 : 4;
 }
 
-size_t build_words(size_t n, uint32_t edition)
+size_t build_words(size_t n)
 {
-    return edition == 2 ? 12 * n + 8 : 10 * n + 8;
+    return 12 * n + 8;
+}
+
+/* Where there is no telling, enough for a build. */
+size_t taken_words(const struct sample *s)
+{
+    bool told = s->index_length >= 8 && s->index[1] <= SAMPLE_ROWS && s->index[5] < 2 * SAMPLE_ROWS;
+    return told ? 8 + 5 * (size_t)s->index[5] + 2 * (size_t)s->index[1] : build_words(s->n);
 }
 
 static struct naive_table table_of(const struct sample *s)
@@ -113,12 +120,13 @@ void index_built(struct sample *s)
 {
     static uint32_t scratch[6 * SAMPLE_ROWS];
     struct naive_room room = { s->index, SAMPLE_WORDS }, work = { scratch, sizeof scratch / sizeof *scratch };
-    s->index_length = naive_build(table_of(s), s->m, s->l, s->edition, room, work).one;
+    s->index_length = s->edition == 1 ? naive_build_old(table_of(s), s->m, s->l, s->index)
+                                      : naive_build(table_of(s), s->m, s->l, s->edition, room, work).one;
 }
 
-/* How often something is wrong in an index: 0 for never, k for one time in k. */
+/* How often something is wrong in an index: 0 for never, k for one time in k. Groups are wrong from a depth on. */
 struct wrongs {
-    uint32_t group, radius, inner, stored, row;
+    uint32_t group, radius, inner, stored, row, depth;
 };
 
 /* A tree under way in number order: each node knows its run, and its depth. */
@@ -154,10 +162,10 @@ static bool is_wrong(struct draw *d, uint32_t chances)
 }
 
 /* A group for a row: that of one of its closest centres, or any. */
-static uint32_t draw_group(struct making *k, const uint32_t *centre, uint32_t row)
+static uint32_t draw_group(struct making *k, uint32_t depth, const uint32_t *centre, uint32_t row)
 {
     const struct sample *s = k->sample;
-    if (is_wrong(k->draw, k->wrongs.group))
+    if (depth >= k->wrongs.depth && is_wrong(k->draw, k->wrongs.group))
         return draw_below(k->draw, s->m);
     uint32_t best = draw_below(k->draw, s->m);
     for (uint32_t j = 0, at = best; j < s->m; j++, at = (at + 1) % s->m)
@@ -175,7 +183,7 @@ static void split(struct making *k, uint32_t number)
     shuffle(k->draw, run + 1, count - 1);
     memcpy(rows, run, count * sizeof *rows);
     for (uint32_t i = 0; i < count; i++)
-        group[i] = i < s->m ? i : draw_group(k, rows, rows[i]);
+        group[i] = i < s->m ? i : draw_group(k, k->depth[number], rows, rows[i]);
     node_at(s, number)[2] = k->nodes;
     for (uint32_t j = 0, at = 0; j < s->m; j++) {
         uint32_t begin = at;
@@ -252,7 +260,7 @@ static void make_index(struct draw *d, struct sample *s, struct wrongs wrongs)
 
 void index_foreign(struct draw *d, struct sample *s)
 {
-    const struct wrongs none = { 0, 0, 0, 0, 0 };
+    const struct wrongs none = { 0, 0, 0, 0, 0, 0 };
     make_index(d, s, none);
 }
 
@@ -263,15 +271,15 @@ static uint32_t draw_chances(struct draw *d)
 
 void index_wild(struct draw *d, struct sample *s)
 {
-    struct wrongs wrongs = { 0, 0, 0, 0, 0 };
-    const struct wrongs groups_alone = { draw_between(d, 1, 16), 0, 0, 0, 0 };
-    const struct wrongs reaches_alone = { 0, draw_chances(d), draw_between(d, 1, 16), 0, 0 };
+    struct wrongs wrongs = { 0, 0, 0, 0, 0, 0 };
+    const struct wrongs groups_alone = { draw_between(d, 1, 16), 0, 0, 0, 0, draw_below(d, 3) };
+    const struct wrongs reaches_alone = { 0, draw_chances(d), draw_between(d, 1, 16), 0, 0, 0 };
     wrongs.group = draw_chances(d);
     wrongs.radius = draw_chances(d);
     wrongs.inner = draw_chances(d);
     wrongs.stored = draw_chances(d);
     wrongs.row = draw_one_in(d, 5) ? draw_between(d, 1, 200) : 0;
-    /* All else right, or 10 to 12 would hide every 13, and 10 and 11 most of 12. */
+    /* All else right, or 10 to 12 would hide every 13, and 10 and 11 most of 12; and the root's 13 would hide those below. */
     if (draw_one_in(d, 3))
         wrongs = groups_alone;
     else if (draw_one_in(d, 3))
@@ -346,8 +354,8 @@ struct lot fair_lot(struct draw *d, const struct sample *s)
     lot.w = draw_w(d, s);
     lot.node = draw_below(d, s->index_length > 5 && s->index[5] < 2 * SAMPLE_ROWS ? s->index[5] + 2 : 9);
     size_t asked = lot.w < s->n ? lot.w : s->n;
-    lot.room = longer(d, build_words(s->n, s->edition));
-    lot.wide = longer(d, build_words(s->n, 2));
+    lot.room = longer(d, build_words(s->n));
+    lot.taken = longer(d, taken_words(s));
     lot.work = longer(d, 6 * (size_t)s->n);
     lot.how = longer(d, s->n);
     lot.rows = longer(d, asked);

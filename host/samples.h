@@ -20,13 +20,14 @@ struct sample {
     size_t image_length;
 };
 
-/* A table of at most `limit` rows, mostly full of ties, with m and l that give a tree, an edition, and a query. No index yet. */
+/* A table of at most `limit` rows, mostly full of ties, with m and l that give a tree, and a query. The edition is 2; no index
+   yet. */
 void draw_sample(struct draw *d, struct sample *s, uint32_t limit);
 /* n equal rows, with m and l small. */
 void draw_equal_rows(struct draw *d, struct sample *s, uint32_t n);
 void draw_query(struct draw *d, struct sample *s);
 
-/* In the sample's edition: the build's index; an accepted one of another hand (other centres, orders and ties); one in shape
+/* In the sample's edition, 1 or 2: the build's index; an accepted one of another hand (other centres, orders and ties); one in shape
    that fits no table. */
 void index_built(struct sample *s);
 void index_foreign(struct draw *d, struct sample *s);
@@ -39,7 +40,7 @@ void spoil_index(struct draw *d, struct sample *s);
 /* Words that were never an index, with a header that is possible half of the time. */
 void random_words(struct draw *d, struct sample *s);
 
-/* The image of the index, which must have a possible header and all its words. */
+/* A card of the index's words, whatever they say. */
 void draw_image(struct sample *s);
 /* The check word of a block set right again. */
 void seal_block(struct sample *s, size_t block);
@@ -48,7 +49,9 @@ void spoil_image(struct draw *d, struct sample *s);
 
 /* How many words a node takes in an edition, and how many words of room a build over n rows asks for. */
 size_t node_words(uint32_t edition);
-size_t build_words(size_t n, uint32_t edition);
+size_t build_words(size_t n);
+/* How many words come out where a card of the sample's index, of either edition, is read. */
+size_t taken_words(const struct sample *s);
 
 /* What all calls on the sample are lent, with r, w and a node drawn; each room is long enough, often longer. */
 struct lot fair_lot(struct draw *d, const struct sample *s);

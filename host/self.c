@@ -1,4 +1,4 @@
-/* The scope paper's own cases in both editions, and cases of edition 2 worked out by hand: the naive implementation against the
+/* The scope paper's own cases, cases of the inner reach worked out by hand, and old cards: the naive implementation against the
    numbers printed there, the library against the naive one. */
 #include <inttypes.h>
 #include <stdio.h>
@@ -33,13 +33,12 @@ static void expect_says(const char *name, struct naive_says is, uint32_t number,
     expect_words(name, a, b, 3);
 }
 
-/* A lot over this table, with rooms for a build in this edition; `room` holds its index once `build` ran. */
-static struct lot lot_of(const uint16_t *table, size_t length, uint32_t c, uint32_t m, uint32_t l, uint32_t edition)
+/* A lot over this table, with rooms for a build; `room` holds its index once `build` ran. */
+static struct lot lot_of(const uint16_t *table, size_t length, uint32_t c, uint32_t m, uint32_t l)
 {
     size_t n = length / c;
-    struct lot lot = { .table = table, .table_length = length, .c = c, .m = m, .l = l, .edition = edition, .index = room,
-                       .room = build_words(n, edition), .wide = build_words(n, 2), .work = 6 * n, .how = n, .rows = n, .distances = n,
-                       .answers = n, .image_length = 512 };
+    struct lot lot = { .table = table, .table_length = length, .c = c, .m = m, .l = l, .edition = 2, .index = room, .room = build_words(n),
+                       .taken = build_words(n), .work = 6 * n, .how = n, .rows = n, .distances = n, .answers = n, .image_length = 512 };
     return lot;
 }
 
@@ -59,9 +58,9 @@ struct column {
     uint32_t n;
 };
 
-static struct lot built(struct column t, uint32_t edition)
+static struct lot built(struct column t)
 {
-    struct lot lot = lot_of(t.rows, t.n, 1, 2, 2, edition);
+    struct lot lot = lot_of(t.rows, t.n, 1, 2, 2);
     build(&lot);
     return lot;
 }
@@ -74,9 +73,9 @@ static void expect_marks(const char *name, const uint8_t *how, const char *marks
     }
 }
 
-static void radius_case(struct column t, uint32_t edition, uint16_t query, uint32_t r, const char *marks, uint32_t inside, uint32_t measured)
+static void radius_case(struct column t, uint16_t query, uint32_t r, const char *marks, uint32_t inside, uint32_t measured)
 {
-    struct lot lot = built(t, edition);
+    struct lot lot = built(t);
     uint8_t how[5];
     struct naive_table table = { t.rows, t.n, 1 };
     struct naive_index index = { room, lot.index_length };
@@ -97,9 +96,9 @@ struct closest {
     const char *marks;
 };
 
-static void nearest_case(struct column t, uint32_t edition, uint16_t query, uint32_t w, struct closest should)
+static void nearest_case(struct column t, uint16_t query, uint32_t w, struct closest should)
 {
-    struct lot lot = built(t, edition);
+    struct lot lot = built(t);
     uint8_t how[5];
     uint32_t row[5], distance[5];
     struct naive_table table = { t.rows, t.n, 1 };
@@ -124,66 +123,122 @@ static void nearest_case(struct column t, uint32_t edition, uint16_t query, uint
 
 static const struct column five = { five_rows, 5 };
 
-/* The first edition's words are 01's; the second's have one word more a node, the inner reach: 1 1 9 1 0. */
-static const uint32_t five_words[2][43] = {
-    { 1, 5, 1, 2, 2, 5, 1, 0, 0, 5, 1, 20, 0, 3, 3, 10, 3, 2, 0, 9, 0, 2, 0, 1, 2, 1, 0, 0, 0, 0, 1, 1, 2, 0, 4, 0, 3, 9 },
-    { 2, 5, 1, 2, 2, 5, 1, 0, 0, 5, 1, 20, 1, 0, 3, 3, 10, 1, 3, 2, 0, 9, 9, 0, 2, 0, 1, 1, 2, 1, 0, 0, 0, 0, 0, 1, 1, 2, 0, 4, 0, 3, 9 }
+/* 01's words, which stand on old cards; and with one word more a node, the inner reach: 1 1 9 1 0. */
+static const uint32_t old_words[] = { 1, 5, 1, 2, 2, 5, 1, 0, 0, 5, 1, 20, 0, 3, 3, 10, 3, 2, 0, 9, 0, 2, 0, 1, 2, 1, 0, 0,
+                                      0, 0, 1, 1, 2, 0, 4, 0, 3, 9 };
+static const uint32_t five_words[] = { 2, 5, 1, 2, 2, 5, 1, 0, 0, 5, 1, 20, 1, 0, 3, 3, 10, 1, 3, 2, 0, 9, 9, 0, 2, 0, 1, 1, 2, 1, 0, 0, 0,
+                                       0, 0, 1, 1, 2, 0, 4, 0, 3, 9 };
+
+enum {
+    OLD_WORDS = 38,
+    FIVE_WORDS = 43
 };
 
-static void five_index(uint32_t edition)
+static void five_index(void)
 {
-    uint32_t words = edition == 2 ? 43 : 38;
-    struct lot lot = lot_of(five_rows, 5, 1, 2, 2, edition);
-    expect_says("the index's numbers", build(&lot), 0, words, 5);
-    expect_words("the index", room, five_words[edition - 1], words);
+    static const uint32_t lines[5][4] = { { 0, 5, 1, 20 }, { 0, 3, 3, 10 }, { 3, 2, 0, 9 }, { 0, 2, 0, 1 }, { 2, 1, 0, 0 } };
+    static const uint32_t pairs[] = { 0, 0, 1, 1, 2, 0, 4, 0, 3, 9 };
+    struct lot lot = lot_of(five_rows, 5, 1, 2, 2);
+    expect_says("the index's numbers", build(&lot), 0, FIVE_WORDS, 5);
+    expect_words("the index", room, five_words, FIVE_WORDS);
+    for (size_t k = 0; k < 5; k++)
+        expect_words("a listed node", room + 8 + 5 * k, lines[k], 4);
+    expect_words("the listed positions", room + 8 + 5 * 5, pairs, 10);
     try_check(&trial, &lot);
     for (lot.node = 0; lot.node < 6; lot.node++)
         try_list(&trial, &lot);
     try_write(&trial, &lot);
-    try_widen(&trial, &lot);
+    try_card(&trial, &lot);
 }
 
-static void five_searches(uint32_t edition)
+static void five_searches(void)
 {
     static const uint32_t rows[4][5] = { { 2 }, { 2, 3 }, { 1, 0 }, { 2, 3, 1, 0, 4 } }, far[3][2] = { { 1 }, { 1, 2 }, { 4, 5 } };
-    radius_case(five, edition, 9, 1, "10301", 1, 3);
-    radius_case(five, edition, 0, 20, "32222", 5, 1);
-    radius_case(five, edition, 10, 5, "10331", 2, 4);
-    nearest_case(five, edition, 9, 1, (struct closest){ rows[0], far[0], 1, 3, NULL });
-    nearest_case(five, edition, 9, 2, (struct closest){ rows[1], far[1], 2, 4, NULL });
-    nearest_case(five, edition, 5, 2, (struct closest){ rows[2], far[2], 2, 4, NULL });
-    nearest_case(five, edition, 9, 9, (struct closest){ rows[3], NULL, 5, 5, NULL });
+    radius_case(five, 9, 1, "10301", 1, 3);
+    radius_case(five, 0, 20, "32222", 5, 1);
+    radius_case(five, 10, 5, "10331", 2, 4);
+    nearest_case(five, 9, 1, (struct closest){ rows[0], far[0], 1, 3, NULL });
+    nearest_case(five, 9, 2, (struct closest){ rows[1], far[1], 2, 4, NULL });
+    nearest_case(five, 5, 2, (struct closest){ rows[2], far[2], 2, 4, NULL });
+    nearest_case(five, 9, 9, (struct closest){ rows[3], NULL, 5, 5, NULL });
+}
+
+/* ---- Old cards ---- */
+
+/* One block with these words is read over the first `rows` of the five rows, with so many words of room. */
+static struct naive_says read_card(const uint32_t *words, size_t count, size_t rows, size_t taken)
+{
+    uint8_t image[512];
+    struct naive_table table = { five_rows, rows, 1 };
+    struct naive_room r = { room, taken };
+    struct lot lot = lot_of(five_rows, rows, 1, 2, 2);
+    lot.index = words;
+    lot.index_length = count;
+    lot.taken = taken;
+    try_card(&trial, &lot);
+    return naive_read(image, 512 * naive_card(words, count, image), table, r);
+}
+
+/* 01's index and 01's empty one as cards: what comes out, 5 by the words that come out, and the order of 8, 9 and 5. */
+static void old_cards(void)
+{
+    static const uint32_t old_empty[] = { 1, 0, 1, 2, 2, 0, 1, 0 }, empty[] = { 2, 0, 1, 2, 2, 0, 1, 0 };
+    struct naive_table table = { five_rows, 5, 1 };
+    uint32_t spoilt[FIVE_WORDS];
+    expect_words("the build of edition 1, how many words", (const uint32_t[]){ naive_build_old(table, 2, 2, room) }, (const uint32_t[]){ OLD_WORDS }, 1);
+    expect_words("the build of edition 1", room, old_words, OLD_WORDS);
+    expect_says("an old card", read_card(old_words, OLD_WORDS, 5, FIVE_WORDS), 0, 0, FIVE_WORDS);
+    expect_words("an old card's words", room, five_words, FIVE_WORDS);
+    expect_says("a new card", read_card(five_words, FIVE_WORDS, 5, FIVE_WORDS), 0, 0, FIVE_WORDS);
+    expect_words("a new card's words", room, five_words, FIVE_WORDS);
+    expect_says("an old card of no rows", read_card(old_empty, 8, 0, 8), 0, 0, 8);
+    expect_words("an old card of no rows, words", room, empty, 8);
+    expect_says("an old card, a word of room too few", read_card(old_words, OLD_WORDS, 5, FIVE_WORDS - 1), 5, 0, 0);
+    expect_says("a new card, a word of room too few", read_card(five_words, FIVE_WORDS, 5, FIVE_WORDS - 1), 5, 0, 0);
+    expect_says("an old card over other rows, no room", read_card(old_words, OLD_WORDS, 4, 0), 8, 0, 0);
+    memcpy(spoilt, old_words, sizeof old_words);
+    spoilt[11] = 1048561;
+    expect_says("an old card with a wrong shape, no room", read_card(spoilt, OLD_WORDS, 5, 0), 9, 0, 0);
+    expect_says("the same over other rows", read_card(spoilt, OLD_WORDS, 4, 0), 8, 0, 0);
+    memcpy(spoilt, five_words, sizeof five_words);
+    spoilt[12] = 1048561;
+    expect_says("a new card with a wrong shape, no room", read_card(spoilt, FIVE_WORDS, 5, 0), 9, 0, 0);
+    for (spoilt[0] = 0; spoilt[0] < 5; spoilt[0] += 3)
+        expect_says("a card of another edition", read_card(spoilt, FIVE_WORDS, 5, 0), 16, 0, 0);
+}
+
+/* 01's own index in memory: no call takes it any more. */
+static void old_index(void)
+{
+    static const uint16_t query[] = { 9 };
+    struct naive_table table = { five_rows, 5, 1 };
+    struct naive_index index = { old_words, OLD_WORDS };
+    struct naive_room w = { work, WORDS };
+    uint8_t image[512];
+    struct naive_bytes bytes = { image, 512 };
+    struct lot lot = lot_of(five_rows, 5, 1, 2, 2);
+    lot.edition = 1;
+    expect_says("a build in edition 1", build(&lot), 2, 0, 0);
+    lot.index = old_words;
+    lot.index_length = OLD_WORDS;
+    lot.query = query;
+    lot.query_length = 1;
+    lot.w = 1;
+    expect_says("edition 1 checked", naive_check(table, index, w), 8, 0, 0);
+    expect_says("edition 1 written", naive_write(index, bytes), 16, 0, 0);
+    expect_words("edition 1 listed", (const uint32_t[]){ naive_list(index, 0).length }, (const uint32_t[]){ 0 }, 1);
+    try_check(&trial, &lot);
+    try_searches(&trial, &lot);
+    try_list(&trial, &lot);
+    try_write(&trial, &lot);
 }
 
 /* ---- The inner reach ---- */
 
-/* The five rows' index and the empty one widened; an index of edition 2 widened is refused. */
-static void widenings(void)
-{
-    static const uint32_t empty[] = { 2, 0, 1, 2, 2, 0, 1, 0 };
-    uint32_t out[68];
-    struct naive_room wide = { out, 68 };
-    struct naive_table table = { five_rows, 5, 1 }, none = { five_rows, 0, 1 };
-    struct lot lot = built(five, 1);
-    struct naive_index index = { room, lot.index_length };
-    expect_says("the five rows widened", naive_widen(table, index, wide), 0, 43, 0);
-    expect_words("the five rows widened, words", out, five_words[1], 43);
-    index.words = out;
-    index.length = 43;
-    expect_says("edition 2 widened", naive_widen(table, index, wide), 8, 0, 0);
-    lot = lot_of(five_rows, 0, 1, 2, 2, 1);
-    build(&lot);
-    index.words = room;
-    index.length = 8;
-    expect_says("the empty index widened", naive_widen(none, index, wide), 0, 8, 0);
-    expect_words("the empty index widened, words", out, empty, 8);
-    try_widen(&trial, &lot);
-}
-
 /* A wrong inner reach of each node: too great, too small, that of a first that counts as another member. */
 static void wrong_inner_reaches(void)
 {
-    struct lot lot = built(five, 2);
+    struct lot lot = built(five);
     struct naive_table table = { five_rows, 5, 1 };
     struct naive_index index = { room, lot.index_length };
     struct naive_room w = { work, WORDS };
@@ -208,58 +263,59 @@ static void closed_by_the_middle(void)
     static const uint16_t gap[] = { 4, 2, 2, 8 }, ring[] = { 7, 4, 4, 1 }, line[] = { 0, 10, 20 };
     static const uint32_t zero[] = { 0 };
     const struct column gaps = { gap, 4 }, rings = { ring, 4 }, lines = { line, 3 };
-    radius_case(gaps, 1, 5, 0, "1101", 0, 3);
-    radius_case(gaps, 2, 5, 0, "1001", 0, 2);
-    nearest_case(rings, 1, 7, 1, (struct closest){ zero, zero, 1, 3, "3101" });
-    nearest_case(rings, 2, 7, 1, (struct closest){ zero, zero, 1, 2, "3001" });
-    nearest_case(lines, 2, 0, 1, (struct closest){ zero, zero, 1, 2, "301" });
+    radius_case(gaps, 5, 0, "1001", 0, 2);
+    nearest_case(rings, 7, 1, (struct closest){ zero, zero, 1, 2, "3001" });
+    nearest_case(lines, 0, 1, (struct closest){ zero, zero, 1, 2, "301" });
     /* The closed node's first is in, by its own distance. */
-    radius_case(lines, 2, 1, 1, "301", 1, 2);
+    radius_case(lines, 1, 1, "301", 1, 2);
 }
 
 /* ---- Equal rows ---- */
 
-static void equal_rows(uint32_t edition, uint32_t n, uint32_t nodes, uint32_t deepest)
+static void equal_rows(uint32_t n, uint32_t nodes, uint32_t deepest)
 {
     uint16_t table[64];
-    uint32_t width = edition == 2 ? 5 : 4;
     for (size_t i = 0; i < 64; i++)
         table[i] = 7;
-    struct lot lot = lot_of(table, n, 1, 2, 2, edition);
+    struct lot lot = lot_of(table, n, 1, 2, 2);
     struct naive_says s = build(&lot);
-    expect_says("equal rows, numbers", s, 0, 8 + width * nodes + 2 * n, nodes);
+    expect_says("equal rows, numbers", s, 0, 8 + 5 * nodes + 2 * n, nodes);
     /* The last two nodes are the deepest level; the first of them goes on from the first of all. */
-    expect_words("equal rows, deepest leaf", room + 8 + width * (size_t)(nodes - 2) + 1, &deepest, 1);
+    expect_words("equal rows, deepest leaf", room + 8 + 5 * (size_t)(nodes - 2) + 1, &deepest, 1);
     try_check(&trial, &lot);
 }
 
-static void four_sevens(uint32_t edition)
+static void four_sevens(void)
 {
     static const uint32_t order[] = { 0, 3, 2, 1 };
-    equal_rows(edition, 4, 5, 2);
+    equal_rows(4, 5, 2);
     for (uint32_t p = 0; p < 4; p++)
-        expect_words("7 7 7 7, order", room + 8 + (edition == 2 ? 5 : 4) * 5 + 2 * p, order + p, 1);
+        expect_words("7 7 7 7, order", room + 8 + 5 * 5 + 2 * p, order + p, 1);
 }
 
 /* ---- The image ---- */
 
-/* The empty table's check word is printed in 01 for edition 1, and in 02 for edition 2. */
-static void images(uint32_t edition)
+static uint32_t check_of(const uint8_t *block)
 {
-    static const uint32_t zero[127];
-    const uint32_t empty[] = { edition, 0, 1, 2, 2, 0, 1, 0 };
+    return block[508] | (uint32_t)block[509] << 8 | (uint32_t)block[510] << 16 | (uint32_t)block[511] << 24;
+}
+
+/* The empty table's check word is printed in 02, and in 01 for an old card. */
+static void images(void)
+{
+    static const uint32_t zero[127], empty[] = { 2, 0, 1, 2, 2, 0, 1, 0 }, old_empty[] = { 1, 0, 1, 2, 2, 0, 1, 0 };
     const uint32_t checks[] = { naive_check_word(0, zero), naive_check_word(1, zero) }, should[] = { 2147483648u, 1 };
     expect_words("check of zero words", checks, should, 2);
-    uint8_t image[512];
-    struct lot lot = lot_of(five_rows, 0, 1, 2, 2, edition);
+    uint8_t image[512], old[512];
+    struct lot lot = lot_of(five_rows, 0, 1, 2, 2);
     expect_says("the empty table", build(&lot), 0, 8, 0);
     expect_words("the empty table's words", room, empty, 8);
     struct naive_index index = { room, 8 };
     struct naive_bytes bytes = { image, 512 };
     expect_says("the empty table's image", naive_write(index, bytes), 0, 1, 0);
-    uint32_t check = image[508] | (uint32_t)image[509] << 8 | (uint32_t)image[510] << 16 | (uint32_t)image[511] << 24;
-    uint32_t printed = edition == 2 ? 687865857u : 3909091328u;
-    expect_words("the empty table's check", &check, &printed, 1);
+    naive_card(old_empty, 8, old);
+    const uint32_t empties[] = { check_of(image), check_of(old) }, printed[] = { 687865857u, 3909091328u };
+    expect_words("the empty table's check", empties, printed, 2);
     try_write(&trial, &lot);
     lot.image = image;
     try_read(&trial, &lot);
@@ -267,23 +323,25 @@ static void images(uint32_t edition)
 
 /* ---- Limits ---- */
 
-static void limits(uint32_t edition)
+static void limits(void)
 {
     static const uint16_t table[17];
-    uint32_t width = edition == 2 ? 5 : 4;
-    struct lot lot = lot_of(table, 16, 16, 2, 2, edition);
-    expect_says("16 columns", build(&lot), 0, 10 + width, 1);
-    lot = lot_of(table, 17, 17, 2, 2, edition);
+    struct lot lot = lot_of(table, 16, 16, 2, 2);
+    expect_says("16 columns", build(&lot), 0, 15, 1);
+    lot = lot_of(table, 17, 17, 2, 2);
     expect_says("17 columns", build(&lot), 1, 0, 0);
-    lot = lot_of(table, 3, 1, 3, 3, edition);
-    expect_says("l = m", build(&lot), 0, 14 + width, 1);
-    lot = lot_of(table, 3, 1, 3, 2, edition);
+    lot = lot_of(table, 3, 1, 3, 3);
+    expect_says("l = m", build(&lot), 0, 19, 1);
+    lot = lot_of(table, 3, 1, 3, 2);
     expect_says("l = m - 1", build(&lot), 2, 0, 0);
-    lot = lot_of(table, 3, 1, 2, 2, edition);
+    lot = lot_of(table, 3, 1, 2, 2);
     lot.room--;
     expect_says("a room one word short", build(&lot), 5, 0, 0);
-    lot = lot_of(table, 3, 1, 2, 2, 3 * (edition - 1));
-    expect_says("edition 0 or 3", build(&lot), 2, 0, 0);
+    for (uint32_t edition = 0; edition < 4; edition++) {
+        lot = lot_of(table, 3, 1, 2, 2);
+        lot.edition = edition;
+        expect_words("each edition", (const uint32_t[]){ build(&lot).number }, (const uint32_t[]){ edition == 2 ? 0 : 2 }, 1);
+    }
 }
 
 uint32_t self_test(void)
@@ -291,16 +349,15 @@ uint32_t self_test(void)
     memset(&trial, 0, sizeof trial);
     snprintf(trial.again, sizeof trial.again, "trial --self");
     wrong = 0;
-    for (uint32_t edition = 1; edition <= 2; edition++) {
-        five_index(edition);
-        five_searches(edition);
-        four_sevens(edition);
-        equal_rows(edition, 26, 49, 2);
-        equal_rows(edition, 27, 49, 3);
-        images(edition);
-        limits(edition);
-    }
-    widenings();
+    five_index();
+    five_searches();
+    four_sevens();
+    equal_rows(26, 49, 2);
+    equal_rows(27, 49, 3);
+    images();
+    limits();
+    old_cards();
+    old_index();
     wrong_inner_reaches();
     closed_by_the_middle();
     return wrong + (uint32_t)trial.differences;

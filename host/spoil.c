@@ -50,6 +50,19 @@ static void move_border(struct draw *d, struct sample *s)
     node[width + 1] -= 1;
 }
 
+/* One node more, after the last, that no parent has: the last node again. */
+static void add_node(struct sample *s)
+{
+    size_t width = node_words(s->index[0]), nodes = s->index[5];
+    uint32_t *end = s->index + 8 + width * nodes;
+    if (s->index_length + width > SAMPLE_WORDS)
+        return;
+    memmove(end + width, end, (s->index_length - 8 - width * nodes) * sizeof *end);
+    memcpy(end, end - width, width * sizeof *end);
+    s->index[5]++;
+    s->index_length += width;
+}
+
 /* A node's radius or, in edition 2, more often its inner reach set to something else: by one more or less, to another node's,
    to the node's other reach, or to an end of what is possible. */
 static void spoil_reach(struct draw *d, uint32_t *node, const uint32_t *other, size_t width)
@@ -72,7 +85,7 @@ static void spoil_records(struct draw *d, struct sample *s)
     size_t width = node_words(s->index[0]);
     uint32_t *node = s->index + 8, *pair = node + width * nodes;
     uint32_t a = draw_below(d, n), b = draw_below(d, n), u = draw_below(d, nodes), v = draw_below(d, nodes);
-    switch (draw_below(d, 8)) {
+    switch (draw_below(d, 9)) {
     case 0: swap_parts(node + width * u, node + width * v, width); break;
     case 1: swap_parts(pair + 2 * (size_t)a, pair + 2 * (size_t)b, 2); break;
     case 2: swap_parts(pair + 2 * (size_t)a, pair + 2 * (size_t)b, 1); break;
@@ -80,6 +93,7 @@ static void spoil_records(struct draw *d, struct sample *s)
     case 4: pair[2 * (size_t)a + 1] += draw_one_in(d, 2) ? 1 : UINT32_MAX; break;
     case 5:
     case 6: spoil_reach(d, node + width * u, node + width * v, width); break;
+    case 7: add_node(s); break;
     default: move_border(d, s); break;
     }
 }
@@ -106,9 +120,7 @@ void spoil_index(struct draw *d, struct sample *s)
 
 void draw_image(struct sample *s)
 {
-    struct naive_index index = { s->index, s->index_length };
-    struct naive_bytes image = { s->image, sizeof s->image };
-    s->image_length = 512 * (size_t)naive_write(index, image).one;
+    s->image_length = 512 * naive_card(s->index, s->index_length, s->image);
 }
 
 void seal_block(struct sample *s, size_t block)
@@ -131,7 +143,7 @@ static void swap_blocks(struct draw *d, struct sample *s, size_t blocks)
     memcpy(s->image + 512 * b, held, 512);
 }
 
-/* A header word of the first block changed; where it is sealed again only 16 or 17 can notice. */
+/* A header word of the first block changed; where it is sealed again only 16, 17, 8 or 9 can notice. */
 static void change_header(struct draw *d, struct sample *s)
 {
     uint8_t *word = s->image + 4 * draw_below(d, 8);

@@ -63,7 +63,7 @@ static void write_image(void)
 
 static void read_image(void)
 {
-    number = bourascul_read(image, 512u * blocks, back, WORDS).number;
+    number = bourascul_read(image, 512u * blocks, table, ROWS * COLUMNS, COLUMNS, back, WORDS).number;
 }
 
 static void list(void)

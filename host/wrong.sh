@@ -25,7 +25,7 @@ compile() {
 # ---- One library ----
 
 # The trial links the naive implementation too. So that it is never compared with an edited copy of itself, the mock's parts
-# are joined into one object, and every name in it but the nine calls is made local.
+# are joined into one object, and every name in it but the eight calls is made local.
 join_mock() {
     parts=''
     for name in $mocked; do

@@ -13,38 +13,38 @@
    and bytes from a stranger are tested, never trusted. More room than asked for may be lent, and is left as it was.
 
    NUMBERS. Each call but bourascul_list gives a number first. 0 is done; any other is a refusal, and of several the lowest
-   is given (bourascul_read gives 5 last, bourascul_write 16 before 5):
+   is given (bourascul_read gives 8, 9 and 5 last, in this order; bourascul_write gives 16 before 5):
       1  columns not 1 to 16
-      2  build: m not 2 to 64, or l not m to 1,024, or an edition other than 1 and 2
+      2  build: m not 2 to 64, or l not m to 1,024, or an edition other than 2
       3  the table's length is no multiple of the columns
       4  more than 1,048,576 rows
-      5  a lent room is too short
+      5  a lent room is too short (reading: for the words that would come out)
       6  the query's length is not the columns
       7  nearest: 0 wanted
-      8  the index has fewer than 8 words, or an impossible header (an edition other than 1 and 2 is one), or one of other
-         rows or columns than the table's, or fewer words than its header asks for; widen: it is edition 2 already
-      9  the index's shape is wrong
+      8  the index has fewer than 8 words, or an impossible header (an edition other than 2 is one), or one of other rows or
+         columns than the table's, or fewer words than its header asks for; reading: the image's header is of other rows or
+         columns than the table's
+      9  the index's shape is wrong; reading: the shape of the index in the image
      10  check: a row number stands a second time
      11  check: a stored distance is wrong
-     12  check: a node's radius is wrong, or in edition 2 its inner reach
+     12  check: a node's radius is wrong, or its inner reach
      13  check: a row is closer to another centre
      14  the image is empty or no multiple of 512 bytes
      15  a block's check word is wrong
-     16  the image's or index's header is impossible (an edition other than 1 and 2 is one); reading: the header asks for
-         another number of blocks; writing: words are missing
+     16  the header is impossible (of an index an edition other than 2 is, of an image one other than 1 and 2); reading: the
+         header asks for another number of blocks; writing: words are missing
      17  reading: a word after the last is not zero
    On a refusal the other fields of the result are 0 (save the places of 10 to 13 and 15) and every lent buffer is as it
    was; only 10 to 13 zero the workspace as a success does.
 
-   THE INDEX is 32-bit words: edition 1 or 2, n, c, m, l, the number of nodes N, distance kind 1, 0; then for each node its
-   start, count, first child's number (0 for a leaf) and radius, and in edition 2 its inner reach; then for each position the
-   row number and its distance from its leaf's first. The radius is the greatest distance from the node's first to a member,
-   the inner reach the least one to another member, 0 for a node of one row. That is 8 + 4N + 2n words in edition 1, at most
-   10n + 8, and 8 + 5N + 2n in edition 2, at most 12n + 8. It belongs to the table it was built over: keep the two together,
-   and check an index that comes from elsewhere.
+   THE INDEX is 32-bit words: edition 2, n, c, m, l, the number of nodes N, distance kind 1, 0; then for each node its start,
+   count, first child's number (0 for a leaf), radius and inner reach; then for each position the row number and its distance
+   from its leaf's first. The radius is the greatest distance from the node's first to a member, the inner reach the least one
+   to another member, 0 for a node of one row. That is 8 + 5N + 2n words, at most 12n + 8. It belongs to the table it was built
+   over: keep the two together, and check an index that comes from elsewhere.
 
-   bourascul_widen makes an edition 1 index edition 2; every other call takes both. On an index that bourascul_check accepts,
-   a search in edition 2 gives the same answers as in edition 1 and may measure fewer rows.
+   Edition 1, which is written no longer, had no inner reach: 8 + 4N + 2n words. A card of edition 1 is read as edition 2, with
+   each node's inner reach worked out from the table (bourascul_read); in memory no call takes an index of edition 1.
 
    A search tests an index's shape, not all of it: on an index that bourascul_check would refuse it stays within what is
    lent and gives number 0, but what it answers is open. */
@@ -64,9 +64,9 @@ extern "C" {
 #define BOURASCUL_MOST_DISTANCE 1048560u
 #define BOURASCUL_BLOCK_BYTES 512u
 
-/* Words of room that a build over n rows in edition 1 or 2 asks for (10n + 8, 12n + 8; a widening asks for edition 2's), and
-   words of workspace for build, check and nearest. */
-#define BOURASCUL_ROOM_WORDS(n, edition) ((8u + 2u * (size_t)(edition)) * (size_t)(n) + 8u)
+/* Words of room that a build over n rows asks for, enough for reading too, and words of workspace for build, check and
+   nearest. */
+#define BOURASCUL_ROOM_WORDS(n) (12u * (size_t)(n) + 8u)
 #define BOURASCUL_WORK_WORDS(n) (6u * (size_t)(n))
 
 /* Blocks that an index of so many words takes in an image. */
@@ -86,11 +86,6 @@ typedef struct bourascul_built {
     uint32_t words; /* the index's words */
     uint32_t nodes; /* its nodes, N */
 } bourascul_built;
-
-typedef struct bourascul_widened {
-    uint32_t number;
-    uint32_t words; /* the widened index's words */
-} bourascul_widened;
 
 typedef struct bourascul_checked {
     uint32_t number;
@@ -123,7 +118,7 @@ typedef struct bourascul_written {
 typedef struct bourascul_taken {
     uint32_t number;
     uint32_t place; /* 15: the lowest wrong block (one beyond 4,294,967,295, in an image of terabytes, as that number); else 0 */
-    uint32_t words; /* the index's words */
+    uint32_t words; /* the words of the index that came out */
 } bourascul_taken;
 
 typedef struct bourascul_part {
@@ -131,23 +126,14 @@ typedef struct bourascul_part {
     uint32_t length; /* in words: two for each row */
 } bourascul_part;
 
-/* Builds an index over the table, with m centres in each inner node and leaves of at most l rows, in edition 1 or 2.
-   Lent: table of n * c numbers; room of at least 10n + 8 words in edition 1, 12n + 8 in edition 2; work of at least 6n words.
+/* Builds an index over the table, with m centres in each inner node and leaves of at most l rows. The edition is 2.
+   Lent: table of n * c numbers; room of at least 12n + 8 words; work of at least 6n words.
    Numbers: 0, 1, 2, 3, 4, 5.
    Done: the first `words` words of room are the index, which bourascul_check accepts, and the rest stays; the first 6n
-   words of work are 0, and the rest stays. The same table, m, l and edition always give the same index.
+   words of work are 0, and the rest stays. The same table, m and l always give the same index.
    For single searches m = 16 and l = 128 are a good choice: a search tests every node, and larger leaves have fewer. */
 bourascul_built bourascul_build(const uint16_t *table, size_t table_length, uint32_t c, uint32_t m, uint32_t l, uint32_t edition,
                                 uint32_t *room, size_t room_length, uint32_t *work, size_t work_length);
-
-/* Makes an edition 1 index edition 2: each node gets its inner reach, and nothing else changes.
-   Lent: the table; the index; room of at least 12n + 8 words.
-   Numbers: 0, 1, 3, 4, 5, 8, 9. An index in shape is enough: whether the full check accepts it is not asked.
-   Done: the first `words` = 8 + 5N + 2n words of room are the index in edition 2, and the rest stays. A fifth word is the least
-   distance from the row at the run's start to the rows at its other positions, 0 where there is none. What bourascul_check
-   accepts is accepted once widened, and a build in edition 1 becomes the build in edition 2. */
-bourascul_widened bourascul_widen(const uint16_t *table, size_t table_length, uint32_t c,
-                                  const uint32_t *index, size_t index_length, uint32_t *room, size_t room_length);
 
 /* The full check of an index from anyone, against its table.
    Lent: the table; the index; work of at least 6n words.
@@ -196,12 +182,18 @@ bourascul_closest bourascul_nearest_answers(const uint16_t *table, size_t table_
    Done: the first 512 * blocks bytes are the image, and the rest stays. */
 bourascul_written bourascul_write(const uint32_t *index, size_t index_length, uint8_t *image, size_t image_length);
 
-/* Reads an image back. Any one changed word, and any block in another block's place, is found (15).
-   Lent: the image, whole and nothing else; room for the index's words.
-   Numbers: 0, 14, 15, 16, 17, 5 (5 comes last).
-   Done: the first `words` words of room are the index, and the rest stays. Whether it fits a table, and its shape, is for
-   bourascul_check to say. */
-bourascul_taken bourascul_read(const uint8_t *image, size_t image_length, uint32_t *room, size_t room_length);
+/* Reads an image back, over the table that its index is of. Any one changed word, and any block in another block's place, is
+   found (15).
+   Lent: the image, whole and nothing else; the table; room for the words that come out, 8 + 5N + 2n from an image of either
+   edition.
+   Numbers: 0, 1, 3, 4, 14, 15, 16, 17, 8, 9, 5 (of several the first in this row).
+   Done: the first `words` words of room are the index, and the rest stays. From an image of edition 2 they are its words: an
+   index in shape that bourascul_write wrote is read the same again over its table. A card of edition 1 is read as edition 2:
+   each node gets as its inner reach the least distance from the row at its run's start to the rows at its other positions, 0
+   where there is none, and nothing else changes; what was built over the table becomes what bourascul_build builds now.
+   The index is in shape; whether it fits the table is for bourascul_check to say. */
+bourascul_taken bourascul_read(const uint8_t *image, size_t image_length, const uint16_t *table, size_t table_length, uint32_t c,
+                               uint32_t *room, size_t room_length);
 
 /* Where a node's members stand in the index: (row number, distance from its leaf's first) pairs, in run order.
    Lent: the index.
