@@ -1,8 +1,8 @@
--- `split::groups::put_node` meets its contract: five stores at the front.
+-- `words::writing::put_node` meets its contract: five stores at the front.
 -- Assumes nothing.
 use Rattle.laws.proofs.Parts.{five-sets}
-use Rattle.split.proofs.groups.put_node.Statement.{statement}
-use Rattle.split.proofs.groups.put_node.Tie as tie
+use Rattle.words.proofs.writing.put_node.Statement.{statement}
+use Rattle.words.proofs.writing.put_node.Tie as tie
 use borrow.Author.Needs.{needs}
 use lib.ListN.{length-set}
 use native.Mathlib.Omega.{arith}
