@@ -59,7 +59,7 @@ carded i e =
 -- ---- the words of a card
 module _ (i : List ℕ) where
   -- they are as many as the header asks for
-  card-long : length (cardWords i) ≡ imageTotal i
+  pub card-long : length (cardWords i) ≡ imageTotal i
   unfolding cardWords
   card-long = image-length i (imageTotal i)
 
@@ -74,7 +74,7 @@ module _ (i : List ℕ) where
   card-header = front-is i 8 (imageTotal i) (omega arith)
 
   -- it asks for as many words as there are
-  card-total : wordsOf (cardWords i) ≡ length (cardWords i)
+  pub card-total : wordsOf (cardWords i) ≡ length (cardWords i)
   unfolding imageTotal
   card-total = sym (total-take (cardWords i)) ∙ ap wordsOf card-header ∙ sym card-long
 

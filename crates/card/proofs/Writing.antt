@@ -12,7 +12,7 @@ use Rattle.tree.proofs.Written.{each-words}
 use Rattle.tree.specs.Check.{nearest#}
 use Rattle.tree.specs.Encode.{nodeWords, pairWords}
 use Rattle.tree.specs.Widen.{widen, widened}
-use Rattle.widen.specs.Parts.{Filled, nodesTo, pairsTo, topOf, withNodes, withPairs}
+use Rattle.card.specs.Parts.{nodesTo, pairsTo, topOf, wideLong, withNodes, withPairs, withWide}
 use Rattle.words.specs.Words.{N#, child#, count#, dist#, n#, radius#, row#, start#}
 use borrow.Rule.Slice.PartMut.{midOf, putMid}
 use lib.ListN.{drop, length, length-append, length-map, set}
@@ -132,7 +132,7 @@ module _ (w : List ℕ) where
 -- ---- the whole
 module _ (d : ℕ → ℕ → ℕ) (w : List ℕ) where
   -- THE WIDENED INDEX HAS 8 + 5N + 2n WORDS
-  pub widen-long : length (widen d w) ≡ 8 + 5 * N# w + 2 * n# w
+  pub widen-long : length (widen d w) ≡ wideLong w
   unfolding widen
   widen-long = widen-length d w
 
@@ -142,13 +142,13 @@ module _ (d : ℕ → ℕ → ℕ) (w : List ℕ) where
   widen-parts = append-assoc (topOf w) (nodesTo d w (N# w)) (pairsTo w (n# w))
 
   -- the header stands in the room, behind it come the nodes from word a on, and behind these the positions from word b on
-  pub filled : {room room₁ room₂ room₃ ns ps : List ℕ} {a b long : ℕ} → 8 + 5 * N# w + 2 * n# w ≤ length room
+  pub filled : (room room₁ room₂ : List ℕ) {room₃ ns ps : List ℕ} {a b : ℕ} → wideLong w ≤ length room
       → room₁ ≡ topOf w ++ drop 8 room → a ≡ 8
       → ns ≡ withNodes d w (midOf a (length room₁ - a) room₁) → room₂ ≡ putMid a (length room₁ - a) room₁ ns
       → b ≡ 8 + 5 * N# w
       → ps ≡ withPairs w (midOf b (length room₂ - b) room₂) → room₃ ≡ putMid b (length room₂ - b) room₂ ps
-      → length room₁ ≡ length room → length room₂ ≡ length room → long ≡ 8 + 5 * N# w + 2 * n# w → Filled d w room room₃ long
-  filled {room} {room₁} {room₂} {room₃} {ns} {ps} {a} {b} fits e₁ ea en e₂ eb ep e₃ l₁ l₂ long =
+      → length room₁ ≡ length room → length room₂ ≡ length room → room₃ ≡ withWide d w room
+  filled room room₁ room₂ {room₃} {ns} {ps} {a} {b} fits e₁ ea en e₂ eb ep e₃ l₁ l₂ =
       let A : List ℕ = topOf w ++ nodesTo d w (N# w) in
       let la : length A ≡ 8 + 5 * N# w = length-append (topOf w) (nodesTo d w (N# w)) ∙ ap (λ (k : ℕ). 8 + k) (nodes-long d w (N# w)) in
       let top : length (topOf w) ≡ a = sym ea in
@@ -157,5 +157,4 @@ module _ (d : ℕ → ℕ → ℕ) (w : List ℕ) where
       let at : a + 5 * N# w ≡ b = omega arith in
       let two : room₃ ≡ (A ++ pairsTo w (n# w)) ++ drop (b + 2 * n# w) room =
       e₃ ∙ put-more A (pairsTo w (n# w)) room room₂ ps b (2 * n# w) (la ∙ sym eb) (omega arith) (one ∙ ap (λ (k : ℕ). A ++ drop k room) at) ep in
-      let end : b + 2 * n# w ≡ length (widen d w) = omega (arith, widen-long) in
-      record { counted = long ∙ sym widen-long; index = two ∙ ap₂ (λ (l : List ℕ) (k : ℕ). l ++ drop k room) widen-parts end }
+      two ∙ ap₂ (λ (l : List ℕ) (k : ℕ). l ++ drop k room) widen-parts (ap (λ (b : ℕ). b + 2 * n# w) eb)

@@ -1,12 +1,11 @@
 -- The widened words, part by part, as far as they are written. Over the distance d between rows. Assumes nothing.
-use Prim.Native.Nat.{_*_, ℕ}
+use Prim.Native.Nat.{_*_, _+_, ℕ}
 use Rattle.laws.specs.Lists.{each, range}
 use Rattle.tree.specs.Encode.{nodeWords, pairWords}
 use Rattle.tree.specs.Widen.{widen, widened}
 use Rattle.words.specs.Words.{N#, c#, dist#, kind#, l#, last#, m#, n#, row#}
-use lib.ListN.{drop, length}
+use lib.ListN.{drop}
 use mathlib.Core.List.{List, [], _++_, _∷_, map}
-use mathlib.Core.Path.{_≡_}
 
 -- the header: edition 2, and all else as it was
 abbrev pub topOf : List ℕ → List ℕ
@@ -28,7 +27,10 @@ withNodes d w part = nodesTo d w (N# w) ++ drop (5 * N# w) part
 abbrev pub withPairs : List ℕ → List ℕ → List ℕ
 withPairs w part = pairsTo w (n# w) ++ drop (2 * n# w) part
 
--- the widened index stands at the front of the room, the rest is as it was, and `long` is how many words it has
-pub record Filled (d : ℕ → ℕ → ℕ) (w room room′ : List ℕ) (long : ℕ) : Type 0 where
-  pub counted : long ≡ length (widen d w)
-  pub index : room′ ≡ widen d w ++ drop (length (widen d w)) room
+-- how many words the widened index has
+abbrev pub wideLong : List ℕ → ℕ
+wideLong w = 8 + 5 * N# w + 2 * n# w
+
+-- a room with the widened index at its front
+abbrev pub withWide : (ℕ → ℕ → ℕ) → List ℕ → List ℕ → List ℕ
+withWide d w room = widen d w ++ drop (wideLong w) room

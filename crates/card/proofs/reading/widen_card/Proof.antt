@@ -1,9 +1,10 @@
--- `widen::fill` meets its contract: the header, the nodes behind it and the positions behind these are the widened words.
+-- `card::reading::widen_card` meets its contract: the header, the nodes behind it and the positions behind these are the widened words.
 -- Assumes nothing.
+use Rattle.card.specs.Cards.{cardWords}
 use Rattle.measure.specs.Table.{between}
-use Rattle.widen.proofs.Writing.{filled}
-use Rattle.widen.proofs.fill.Statement.{statement}
-use Rattle.widen.proofs.fill.Tie as tie
+use Rattle.card.proofs.Writing.{filled}
+use Rattle.card.proofs.reading.widen_card.Statement.{statement}
+use Rattle.card.proofs.reading.widen_card.Tie as tie
 use borrow.Author.Needs.{needs}
 use mathlib.Core.Path.{refl}
 use native.Mathlib.Omega.{arith}
@@ -26,8 +27,8 @@ part-put-nodes-end c = search needs
 put-nodes-requires : tie.Need-put-nodes-requires
 put-nodes-requires c κs = search needs
 
-nodes-requires : tie.Need-nodes-requires
-nodes-requires c κs = search needs
+card-nodes-requires : tie.Need-card-nodes-requires
+card-nodes-requires c κs = search needs
 
 mul-at : tie.Need-mul-at
 mul-at c = search needs
@@ -48,35 +49,27 @@ part-put-pairs-end : tie.Need-part-put-pairs-end
 part-put-pairs-end c = search needs
 
 put-pairs-requires : tie.Need-put-pairs-requires
-put-pairs-requires c κs = search needs
-
-rows-requires : tie.Need-rows-requires
-rows-requires c κs = search needs
-
-mul-result : tie.Need-mul-result
-mul-result c = search needs
-
-add-result : tie.Need-add-result
-add-result c = search needs
+put-pairs-requires c κs =
+    let k = c .before in
+    let s = k .before .before .before .before .before .before .before .before .before .before .before .before in
+    (s .pre .0 .held, omega (arith, k .card-nodes .ensures .0, s .pre .1))
 
 same-length : tie.Need-same-length
 same-length c = search needs
 
 returns : tie.Need-returns
 returns c =
-    let p = c .before .before .before in
+    let p = c .before .before in
     let k = p .before .before in
     let n = k .before .before .before in
     let t = n .before .before .before .before in
     let s = t .before .before .before .before .before in
     let a = s .args in
-    let nodes = k .nodes .ensures .0 in
-    filled (between (a .table .now) (a .c)) (a .index .now) (omega (arith, s .pre .0 .shape .whole .nodes)) (t .put-top .ensures) refl
-    (n .put-nodes .ensures) refl (omega (arith, nodes)) (p .put-pairs .ensures) refl (search needs) (search needs)
-    (omega (arith, nodes, c .rows .ensures .0))
+    filled (between (a .table .now) (a .c)) (cardWords (a .image .now)) (a .room .now) _ _ (s .pre .1) (t .put-top .ensures) refl
+    (n .put-nodes .ensures) refl (omega (arith, k .card-nodes .ensures .0)) (p .put-pairs .ensures) refl (search needs) (search needs)
 
-pub fill-spec : {M : Type 1} → statement M
-fill-spec =
+pub widen-card-spec : {M : Type 1} → statement M
+widen-card-spec =
     tie.close
     (tie.spec
     put-top-requires
@@ -85,7 +78,7 @@ fill-spec =
     part-put-nodes-start
     part-put-nodes-end
     put-nodes-requires
-    nodes-requires
+    card-nodes-requires
     mul-at
     add-at
     mul-put-pairs
@@ -93,8 +86,5 @@ fill-spec =
     part-put-pairs-start
     part-put-pairs-end
     put-pairs-requires
-    rows-requires
-    mul-result
-    add-result
     same-length
     returns)
