@@ -5,3 +5,5 @@ pub mod Writing
 pub mod Filling
 pub mod Refusals
 pub mod Contract
+pub mod Theorems
+pub mod Damage

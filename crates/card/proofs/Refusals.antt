@@ -5,7 +5,7 @@ use Rattle.card.proofs.Tabled.{card-tabled}
 use Rattle.card.specs.Calls.{Tested, cardFaults, readTotal, saidRead}
 use Rattle.card.specs.Cards.{Carded, cardWords}
 use Rattle.card.specs.Tabled.{Tabled}
-use Rattle.image.proofs.Refusals.{faults-numbered}
+use Rattle.image.proofs.Refusals.{faults-numbered, faults-placed}
 use Rattle.image.specs.Sound.{Sound}
 use Rattle.laws.proofs.Every.{every-append}
 use Rattle.laws.proofs.Tests.{and-l, and-r, holds}
@@ -17,7 +17,7 @@ use Rattle.measure.specs.Table.{rowsOf}
 use Rattle.words.specs.Image.{imageFaults}
 use Rattle.words.specs.Shape.{shapeOk}
 use Rattle.words.specs.Words.{c#, n#}
-use borrow.Author.Tests.{eq-eqb, le-ltb, lt-ltb, ltb-false, ne-eqb, not-false}
+use borrow.Author.Tests.{eq-eqb, eqb-false, eqb-true, le-ltb, lt-ltb, ltb-false, ne-eqb, not-false}
 use lib.Dec.{eqb, eqb→eq, ltb}
 use lib.ListN.{length}
 use mathlib.Core.Bool.{Bool, _&&_, and-false, cond, false, not, true}
@@ -83,6 +83,11 @@ module _ (T : List ℕ) (c : ℕ) (i : List ℕ) where
         eqb→eq (c# (cardWords i)) c (and-r r k t),
         not-false (shapeOk (cardWords i)) (fault-not 9 (not (shapeOk (cardWords i))) (omega arith) (p .1)),
       )
+
+-- ---- the image
+-- where nothing is wrong with it its header and blocks are right
+pub image-right : (i : List ℕ) {found at count : ℕ} → Sound i (imageFaults i) found at count → found ≡ 0 → Carded i
+image-right i S z = carded i (sym (S .found) ∙ z)
 
 -- ---- all of them
 -- WITH 0 NOTHING IS WRONG: the table, the image, the card's header and shape, and the room of `room` words
@@ -157,10 +162,6 @@ module _ (T : List ℕ) (c : ℕ) (i : List ℕ) (room : ℕ) where
         after-image : said last ≡ says
         after-image = says-next (imageFaults i) last (faults-numbered i) (sym (S .found) ∙ none) ∙ after-table
 
-        -- its header and blocks are right
-        pub image-right : Carded i
-        image-right = carded i (sym (S .found) ∙ none)
-
         module _ {k : ℕ} (f : k ≡ said (cardFaults T c i) .0) where
           -- the card is refused
           pub by-card : {number place words : ℕ} → (k ≡ 0 → ⊥) → number ≡ k → place ≡ 0 → words ≡ 0 → Tested T c i room number place words
@@ -213,6 +214,38 @@ module _ (T : List ℕ) (c : ℕ) (i : List ℕ) (room : ℕ) where
       ∙ says-next (cardFaults T c i) (fault 5 (ltb room (readTotal i))) (early-numbered (cardFaults T c i) (card-early T c i)) (sym k)
       ∙ says-next (imageFaults i) last (faults-numbered i) (C .image) ∙ after-table (sized-none (length T) c (C .table)) refl
 
+  -- over a right table a fault of the image is what is said
+  pub said-image : Sized (length T) c → (said (imageFaults i) .0 ≡ 0 → ⊥) → says ≡ said (imageFaults i)
+  said-image S h = sym (says-first (imageFaults i) last h ∙ after-table (sized-none (length T) c S) refl)
+
   -- the card's index is in shape and the table's
   pub clear-tabled : Clear T c i room → Tabled T c i
   clear-tabled C = card-tabled T c i (carded i (C .image)) (C .rows) (C .columns) (C .shape)
+
+  -- ---- the place
+  -- the card's faults and the room's are early
+  last-early : Every Early last
+  last-early =
+      every-append Early (cardFaults T c i) (fault 5 (ltb room (readTotal i))) (card-early T c i)
+      (fault-early 5 (ltb room (readTotal i)) (omega arith) (omega arith))
+
+  -- no number but 15 has one
+  pub placeless : (says .0 ≡ 15 → ⊥) → says .1 ≡ 0
+  placeless h = by-first (eqb (said first .0) 0) refl
+    where
+      -- past the table, by whether the image is wrong
+      by-next : said next ≡ says → (b : Bool) → eqb (said (imageFaults i) .0) 0 ≡ b → says .1 ≡ 0
+      by-next e true q =
+          let n = says-next (imageFaults i) last (faults-numbered i) (eqb-true (said (imageFaults i) .0) 0 q) in
+          ap (λ (t : Said). t .1) (sym (n ∙ e)) ∙ early-placeless last last-early .0
+      by-next e false q =
+          let n = says-first (imageFaults i) last (eqb-false (said (imageFaults i) .0) 0 q) in
+          ap (λ (t : Said). t .1) (sym (n ∙ e)) ∙ faults-placed i (λ z. h (ap (λ (t : Said). t .0) (sym (n ∙ e)) ∙ z))
+
+      -- by whether the table is
+      by-first : (b : Bool) → eqb (said first .0) 0 ≡ b → says .1 ≡ 0
+      by-first true q =
+          by-next (after-table refl (eqb-true (said first .0) 0 q)) (eqb (said (imageFaults i) .0) 0) refl
+      by-first false q =
+          ap (λ (t : Said). t .1) (sym (says-first first next (eqb-false (said first .0) 0 q) ∙ in-turn))
+          ∙ early-placeless first (table-early (length T) c) .0

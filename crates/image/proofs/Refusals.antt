@@ -13,8 +13,8 @@ use borrow.Author.Tests.{eq-eqb, ne-eqb}
 use lib.Dec.{eqb}
 use lib.ListN.{length}
 use mathlib.Core.Bool.{Bool, _||_, cond, false, not, true}
-use mathlib.Core.List.{List, [], _++_, append-assoc, map}
-use mathlib.Core.Path.{_∙_, _≡_, ap, ap₂, subst, sym}
+use mathlib.Core.List.{List, [], _++_, _∷_, append-assoc, map}
+use mathlib.Core.Path.{_∙_, _≡_, ap, ap₂, refl, subst, sym}
 use native.Mathlib.Omega.{arith}
 
 -- the fault of block b
@@ -121,6 +121,21 @@ module _ (i : List ℕ) where
       (every-append P (map named wrongs) (heldFaults i) blocks-numbered
       (every-append P (fault 16 (not header || not counted)) (fault 17 (not zeros))
       (fault-numbered 16 (not header || not counted) (omega arith)) (fault-numbered 17 (not zeros) (omega arith)))))
+
+-- no fault but 15 has a place
+pub faults-placed : (i : List ℕ) → (said (imageFaults i) .0 ≡ 15 → ⊥) → said (imageFaults i) .1 ≡ 0
+unfolding imageFaults
+faults-placed i h =
+    go (ragged i) (wrongs i) (not (header i) || not (counted i)) (not (zeros i)) h
+  where
+    -- by the tests and the wrong blocks
+    go : (a : Bool) (bs : List ℕ) (k z : Bool) → (said (fault 14 a ++ map named bs ++ fault 16 k ++ fault 17 z) .0 ≡ 15 → ⊥)
+        → said (fault 14 a ++ map named bs ++ fault 16 k ++ fault 17 z) .1 ≡ 0
+    go true bs k z h = refl
+    go false (b ∷ bs) k z h = absurd (h refl)
+    go false [] true z h = refl
+    go false [] false true h = refl
+    go false [] false false h = refl
 
 -- ---- the ends, as what the code promises
 module _ (i : List ℕ) (fs : List Said) (number place words : ℕ) where

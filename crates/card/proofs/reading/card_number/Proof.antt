@@ -2,7 +2,7 @@
 -- Assumes nothing.
 use Rattle.card.proofs.Cards.{card-held}
 use Rattle.card.proofs.Refusals.{eight-columns, eight-rows, nine-shape, none-wrong}
-use mathlib.Core.Path.{_∙_, sym}
+use Rattle.laws.proofs.Tests.{no, yes}
 use native.Mathlib.Omega.{arith}
 use borrow.Author.Needs.{needs}
 use Rattle.card.proofs.reading.card_number.Statement.{statement}
@@ -43,7 +43,7 @@ returns-3 c =
     let s = c .before in
     let k = s .before .before in
     nine-shape _ _ _ (omega (arith, k .before .if1 .left, k .before .before .card-rows .ensures .0))
-    (omega (arith, s .before .if2 .left, k .card-columns .ensures .0)) (sym (s .card-shape-ok .ensures) ∙ c .if3 .taken)
+    (omega (arith, s .before .if2 .left, k .card-columns .ensures .0)) (no (s .card-shape-ok .ensures) (c .if3 .taken))
 
 -- src/reading.rt:103:1
 returns-4 : tie.Need-returns-4
@@ -51,7 +51,7 @@ returns-4 c =
     let s = c .before in
     let k = s .before .before in
     none-wrong _ _ _ (omega (arith, k .before .if1 .left, k .before .before .card-rows .ensures .0))
-    (omega (arith, s .before .if2 .left, k .card-columns .ensures .0)) (sym (s .card-shape-ok .ensures) ∙ c .if3 .left)
+    (omega (arith, s .before .if2 .left, k .card-columns .ensures .0)) (yes (s .card-shape-ok .ensures) (c .if3 .left))
 
 pub card-number-spec : {M : Type 1} → statement M
 card-number-spec =

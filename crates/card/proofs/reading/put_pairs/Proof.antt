@@ -34,7 +34,9 @@ card-rows-requires c κs = search needs
 
 -- src/reading.rt:74:9
 card-pair-at-requires : tie.Need-card-pair-at-requires Inv-loop μ-loop
-card-pair-at-requires c κs = omega (arith, c .before .before .before .pre .0 .whole .words)
+card-pair-at-requires c κs =
+    let H = c .before .before .before .pre .0 in
+    (H, omega (arith, H .whole .words))
 
 -- src/reading.rt:76:5
 loop-holds : tie.Need-loop-holds Inv-loop μ-loop

@@ -50,7 +50,7 @@ card-number-requires : tie.Need-card-number-requires
 card-number-requires c κs =
     let m = c .before .before in
     let t = m .before .before in
-    (image-right _ _ _ _ (t .table-number .ensures) (m .before .if1 .left) (m .check-image .ensures) (c .if2 .left),
+    (image-right _ (m .check-image .ensures) (c .if2 .left),
     sized _ _ (sym (t .table-number .ensures) ∙ m .before .if1 .left) .some)
 
 -- src/reading.rt:153:9
@@ -70,8 +70,7 @@ returns-3 c =
 card-total-requires : tie.Need-card-total-requires
 card-total-requires c κs =
     let m = c .before .before .before .before in
-    let t = m .before .before in
-    card-held _ (image-right _ _ _ _ (t .table-number .ensures) (m .before .if1 .left) (m .check-image .ensures) (c .before .before .if2 .left))
+    card-held _ (image-right _ (m .check-image .ensures) (c .before .before .if2 .left))
 
 -- src/reading.rt:157:9
 refused-requires-4 : tie.Need-refused-requires-4
