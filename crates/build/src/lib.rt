@@ -21,11 +21,11 @@ use measure::row_distance;
 use split::groups::WIDTH;
 use split::groups::greater;
 use split::groups::least_of;
-use split::groups::put_node;
 use split::groups::split_run;
 use split::rounds::put_entry;
 use words::places::HEADER;
 use words::places::word;
+use words::writing::put_node;
 
 // What the build says: the number, how many words were written, and how many nodes they hold.
 pub struct Built {

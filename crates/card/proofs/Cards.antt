@@ -7,7 +7,7 @@ use Rattle.image.proofs.Standing.{at-snoc}
 use Rattle.image.specs.Lowest.{wrongBlocks}
 use Rattle.image.specs.Sound.{restZero}
 use Rattle.limits.specs.Said.{fault, said}
-use Rattle.words.proofs.Headers.{good-words}
+use Rattle.words.proofs.Headers.{good-whole}
 use Rattle.words.proofs.InShape.{whole}
 use Rattle.words.specs.Image.{blocksFor, imageFaults, imageTotal, imageWord, imageWords}
 use Rattle.words.specs.Words.{at, cardOk, wordsOf, wholeOk}
@@ -59,7 +59,7 @@ carded i e =
 -- ---- the words of a card
 module _ (i : List ℕ) where
   -- they are as many as the header asks for
-  card-long : length (cardWords i) ≡ imageTotal i
+  pub card-long : length (cardWords i) ≡ imageTotal i
   unfolding cardWords
   card-long = image-length i (imageTotal i)
 
@@ -74,14 +74,14 @@ module _ (i : List ℕ) where
   card-header = front-is i 8 (imageTotal i) (omega arith)
 
   -- it asks for as many words as there are
-  card-total : wordsOf (cardWords i) ≡ length (cardWords i)
+  pub card-total : wordsOf (cardWords i) ≡ length (cardWords i)
   unfolding imageTotal
   card-total = sym (total-take (cardWords i)) ∙ ap wordsOf card-header ∙ sym card-long
 
   -- under a possible header no word is missing
   pub card-words : cardOk (imageWords i 8) ≡ true → wholeOk (cardWords i) ≡ true
   card-words e =
-      sym (good-words (cardWords i) (omega (arith, card-total)) (sym (header-take (cardWords i)) ∙ ap cardOk card-header ∙ e))
+      sym (good-whole (cardWords i) (omega (arith, card-total)) (sym (header-take (cardWords i)) ∙ ap cardOk card-header ∙ e))
       ∙ le-leb (wordsOf (cardWords i)) (length (cardWords i)) (omega (arith, card-total))
 
   -- WHAT IS KNOWN OF A CARD WHOSE HEADER AND BLOCKS ARE RIGHT

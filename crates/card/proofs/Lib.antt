@@ -1,3 +1,9 @@
 pub mod Cards
 pub mod Sweep
 pub mod Tabled
+pub mod Writing
+pub mod Filling
+pub mod Refusals
+pub mod Contract
+pub mod Theorems
+pub mod Damage

@@ -1,2 +1,4 @@
 pub mod Cards
 pub mod Tabled
+pub mod Parts
+pub mod Calls

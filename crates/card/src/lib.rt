@@ -1,4 +1,28 @@
-// An index on a card, read where it stands in the image's bytes: its words by place, the shape test, and how near a node's members are.
+// An index on a card, read where it stands in the image's bytes: its words by place, the shape test, how near a node's members are, and reading.
+ghost use Rattle.card.specs.Calls.{Reads};
+use crate::reading::put_index;
+use crate::reading::refusal_of;
+
 pub mod members;
 pub mod places;
+mod reading;
 pub mod shape;
+
+// What reading says: a number, the block that it names, and how many words it read.
+pub struct Read {
+    pub number: u32,
+    pub place: usize,
+    pub words: usize,
+}
+
+// Reads a card over its table, of c columns, to the front of the room. The index need not be accepted: one in shape is enough.
+pub fn read_image(image: &[u8], table: &[u16], c: usize, room: &mut [u32]) -> Read
+    ensures { λ r. ⌜ Reads (now (table .entry)) c (now (image .entry)) (now (room .entry)) (now (room .exit)) (r .number) (r .place) (r .words) ⌝ }
+{
+    let told = refusal_of(image, table, c, room.len());
+    if told.number != 0 {
+        return told;
+    }
+    put_index(table, c, image, told.words, room);
+    told
+}

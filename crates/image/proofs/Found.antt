@@ -1,17 +1,15 @@
 -- A changed word, and a block at another block's place, are found. Assumes nothing.
-use Prim.Native.Nat.{_%_, _*_, _+_, _/_, _<_, _^_, _≤_, suc, zero, ℕ}
-use Rattle.image.proofs.Calls.{read-fault, reads-none}
+use Prim.Native.Nat.{_%_, _*_, _+_, _/_, _<_, _^_, suc, zero, ℕ}
 use Rattle.image.proofs.Checks.{check-append, check-place, from-lt, step-state, step-word}
 use Rattle.image.proofs.Refusals.{fifteen}
 use Rattle.image.proofs.Wrong.{lowest-is, lowest-le, wrongAt}
 use Rattle.image.specs.Below.{Below}
-use Rattle.image.specs.Calls.{Reads}
 use Rattle.image.specs.Changed.{Changed, Moved, blockWord}
 use Rattle.image.specs.Lowest.{lowest, wrongBlocks}
 use Rattle.laws.proofs.Tests.{is-true, refute}
 use Rattle.laws.specs.First.{First}
-use Rattle.limits.specs.Said.{Said}
-use Rattle.words.specs.Image.{blockGood, checkFrom, checkWord, saidRead, step, wordAt, wordsAt}
+use Rattle.limits.specs.Said.{said}
+use Rattle.words.specs.Image.{blockGood, checkFrom, checkWord, imageFaults, step, wordAt, wordsAt}
 use borrow.Author.Tests.{eqb-true, leb-false, leb-true}
 use lib.Dec.{leb}
 use lib.ListN.{length}
@@ -108,42 +106,17 @@ one-block i i′ a b ha hb mv good =
     mv .elsewhere (check-place a b (wordsAt i (512 * a) 127) ha hb
     (good-is i a good ∙ mv .same 127 (omega arith) ∙ sym (good-is i′ b good′) ∙ ap (checkWord b) (sym w))))
 
--- ---- reading an image of whole blocks whose block b is wrong
+-- ---- an image of whole blocks whose block b is wrong
 module _ (i : List ℕ) (b : ℕ) (whole : length i % 512 ≡ 0) (inside : b < length i / 512) (wrong : blockGood i b ≡ false) where
-  -- it says 15 and names the lowest wrong block
-  said-is : (room : ℕ) → saidRead i room ≡ (15, lowest (length i / 512) (wrongBlocks i 0 (length i / 512)), 0)
-  said-is room =
-      let n : ℕ = length i / 512 in
-      let l = lowest-le i n b wrong in
-      let q = fifteen i (λ e. omega arith) whole (omega arith) in
-      read-fault i room (λ e. omega (arith, ap (λ (t : Said). t .0) q)) ∙ q
-
-  -- AN IMAGE WITH A WRONG BLOCK IS REFUSED WITH 15, THE BLOCK NAMED IS NO HIGHER, AND NOTHING IS READ
-  pub wrong-read : (before after : List ℕ) (number place words : ℕ) → Reads i before after number place words
-      → (number ≡ 15) × (place ≤ b) × (words ≡ 0) × (after ≡ before)
-  wrong-read before after number place words r =
-      let q = said-is (length before) in
-      let e : number ≡ 15 = r .said ∙ ap (λ (t : Said). t .0) q in
-      let d = reads-none i before after number place words r (λ z. omega arith) in
-      (e, rw (r .placed ∙ ap (λ (t : Said). t .1) q) (lowest-le i (length i / 512) b wrong), d .0, d .1)
+  -- ITS FIRST FAULT IS 15, AND NAMES THE LOWEST WRONG BLOCK
+  pub wrong-said : said (imageFaults i) ≡ (15, lowest (length i / 512) (wrongBlocks i 0 (length i / 512)), 0)
+  wrong-said =
+      let l = lowest-le i (length i / 512) b wrong in
+      fifteen i (λ e. omega arith) whole (omega arith)
 
   -- WHERE EVERY LOWER BLOCK IS GOOD, IT IS THE BLOCK NAMED
-  pub wrong-named : ((a : ℕ) → a < b → blockGood i a ≡ true) → (room : ℕ) → saidRead i room ≡ (15, b, 0)
-  wrong-named f room =
+  pub wrong-first : ((a : ℕ) → a < b → blockGood i a ≡ true) → said (imageFaults i) ≡ (15, b, 0)
+  wrong-first f =
       let F : First (wrongAt i) 0 (length i / 512) b =
       record { from = omega arith; to = omega arith; none = λ a _ h. ap not (f a h); here = λ _. ap not wrong } in
-      said-is room ∙ ap (λ (p : ℕ). (15, p, 0)) (lowest-is i (length i / 512) b F)
-
--- ---- the two theorems, as what a call of reading says
-module _ (i i′ : List ℕ) (b : ℕ) (whole : length i′ % 512 ≡ 0) (inside : b < length i′ / 512) (before after : List ℕ)
-    (number place words : ℕ) (r : Reads i′ before after number place words) where
-  -- ONE CHANGED WORD OF A GOOD BLOCK: THE CALL IS REFUSED WITH 15, AND NOTHING IS READ
-  pub one-word-read : (k : ℕ) → Below 256 i → Below 256 i′ → Changed i i′ b k → blockGood i b ≡ true
-      → (number ≡ 15) × (place ≤ b) × (words ≡ 0) × (after ≡ before)
-  one-word-read k bytes bytes′ ch good =
-      wrong-read i′ b whole inside (one-word i i′ b k bytes bytes′ ch good) before after number place words r
-
-  -- A GOOD BLOCK AT ANOTHER BLOCK'S PLACE: THE SAME
-  pub one-block-read : (a : ℕ) → a < 2 ^ 32 → b < 2 ^ 32 → Moved i i′ a b → blockGood i a ≡ true
-      → (number ≡ 15) × (place ≤ b) × (words ≡ 0) × (after ≡ before)
-  one-block-read a ha hb mv good = wrong-read i′ b whole inside (one-block i i′ a b ha hb mv good) before after number place words r
+      wrong-said ∙ ap (λ (p : ℕ). (15, p, 0)) (lowest-is i (length i / 512) b F)

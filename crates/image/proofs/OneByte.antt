@@ -1,10 +1,11 @@
--- One changed byte of an image whose blocks are all good: reading refuses it and names its block. Assumes nothing.
+-- One changed byte of an image whose blocks are all good: the fault that is found names its block. Assumes nothing.
 use Prim.Native.Nat.{_%_, _*_, _+_, _/_, _<_, suc, zero, ℕ}
-use Rattle.image.proofs.Found.{one-word, same-words, wrong-named}
+use Rattle.image.proofs.Found.{one-word, same-words, wrong-first}
 use Rattle.image.proofs.Places.{word-cong}
 use Rattle.image.specs.Below.{Below}
 use Rattle.image.specs.Changed.{Changed, blockWord}
-use Rattle.words.specs.Image.{blockGood, checkWord, saidRead, wordAt}
+use Rattle.limits.specs.Said.{said}
+use Rattle.words.specs.Image.{blockGood, checkWord, imageFaults, wordAt}
 use Rattle.words.specs.Words.{at}
 use borrow.Author.Tests.{eqb-false, eqb-true}
 use lib.Dec.{eqb}
@@ -75,12 +76,12 @@ module _ (i : List ℕ) (p v : ℕ) where
         go true e = rw (new q (eqb-true q p e)) small
         go false e = rw (other q (eqb-false q p e)) (h q)
 
--- ONE CHANGED BYTE IS FOUND: reading says 15, and names the byte's block
-pub one-byte : (i : List ℕ) (p v : ℕ) → Below 256 i → v < 256 → length i % 512 ≡ 0 → p < length i → (at i p ≡ v → ⊥)
-    → ((b : ℕ) → b < length i / 512 → blockGood i b ≡ true) → (room : ℕ) → saidRead (set i p v) room ≡ (15, p / 512, 0)
-one-byte i p v bytes small whole there differs good room =
+-- ONE CHANGED BYTE IS FOUND: the first fault is 15, and names the byte's block
+pub one-byte-said : (i : List ℕ) (p v : ℕ) → Below 256 i → v < 256 → length i % 512 ≡ 0 → p < length i → (at i p ≡ v → ⊥)
+    → ((b : ℕ) → b < length i / 512 → blockGood i b ≡ true) → said (imageFaults (set i p v)) ≡ (15, p / 512, 0)
+one-byte-said i p v bytes small whole there differs good =
     let l : length (set i p v) ≡ length i = length-set i p v in
-    wrong-named (set i p v) (p / 512) (rw l whole) (omega arith)
+    wrong-first (set i p v) (p / 512) (rw l whole) (omega arith)
     (one-word i (set i p v) (p / 512) (p % 512 / 4) bytes (bytes-still i p v there small bytes) (changed i p v there differs)
     (good (p / 512) (omega arith)))
-    (λ a h. sym (block-same i (set i p v) a (λ j g. words-same i p v a j (λ e. omega arith))) ∙ good a (omega arith)) room
+    (λ a h. sym (block-same i (set i p v) a (λ j g. words-same i p v a j (λ e. omega arith))) ∙ good a (omega arith))

@@ -1,7 +1,7 @@
--- No second outcome meets a call's contract. Assumes nothing.
+-- No second outcome meets the contract of writing. Assumes nothing.
 use Prim.Native.Nat.{_*_, ℕ}
-use Rattle.image.specs.Calls.{Reads, Writes}
-use Rattle.words.specs.Image.{blocksFor, image, imageTotal, imageWords}
+use Rattle.image.specs.Calls.{Writes}
+use Rattle.words.specs.Image.{blocksFor, image}
 use Rattle.words.specs.Words.{wordsOf}
 use lib.Dec.{eqb}
 use lib.ListN.{drop}
@@ -17,15 +17,4 @@ write-only w before a a′ n n′ b b′ x y =
       e,
       x .counted ∙ ap (λ (k : ℕ). cond (eqb k 0) (blocksFor (wordsOf w)) 0) e ∙ sym (y .counted),
       x .lent ∙ ap (λ (k : ℕ). cond (eqb k 0) (image w ++ drop (512 * blocksFor (wordsOf w)) before) before) e ∙ sym (y .lent),
-    )
-
--- READING: THE NUMBER, THE PLACE, THE WORDS AND THE LENT ROOM ARE SETTLED
-pub read-only : (i before a a′ : List ℕ) (n n′ p p′ k k′ : ℕ) → Reads i before a n p k → Reads i before a′ n′ p′ k′
-    → (n ≡ n′) × (p ≡ p′) × (k ≡ k′) × (a ≡ a′)
-read-only i before a a′ n n′ p p′ k k′ x y =
-    let e : n ≡ n′ = x .said ∙ sym (y .said) in (
-      e,
-      x .placed ∙ sym (y .placed),
-      x .counted ∙ ap (λ (k : ℕ). cond (eqb k 0) (imageTotal i) 0) e ∙ sym (y .counted),
-      x .lent ∙ ap (λ (k : ℕ). cond (eqb k 0) (imageWords i (imageTotal i) ++ drop (imageTotal i) before) before) e ∙ sym (y .lent),
     )

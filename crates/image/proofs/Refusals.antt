@@ -1,20 +1,20 @@
--- Why reading an image is refused: one law for each return of the code, and what holds where nothing is refused. Assumes nothing.
+-- What is wrong with an image: one law for each return of the code. Assumes nothing.
 use Prim.Native.Nat.{_%_, _/_, _<_, _≤_, ℕ}
 use Rattle.image.proofs.Wrong.{wrong-some}
 use Rattle.image.specs.Lowest.{lowest, wrongBlocks}
 use Rattle.image.specs.Sound.{Sound, heldFaults, restZero}
 use Rattle.laws.proofs.Every.{every-all, every-append, every-map}
-use Rattle.laws.proofs.Tests.{or-l, or-none, or-parts, or-r}
-use Rattle.limits.proofs.Faults.{Numbered, fault-first, fault-next, fault-none, fault-numbered, none-listed, numberOf, says-none}
+use Rattle.laws.proofs.Tests.{or-l, or-none, or-r}
+use Rattle.limits.proofs.Faults.{Numbered, fault-first, fault-next, fault-numbered, numberOf}
 use Rattle.limits.specs.Said.{Said, fault, said}
 use Rattle.words.specs.Image.{blocksFor, imageFaults, imageTotal, imageWords}
 use Rattle.words.specs.Words.{cardOk}
-use borrow.Author.Tests.{eq-eqb, eqb-true, ne-eqb, not-false}
+use borrow.Author.Tests.{eq-eqb, ne-eqb}
 use lib.Dec.{eqb}
 use lib.ListN.{length}
 use mathlib.Core.Bool.{Bool, _||_, cond, false, not, true}
-use mathlib.Core.List.{List, [], _++_, append-assoc, map}
-use mathlib.Core.Path.{_∙_, _≡_, ap, ap₂, subst, sym}
+use mathlib.Core.List.{List, [], _++_, _∷_, append-assoc, map}
+use mathlib.Core.Path.{_∙_, _≡_, ap, ap₂, refl, subst, sym}
 use native.Mathlib.Omega.{arith}
 
 -- the fault of block b
@@ -107,12 +107,13 @@ module _ (i : List ℕ) where
     pub by-held : wrongs ≡ [] → imageFaults i ≡ heldFaults i
     by-held e = sym in-turn ∙ ap₂ (λ t bs. fault 14 t ++ (map named bs ++ heldFaults i)) even e
 
-  -- ---- none
+  -- ---- their numbers
+  -- no wrong block's fault has the number 0
   blocks-numbered : Numbered (map named wrongs)
   blocks-numbered = every-map (λ f. 1 ≤ f .0) named wrongs (every-all (λ b. 1 ≤ 15) (λ b. omega arith) wrongs)
 
   -- no fault of an image has the number 0
-  faults-numbered : Numbered (imageFaults i)
+  pub faults-numbered : Numbered (imageFaults i)
   faults-numbered =
       let P : Said → Type 0 = λ f. 1 ≤ f .0 in
       subst Numbered in-turn
@@ -121,17 +122,20 @@ module _ (i : List ℕ) where
       (every-append P (fault 16 (not header || not counted)) (fault 17 (not zeros))
       (fault-numbered 16 (not header || not counted) (omega arith)) (fault-numbered 17 (not zeros) (omega arith)))))
 
-  -- with 0 there is no fault
-  pub no-faults : said (imageFaults i) .0 ≡ 0 → imageFaults i ≡ []
-  no-faults z = none-listed (imageFaults i) faults-numbered z
-
-  -- and the block count is the header's
-  pub count-is : said (imageFaults i) .0 ≡ 0 → length i / 512 ≡ blocksFor (imageTotal i)
-  count-is z =
-      let p = fault-none 14 ragged next (omega arith) (ap (λ l. said l .0) in-turn ∙ z) in
-      let q = says-none (map named wrongs) (heldFaults i) blocks-numbered (p .1) in
-      let r = fault-none 16 (not header || not counted) (fault 17 (not zeros)) (omega arith) (q .1) in
-      eqb-true (length i / 512) (blocksFor (imageTotal i)) (not-false counted (or-parts (not header) (not counted) (r .0) .1))
+-- no fault but 15 has a place
+pub faults-placed : (i : List ℕ) → (said (imageFaults i) .0 ≡ 15 → ⊥) → said (imageFaults i) .1 ≡ 0
+unfolding imageFaults
+faults-placed i h =
+    go (ragged i) (wrongs i) (not (header i) || not (counted i)) (not (zeros i)) h
+  where
+    -- by the tests and the wrong blocks
+    go : (a : Bool) (bs : List ℕ) (k z : Bool) → (said (fault 14 a ++ map named bs ++ fault 16 k ++ fault 17 z) .0 ≡ 15 → ⊥)
+        → said (fault 14 a ++ map named bs ++ fault 16 k ++ fault 17 z) .1 ≡ 0
+    go true bs k z h = refl
+    go false (b ∷ bs) k z h = absurd (h refl)
+    go false [] true z h = refl
+    go false [] false true h = refl
+    go false [] false false h = refl
 
 -- ---- the ends, as what the code promises
 module _ (i : List ℕ) (fs : List Said) (number place words : ℕ) where

@@ -1,33 +1,32 @@
--- What is written is read back, word for word. Assumes nothing.
+-- What is written has no fault, and its words are the index's. Assumes nothing.
 use Prim.Native.Nat.{_*_, _-_, _/_, _<_, _^_, _≤_, ℕ}
 use Rattle.image.proofs.Blocks.{blocks-length}
-use Rattle.image.proofs.Calls.{by-room, reads-all}
-use Rattle.image.proofs.Refusals.{by-held, none-held}
 use Rattle.image.proofs.Places.{blocks-hold}
+use Rattle.image.proofs.Refusals.{by-held, none-held}
 use Rattle.image.proofs.Standing.{none-wrong, words-back, zero-back}
 use Rattle.image.specs.Below.{Below}
-use Rattle.image.specs.Calls.{Reads, Writes}
+use Rattle.image.specs.Calls.{Writes}
 use Rattle.image.specs.Lowest.{wrongBlocks}
 use Rattle.image.specs.Sound.{restZero}
-use Rattle.laws.proofs.Tests.{and-l, and-r, holds, is-true}
 use Rattle.laws.specs.Lists.{all, range}
-use Rattle.limits.specs.Said.{Said, fault, said}
+use Rattle.limits.specs.Said.{fault, said}
+use Rattle.words.proofs.Headers.{words-whole}
 use Rattle.words.proofs.InShape.{header-possible, whole}
 use Rattle.words.specs.Image.{blocks, blocksFor, image, imageFaults, imageTotal, imageWord, imageWords, saidWrite}
-use Rattle.words.specs.Words.{at, headerOk, wordsOf, wordsOk}
-use borrow.Author.Tests.{le-ltb, leb-false, leb-true}
+use Rattle.words.specs.Words.{at, cardOk, wordsOf, wordsOk}
+use borrow.Author.Tests.{leb-false, leb-true}
 use lib.Dec.{eqb, leb, lit<, ltb}
 use lib.ListN.{List·getD-eq-default, drop, length, length-take, take}
 use lib.Seq.{getD-take, length-take-le, take-all, take-at, take-take}
-use mathlib.Core.Bool.{Bool, _&&_, false, not, true}
+use mathlib.Core.Bool.{Bool, false, not, true}
 use mathlib.Core.List.{List, [], _++_}
-use mathlib.Core.Path.{_∙_, _≡_, ap, ap₂, refl, subst, sym}
+use mathlib.Core.Path.{_∙_, _≡_, ap, ap₂, refl, sym}
 use native.Mathlib.Omega.{arith}
 
 -- ---- the header
 -- the header test looks at the first eight words only
-pub header-take : (w : List ℕ) → headerOk (take 8 w) ≡ headerOk w
-unfolding headerOk
+pub header-take : (w : List ℕ) → cardOk (take 8 w) ≡ cardOk w
+unfolding cardOk
 header-take w =
     let f : (j : ℕ) → j < 8 → at (take 8 w) j ≡ at w j = λ j h. getD-take 8 w j 0 h in
     rw (f 0 (lit< tt), f 1 (lit< tt), f 2 (lit< tt), f 3 (lit< tt), f 4 (lit< tt), f 5 (lit< tt), f 6 (lit< tt), f 7 (lit< tt))
@@ -60,7 +59,7 @@ module _ (w : List ℕ) (ok : wordsOk w ≡ true) (small : Below (2 ^ 32) w) whe
 
   -- none of them is missing
   long : length ws ≡ t
-  long = length-take-le t w (whole w ok .words)
+  long = length-take-le t w (whole w (words-whole w ok .1) .words)
 
   -- each of them fits 32 bits
   low : Below (2 ^ 32) ws
@@ -109,7 +108,7 @@ module _ (w : List ℕ) (ok : wordsOk w ≡ true) (small : Below (2 ^ 32) w) whe
   image-sound =
       let l = image-size in
       by-held (image w) (λ e. omega (arith, some)) (omega arith) (ap₂ (λ i n. wrongBlocks i 0 n) image-is size-blocks ∙ none-wrong ws k low)
-      ∙ none-held (image w) (ap headerOk heads ∙ header-take w ∙ header-possible w ok) (size-blocks ∙ ap blocksFor (sym total-is)) rest-is
+      ∙ none-held (image w) (ap cardOk heads ∙ header-take w ∙ header-possible w (words-whole w ok .1)) (size-blocks ∙ ap blocksFor (sym total-is)) rest-is
 
   -- AND ITS WORDS ARE THE INDEX'S
   pub image-words : imageWords (image w) (imageTotal (image w)) ≡ take (wordsOf w) w
@@ -127,18 +126,9 @@ pub written-ok : (w : List ℕ) (room : ℕ) → saidWrite w room .0 ≡ 0 → w
 unfolding saidWrite
 written-ok w room e = wrote (wordsOk w) (ltb room (512 * blocksFor (wordsOf w))) e
 
--- THE ROUND TRIP: WHAT WRITING WROTE, READING READS BACK AS THE SAME WORDS, WHERE THE ROOM IS LONG ENOUGH
-pub round-trip : (w before after room room′ : List ℕ) (blocks number place words : ℕ) → Below (2 ^ 32) w → Writes w before after 0 blocks
-    → wordsOf w ≤ length room → Reads (take (512 * blocks) after) room room′ number place words
-    → (number ≡ 0) × (words ≡ wordsOf w) × (room′ ≡ take (wordsOf w) w ++ drop (wordsOf w) room)
-round-trip w before after room room′ blocks number place words small x enough y =
-    let ok = written-ok w (length before) (sym (x .said)) in
-    let i : take (512 * blocks) after ≡ image w =
+-- THE BLOCKS THAT A WRITE LEFT ARE THE INDEX'S IMAGE
+pub written-image : {w before after : List ℕ} {blocks : ℕ} → Below (2 ^ 32) w → Writes w before after 0 blocks → take (512 * blocks) after ≡ image w
+written-image {w} {before} small x =
     ap₂ (λ (n : ℕ) (l : List ℕ). take (512 * n) l) (x .counted) (x .lent)
-    ∙ take-at (image w) (drop (512 * blocksFor (wordsOf w)) before) (512 * blocksFor (wordsOf w)) (image-size w ok small) in
-    let r : Reads (image w) room room′ number place words = subst (λ (l : List ℕ). Reads l room room′ number place words) i y in
-    let total = total-is w ok small in
-    let fits = le-ltb (length room) (imageTotal (image w)) (rw total enough) in
-    let e : number ≡ 0 = r .said ∙ ap (λ (t : Said). t .0) (by-room (image w) (length room) (image-sound w ok small) false fits) in
-    let d = reads-all (image w) room room′ number place words r e in
-    (e, d .0 ∙ total, d .1 ∙ ap₂ (λ (l : List ℕ) (n : ℕ). l ++ drop n room) (image-words w ok small) total)
+    ∙ take-at (image w) (drop (512 * blocksFor (wordsOf w)) before) (512 * blocksFor (wordsOf w))
+    (image-size w (written-ok w (length before) (sym (x .said))) small)

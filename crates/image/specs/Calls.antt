@@ -1,6 +1,6 @@
--- What the two image calls promise: 01, The image and Numbers given back. Assumes nothing.
+-- What writing promises: 01, The image and Numbers given back. Assumes nothing.
 use Prim.Native.Nat.{_*_, ℕ}
-use Rattle.words.specs.Image.{blocksFor, image, imageTotal, imageWords, saidRead, saidWrite}
+use Rattle.words.specs.Image.{blocksFor, image, saidWrite}
 use Rattle.words.specs.Words.{wordsOf}
 use lib.Dec.{eqb}
 use lib.ListN.{drop, length}
@@ -16,14 +16,3 @@ pub record Writes (w before after : List ℕ) (number blocks : ℕ) : Type 0 whe
   pub counted : blocks ≡ cond (eqb number 0) (blocksFor (wordsOf w)) 0
   -- the image, and what stood after it; on a refusal all as it was
   pub lent : after ≡ cond (eqb number 0) (image w ++ drop (512 * blocksFor (wordsOf w)) before) before
-
--- reading the image i: the lent words before and after, the number, the block that 15 names, how many words
-pub record Reads (i before after : List ℕ) (number place words : ℕ) : Type 0 where
-  -- the lowest of 14 to 17, then 5, else 0
-  pub said : number ≡ saidRead i (length before) .0
-  -- for 15 the lowest wrong block, else zero
-  pub placed : place ≡ saidRead i (length before) .1
-  -- the words its header asks for; none on a refusal
-  pub counted : words ≡ cond (eqb number 0) (imageTotal i) 0
-  -- the index words, and what stood after them; on a refusal all as it was
-  pub lent : after ≡ cond (eqb number 0) (imageWords i (imageTotal i) ++ drop (imageTotal i) before) before

@@ -1,7 +1,5 @@
-// The image of an index: blocks of 512 bytes, each 127 words and their check word. Writing one and reading one.
-ghost use Rattle.image.specs.Calls.{Reads, Writes};
-use crate::reading::check_image;
-use crate::reading::get_words;
+// The image of an index: blocks of 512 bytes, each 127 words and their check word. Writing one, and what reading one takes.
+ghost use Rattle.image.specs.Calls.{Writes};
 use crate::word::BLOCK;
 use crate::word::blocks_for;
 use crate::word::words_of;
@@ -9,7 +7,7 @@ use crate::writing::put_blocks;
 use words::header::words_ok;
 
 mod check;
-mod reading;
+pub mod reading;
 pub mod word;
 mod writing;
 
@@ -17,13 +15,6 @@ mod writing;
 pub struct Written {
     pub number: u32,
     pub blocks: usize,
-}
-
-// What reading says: a number, the block that it names, and how many words it read.
-pub struct Read {
-    pub number: u32,
-    pub place: usize,
-    pub words: usize,
 }
 
 // Writes the index at the front of the words to the front of the image.
@@ -46,23 +37,4 @@ pub fn write_image(index: &[u32], image: &mut [u8]) -> Written
     }
     put_blocks(&index[..words], blocks, image);
     Written { number: 0, blocks }
-}
-
-// Reads the index of the image to the front of the room.
-pub fn read_image(image: &[u8], room: &mut [u32]) -> Read
-    ensures { λ r. ⌜ Reads (now (image .entry)) (now (room .entry)) (now (room .exit)) (r .number) (r .place) (r .words) ⌝ }
-{
-    let found = check_image(image);
-    if found.number != 0 {
-        return found;
-    }
-    if room.len() < found.words {
-        return Read {
-            number: 5,
-            place: 0,
-            words: 0,
-        };
-    }
-    get_words(image, found.words, room);
-    found
 }

@@ -5,7 +5,6 @@ ghost use Rattle.words.specs.Image.{imageFaults, imageWords};
 ghost use lib.ListN.{drop, length, take};
 ghost use mathlib.Core.List.{_++_};
 ghost use mathlib.Core.Path.{_≡_};
-use crate::Read;
 use crate::check::first_wrong;
 use crate::word::BLOCK;
 use crate::word::HELD;
@@ -13,7 +12,14 @@ use crate::word::blocks_for;
 use crate::word::get_word;
 use crate::word::image_word;
 use crate::word::words_of;
-use words::header::header_ok;
+use words::header::card_ok;
+
+// What is wrong with an image: a number, the block that it names, and with 0 how many words its index has.
+pub struct Checked {
+    pub number: u32,
+    pub place: usize,
+    pub words: usize,
+}
 
 // Where block b's words end, of t index words.
 fn block_end(b: usize, t: usize) -> usize
@@ -82,10 +88,10 @@ fn rest_zero(image: &[u8], t: usize) -> bool
 }
 
 // A refusal with its number and place, and no words.
-fn refused(number: u32, place: usize) -> Read
+fn refused(number: u32, place: usize) -> Checked
     ensures { λ r. ⌜ (r .number ≡ number) × (r .place ≡ place) × (r .words ≡ 0) ⌝ }
 {
-    Read {
+    Checked {
         number,
         place,
         words: 0,
@@ -93,12 +99,12 @@ fn refused(number: u32, place: usize) -> Read
 }
 
 // What is wrong with the words that the blocks hold, or how many the index has.
-fn check_held(image: &[u8]) -> Read
+fn check_held(image: &[u8]) -> Checked
     requires { ⌜ 512 ≤ length (now image) ⌝ }
     ensures { λ r. ⌜ Sound (now (image .entry)) (heldFaults (now (image .entry))) (r .number) (r .place) (r .words) ⌝ }
 {
     let header = header_of(image);
-    if !header_ok(&header) {
+    if !card_ok(&header) {
         return refused(16, 0);
     }
     let words = words_of(&header);
@@ -108,7 +114,7 @@ fn check_held(image: &[u8]) -> Read
     if !rest_zero(image, words) {
         return refused(17, 0);
     }
-    Read {
+    Checked {
         number: 0,
         place: 0,
         words,
@@ -116,7 +122,7 @@ fn check_held(image: &[u8]) -> Read
 }
 
 // What is wrong with the image, or how many words its index has.
-pub fn check_image(image: &[u8]) -> Read
+pub fn check_image(image: &[u8]) -> Checked
     ensures { λ r. ⌜ Sound (now (image .entry)) (imageFaults (now (image .entry))) (r .number) (r .place) (r .words) ⌝ }
 {
     if image.len() == 0 {

@@ -4,11 +4,12 @@ ghost use Rattle.laws.specs.Lists.{lower};
 ghost use Rattle.split.specs.Groups.{Gatherable, Gathered, Picked, Picking, Sharable, Shared, stretch};
 ghost use Rattle.split.specs.Runs.{Splittable, Splitted};
 ghost use lib.ListN.{drop, length, take};
-ghost use mathlib.Core.List.{_++_, _∷_};
+ghost use mathlib.Core.List.{_++_};
 ghost use mathlib.Core.Path.{_≡_};
 use crate::rounds::choose;
 use crate::rounds::put_entry;
 use words::places::HEADER;
+use words::writing::put_node;
 
 // How many words a node has while the tree grows: those of edition 2.
 pub const WIDTH: usize = 5;
@@ -90,18 +91,6 @@ fn copy_back(work: &mut [u32], lo: usize, hi: usize, over: usize)
         work[p] = work[p + over];
         p += 1;
     }
-}
-
-// One node's words.
-pub fn put_node(part: &mut [u32], start: u32, count: u32, child: u32, radius: u32, inner: u32)
-    requires { ⌜ 5 ≤ length (now part) ⌝ }
-    ensures { λ _. ⌜ now (part .exit) ≡ start ∷ count ∷ child ∷ radius ∷ inner ∷ drop 5 (now (part .entry)) ⌝ }
-{
-    part[0] = start;
-    part[1] = count;
-    part[2] = child;
-    part[3] = radius;
-    part[4] = inner;
 }
 
 // Shares out the run of `count` positions from s on, whose m centres are at its front: its children are the nodes from `made` on.

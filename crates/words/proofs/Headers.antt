@@ -107,6 +107,11 @@ module _ (w : List ℕ) where
   unfolding wordsOk
   good-words h e = simp (le-leb 8 (length w) h, e)
 
+  -- words with a header that a card may have: how many there are decides
+  pub good-whole : 8 ≤ length w → cardOk w ≡ true → leb (wordsOf w) (length w) ≡ wholeOk w
+  unfolding wholeOk
+  good-whole h e = simp (le-leb 8 (length w) h, e)
+
   -- words that a call takes are edition 2, and whole
   pub words-whole : wordsOk w ≡ true → (edition# w ≡ 2) × (wholeOk w ≡ true)
   unfolding wordsOk wholeOk

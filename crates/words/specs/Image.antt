@@ -91,7 +91,3 @@ imageFaults i =
     fault 14 (eqb (length i) 0 || not (eqb (length i % 512) 0)) ++ map (λ b. (15, b, 0)) (keep (λ b. not (blockGood i b)) (range 0 n))
     ++ fault 16 (not (cardOk (imageWords i 8)) || not (eqb n (blocksFor (imageTotal i))))
     ++ fault 17 (not (all (λ j. eqb (imageWord i j) 0) (range (imageTotal i) (127 * n - imageTotal i))))
-
--- 5 comes last
-unfoldable pub saidRead : List ℕ → ℕ → Said
-saidRead i room = said (imageFaults i ++ fault 5 (ltb room (imageTotal i)))

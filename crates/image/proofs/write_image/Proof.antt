@@ -5,6 +5,7 @@ use Rattle.image.proofs.Calls.{writes-done, writes-five, writes-sixteen
 use Rattle.image.proofs.write_image.Statement.{statement}
 use Rattle.image.proofs.write_image.Tie as tie
 use Rattle.laws.proofs.Tests.{no, yes}
+use Rattle.words.proofs.Headers.{words-whole}
 use Rattle.words.proofs.InShape.{header-possible, header-there, whole}
 use Rattle.words.specs.Image.{blocks, blocksFor, image}
 use Rattle.words.specs.Words.{wordsOf, wordsOk}
@@ -40,7 +41,7 @@ returns c =
     writes-sixteen (start .args .index .now) (start .args .image .now) (no (c .before .words-ok .ensures) (c .if1 .taken))
 
 words-of-requires : tie.Need-words-of-requires
-words-of-requires c κs = (header-there (words c) (ok c), header-possible (words c) (ok c))
+words-of-requires c κs = (header-there (words c) (ok c), header-possible (words c) (words-whole (words c) (words-whole (words c) (ok c) .1) .1))
 
 blocks-for-requires : tie.Need-blocks-for-requires
 blocks-for-requires c κs = search needs

@@ -21,7 +21,7 @@ abbrev I : tie.After-header-of → List ℕ
 I c = c .before .before .args .image .now
 
 header : (c : tie.Else1) → cardOk (imageWords (I (c .before .before .before)) 8) ≡ true
-header c = yes (c .before .header-ok .ensures ∙ ap cardOk (c .before .before .before .header-of .ensures)) (c .if1 .left)
+header c = yes (c .before .card-ok .ensures ∙ ap cardOk (c .before .before .before .header-of .ensures)) (c .if1 .left)
 
 abbrev W : tie.After-words-of → tie.After-header-of
 W c = c .before .before .before .before .before
@@ -42,11 +42,11 @@ zeros c = c .rest-zero .ensures ∙ ap (restZero (I (W (c .before .before .befor
 header-of-requires : tie.Need-header-of-requires
 header-of-requires c κs = search needs
 
-slice-aggregate-header-ok : tie.Need-slice-aggregate-header-ok
-slice-aggregate-header-ok c = search needs
+slice-aggregate-card-ok : tie.Need-slice-aggregate-card-ok
+slice-aggregate-card-ok c = search needs
 
-header-ok-requires : tie.Need-header-ok-requires
-header-ok-requires c κs = search needs
+card-ok-requires : tie.Need-card-ok-requires
+card-ok-requires c κs = search needs
 
 refused-requires : tie.Need-refused-requires
 refused-requires c κs = search needs
@@ -55,14 +55,14 @@ returns : tie.Need-returns
 returns c =
     let ho = c .before .before in
     let r = c .refused .ensures in
-    let e = no (ho .header-ok .ensures ∙ ap cardOk (ho .before .before .header-of .ensures)) (c .before .if1 .taken) in
+    let e = no (ho .card-ok .ensures ∙ ap cardOk (ho .before .before .header-of .ensures)) (c .before .if1 .taken) in
     sound-refused _ _ _ _ _ 16 0 (λ q. omega arith) (sixteen-header (I (ho .before .before)) e) (r .0) (r .1) (r .2)
 
 slice-aggregate-words-of : tie.Need-slice-aggregate-words-of
 slice-aggregate-words-of c = search needs
 
 words-of-requires : tie.Need-words-of-requires
-words-of-requires c κs = (search needs, yes (c .before .before .header-ok .ensures) (c .before .if1 .left))
+words-of-requires c κs = (search needs, yes (c .before .before .card-ok .ensures) (c .before .if1 .left))
 
 blocks-for-requires : tie.Need-blocks-for-requires
 blocks-for-requires c κs = search needs
@@ -105,8 +105,8 @@ check-held-spec =
     tie.close
     (tie.spec
     header-of-requires
-    slice-aggregate-header-ok
-    header-ok-requires
+    slice-aggregate-card-ok
+    card-ok-requires
     refused-requires
     returns
     slice-aggregate-words-of

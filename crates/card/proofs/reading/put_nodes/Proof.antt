@@ -1,0 +1,134 @@
+-- `card::reading::put_nodes` meets its contract: k nodes are written (`Noded`). The measure is what is left of the nodes.
+-- Assumes nothing.
+use Prim.Native.Nat.{_-_, _≤_, ℕ}
+use Rattle.card.specs.Cards.{cardWords}
+use Rattle.measure.specs.Table.{between}
+use Rattle.card.proofs.Writing.{Noded, noded-done, noded-start, noded-step}
+use Rattle.card.proofs.reading.put_nodes.Statement.{statement}
+use Rattle.card.proofs.reading.put_nodes.Tie as tie
+use Rattle.words.specs.Words.{N#}
+use borrow.Author.Needs.{needs}
+use mathlib.Core.Path.{_≡_}
+use native.Mathlib.Omega.{arith}
+
+abbrev Inv-loop : tie.InvT-loop
+Inv-loop table c image part₀ total k₀ part k =
+    Noded (between table c) (cardWords image) part₀ part k × (total ≡ N# (cardWords image)) × (k ≤ total)
+
+abbrev μ-loop : tie.MeasureT-loop
+μ-loop table c image part₀ total k₀ part k = total - k
+
+-- the start, seen from the loop
+abbrev start : tie.At-loop Inv-loop μ-loop → tie.Start Inv-loop μ-loop
+start l = l .before .before .before .before .before
+
+-- the distance between the table's rows
+abbrev dist : tie.Start Inv-loop μ-loop → ℕ → ℕ → ℕ
+dist s = between (s .args .table .now) (s .args .c)
+
+card-nodes-requires : tie.Need-card-nodes-requires Inv-loop μ-loop
+card-nodes-requires c κs = search needs
+
+loop-holds : tie.Need-loop-holds Inv-loop μ-loop
+loop-holds c =
+    let a = c .before .before .before .before .args in
+    (noded-start (between (a .table .now) (a .c)) (cardWords (a .image .now)) (a .part .now), c .card-nodes .ensures .0, omega arith)
+
+card-start-requires : tie.Need-card-start-requires Inv-loop μ-loop
+card-start-requires c κs = search needs
+
+cast-start : tie.Need-cast-start Inv-loop μ-loop
+cast-start c = search needs
+
+card-count-requires : tie.Need-card-count-requires Inv-loop μ-loop
+card-count-requires c κs = search needs
+
+cast-count : tie.Need-cast-count Inv-loop μ-loop
+cast-count c = search needs
+
+card-child-requires : tie.Need-card-child-requires Inv-loop μ-loop
+card-child-requires c κs = search needs
+
+cast-child : tie.Need-cast-child Inv-loop μ-loop
+cast-child c = search needs
+
+card-radius-requires : tie.Need-card-radius-requires Inv-loop μ-loop
+card-radius-requires c κs = search needs
+
+card-nearest-requires : tie.Need-card-nearest-requires Inv-loop μ-loop
+card-nearest-requires c κs = search needs
+
+mul-at : tie.Need-mul-at Inv-loop μ-loop
+mul-at c = search needs
+
+mul-put-node : tie.Need-mul-put-node Inv-loop μ-loop
+mul-put-node c = search needs
+
+sub-put-node : tie.Need-sub-put-node Inv-loop μ-loop
+sub-put-node c = search needs
+
+part-put-node-start : tie.Need-part-put-node-start Inv-loop μ-loop
+part-put-node-start c = search needs
+
+part-put-node-end : tie.Need-part-put-node-end Inv-loop μ-loop
+part-put-node-end c = search needs
+
+put-node-requires : tie.Need-put-node-requires Inv-loop μ-loop
+put-node-requires c κs = search needs
+
+add-k : tie.Need-add-k Inv-loop μ-loop
+add-k c = search needs
+
+loop-less : tie.Need-loop-less Inv-loop μ-loop
+loop-less c = search needs
+
+loop-again : tie.Need-loop-again Inv-loop μ-loop
+loop-again c =
+    let w = c .before .before in
+    let r = w .before .before in
+    let ch = r .before .before in
+    let st = ch .before .before in
+    let l = st .before .before in
+    let s = start l in (
+      noded-step (dist s) (cardWords (s .args .image .now)) (l .loop .inv .0) (omega (arith, s .pre .1)) (w .put-node .ensures) (st .card-start .ensures .0)
+          (ch .before .card-count .ensures .0) (ch .card-child .ensures .0) (r .before .card-radius .ensures) (r .card-nearest .ensures) (search needs),
+      l .loop .inv .1,
+      omega arith,
+    )
+
+same-length : tie.Need-same-length Inv-loop μ-loop
+same-length c = search needs
+
+returns : tie.Need-returns Inv-loop μ-loop
+returns c =
+    let l = c .before in
+    let s = start l in
+    noded-done (dist s) (cardWords (s .args .image .now)) (l .loop .inv .0) (omega arith)
+
+pub put-nodes-spec : {M : Type 1} → statement M
+put-nodes-spec =
+    tie.close
+    (tie.spec
+    Inv-loop
+    μ-loop
+    card-nodes-requires
+    loop-holds
+    card-start-requires
+    cast-start
+    card-count-requires
+    cast-count
+    card-child-requires
+    cast-child
+    card-radius-requires
+    card-nearest-requires
+    mul-at
+    mul-put-node
+    sub-put-node
+    part-put-node-start
+    part-put-node-end
+    put-node-requires
+    add-k
+    loop-less
+    loop-again
+    same-length
+    returns)
