@@ -41,7 +41,7 @@ returns c =
     writes-sixteen (start .args .index .now) (start .args .image .now) (no (c .before .words-ok .ensures) (c .if1 .taken))
 
 words-of-requires : tie.Need-words-of-requires
-words-of-requires c κs = (header-there (words c) (ok c), header-possible (words c) (words-whole (words c) (words-whole (words c) (ok c) .1) .1))
+words-of-requires c κs = (header-there (words c) (ok c), header-possible (words c) (words-whole (words c) (ok c) .1))
 
 blocks-for-requires : tie.Need-blocks-for-requires
 blocks-for-requires c κs = search needs
@@ -59,7 +59,7 @@ slice-aggregate-put-blocks : tie.Need-slice-aggregate-put-blocks
 slice-aggregate-put-blocks c =
     let wo = c .before .before .before in
     let e1 = wo .before in
-    let within : wo .words-of .result ≤ length (words e1) = rw (wo .words-of .ensures .0) (whole (words e1) (ok e1) .words) in
+    let within : wo .words-of .result ≤ length (words e1) = rw (wo .words-of .ensures .0) (whole (words e1) (words-whole (words e1) (ok e1) .1) .words) in
     sym (length-take-le (wo .words-of .result) (words e1) within)
 
 put-blocks-requires : tie.Need-put-blocks-requires
