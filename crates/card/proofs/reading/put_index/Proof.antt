@@ -38,9 +38,15 @@ returns c =
 get-words-requires : tie.Need-get-words-requires
 get-words-requires c κs =
     let k = c .before .before in
-    let s = k .before .before .before .before in
-    (omega (arith, s .pre .1 .0, total-inside (s .args .image .now) (s .pre .0 .held)
-    (λ e. omega (arith, e, k .card-word .ensures .0, c .before .if1 .left))), s .pre .1 .1)
+    let s = k .before .before .before .before in (
+      omega (
+        arith,
+        s .pre .1 .0,
+        total-inside (s .args .image .now) (s .pre .0 .held)
+            (λ e. omega (arith, e, k .card-word .ensures .0, c .before .if1 .left)),
+      ),
+      s .pre .1 .1,
+    )
 
 -- src/reading.rt:169:1
 same-length-2 : tie.Need-same-length-2

@@ -49,9 +49,10 @@ returns-2 c =
 card-number-requires : tie.Need-card-number-requires
 card-number-requires c κs =
     let m = c .before .before in
-    let t = m .before .before in
-    (image-right _ (m .check-image .ensures) (c .if2 .left),
-    sized _ _ (sym (t .table-number .ensures) ∙ m .before .if1 .left) .some)
+    let t = m .before .before in (
+      image-right _ (m .check-image .ensures) (c .if2 .left),
+      sized _ _ (sym (t .table-number .ensures) ∙ m .before .if1 .left) .some,
+    )
 
 -- src/reading.rt:153:9
 refused-requires-3 : tie.Need-refused-requires-3
