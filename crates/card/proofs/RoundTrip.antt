@@ -5,12 +5,10 @@ use Rattle.card.proofs.Refusals.{Clear}
 use Rattle.card.proofs.Theorems.{read-count, read-own, read-room, read-taken}
 use Rattle.card.specs.Calls.{Reads, readTotal}
 use Rattle.card.specs.Cards.{cardWords}
-use Rattle.card.specs.Parts.{wideLong}
 use Rattle.image.proofs.RoundTrip.{image-sound, image-words, written-image, written-ok}
 use Rattle.image.specs.Below.{Below}
 use Rattle.image.specs.Calls.{Writes}
 use Rattle.limits.proofs.Sized.{Sized}
-use Rattle.limits.specs.Limits.{maxDistance}
 use Rattle.limits.specs.Said.{said}
 use Rattle.measure.specs.Table.{rowsOf}
 use Rattle.tree.proofs.Alike.{Alike, shape-alike}
