@@ -1,5 +1,5 @@
 -- The call's two ends: a refusal, and the index in the room. Assumes nothing.
-use Prim.Native.Nat.{_≤_, ℕ}
+use Prim.Native.Nat.{ℕ}
 use Rattle.card.proofs.Refusals.{Clear, clear}
 use Rattle.card.specs.Calls.{Reads, Tested, readTotal, readWords}
 use borrow.Author.Tests.{eq-eqb, ne-eqb}

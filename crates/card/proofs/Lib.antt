@@ -7,3 +7,5 @@ pub mod Refusals
 pub mod Contract
 pub mod Theorems
 pub mod Damage
+pub mod RoundTrip
+pub mod Cases

@@ -58,6 +58,14 @@ module _ (T : List ℕ) (c : ℕ) (i : List ℕ) where
       go true q = old (eqb-true (edition# (cardWords i)) 1 q)
       go false q = new (eqb-false (edition# (cardWords i)) 1 q)
 
+  -- it is the widened words of an edition 1 card
+  read-old : edition# (cardWords i) ≡ 1 → readWords T c i ≡ widen d (cardWords i)
+  read-old e = by-edition (λ v. v ≡ widen d (cardWords i)) (λ _. refl) (λ h. absurd (h e))
+
+  -- and any other card's own
+  pub read-own : (edition# (cardWords i) ≡ 1 → ⊥) → readWords T c i ≡ cardWords i
+  read-own h = by-edition (λ v. v ≡ cardWords i) (λ e. absurd (h e)) (λ _. refl)
+
   -- READ-TOTAL: IT HAS AS MANY WORDS AS ARE COUNTED, where the card's words are whole
   pub read-total : Held i → length (readWords T c i) ≡ readTotal i
   read-total H =
@@ -124,11 +132,11 @@ module _ {T : List ℕ} {c : ℕ} {i before after : List ℕ} {number place word
 
     -- READ-WIDE: OF AN EDITION 1 CARD IT IS THE WIDENED INDEX
     pub read-wide : edition# (cardWords i) ≡ 1 → take words after ≡ widen (between T c) (cardWords i)
-    read-wide e = read-there ∙ by-edition T c i (λ v. v ≡ widen (between T c) (cardWords i)) (λ _. refl) (λ h. absurd (h e))
+    read-wide e = read-there ∙ read-old T c i e
 
     -- READ-SAME: OF ANY OTHER ITS OWN
     pub read-same : (edition# (cardWords i) ≡ 1 → ⊥) → take words after ≡ cardWords i
-    read-same h = read-there ∙ by-edition T c i (λ v. v ≡ cardWords i) (λ e. absurd (h e)) (λ _. refl)
+    read-same h = read-there ∙ read-own T c i h
 
     -- READ-HEADED: IT IS EDITION 2, AND HAS THE TABLE'S ROWS AND COLUMNS
     pub read-headed : (edition# (take words after) ≡ 2) × (n# (take words after) ≡ rowsOf T c) × (c# (take words after) ≡ c)

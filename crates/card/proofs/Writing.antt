@@ -1,6 +1,7 @@
 -- The widened words written one node and one position at a time. They are those of any index w, and the numbers that are written are told by
 -- equations: where w was read from does not matter. Assumes nothing.
 use Prim.Native.Nat.{_*_, _+_, _-_, _≤_, ℕ}
+use Rattle.card.specs.Parts.{nodesTo, pairsTo, topOf, wideLong, withNodes, withPairs, withWide}
 use Rattle.laws.proofs.Joins.{each-append}
 use Rattle.laws.proofs.Lists.{map-append}
 use Rattle.laws.proofs.Parts.{put-more, store-more}
@@ -12,7 +13,6 @@ use Rattle.tree.proofs.Written.{each-words}
 use Rattle.tree.specs.Check.{nearest#}
 use Rattle.tree.specs.Encode.{nodeWords, pairWords}
 use Rattle.tree.specs.Widen.{widen, widened}
-use Rattle.card.specs.Parts.{nodesTo, pairsTo, topOf, wideLong, withNodes, withPairs, withWide}
 use Rattle.words.specs.Words.{N#, child#, count#, dist#, n#, radius#, row#, start#}
 use borrow.Rule.Slice.PartMut.{midOf, putMid}
 use lib.ListN.{drop, length, length-append, length-map, set}

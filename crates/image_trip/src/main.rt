@@ -1,9 +1,11 @@
-// The image of the five-row index, written to a file and read back, and what reading says of images that are wrong.
+// The image of the five-row index, written to a file and read back over its table, and what reading says of images that are wrong.
 ghost use Prim.Native.Nat.{_<_, _≤_};
 ghost use Rattle.io.specs.Counts.{Counts};
 ghost use lib.ListN.{length};
+use card::read_image;
 use libc::STDOUT_FILENO;
 use lines::print_lines;
+use samples::FIVE_ROWS;
 use samples::five_index;
 
 // Two numbers on a line.
@@ -14,29 +16,29 @@ fn print_pair(a: u32, b: usize) {
     io::write_all(STDOUT_FILENO, b"\n");
 }
 
-// What reading says of the image, into a room that the five-row index fits: the number and its place.
-fn print_said(image: &[u8]) {
-    let mut room = [0u32; 38];
-    let read = image::read_image(image, &mut room);
+// What reading says of the image over a table of one column, into a room that the five-row index fits: the number and its place.
+fn print_said(image: &[u8], table: &[u16]) {
+    let mut room = [0u32; 43];
+    let read = read_image(image, table, 1, &mut room);
     print_pair(read.number, read.place);
 }
 
 // The same with byte p turned, and turned back.
-fn print_turned(image: &mut [u8], p: usize)
+fn print_turned(image: &mut [u8], table: &[u16], p: usize)
     requires { ⌜ p < length (now image) ⌝ }
 {
     image[p] = std::num::wrapping_add_u8(image[p], 1);
-    print_said(image);
+    print_said(image, table);
     image[p] = std::num::wrapping_sub_u8(image[p], 1);
 }
 
 // The same with a word after the last. It is the block's last, so that its check word differs by the same number.
-fn print_late(image: &mut [u8])
+fn print_late(image: &mut [u8], table: &[u16])
     requires { ⌜ 512 ≤ length (now image) ⌝ }
 {
     image[504] = 1;
     image[508] = std::num::wrapping_add_u8(image[508], 1);
-    print_said(image);
+    print_said(image, table);
 }
 
 // The bytes to a file.
@@ -64,45 +66,52 @@ fn load(path: &[u8], bytes: &mut [u8]) -> usize
     got
 }
 
-// The five-row index through a file: what writing and reading say, then its nodes and positions.
-fn trip(image: &mut [u8]) {
+// The five-row index through a file: what writing and reading say, then its nodes, of which four words are printed, and its positions.
+fn trip(image: &mut [u8], table: &[u16]) {
     let index = five_index();
     let written = image::write_image(&index, image);
     print_pair(written.number, written.blocks);
     save(b"five", image);
     let mut back = [0u8; 512];
     let n = load(b"five", &mut back);
-    let mut room = [0u32; 38];
-    let read = image::read_image(&back[..n], &mut room);
+    let mut room = [0u32; 43];
+    let read = read_image(&back[..n], table, 1, &mut room);
     print_pair(read.number, read.words);
-    print_lines(&room[8..28], 4);
-    print_lines(&room[28..], 2);
+    print_lines(&room[8..12], 4);
+    print_lines(&room[13..17], 4);
+    print_lines(&room[18..22], 4);
+    print_lines(&room[23..27], 4);
+    print_lines(&room[28..32], 4);
+    print_lines(&room[33..], 2);
 }
 
 // The image of 150 rows in one leaf, in three blocks.
 fn write_three(image: &mut [u8]) {
-    let mut index = [0u32; 312];
-    index[0] = 1;
+    let mut index = [0u32; 313];
+    index[0] = 2;
     index[1] = 150;
     index[2] = 1;
     index[3] = 2;
     index[4] = 1024;
     index[5] = 1;
     index[6] = 1;
+    index[9] = 150;
     let written = image::write_image(&index, image);
     print_pair(written.number, written.blocks);
 }
 
 fn main() {
     let mut image = [0u8; 512];
-    trip(&mut image);
-    print_turned(&mut image, 33);
-    print_turned(&mut image, 511);
-    print_late(&mut image);
+    let five = FIVE_ROWS;
+    trip(&mut image, &five);
+    print_turned(&mut image, &five, 33);
+    print_turned(&mut image, &five, 511);
+    print_late(&mut image, &five);
     let mut three = [0u8; 1536];
+    let rows = [0u16; 150];
     write_three(&mut three);
-    print_said(&three);
-    print_turned(&mut three, 1025);
-    print_turned(&mut three, 513);
-    print_turned(&mut three, 1);
+    print_said(&three, &rows);
+    print_turned(&mut three, &rows, 1025);
+    print_turned(&mut three, &rows, 513);
+    print_turned(&mut three, &rows, 1);
 }

@@ -2,26 +2,19 @@
 -- Assumes nothing.
 use Rattle.card.proofs.Contract.{counts, passed, refused, taken}
 use Rattle.card.proofs.Refusals.{clear-tabled}
-use native.Mathlib.Omega.{arith}
-use borrow.Author.Needs.{needs}
 use Rattle.card.proofs.read_image.Statement.{statement}
 use Rattle.card.proofs.read_image.Tie as tie
-use Rattle.card.proofs.read_image.Reads as reads
-use Rattle.card.proofs.read_image.Lts as lts
-use Rattle.card.proofs.reading.put_index.Reads as put-index-reads
-use Rattle.card.proofs.reading.refusal_of.Reads as refusal-of-reads
+use borrow.Author.Needs.{needs}
+use native.Mathlib.Omega.{arith}
 
--- src/lib.rt:22:9
 refusal-of-requires : tie.Need-refusal-of-requires
 refusal-of-requires c κs = search needs
 
--- src/lib.rt:24:9
 returns : tie.Need-returns
 returns c =
     let r = c .before .before in
     refused (r .before .before .before .before .args .room .now) (r .refusal-of .ensures) (c .if1 .taken)
 
--- src/lib.rt:26:5
 put-index-requires : tie.Need-put-index-requires
 put-index-requires c κs =
     let r = c .before .before .before in
@@ -30,11 +23,9 @@ put-index-requires c κs =
     let t = counts (a .room .now) (r .refusal-of .ensures) (c .before .if1 .left) in
     (clear-tabled _ _ _ _ C, (t, omega (arith, t, C .space)))
 
--- src/lib.rt:19:1
 same-length : tie.Need-same-length
 same-length c = search needs
 
--- src/lib.rt:19:1
 returns-2 : tie.Need-returns-2
 returns-2 c =
     let p = c .before .before in

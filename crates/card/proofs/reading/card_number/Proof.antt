@@ -2,42 +2,30 @@
 -- Assumes nothing.
 use Rattle.card.proofs.Cards.{card-held}
 use Rattle.card.proofs.Refusals.{eight-columns, eight-rows, nine-shape, none-wrong}
-use Rattle.laws.proofs.Tests.{no, yes}
-use native.Mathlib.Omega.{arith}
-use borrow.Author.Needs.{needs}
 use Rattle.card.proofs.reading.card_number.Statement.{statement}
 use Rattle.card.proofs.reading.card_number.Tie as tie
-use Rattle.card.proofs.reading.card_number.Reads as reads
-use Rattle.card.proofs.reading.card_number.Lts as lts
-use Rattle.card.proofs.places.card_columns.Reads as card-columns-reads
-use Rattle.card.proofs.places.card_rows.Reads as card-rows-reads
-use Rattle.card.proofs.shape.card_shape_ok.Reads as card-shape-ok-reads
+use Rattle.laws.proofs.Tests.{no, yes}
+use borrow.Author.Needs.{needs}
+use native.Mathlib.Omega.{arith}
 
--- src/reading.rt:108:8
 card-rows-requires : tie.Need-card-rows-requires
 card-rows-requires c κs = card-held _ (c .before .before .pre .0)
 
--- src/reading.rt:108:28
 div-if1 : tie.Need-div-if1
 div-if1 c = search needs
 
--- src/reading.rt:109:9
 returns : tie.Need-returns
 returns c = eight-rows _ _ _ (λ e. omega (arith, c .if1 .taken, c .before .card-rows .ensures .0, e))
 
--- src/reading.rt:111:8
 card-columns-requires : tie.Need-card-columns-requires
 card-columns-requires c κs = card-held _ (c .before .before .before .before .pre .0)
 
--- src/reading.rt:112:9
 returns-2 : tie.Need-returns-2
 returns-2 c = eight-columns _ _ _ (λ e. omega (arith, c .if2 .taken, c .before .card-columns .ensures .0, e))
 
--- src/reading.rt:114:9
 card-shape-ok-requires : tie.Need-card-shape-ok-requires
 card-shape-ok-requires c κs = search needs
 
--- src/reading.rt:115:9
 returns-3 : tie.Need-returns-3
 returns-3 c =
     let s = c .before in
@@ -45,7 +33,6 @@ returns-3 c =
     nine-shape _ _ _ (omega (arith, k .before .if1 .left, k .before .before .card-rows .ensures .0))
     (omega (arith, s .before .if2 .left, k .card-columns .ensures .0)) (no (s .card-shape-ok .ensures) (c .if3 .taken))
 
--- src/reading.rt:103:1
 returns-4 : tie.Need-returns-4
 returns-4 c =
     let s = c .before in

@@ -1,31 +1,22 @@
 -- `card::reading::put_index` meets its contract: an edition 1 card is widened, any other read as it is.
 -- Assumes nothing.
 use Rattle.card.proofs.Filling.{same-put, total-inside, total-wide, wide-put}
-use native.Mathlib.Omega.{arith}
-use borrow.Author.Needs.{needs}
 use Rattle.card.proofs.reading.put_index.Statement.{statement}
 use Rattle.card.proofs.reading.put_index.Tie as tie
-use Rattle.card.proofs.reading.put_index.Reads as reads
-use Rattle.card.proofs.reading.put_index.Lts as lts
-use Rattle.card.proofs.places.card_word.Reads as card-word-reads
-use Rattle.card.proofs.reading.widen_card.Reads as widen-card-reads
-use Rattle.image.proofs.reading.get_words.Reads as get-words-reads
+use borrow.Author.Needs.{needs}
+use native.Mathlib.Omega.{arith}
 
--- src/reading.rt:174:8
 card-word-requires : tie.Need-card-word-requires
 card-word-requires c κs = search needs
 
--- src/reading.rt:175:9
 widen-card-requires : tie.Need-widen-card-requires
 widen-card-requires c κs =
     let s = c .before .before .before .before .before .before in
     (s .pre .0, omega (arith, s .pre .1 .0, s .pre .1 .1, total-wide (s .args .image .now)))
 
--- src/reading.rt:176:9
 same-length : tie.Need-same-length
 same-length c = search needs
 
--- src/reading.rt:176:9
 returns : tie.Need-returns
 returns c =
     let w = c .before .before in
@@ -34,19 +25,22 @@ returns c =
     wide-put (s .args .image .now) (s .args .table .now) (s .args .c) (s .args .room .now)
     (omega (arith, k .card-word .ensures .0, w .before .before .if1 .taken)) (w .widen-card .ensures)
 
--- src/reading.rt:178:5
 get-words-requires : tie.Need-get-words-requires
 get-words-requires c κs =
     let k = c .before .before in
-    let s = k .before .before .before .before in
-    (omega (arith, s .pre .1 .0, total-inside (s .args .image .now) (s .pre .0 .held)
-    (λ e. omega (arith, e, k .card-word .ensures .0, c .before .if1 .left))), s .pre .1 .1)
+    let s = k .before .before .before .before in (
+      omega (
+        arith,
+        s .pre .1 .0,
+        total-inside (s .args .image .now) (s .pre .0 .held)
+            (λ e. omega (arith, e, k .card-word .ensures .0, c .before .if1 .left)),
+      ),
+      s .pre .1 .1,
+    )
 
--- src/reading.rt:169:1
 same-length-2 : tie.Need-same-length-2
 same-length-2 c = search needs
 
--- src/reading.rt:169:1
 returns-2 : tie.Need-returns-2
 returns-2 c =
     let g = c .before .before in

@@ -1,11 +1,11 @@
 -- `card::reading::put_nodes` meets its contract: k nodes are written (`Noded`). The measure is what is left of the nodes.
 -- Assumes nothing.
 use Prim.Native.Nat.{_-_, _≤_, ℕ}
-use Rattle.card.specs.Cards.{cardWords}
-use Rattle.measure.specs.Table.{between}
 use Rattle.card.proofs.Writing.{Noded, noded-done, noded-start, noded-step}
 use Rattle.card.proofs.reading.put_nodes.Statement.{statement}
 use Rattle.card.proofs.reading.put_nodes.Tie as tie
+use Rattle.card.specs.Cards.{cardWords}
+use Rattle.measure.specs.Table.{between}
 use Rattle.words.specs.Words.{N#}
 use borrow.Author.Needs.{needs}
 use mathlib.Core.Path.{_≡_}

@@ -3,20 +3,15 @@
 use Prim.Native.Nat.{_-_, _≤_}
 use Rattle.card.proofs.Sweep.{few}
 use Rattle.card.proofs.Writing.{Placed, placed-done, placed-start, placed-step}
+use Rattle.card.proofs.reading.put_pairs.Statement.{statement}
+use Rattle.card.proofs.reading.put_pairs.Tie as tie
 use Rattle.card.specs.Cards.{cardWords}
 use Rattle.words.proofs.Positions.{dist-word, row-word}
 use Rattle.words.specs.Words.{n#, pairAt}
+use borrow.Author.Needs.{needs}
 use lib.ListN.{length-set}
 use mathlib.Core.Path.{_∙_, _≡_}
 use native.Mathlib.Omega.{arith}
-use borrow.Author.Needs.{needs}
-use Rattle.card.proofs.reading.put_pairs.Statement.{statement}
-use Rattle.card.proofs.reading.put_pairs.Tie as tie
-use Rattle.card.proofs.reading.put_pairs.Reads as reads
-use Rattle.card.proofs.reading.put_pairs.Lts as lts
-use Rattle.card.proofs.places.card_pair_at.Reads as card-pair-at-reads
-use Rattle.card.proofs.places.card_rows.Reads as card-rows-reads
-use Rattle.card.proofs.places.held_word.Reads as held-word-reads
 
 abbrev Inv-loop : tie.InvT-loop
 Inv-loop image part₀ n base p₀ part p =
@@ -32,71 +27,55 @@ start l = l .before .before .before .before .before
 card-rows-requires : tie.Need-card-rows-requires Inv-loop μ-loop
 card-rows-requires c κs = search needs
 
--- src/reading.rt:74:9
 card-pair-at-requires : tie.Need-card-pair-at-requires Inv-loop μ-loop
 card-pair-at-requires c κs =
     let H = c .before .before .before .pre .0 in
     (H, omega (arith, H .whole .words))
 
--- src/reading.rt:76:5
 loop-holds : tie.Need-loop-holds Inv-loop μ-loop
 loop-holds c =
     let a = c .before .before .before .before .args in
     (placed-start (cardWords (a .image .now)) (a .part .now), c .before .card-rows .ensures .0, c .card-pair-at .ensures, omega arith)
 
--- src/reading.rt:77:18
 mul-at : tie.Need-mul-at Inv-loop μ-loop
 mul-at c = search needs
 
--- src/reading.rt:78:36
 add-held-word : tie.Need-add-held-word Inv-loop μ-loop
 add-held-word c = omega (arith, few _ (start (c .before) .pre .0))
 
--- src/reading.rt:78:13
 held-word-requires : tie.Need-held-word-requires Inv-loop μ-loop
 held-word-requires c κs = (start (c .before) .pre .0, omega (arith, start (c .before) .pre .0 .whole .words))
 
--- src/reading.rt:79:39
 add-held-word-2 : tie.Need-add-held-word-2 Inv-loop μ-loop
 add-held-word-2 c = omega (arith, few _ (start (c .before .before) .pre .0))
 
--- src/reading.rt:79:39
 add-held-word-3 : tie.Need-add-held-word-3 Inv-loop μ-loop
 add-held-word-3 c = omega (arith, few _ (start (c .before .before) .pre .0))
 
--- src/reading.rt:79:13
 held-word-requires-2 : tie.Need-held-word-requires-2 Inv-loop μ-loop
 held-word-requires-2 c κs = (start (c .before .before) .pre .0, omega (arith, start (c .before .before) .pre .0 .whole .words))
 
--- src/reading.rt:80:9
 mul-part : tie.Need-mul-part Inv-loop μ-loop
 mul-part c = search needs
 
--- src/reading.rt:80:9
 slice-write-part : tie.Need-slice-write-part Inv-loop μ-loop
 slice-write-part c = search needs
 
--- src/reading.rt:81:14
 add-part : tie.Need-add-part Inv-loop μ-loop
 add-part c = search needs
 
--- src/reading.rt:81:9
 mul-part-2 : tie.Need-mul-part-2 Inv-loop μ-loop
 mul-part-2 c = search needs
 
--- src/reading.rt:81:9
 slice-write-part-2 : tie.Need-slice-write-part-2 Inv-loop μ-loop
 slice-write-part-2 c = simp length-set (omega arith)
 
--- src/reading.rt:82:9
 add-p : tie.Need-add-p Inv-loop μ-loop
 add-p c = search needs
 
--- src/reading.rt:76:5
 loop-less : tie.Need-loop-less Inv-loop μ-loop
 loop-less c = search needs
 
--- src/reading.rt:76:5
 loop-again : tie.Need-loop-again Inv-loop μ-loop
 loop-again c =
     let h = c .before in
@@ -110,11 +89,9 @@ loop-again c =
       omega arith,
     )
 
--- src/reading.rt:68:1
 same-length : tie.Need-same-length Inv-loop μ-loop
 same-length c = search needs
 
--- src/reading.rt:68:1
 returns : tie.Need-returns Inv-loop μ-loop
 returns c =
     let l = c .before in

@@ -2,42 +2,29 @@
 -- Assumes nothing.
 use Rattle.card.proofs.Cards.{card-held}
 use Rattle.card.proofs.Refusals.{by-card, by-image, by-table, five, image-right, none-refused}
-use Rattle.limits.proofs.Sized.{sized}
-use mathlib.Core.Path.{_∙_, sym}
-use borrow.Author.Needs.{needs}
 use Rattle.card.proofs.reading.refusal_of.Statement.{statement}
 use Rattle.card.proofs.reading.refusal_of.Tie as tie
-use Rattle.card.proofs.reading.refusal_of.Reads as reads
-use Rattle.card.proofs.reading.refusal_of.Lts as lts
-use Rattle.card.proofs.reading.card_number.Reads as card-number-reads
-use Rattle.card.proofs.reading.card_total.Reads as card-total-reads
-use Rattle.card.proofs.reading.refused.Reads as refused-reads
-use Rattle.image.proofs.reading.check_image.Reads as check-image-reads
-use Rattle.limits.proofs.table_number.Reads as table-number-reads
+use Rattle.limits.proofs.Sized.{sized}
+use borrow.Author.Needs.{needs}
+use mathlib.Core.Path.{_∙_, sym}
 
--- src/reading.rt:143:9
 table-number-requires : tie.Need-table-number-requires
 table-number-requires c κs = search needs
 
--- src/reading.rt:145:9
 refused-requires : tie.Need-refused-requires
 refused-requires c κs = search needs
 
--- src/reading.rt:145:9
 returns : tie.Need-returns
 returns c =
     let t = c .before .before in
     by-table _ _ _ _ (t .table-number .ensures) (c .before .if1 .taken) (c .refused .ensures .0) (c .refused .ensures .1) (c .refused .ensures .2)
 
--- src/reading.rt:147:9
 check-image-requires : tie.Need-check-image-requires
 check-image-requires c κs = search needs
 
--- src/reading.rt:149:9
 refused-requires-2 : tie.Need-refused-requires-2
 refused-requires-2 c κs = search needs
 
--- src/reading.rt:149:9
 returns-2 : tie.Need-returns-2
 returns-2 c =
     let m = c .before .before .before in
@@ -45,19 +32,17 @@ returns-2 c =
     by-image _ _ _ _ (t .table-number .ensures) (m .before .if1 .left) (m .check-image .ensures) (c .before .if2 .taken) (c .refused2 .ensures .0)
     (c .refused2 .ensures .1) (c .refused2 .ensures .2)
 
--- src/reading.rt:151:9
 card-number-requires : tie.Need-card-number-requires
 card-number-requires c κs =
     let m = c .before .before in
-    let t = m .before .before in
-    (image-right _ (m .check-image .ensures) (c .if2 .left),
-    sized _ _ (sym (t .table-number .ensures) ∙ m .before .if1 .left) .some)
+    let t = m .before .before in (
+      image-right _ (m .check-image .ensures) (c .if2 .left),
+      sized _ _ (sym (t .table-number .ensures) ∙ m .before .if1 .left) .some,
+    )
 
--- src/reading.rt:153:9
 refused-requires-3 : tie.Need-refused-requires-3
 refused-requires-3 c κs = search needs
 
--- src/reading.rt:153:9
 returns-3 : tie.Need-returns-3
 returns-3 c =
     let k = c .before .before in
@@ -66,17 +51,14 @@ returns-3 c =
     by-card _ _ _ _ (t .table-number .ensures) (m .before .if1 .left) (m .check-image .ensures) (k .before .if2 .left) (k .card-number .ensures)
     (c .before .if3 .taken) (c .refused3 .ensures .0) (c .refused3 .ensures .1) (c .refused3 .ensures .2)
 
--- src/reading.rt:155:9
 card-total-requires : tie.Need-card-total-requires
 card-total-requires c κs =
     let m = c .before .before .before .before in
     card-held _ (image-right _ (m .check-image .ensures) (c .before .before .if2 .left))
 
--- src/reading.rt:157:9
 refused-requires-4 : tie.Need-refused-requires-4
 refused-requires-4 c κs = search needs
 
--- src/reading.rt:157:9
 returns-4 : tie.Need-returns-4
 returns-4 c =
     let l = c .before .before in
@@ -86,7 +68,6 @@ returns-4 c =
     five _ _ _ _ (t .table-number .ensures) (m .before .if1 .left) (m .check-image .ensures) (k .before .if2 .left) (k .card-number .ensures)
     (l .before .if3 .left) (l .card-total .ensures) (c .before .if4 .taken) (c .refused4 .ensures .0) (c .refused4 .ensures .1) (c .refused4 .ensures .2)
 
--- src/reading.rt:140:1
 returns-5 : tie.Need-returns-5
 returns-5 c =
     let l = c .before in

@@ -1,10 +1,10 @@
 -- `card::reading::widen_card` meets its contract: the header, the nodes behind it and the positions behind these are the widened words.
 -- Assumes nothing.
-use Rattle.card.specs.Cards.{cardWords}
-use Rattle.measure.specs.Table.{between}
 use Rattle.card.proofs.Writing.{filled}
 use Rattle.card.proofs.reading.widen_card.Statement.{statement}
 use Rattle.card.proofs.reading.widen_card.Tie as tie
+use Rattle.card.specs.Cards.{cardWords}
+use Rattle.measure.specs.Table.{between}
 use borrow.Author.Needs.{needs}
 use mathlib.Core.Path.{refl}
 use native.Mathlib.Omega.{arith}
