@@ -4,7 +4,7 @@ ghost use Rattle.laws.specs.Lists.{all, range};
 ghost use Rattle.words.specs.InShape.{Whole};
 ghost use Rattle.words.specs.Pass.{fits, roomy};
 ghost use Rattle.words.specs.Shape.{brood, positionOk, rootFits, shapeOk, tile, treeFits};
-ghost use Rattle.words.specs.Words.{N#, n#, wordsOk};
+ghost use Rattle.words.specs.Words.{N#, edition#, n#, wordsOk};
 ghost use mathlib.Core.Bool.{true};
 ghost use mathlib.Core.Path.{_≡_};
 use crate::places::centres;
@@ -53,6 +53,7 @@ fn has_room(index: &[u32], k: usize, next: usize) -> bool
 fn node_fits(index: &[u32], k: usize, next: usize, depth: usize) -> bool
     requires { ⌜ Whole (now index) ⌝ }
     requires { ⌜ (k < N# (now index)) × (k < next) × (next ≤ 64 * k + 1) ⌝ }
+    requires { ⌜ edition# (now index) ≡ 2 ⌝ }
     ensures { λ r. ⌜ r ≡ fits (now (index .entry)) k next depth ⌝ }
 {
     if !has_room(index, k, next) {
@@ -109,6 +110,7 @@ fn root_fits(index: &[u32]) -> bool
 // The nodes in number order: `next` is the number that the next first child must have, `edge` where the next level starts.
 fn tree_fits(index: &[u32]) -> bool
     requires { ⌜ Whole (now index) ⌝ }
+    requires { ⌜ edition# (now index) ≡ 2 ⌝ }
     ensures { λ r. ⌜ r ≡ treeFits (now (index .entry)) ⌝ }
 {
     let total = nodes(index);

@@ -84,7 +84,7 @@ tiles-requires c κs =
     let m = c .centres .ensures .0 in
     let child = c .before .before .before .before .before .before .before .before .before .before .node-child .ensures .0 in
     let room = room-is (a .index .now) (a .k) (a .next) (yes (c .before .before .before .before .before .before .before .before .before .before .before .before .before .before .has-room .ensures) (c .before .before .before .before .before .before .before .before .before .before .before .before .before .if1 .left))
-    (λ z. omega (arith, child, c .before .if7 .left, start .pre .1 .1)) in
+    (λ z. omega (arith, child, c .before .if7 .left, start .pre .1 .0 .1)) in
     (start .pre .0, (omega (arith, m, start .pre .0 .fan .1), search needs, omega (arith, m, room, c .before .if7 .left)))
 
 returns-8 : tie.Need-returns-8

@@ -59,7 +59,7 @@ add-next : tie.Need-add-next Inv-loop μ-loop
 add-next c =
     let at-loop = c .before .before .before .before .before in
     let start = at-loop .before .before .before .before .before .before in
-    omega (arith, brood-few (start .args .index .now) (at-loop .loop .k) (start .pre .fan .1), c .brood-of .ensures, at-loop .loop .inv .next-low)
+    omega (arith, brood-few (start .args .index .now) (at-loop .loop .k) (start .pre .0 .fan .1), c .brood-of .ensures, at-loop .loop .inv .next-low)
 
 add-k : tie.Need-add-k Inv-loop μ-loop
 add-k c = search needs
@@ -76,7 +76,7 @@ loop-again c =
     let at3 = at4 .before .before in
     let at-loop = at3 .before .before in
     let start = at-loop .before .before .before .before .before .before in
-    going-turn (start .args .index .now) (at-loop .loop .inv) (at3 .before .loop-test .taken) (at3 .if3 .left) (start .pre .fan .1)
+    going-turn (start .args .index .now) (at-loop .loop .inv) (at3 .before .loop-test .taken) (at3 .if3 .left) (start .pre .0 .fan .1)
     (yes (at4 .before .node-fits .ensures) (at4 .if4 .left)) (c .before .brood-of .ensures) (c .if5 .taken)
 
 loop-less-2 : tie.Need-loop-less-2 Inv-loop μ-loop
@@ -88,7 +88,7 @@ loop-again-2 c =
     let at3 = at4 .before .before in
     let at-loop = at3 .before .before in
     let start = at-loop .before .before .before .before .before .before in
-    going-on (start .args .index .now) (at-loop .loop .inv) (at3 .before .loop-test .taken) (at3 .if3 .left) (start .pre .fan .1)
+    going-on (start .args .index .now) (at-loop .loop .inv) (at3 .before .loop-test .taken) (at3 .if3 .left) (start .pre .0 .fan .1)
     (yes (at4 .before .node-fits .ensures) (at4 .if4 .left)) (c .before .brood-of .ensures) (c .if5 .left)
 
 returns-5 : tie.Need-returns-5 Inv-loop μ-loop
