@@ -8,7 +8,7 @@ const TABLE: usize = 1_048_576;
 const ROWS: usize = 65_536;
 
 // Room and workspace for the index of 65,536 rows.
-const ROOM: usize = 655_368;
+const ROOM: usize = 786_440;
 
 const WORK: usize = 393_216;
 
@@ -19,7 +19,7 @@ pub fn table_room() -> [u16; TABLE]
 }
 
 pub fn index_room() -> [u32; ROOM]
-    ensures { λ r. ⌜ 655368 ≡ length r ⌝ }
+    ensures { λ r. ⌜ 786440 ≡ length r ⌝ }
 {
     [0; ROOM]
 }

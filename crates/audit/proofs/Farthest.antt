@@ -25,12 +25,7 @@ module _ (d : ℕ → ℕ → ℕ) (w : List ℕ) (k : ℕ) {far near r : ℕ} (
     radius-right : wrongRadius d w k ≡ false
     radius-right = radius-is ∙ ap not (eq-eqb r far e)
 
-    -- and an edition other than 2 has no inner reach
-    pub reach-old : (edition# w ≡ 2 → ⊥) → false ≡ wrongReach d w k
-    unfolding wrongInner
-    reach-old h = rw (radius-right, ne-eqb (edition# w) 2 h)
-
-    -- in edition 2 the inner reach i decides
+    -- and the inner reach i decides
     pub reach-near : {i : ℕ} → edition# w ≡ 2 → i ≡ inner# w k → not (eqb i near) ≡ wrongReach d w k
     unfolding wrongInner
     reach-near h p =

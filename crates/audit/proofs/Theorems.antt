@@ -15,6 +15,7 @@ use Rattle.limits.specs.Limits.{maxRows}
 use Rattle.limits.specs.Said.{Said, said}
 use Rattle.measure.specs.Table.{between, rowsOf}
 use Rattle.tree.specs.Check.{faults}
+use Rattle.words.proofs.Headers.{whole-words, words-whole}
 use Rattle.words.proofs.InShape.{in-shape}
 use lib.ListN.{length}
 use mathlib.Core.Bool.{cond}
@@ -90,7 +91,8 @@ module _ {T : List ℕ} {c : ℕ} {w work work′ : List ℕ} {number place seco
         room = P .words;
         same-rows = P .index .rows;
         same-columns = P .index .columns;
-        accepted = record { words = P .there; shape = P .shape; sound = none-listed late (faults-numbered (between T c) w) (b .1) };
+        edition = words-whole w (P .there) .0;
+        accepted = record { words = words-whole w (P .there) .1; shape = P .shape; sound = none-listed late (faults-numbered (between T c) w) (b .1) };
       }
 
   -- no refusal meets the call, and the index is accepted: 0 is given
@@ -100,7 +102,7 @@ module _ {T : List ℕ} {c : ℕ} {w work work′ : List ℕ} {number place seco
       let none = clear-none T c w (length work) (record {
         table = sized-of (length T) c (P .columns) (P .multiple) (P .few);
         index = record { shape = in-shape w (A .words) (A .shape); rows = P .same-rows; columns = P .same-columns };
-        there = A .words;
+        there = whole-words w (P .edition) (A .words);
         shape = A .shape;
         words = P .room;
       }) in

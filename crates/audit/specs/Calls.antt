@@ -6,7 +6,7 @@ use Rattle.limits.specs.Limits.{maxColumns, maxRows}
 use Rattle.measure.specs.Table.{between, rowsOf}
 use Rattle.tree.specs.Calls.{saidCheck}
 use Rattle.tree.specs.Check.{Accepted}
-use Rattle.words.specs.Words.{c#, n#}
+use Rattle.words.specs.Words.{c#, edition#, n#}
 use lib.ListN.{length}
 use mathlib.Core.Bool.{cond}
 use mathlib.Core.List.{List}
@@ -35,5 +35,7 @@ pub record Passed (T : List ℕ) (c : ℕ) (w work : List ℕ) : Type 0 where
   pub same-rows : n# w ≡ rowsOf T c
   -- the header's c is the table's
   pub same-columns : c# w ≡ c
+  -- the header's edition is 2, as in every index in memory
+  pub edition : edition# w ≡ 2
   -- words, shape and no fault
   pub accepted : Accepted (between T c) w

@@ -13,7 +13,7 @@ ghost use Rattle.limits.specs.Said.{said};
 ghost use Rattle.measure.specs.Table.{between};
 ghost use Rattle.reach.specs.Runs.{Paired};
 ghost use Rattle.tree.specs.Check.{faults};
-ghost use Rattle.words.specs.Words.{n#};
+ghost use Rattle.words.specs.Words.{edition#, n#};
 ghost use lib.ListN.{length};
 ghost use mathlib.Core.Path.{_≡_};
 use buffers::clear_words;
@@ -58,6 +58,7 @@ fn refusal_of(table: &[u16], c: usize, index: &[u32], room: usize) -> u32
 // 11 to 13: the first fault that distances show, or 0.
 fn measured_fault(table: &[u16], c: usize, index: &[u32]) -> Checked
     requires { ⌜ Paired (now table) c (now index) ⌝ }
+    requires { ⌜ edition# (now index) ≡ 2 ⌝ }
     ensures { λ r. ⌜ told r ≡ said (measuredFaults (between (now (table .entry)) c) (now (index .entry))) ⌝ }
 {
     let p = first_wrong_distance(table, c, index);
@@ -82,7 +83,7 @@ fn measured_fault(table: &[u16], c: usize, index: &[u32]) -> Checked
 // 10 to 13: the first fault of an index in shape, or 0. The first 6n words of the workspace end as zero.
 fn first_fault(table: &[u16], c: usize, index: &[u32], work: &mut [u32]) -> Checked
     requires { ⌜ Paired (now table) c (now index) ⌝ }
-    requires { ⌜ 6 * n# (now index) ≤ length (now work) ⌝ }
+    requires { ⌜ (6 * n# (now index) ≤ length (now work)) × (edition# (now index) ≡ 2) ⌝ }
     ensures says { λ r. ⌜ told r ≡ said (faults (between (now (table .entry)) c) (now (index .entry))) ⌝ }
     ensures leaves { λ _. ⌜ now (work .exit) ≡ wiped (6 * n# (now (index .entry))) (now (work .entry)) ⌝ }
 {

@@ -1,6 +1,6 @@
 -- The cases of 01 that are builds, of any call that meets its contract. Assumes nothing.
 use Prim.Native.Nat.{_*_, ℕ}
-use Rattle.build.specs.Cases.{Comes, emptyWords, sevenWide, sevenWords, sevens, table}
+use Rattle.build.specs.Cases.{Comes, emptyWords, sevenWords, sevens, table}
 use Rattle.laws.specs.Every.{Every}
 use Rattle.laws.specs.Lists.{range}
 use Rattle.laws.specs.Upto.{sumTo}
@@ -8,7 +8,7 @@ use Rattle.measure.specs.Distance.{l1}
 use Rattle.measure.specs.Table.{between, rowsOf}
 use Rattle.tree.specs.Build.{build, choose, grow, split}
 use Rattle.tree.specs.Calls.{roomOf, saidBuild}
-use Rattle.tree.specs.Cases.{five, fiveWords, wideWords}
+use Rattle.tree.specs.Cases.{five, fiveWords}
 use Rattle.tree.specs.Encode.{broods, encode, family, levelNodes, nodes, numbered}
 use Rattle.words.specs.Words.{N#, row#}
 use borrow.Author.Tests.{le-ltb}
@@ -19,12 +19,12 @@ use mathlib.Core.List.{List, [], _++_, _∷_, map}
 use mathlib.Core.Path.{_∙_, _≡_, ap, ap₂, refl}
 
 -- a table whose words are known and whose rooms are long enough
-comes : (T : List ℕ) (e : ℕ) (ws : List ℕ) → build T 1 e 2 2 ≡ ws → rowsOf T 1 ≡ length T
-    → ((room work : ℕ) → ltb room (roomOf e (length T)) ≡ false → ltb work (6 * length T) ≡ false → saidBuild T 1 e 2 2 room work .0 ≡ 0)
-    → Comes (T, e, ws)
-comes T e ws is n said room work room′ work′ number words count hr hw b =
+comes : (T ws : List ℕ) → build T 1 2 2 2 ≡ ws → rowsOf T 1 ≡ length T
+    → ((room work : ℕ) → ltb room (roomOf (length T)) ≡ false → ltb work (6 * length T) ≡ false → saidBuild T 1 2 2 2 room work .0 ≡ 0)
+    → Comes (T, ws)
+comes T ws is n said room work room′ work′ number words count hr hw b =
     let z : number ≡ 0 =
-    b .said ∙ said (length room) (length work) (le-ltb (length room) (roomOf e (length T)) hr) (le-ltb (length work) (6 * length T) hw) in
+    b .said ∙ said (length room) (length work) (le-ltb (length room) (roomOf (length T)) hr) (le-ltb (length work) (6 * length T) hw) in
     let q : eqb number 0 ≡ true = ap (λ (k : ℕ). eqb k 0) z in
     record {
       done = z;
@@ -34,29 +34,14 @@ comes T e ws is n said room work room′ work′ number words count hr hw b =
       cleared = b .cleared ∙ ap₂ (λ (p : Bool) (k : ℕ). cond p (replicate (6 * k) 0 ++ drop (6 * k) work) work) q n;
     }
 
--- EVERY CALL ON A TABLE OF 01 LEAVES ITS WORDS, IN BOTH EDITIONS: THE FIVE ROWS; FOUR EQUAL ROWS, IN THE ORDER 0 3 2 1 UNDER FIVE NODES; NO ROWS
+-- EVERY CALL ON A TABLE OF 01 LEAVES ITS WORDS: THE FIVE ROWS; FOUR EQUAL ROWS, IN THE ORDER 0 3 2 1 UNDER FIVE NODES; NO ROWS
 pub build-cases : Every Comes table × (map (row# sevenWords) (range 0 4) ≡ 0 ∷ 3 ∷ 2 ∷ 1 ∷ []) × (N# sevenWords ≡ 5)
-    × (map (row# sevenWide) (range 0 4) ≡ 0 ∷ 3 ∷ 2 ∷ 1 ∷ []) × (N# sevenWide ≡ 5)
 unfolding saidBuild sumTo l1 between family broods levelNodes nodes numbered encode choose split grow build
 build-cases = (
   (
-    comes five 1 fiveWords refl refl (λ room work a b. rw (a, b)),
-    (
-      comes five 2 wideWords refl refl (λ room work a b. rw (a, b)),
-      (
-        comes sevens 1 sevenWords refl refl (λ room work a b. rw (a, b)),
-        (
-          comes sevens 2 sevenWide refl refl (λ room work a b. rw (a, b)),
-          (
-            comes [] 1 (emptyWords 1) refl refl (λ room work a b. rw (a, b)),
-            (comes [] 2 (emptyWords 2) refl refl (λ room work a b. rw (a, b)), tt),
-          ),
-        ),
-      ),
-    ),
+    comes five fiveWords refl refl (λ room work a b. rw (a, b)),
+    (comes sevens sevenWords refl refl (λ room work a b. rw (a, b)), (comes [] emptyWords refl refl (λ room work a b. rw (a, b)), tt)),
   ),
-  refl,
-  refl,
   refl,
   refl,
 )

@@ -12,7 +12,6 @@ pub mod Laying
 pub mod Pairing
 pub mod Rooting
 pub mod Growing
-pub mod Narrowing
 pub mod Whole
 pub mod Refusals
 pub mod Outcomes

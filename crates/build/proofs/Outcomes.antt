@@ -3,18 +3,17 @@ use Prim.Native.Nat.{_*_, _+_, _≤_, ℕ}
 use Rattle.build.proofs.Refusals.{Clear, clear}
 use Rattle.build.proofs.Whole.{encode-long}
 use Rattle.build.specs.Calls.{Builds}
-use Rattle.build.specs.Filled.{Fillable, Filled, endOf}
+use Rattle.build.specs.Filled.{Filled, Room}
 use Rattle.build.specs.Stages.{Fit}
-use Rattle.laws.proofs.Tests.{and-r, holds, is-true}
-use Rattle.limits.proofs.Ranges.{shared, within-both}
+use Rattle.limits.proofs.Ranges.{shared}
 use Rattle.limits.proofs.Told.{refused-is, taken-is}
 use Rattle.limits.specs.Chosen.{chosen, told}
-use Rattle.limits.specs.Limits.{editionOk, maxRows, shareOk}
+use Rattle.limits.specs.Limits.{maxRows, shareOk}
 use Rattle.limits.specs.declared.Chosen.the-variants.{Refused, Taken}
 use Rattle.limits.specs.declared.Chosen.{Chosen}
 use Rattle.limits.specs.declared.Params.{Params}
 use Rattle.measure.specs.Table.{rowsOf}
-use Rattle.tree.proofs.Written.{Edition}
+use Rattle.split.specs.Places.{nodeAt}
 use Rattle.tree.specs.Build.{build}
 use Rattle.tree.specs.Calls.{saidBuild}
 use Rattle.tree.specs.Encode.{encode}
@@ -26,24 +25,16 @@ use mathlib.Core.Bool.{_&&_, false, true}
 use mathlib.Core.List.{List, _++_}
 use mathlib.Core.Logic.{_≢_}
 use mathlib.Core.Path.{_∙_, _≡_, ap, sym}
-use native.Mathlib.Nat.{mul-le-mul-right}
-use native.Mathlib.Omega.{arith}
 
 -- ---- the constructor's answer, taken apart
--- it took m, l and the edition: they are in range, and the parameters hold them
+-- it took m and l: they are in range, the parameters hold them, and the edition is 2
 pub answer-taken : {r : Chosen} {p : Params} (m l e : ℕ) → r ≡ Taken p → told r ≡ chosen m l e
-    → ((shareOk m l && editionOk e) ≡ true) × (p .centres ≡ m) × (p .leaf ≡ l) × (p .edition ≡ e)
+    → ((shareOk m l && eqb e 2) ≡ true) × (p .centres ≡ m) × (p .leaf ≡ l)
 answer-taken {p = p} m l e h q = taken-is p m l e (ap told (sym h) ∙ q)
 
--- it refused: they are not
-pub answer-refused : {r : Chosen} (m l e : ℕ) → r ≡ Refused → told r ≡ chosen m l e → (shareOk m l && editionOk e) ≡ false
+-- it refused: one of these is not so
+pub answer-refused : {r : Chosen} (m l e : ℕ) → r ≡ Refused → told r ≡ chosen m l e → (shareOk m l && eqb e 2) ≡ false
 answer-refused m l e h q = refused-is m l e (ap told (sym h) ∙ q)
-
--- the edition that the parameters hold
-pub edition-low : (m l e k : ℕ) → (shareOk m l && editionOk e) ≡ true → k ≡ e → k ≤ 2
-edition-low m l e k h q =
-    let t = holds (shareOk m l && editionOk e) h in
-    omega (arith, within-both 1 2 e (is-true (editionOk e) (and-r (shareOk m l) (editionOk e) t)) .1)
 
 -- ---- a refusal
 -- both rooms are as they were, and the counts are 0: the contract is met
@@ -65,7 +56,6 @@ pub record Passed (T : List ℕ) (c e m l : ℕ) (room work : List ℕ) (p : Par
   pub none : saidBuild T c e m l (length room) (length work) .0 ≡ 0
   pub m-is : p .centres ≡ m
   pub l-is : p .leaf ≡ l
-  pub e-is : p .edition ≡ e
 
 module _ {T : List ℕ} {c e m l : ℕ} {room work : List ℕ} {p : Params} (passed : Passed T c e m l room work p) where
   -- every test is passed
@@ -91,40 +81,20 @@ module _ {T : List ℕ} {c e m l : ℕ} {room work : List ℕ} {p : Params} (pas
       let s = shared m l (cleared .share) in
       record { columns = t .few; rows = t .rows; table = t .inside; two = s .two; most = s .most; leafy = s .leafy; leaf = s .leaf }
 
-  -- the edition is one of the two
-  pub edition-is : Edition e
-  edition-is = within-both 1 2 e (cleared .edition)
-
-  -- the tree has room to grow in either edition
-  grow-space : 10 * rowsOf T c + 8 ≤ length room
-  grow-space =
-      let ten : 10 * rowsOf T c ≤ (8 + 2 * e) * rowsOf T c = mul-le-mul-right (rowsOf T c) (omega (arith, edition-is .0)) in
-      omega (arith, cleared .space)
-
   -- what filling asks
-  pub built-room : Fillable T c (p .edition) (p .centres) (p .leaf) (rowsOf T c) room (take (6 * rowsOf T c) work)
-  built-room =
-      rw (passed .m-is, passed .l-is, passed .e-is)
-      record {
-        growing = record { fit = built-fit; space = grow-space; halves = part-long };
-        edition = edition-is;
-        wide = cleared .space;
-      }
+  pub built-room : Room T c (p .centres) (p .leaf) (rowsOf T c) room (take (6 * rowsOf T c) work)
+  built-room = rw (passed .m-is, passed .l-is) record { fit = built-fit; space = cleared .space; halves = part-long }
 
   -- the index is filled in: the contract is met
-  pub built-builds : {room′ part′ work′ : List ℕ} {nodes words : ℕ}
-      → Filled T c (p .edition) (p .centres) (p .leaf) (rowsOf T c) room room′ part′ nodes
-      → work′ ≡ part′ ++ drop (6 * rowsOf T c) work → words ≡ endOf (p .edition) nodes + 2 * rowsOf T c
+  pub built-builds : {room′ part′ work′ : List ℕ} {nodes words : ℕ} → Filled T c (p .centres) (p .leaf) (rowsOf T c) room room′ part′ nodes
+      → work′ ≡ part′ ++ drop (6 * rowsOf T c) work → words ≡ nodeAt nodes + 2 * rowsOf T c
       → Builds T c e m l room work room′ work′ 0 words nodes
   unfolding build encode
   built-builds {room′} {part′} {work′} {nodes} filled h w =
-      let got : Filled T c e m l (rowsOf T c) room room′ part′ nodes = rw (passed .m-is, passed .l-is, passed .e-is) at filled in
+      let got : Filled T c m l (rowsOf T c) room room′ part′ nodes = rw (passed .m-is, passed .l-is) at filled in
       record {
         said = sym (passed .none);
-        counted = (
-          w ∙ ap (λ (k : ℕ). endOf k nodes + 2 * rowsOf T c) (passed .e-is) ∙ sym (encode-long built-fit e edition-is (got .count)),
-          got .count,
-        );
+        counted = (w ∙ sym (encode-long built-fit (got .count)), got .count);
         index = got .index;
         cleared = h ∙ ap (λ (x : List ℕ). x ++ drop (6 * rowsOf T c) work) (got .cleared);
       }

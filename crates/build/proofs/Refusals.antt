@@ -5,12 +5,12 @@ use Rattle.laws.proofs.Tests.{and-l, and-r, holds, is-true, or-parts}
 use Rattle.limits.proofs.Faults.{fault-first, fault-next, fault-none, fault-not, numberOf, says-first, says-next, says-none}
 use Rattle.limits.proofs.Ranges.{columns-are}
 use Rattle.limits.proofs.Sized.{Sized, length-numbered, length-right, sized-of}
-use Rattle.limits.specs.Limits.{columnsOk, editionOk, shareOk}
+use Rattle.limits.specs.Limits.{columnsOk, shareOk}
 use Rattle.limits.specs.Said.{Said, columnsFault, fault, lengthFaults, said}
 use Rattle.measure.specs.Table.{rowsOf}
 use Rattle.tree.specs.Calls.{roomOf, saidBuild}
-use borrow.Author.Tests.{ltb-false, not-false}
-use lib.Dec.{ltb}
+use borrow.Author.Tests.{eqb-true, ltb-false, not-false}
+use lib.Dec.{eqb, ltb}
 use lib.ListN.{length}
 use mathlib.Core.Bool.{Bool, _&&_, false, not, true}
 use mathlib.Core.List.{List, _++_, append-assoc}
@@ -18,10 +18,10 @@ use mathlib.Core.Path.{_∙_, _≡_, ap, sym}
 use native.Mathlib.Omega.{arith}
 
 -- ---- the lengths: 3, 4, 5
-module _ (long c e room work : ℕ) where
+module _ (long c room work : ℕ) where
   -- the room or the workspace is too short
   abbrev short : Bool
-  short = shortOf e (long / c) room work
+  short = shortOf (long / c) room work
 
   -- the table's length is refused
   pub by-length : {v : ℕ} → v ≡ said (lengthFaults long c) .0 → (v ≡ 0 → ⊥) → v ≡ said (lengthFaults long c ++ fault 5 short) .0
@@ -38,8 +38,8 @@ module _ (long c e room work : ℕ) where
 pub record Clear (T : List ℕ) (c e m l room work : ℕ) : Type 0 where
   pub table : Sized (length T) c
   pub share : shareOk m l ≡ true
-  pub edition : editionOk e ≡ true
-  pub space : roomOf e (rowsOf T c) ≤ room
+  pub edition : e ≡ 2
+  pub space : roomOf (rowsOf T c) ≤ room
   pub words : 6 * rowsOf T c ≤ work
 
 module _ (T : List ℕ) (c e m l room work : ℕ) where
@@ -51,13 +51,13 @@ module _ (T : List ℕ) (c e m l room work : ℕ) where
   abbrev says : Said
   says = saidBuild T c e m l room work
 
-  -- m, l and the edition are in range
+  -- m and l are in range, and the edition is 2
   abbrev chosen : Bool
-  chosen = shareOk m l && editionOk e
+  chosen = shareOk m l && eqb e 2
 
   -- the faults after them
   abbrev last : List Said
-  last = lengthFaults (length T) c ++ fault 5 (shortOf e n room work)
+  last = lengthFaults (length T) c ++ fault 5 (shortOf n room work)
 
   -- and after the columns
   abbrev next : List Said
@@ -78,32 +78,30 @@ module _ (T : List ℕ) (c e m l room work : ℕ) where
     after-columns : said next ≡ says
     after-columns = fault-next 1 next (ap not q) ∙ in-turn
 
-    -- m, l or the edition is out of range
-    pub two : (shareOk m l && editionOk e) ≡ false → 2 ≡ says .0
+    -- m or l is out of range, or the edition is another
+    pub two : (shareOk m l && eqb e 2) ≡ false → 2 ≡ says .0
     two s = ap numberOf (fault-first 2 last (ap not s) ∙ after-columns)
 
-    -- the lengths decide, by the edition that was taken
-    pub by-lengths : {v k : ℕ} → (shareOk m l && editionOk e) ≡ true → k ≡ e
-        → v ≡ said (lengthFaults (length T) c ++ fault 5 (shortOf k (rowsOf T c) room work)) .0 → v ≡ says .0
-    by-lengths s k h =
-        h ∙ ap (λ (k : ℕ). said (lengthFaults (length T) c ++ fault 5 (shortOf k n room work)) .0) k
-        ∙ ap numberOf (fault-next 2 last (ap not s) ∙ after-columns)
+    -- the lengths decide
+    pub by-lengths : {v : ℕ} → (shareOk m l && eqb e 2) ≡ true
+        → v ≡ said (lengthFaults (length T) c ++ fault 5 (shortOf (rowsOf T c) room work)) .0 → v ≡ says .0
+    by-lengths s h = h ∙ ap numberOf (fault-next 2 last (ap not s) ∙ after-columns)
 
   -- ---- none
   pub clear : says .0 ≡ 0 → Clear T c e m l room work
   clear z =
-      let a = ltb room (roomOf e n) in
+      let a = ltb room (roomOf n) in
       let b = ltb work (6 * n) in
       let f = fault-none 1 (not (columnsOk c)) next (omega arith) (ap numberOf in-turn ∙ z) in
       let g = fault-none 2 (not chosen) last (omega arith) (f .1) in
       let t = holds chosen (not-false chosen (g .0)) in
-      let h = says-none (lengthFaults (length T) c) (fault 5 (shortOf e n room work)) (length-numbered (length T) c) (g .1) in
+      let h = says-none (lengthFaults (length T) c) (fault 5 (shortOf n room work)) (length-numbered (length T) c) (g .1) in
       let right = length-right (length T) c (h .0) in
-      let o = or-parts a b (fault-not 5 (shortOf e n room work) (omega arith) (h .1)) in
+      let o = or-parts a b (fault-not 5 (shortOf n room work) (omega arith) (h .1)) in
       record {
         table = sized-of (length T) c (columns-are c (not-false (columnsOk c) (f .0))) (right .0) (right .1);
-        share = is-true (shareOk m l) (and-l (shareOk m l) (editionOk e) t);
-        edition = is-true (editionOk e) (and-r (shareOk m l) (editionOk e) t);
-        space = ltb-false room (roomOf e n) (o .0);
+        share = is-true (shareOk m l) (and-l (shareOk m l) (eqb e 2) t);
+        edition = eqb-true e 2 (is-true (eqb e 2) (and-r (shareOk m l) (eqb e 2) t));
+        space = ltb-false room (roomOf n) (o .0);
         words = ltb-false work (6 * n) (o .1);
       }

@@ -92,7 +92,7 @@ module _ {t : List ℕ} {c m l n : ℕ} {room work : List ℕ} (asked : Room t c
         nodes =
             put-more (take 8 room) (0 ∷ n ∷ 0 ∷ r ∷ i ∷ []) room room ys 8 5 (length-take-le 8 room fits) fits (sym (take-append-drop 8 room)) put
             ∙ append-assoc (take 8 room) (0 ∷ n ∷ 0 ∷ r ∷ i ∷ []) (drop 13 room) ∙ ap (λ (x : List ℕ). take 8 room ++ (x ++ drop 13 room)) w;
-        space = asked .space;
+        space = omega (arith, asked .space);
         first = refl;
         last = refl;
         few = omega arith;

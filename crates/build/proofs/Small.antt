@@ -2,7 +2,7 @@
 use Prim.Native.Nat.{_*_, _+_, _≤_, suc, zero, ℕ}
 use Rattle.build.proofs.Items.{out-long, placed-long}
 use Rattle.build.proofs.Numbering.{numbered-levels}
-use Rattle.build.proofs.Outcomes.{Passed, built-fit, edition-is}
+use Rattle.build.proofs.Outcomes.{Passed, built-fit}
 use Rattle.build.proofs.Rooting.{root-run}
 use Rattle.build.proofs.Whole.{encode-long}
 use Rattle.build.specs.Calls.{Builds}
@@ -17,18 +17,16 @@ use Rattle.limits.specs.declared.Params.{Params}
 use Rattle.measure.specs.Table.{between, rowsOf}
 use Rattle.split.proofs.Laid.{split-joined}
 use Rattle.tree.proofs.Grow.{split-length, split-runs}
-use Rattle.tree.proofs.Written.{Edition}
 use Rattle.tree.specs.Build.{Run, build, plant, split}
 use Rattle.tree.specs.Calls.{saidBuild}
 use Rattle.tree.specs.Encode.{broods, encode, family, levelNodes, nodes, numbered}
-use Rattle.words.specs.Words.{N#, width}
+use Rattle.words.specs.Words.{N#}
 use borrow.Author.Tests.{eqb-true, leb-false}
 use lib.Dec.{eqb, leb}
 use lib.ListN.{length, length-append, length-map}
 use mathlib.Core.Bool.{Bool, cond, false, true}
 use mathlib.Core.List.{List, [], _++_, _∷_}
 use mathlib.Core.Path.{_∙_, _≡_, ap, refl, sym}
-use native.Mathlib.Nat.{mul-le-mul-right}
 use native.Mathlib.Omega.{arith}
 
 -- how many rows some items have
@@ -133,23 +131,20 @@ module _ (d : ℕ → ℕ → ℕ) (m l : ℕ) (m2 : 2 ≤ m) (ml : m ≤ l) whe
 
 module _ (T : List ℕ) (c e m l : ℕ) (room work : List ℕ) where
   -- number 0: the numbers are in range
-  fit : saidBuild T c e m l (length room) (length work) .0 ≡ 0 → Fit T c m l (rowsOf T c) × Edition e
+  fit : saidBuild T c e m l (length room) (length work) .0 ≡ 0 → Fit T c m l (rowsOf T c)
   fit z =
-      let p : Params = record { centres = m; leaf = l; edition = e } in
-      let passed : Passed T c e m l room work p = record { none = z; m-is = refl; l-is = refl; e-is = refl } in
-      (built-fit passed, edition-is passed)
+      let p : Params = record { centres = m; leaf = l } in
+      let passed : Passed T c e m l room work p = record { none = z; m-is = refl; l-is = refl } in
+      built-fit passed
 
   -- the index of any table that is not refused
   built-small : saidBuild T c e m l (length room) (length work) .0 ≡ 0
-      → (length (build T c e m l) ≤ 12 * maxRows + 8) × (N# (build T c e m l) ≤ 2 * maxRows)
+      → (length (build T c 2 m l) ≤ 12 * maxRows + 8) × (N# (build T c 2 m l) ≤ 2 * maxRows)
   unfolding build encode
   built-small z =
-      let f = fit z .0 in
-      let ed = fit z .1 in
+      let f = fit z in
       let few = nodes-few (between T c) m l (f .two) (f .leafy) (rowsOf T c) in
-      let made : ℕ = length (numbered (plant (between T c) m l (rowsOf T c))) in
-      let wide : width e * made ≤ 5 * made = mul-le-mul-right made (omega (arith, ed .1)) in
-      (omega (arith, few, f .rows, encode-long f e ed refl), omega (arith, few, f .rows))
+      (omega (arith, few, f .rows, encode-long f refl), omega (arith, few, f .rows))
 
 -- THE COUNTS ARE SMALL: at most 12n + 8 words and 2n nodes for the most rows, so that 32 bits hold them
 pub build-small : {T : List ℕ} {c e m l : ℕ} {room work room′ work′ : List ℕ} {number words nodes : ℕ}
@@ -157,7 +152,7 @@ pub build-small : {T : List ℕ} {c e m l : ℕ} {room work room′ work′ : Li
     → (words ≤ 12 * maxRows + 8) × (nodes ≤ 2 * maxRows)
 build-small {T} {c} {e} {m} {l} {room} {work} {number = number} {words} {nodes} b = go (eqb number 0) refl (b .counted .0) (b .counted .1)
   where
-    go : (t : Bool) → eqb number 0 ≡ t → words ≡ cond t (length (build T c e m l)) 0 → nodes ≡ cond t (N# (build T c e m l)) 0
+    go : (t : Bool) → eqb number 0 ≡ t → words ≡ cond t (length (build T c 2 m l)) 0 → nodes ≡ cond t (N# (build T c 2 m l)) 0
         → (words ≤ 12 * maxRows + 8) × (nodes ≤ 2 * maxRows)
     go true q w k =
         let s = built-small T c e m l room work (sym (b .said) ∙ eqb-true number 0 q) in

@@ -4,15 +4,15 @@ use Rattle.build.proofs.Refusals.{clear}
 use Rattle.build.proofs.Whole.{encode-words, positions}
 use Rattle.build.specs.Calls.{Builds}
 use Rattle.laws.specs.Every.{Every}
-use Rattle.limits.proofs.Ranges.{shared, within-both}
+use Rattle.limits.proofs.Ranges.{shared}
 use Rattle.limits.proofs.Sized.{Sized, sized-columns}
-use Rattle.limits.specs.Limits.{editionOk, shareOk}
+use Rattle.limits.specs.Limits.{shareOk}
 use Rattle.measure.specs.Table.{between, rowsOf}
 use Rattle.tree.proofs.Built.{build-accepted as words-accepted}
 use Rattle.tree.specs.Build.{build, plant}
 use Rattle.tree.specs.Check.{Accepted}
 use Rattle.tree.specs.Encode.{encode}
-use Rattle.words.specs.Words.{N#, c#, n#, wordsOf}
+use Rattle.words.specs.Words.{N#, c#, edition#, n#, wordsOf}
 use borrow.Author.Tests.{eq-eqb}
 use lib.Dec.{eqb}
 use lib.ListN.{drop, length, replicate, take}
@@ -23,28 +23,28 @@ use mathlib.Core.Path.{_∙_, _≡_, ap, ap₂, refl, subst, sym}
 use native.Mathlib.Omega.{arith}
 
 -- ---- the definition's words
-module _ (T : List ℕ) (c e m l : ℕ) where
-  -- the header has the table's rows and columns
-  headed : shareOk m l ≡ true → (n# (build T c e m l) ≡ rowsOf T c) × (c# (build T c e m l) ≡ c)
+module _ (T : List ℕ) (c m l : ℕ) where
+  -- the header has the table's rows and columns, and edition 2
+  headed : shareOk m l ≡ true → (n# (build T c 2 m l) ≡ rowsOf T c) × (c# (build T c 2 m l) ≡ c) × (edition# (build T c 2 m l) ≡ 2)
   unfolding build encode
   headed h =
       let s = shared m l h in
-      (positions (between T c) m l (omega (arith, s .two)) (s .leafy) (rowsOf T c), refl)
+      (positions (between T c) m l (omega (arith, s .two)) (s .leafy) (rowsOf T c), refl, refl)
 
   -- and asks for just the words that there are
-  just-words : editionOk e ≡ true → length (build T c e m l) ≡ wordsOf (build T c e m l)
+  just-words : length (build T c 2 m l) ≡ wordsOf (build T c 2 m l)
   unfolding build encode
-  just-words h = encode-words e c m l (plant (between T c) m l (rowsOf T c)) (within-both 1 2 e h)
+  just-words = encode-words c m l (plant (between T c) m l (rowsOf T c))
 
 -- ---- the call
 module _ (T : List ℕ) (c e m l : ℕ) (room work : List ℕ) where
   -- the index stands at the front of the room
   index-there : {room′ work′ : List ℕ} {number words nodes : ℕ} → Builds T c e m l room work room′ work′ number words nodes → number ≡ 0
-      → take words room′ ≡ build T c e m l
+      → take words room′ ≡ build T c 2 m l
   index-there {number = number} b z =
       let q : eqb number 0 ≡ true = eq-eqb number 0 z in
       ap₂ take (rw q at (b .counted .0)) (rw q at (b .index))
-      ∙ take-at (build T c e m l) (drop (length (build T c e m l)) room) (length (build T c e m l)) refl
+      ∙ take-at (build T c 2 m l) (drop (length (build T c 2 m l)) room) (length (build T c 2 m l)) refl
 
   -- WHAT THE CALL WROTE IS ACCEPTED BY THE FULL CHECK
   pub build-accepted : (room′ work′ : List ℕ) (number words nodes : ℕ) → Builds T c e m l room work room′ work′ number words nodes → number ≡ 0
@@ -53,16 +53,17 @@ module _ (T : List ℕ) (c e m l : ℕ) (room work : List ℕ) where
   build-accepted room′ work′ number words nodes b z small =
       let C = clear T c e m l (length room) (length work) (sym (b .said) ∙ z) in
       subst (Accepted (between T c)) (sym (index-there b z))
-      (words-accepted T c e m l (C .edition) (sized-columns (length T) c (C .table)) (C .share) (C .table .rows) small)
+      (words-accepted T c 2 m l refl (sized-columns (length T) c (C .table)) (C .share) (C .table .rows) small)
 
-  -- WHAT THE CALL WROTE IS THE TABLE'S INDEX: NO CALL REFUSES SUCH A TABLE, THE HEADER HAS ITS ROWS AND COLUMNS, AND ASKS FOR JUST THESE WORDS
+  -- WHAT THE CALL WROTE IS THE TABLE'S INDEX: NO CALL REFUSES SUCH A TABLE, THE HEADER HAS ITS ROWS AND COLUMNS, ASKS FOR JUST THESE WORDS, AND IS
+  -- EDITION 2
   pub build-headed : {room′ work′ : List ℕ} {number words nodes : ℕ} → Builds T c e m l room work room′ work′ number words nodes → number ≡ 0
       → Sized (length T) c × (n# (take words room′) ≡ rowsOf T c) × (c# (take words room′) ≡ c)
-      × (length (take words room′) ≡ wordsOf (take words room′))
+      × (length (take words room′) ≡ wordsOf (take words room′)) × (edition# (take words room′) ≡ 2)
   build-headed b z =
       let C = clear T c e m l (length room) (length work) (sym (b .said) ∙ z) in
-      let h = headed T c e m l (C .share) in
-      rw (index-there b z) (C .table, h .0, h .1, just-words T c e m l (C .edition))
+      let h = headed T c m l (C .share) in
+      rw (index-there b z) (C .table, h .0, h .1, just-words T c m l, h .2)
 
   -- NO SECOND OUTCOME FITS
   pub build-only : (room₁ work₁ room₂ work₂ : List ℕ) (number₁ words₁ nodes₁ number₂ words₂ nodes₂ : ℕ)
@@ -70,7 +71,7 @@ module _ (T : List ℕ) (c e m l : ℕ) (room work : List ℕ) where
       → (number₁ ≡ number₂) × (words₁ ≡ words₂) × (nodes₁ ≡ nodes₂) × (room₁ ≡ room₂) × (work₁ ≡ work₂)
   build-only room₁ work₁ room₂ work₂ number₁ words₁ nodes₁ number₂ words₂ nodes₂ a b =
       let n : number₁ ≡ number₂ = a .said ∙ sym (b .said) in
-      let B : List ℕ = build T c e m l in
+      let B : List ℕ = build T c 2 m l in
       let k : ℕ = 6 * rowsOf T c in (
         n,
         a .counted .0 ∙ ap (λ (i : ℕ). cond (eqb i 0) (length B) 0) n ∙ sym (b .counted .0),

@@ -2,11 +2,10 @@
 use Prim.Native.Nat.{_*_, _+_, _-_, _≤_, suc, zero, ℕ}
 use Rattle.buffers.proofs.Whole.{wiped-whole}
 use Rattle.buffers.specs.Wiped.{wiped}
-use Rattle.build.proofs.Narrowing.{narrowed-nodes}
 use Rattle.build.proofs.Numbering.{numbered-levels}
 use Rattle.build.proofs.Positions.{entries-leaves, pairs-laid, pairsOf}
 use Rattle.build.proofs.Rooting.{root-run}
-use Rattle.build.specs.Filled.{Fillable, Filled, Grown, Layered, endOf, headerOf, narrowed, pairsIn, rootItem, settled}
+use Rattle.build.specs.Filled.{Filled, Grown, Layered, Room, headerOf, pairsIn, rootItem}
 use Rattle.build.specs.Levels.{allNodes, leaves}
 use Rattle.build.specs.Stages.{Fit, withNodes}
 use Rattle.laws.proofs.Lists.{tally-length}
@@ -19,46 +18,36 @@ use Rattle.split.specs.Groups.{stretch}
 use Rattle.split.specs.Runs.{laid}
 use Rattle.tree.proofs.Good.{pairs-length}
 use Rattle.tree.proofs.Grow.{grown-tally}
-use Rattle.tree.proofs.Written.{Edition, each-words}
+use Rattle.tree.proofs.Written.{each-words}
 use Rattle.tree.specs.Build.{plant}
 use Rattle.tree.specs.Encode.{Node, broods, encode, family, levelNodes, nodeWords, nodes, numbered, pairWords}
 use Rattle.tree.specs.Grove.{Grove, bare, entries, rowsIn}
 use Rattle.split.specs.Places.{nodeAt}
-use Rattle.words.proofs.Strides.{spread}
-use Rattle.words.specs.Words.{width}
-use borrow.Author.Tests.{eqb-false, eqb-true}
 use borrow.Rule.Slice.PartMut.{midOf, putMid}
-use lib.Dec.{eqb}
 use lib.ListN.{drop, length, length-append, length-map, replicate, take, take-append-drop}
 use lib.Seq.{drop-append-add, drop-at, drop-drop, length-take-le}
-use mathlib.Core.Bool.{Bool, cond, false, true}
+use mathlib.Core.Bool.{true}
 use mathlib.Core.List.{List, [], _++_, _∷_, append-assoc, append-nil, map}
 use mathlib.Core.Path.{_∙_, _≡_, ap, ap₂, refl, sym}
-use native.Mathlib.Nat.{add-zero, mul-le-mul-left, mul-le-mul-right, zero-add}
+use native.Mathlib.Nat.{add-zero}
 use native.Mathlib.Omega.{arith}
 
--- 8 + 4N + 2n words, or 8 + 5N + 2n in edition 2, whatever the tree
-pub encode-words : (e c m l : ℕ) (g : Grove) → Edition e → length (encode e c m l g) ≡ endOf e (length (numbered g)) + 2 * length (entries g)
+-- 8 + 5N + 2n words, whatever the tree
+pub encode-words : (c m l : ℕ) (g : Grove) → length (encode 2 c m l g) ≡ nodeAt (length (numbered g)) + 2 * length (entries g)
 unfolding encode
-encode-words e c m l g ed =
+encode-words c m l g =
     omega (
       arith,
-      length-append (each (nodeWords e) (numbered g)) (each pairWords (entries g)),
-      each-words e (numbered g) ed,
+      length-append (each (nodeWords 2) (numbered g)) (each pairWords (entries g)),
+      each-words 2 (numbered g) (omega arith, omega arith),
       pairs-length (entries g),
     )
 
 -- ---- how much room there is
-module _ {t : List ℕ} {c e m l n : ℕ} {room work : List ℕ} (asked : Fillable t c e m l n room work) where
-  -- for the positions behind at most 2n nodes
-  pub positions-fit : (made : ℕ) → made ≤ 2 * n → endOf e made + 2 * n ≤ length room
-  positions-fit made few = omega (arith, mul-le-mul-left (width e) few, spread e n, asked .wide)
-
-  -- the positions end behind the nodes as they grew
-  pub positions-end : (made : ℕ) → made ≤ 2 * n → nodeAt made ≤ endOf e made + 2 * n
-  positions-end made few =
-      let four : 4 * made ≤ width e * made = mul-le-mul-right made (omega (arith, asked .edition .0)) in
-      omega arith
+-- for the positions behind at most 2n nodes
+pub positions-fit : {t : List ℕ} {c m l n : ℕ} {room work : List ℕ} → Room t c m l n room work → (made : ℕ) → made ≤ 2 * n
+    → nodeAt made + 2 * n ≤ length room
+positions-fit asked made few = omega (arith, asked .space)
 
 -- ---- the tree of n rows
 module _ (d : ℕ → ℕ → ℕ) (m l : ℕ) (m1 : 1 ≤ m) (ml : m ≤ l) where
@@ -88,12 +77,12 @@ module _ {t : List ℕ} {c m l n : ℕ} (fit : Fit t c m l n) where
   one : 1 ≤ m
   one = omega (arith, fit .two)
 
-  -- its index has 8 + 4N + 2n words, or 8 + 5N + 2n
-  pub encode-long : {made : ℕ} (e : ℕ) → Edition e → made ≡ length (numbered (plant (between t c) m l n))
-      → length (encode e c m l (plant (between t c) m l n)) ≡ endOf e made + 2 * n
-  encode-long e ed k =
-      encode-words e c m l (plant (between t c) m l n) ed
-      ∙ ap₂ (λ (i j : ℕ). endOf e i + 2 * j) (sym k) (positions (between t c) m l one (fit .leafy) n)
+  -- its index has 8 + 5N + 2n words
+  pub encode-long : {made : ℕ} → made ≡ length (numbered (plant (between t c) m l n))
+      → length (encode 2 c m l (plant (between t c) m l n)) ≡ nodeAt made + 2 * n
+  encode-long k =
+      encode-words c m l (plant (between t c) m l n)
+      ∙ ap₂ (λ (i j : ℕ). nodeAt i + 2 * j) (sym k) (positions (between t c) m l one (fit .leafy) n)
 
   -- THE LEVELS ARE THE TREE OF 01
   pub grown-levels : {origin room work : List ℕ} {made : ℕ} → 1 ≤ n → Layered (between t c) m l n origin room work made
@@ -113,11 +102,11 @@ unfolding numbered nodes levelNodes family broods pairsIn
 grown-none {origin = origin} e = rw e record { nodes = sym (take-append-drop 8 origin); count = refl; few = omega arith; pairs = refl }
 
 -- ---- the header before the nodes, the positions behind them
-module _ {t : List ℕ} {c e m l n : ℕ} {origin work₀ : List ℕ} (asked : Fillable t c e m l n origin work₀) {room work : List ℕ} {made : ℕ}
+module _ {t : List ℕ} {c m l n : ℕ} {origin work₀ : List ℕ} (asked : Room t c m l n origin work₀) {room work : List ℕ} {made : ℕ}
     (grown : Grown t c m l n origin room work made) where
   -- the numbers fit
   fit : Fit t c m l n
-  fit = asked .growing .fit
+  fit = asked .fit
 
   -- the tree of 01
   abbrev tree : Grove
@@ -133,7 +122,7 @@ module _ {t : List ℕ} {c e m l n : ℕ} {origin work₀ : List ℕ} (asked : F
 
   -- there is room for a header
   eight : 8 ≤ length origin
-  eight = omega (arith, asked .growing .space)
+  eight = omega (arith, asked .space)
 
   -- as far as the nodes' end
   grown-long : length grown-front ≡ nodeAt made
@@ -150,83 +139,61 @@ module _ {t : List ℕ} {c e m l n : ℕ} {origin work₀ : List ℕ} (asked : F
       ∙ sym (append-assoc (take 8 origin) (each (nodeWords 2) ns) (drop (nodeAt made) origin))
 
   -- and so it is behind the positions
-  grown-behind : drop (endOf e made + 2 * n) room ≡ drop (endOf e made + 2 * n) origin
+  grown-behind : drop (nodeAt made + 2 * n) room ≡ drop (nodeAt made + 2 * n) origin
   grown-behind =
-      let j : ℕ = endOf e made + 2 * n - nodeAt made in
-      let over : nodeAt made + j ≡ endOf e made + 2 * n = omega (arith, positions-end asked made (grown .few)) in
-      let here : endOf e made + 2 * n ≡ length grown-front + j = omega (arith, over, grown-long) in
-      ap₂ drop here grown-cut ∙ drop-append-add grown-front (drop (nodeAt made) origin) j ∙ drop-drop j (nodeAt made) origin
-      ∙ ap (λ (k : ℕ). drop k origin) over
+      let here : nodeAt made + 2 * n ≡ length grown-front + 2 * n = ap (λ (k : ℕ). k + 2 * n) (sym grown-long) in
+      ap₂ drop here grown-cut ∙ drop-append-add grown-front (drop (nodeAt made) origin) (2 * n) ∙ drop-drop (2 * n) (nodeAt made) origin
 
-  -- the nodes have the words of the edition
-  settled-nodes : {room₁ : List ℕ} → room₁ ≡ settled e made room → drop 8 room₁ ≡ each (nodeWords e) ns ++ drop (endOf e made) room
-  unfolding grown-front narrowed
-  settled-nodes {room₁} q = go (eqb e 2) refl q
-    where
-      go : (b : Bool) → eqb e 2 ≡ b → room₁ ≡ cond b room ((take 8 room ++ narrowed room made) ++ drop (endOf 1 made) room)
-          → drop 8 room₁ ≡ each (nodeWords e) ns ++ drop (endOf e made) room
-      go true p q =
-          let two : e ≡ 2 = eqb-true e 2 p in
-          let behind : drop (nodeAt made) room ≡ drop (nodeAt made) origin =
-          ap (drop (nodeAt made)) grown-cut ∙ drop-at grown-front (drop (nodeAt made) origin) (nodeAt made) grown-long in
-          rw two
-          (ap (drop 8) (q ∙ grown-cut ∙ append-assoc (take 8 origin) (each (nodeWords 2) ns) (drop (nodeAt made) origin))
-          ∙ drop-at (take 8 origin) (each (nodeWords 2) ns ++ drop (nodeAt made) origin) 8 (length-take-le 8 origin eight)
-          ∙ ap (λ (x : List ℕ). each (nodeWords 2) ns ++ x) (sym behind))
-      go false p q =
-          let one : e ≡ 1 = omega (arith, asked .edition .0, asked .edition .1, eqb-false e 2 p) in
-          let words : narrowed room made ≡ each (nodeWords 1) ns =
-          ap (narrowed room) (grown .count ∙ sym (zero-add (length ns)))
-          ∙ narrowed-nodes ns (take 8 origin) (drop (nodeAt (length ns)) origin) room 0 (grown .nodes) (length-take-le 8 origin eight) in
-          let long : 8 ≤ length room =
-          omega (arith, ap length grown-cut, length-append grown-front (drop (nodeAt made) origin), grown-long) in
-          rw one
-          (ap (drop 8) (q ∙ append-assoc (take 8 room) (narrowed room made) (drop (endOf 1 made) room))
-          ∙ drop-at (take 8 room) (narrowed room made ++ drop (endOf 1 made) room) 8 (length-take-le 8 room long)
-          ∙ ap (λ (x : List ℕ). x ++ drop (endOf 1 made) room) words)
+  -- behind the header stand the nodes
+  grown-nodes : drop 8 room ≡ each (nodeWords 2) ns ++ drop (nodeAt made) room
+  unfolding grown-front
+  grown-nodes =
+      let behind : drop (nodeAt made) room ≡ drop (nodeAt made) origin =
+      ap (drop (nodeAt made)) grown-cut ∙ drop-at grown-front (drop (nodeAt made) origin) (nodeAt made) grown-long in
+      ap (drop 8) (grown-cut ∙ append-assoc (take 8 origin) (each (nodeWords 2) ns) (drop (nodeAt made) origin))
+      ∙ drop-at (take 8 origin) (each (nodeWords 2) ns ++ drop (nodeAt made) origin) 8 (length-take-le 8 origin eight)
+      ∙ ap (λ (x : List ℕ). each (nodeWords 2) ns ++ x) (sym behind)
 
   -- the words before the positions
   abbrev front : List ℕ
-  front = headerOf e n c m l made ++ each (nodeWords e) ns
+  front = headerOf n c m l made ++ each (nodeWords 2) ns
 
   -- as far as the nodes' end
-  front-long : length front ≡ endOf e made
+  front-long : length front ≡ nodeAt made
   front-long =
-      length-append (headerOf e n c m l made) (each (nodeWords e) ns)
-      ∙ ap (λ (k : ℕ). 8 + k) (each-words e ns (asked .edition) ∙ ap (λ (k : ℕ). width e * k) (sym (grown .count)))
+      length-append (headerOf n c m l made) (each (nodeWords 2) ns)
+      ∙ omega (arith, each-words 2 ns (omega arith, omega arith), grown .count)
 
   -- the header is written
-  headed : {room₁ room₂ : List ℕ} → room₁ ≡ settled e made room → room₂ ≡ headerOf e n c m l made ++ drop 8 room₁
-      → room₂ ≡ front ++ drop (endOf e made) room
-  headed s q =
-      q ∙ ap (λ (x : List ℕ). headerOf e n c m l made ++ x) (settled-nodes s)
-      ∙ sym (append-assoc (headerOf e n c m l made) (each (nodeWords e) ns) (drop (endOf e made) room))
+  headed : {room₂ : List ℕ} → room₂ ≡ headerOf n c m l made ++ drop 8 room → room₂ ≡ front ++ drop (nodeAt made) room
+  headed q =
+      q ∙ ap (λ (x : List ℕ). headerOf n c m l made ++ x) grown-nodes
+      ∙ sym (append-assoc (headerOf n c m l made) (each (nodeWords 2) ns) (drop (nodeAt made) room))
 
   -- with the positions they are the words of 01
-  words-are : front ++ each pairWords (entries tree) ≡ encode e c m l tree
+  words-are : front ++ each pairWords (entries tree) ≡ encode 2 c m l tree
   unfolding encode
   words-are =
-      append-assoc (headerOf e n c m l made) (each (nodeWords e) ns) (each pairWords (entries tree))
-      ∙ ap₂ (λ (i j : ℕ). headerOf e i c m l j ++ (each (nodeWords e) ns ++ each pairWords (entries tree)))
+      append-assoc (headerOf n c m l made) (each (nodeWords 2) ns) (each pairWords (entries tree))
+      ∙ ap₂ (λ (i j : ℕ). headerOf i c m l j ++ (each (nodeWords 2) ns ++ each pairWords (entries tree)))
       (sym (positions (between t c) m l (one fit) (fit .leafy) n)) (grown .count)
 
   -- THE WHOLE INDEX STANDS IN THE ROOM
-  pub filled : {room₁ room₂ ys work′ : List ℕ} {at : ℕ} → length room₂ ≡ length origin → room₁ ≡ settled e made room
-      → room₂ ≡ headerOf e n c m l made ++ drop 8 room₁ → at ≡ endOf e made
+  pub filled : {room₂ ys work′ : List ℕ} {at : ℕ} → length room₂ ≡ length origin → room₂ ≡ headerOf n c m l made ++ drop 8 room → at ≡ nodeAt made
       → ys ≡ pairsIn (stretch work 0 (3 * n)) ++ drop (2 * n) (midOf at (length room₂ - at) room₂)
       → length work ≡ 6 * n → work′ ≡ wiped (length work) work
-      → Filled t c e m l n origin (putMid at (length room₂ - at) room₂ ys) work′ made
-  filled {room₁} {room₂} {ys} {at = at} same s q place f half cleared =
+      → Filled t c m l n origin (putMid at (length room₂ - at) room₂ ys) work′ made
+  filled {room₂} {ys} {at = at} same q place f half cleared =
       let z : 3 * n - 0 ≡ 3 * n = omega arith in
       let pairs : pairsIn (stretch work 0 (3 * n)) ≡ each pairWords (entries tree) = ap (λ (k : ℕ). pairsIn (take k work)) z ∙ grown .pairs in
       record {
         index =
             put-more front (each pairWords (entries tree)) room room₂ ys at (2 * n) (front-long ∙ sym place)
-            (omega (arith, place, same, positions-fit asked made (grown .few))) (headed s q ∙ ap (λ (k : ℕ). front ++ drop k room) (sym place))
+            (omega (arith, place, same, positions-fit asked made (grown .few))) (headed q ∙ ap (λ (k : ℕ). front ++ drop k room) (sym place))
             (f ∙ ap (λ (x : List ℕ). x ++ drop (2 * n) (midOf at (length room₂ - at) room₂)) pairs)
             ∙ ap₂ (λ (x : List ℕ) (k : ℕ). x ++ drop (k + 2 * n) room) words-are place
-            ∙ ap (λ (x : List ℕ). encode e c m l tree ++ x) (grown-behind
-            ∙ ap (λ (k : ℕ). drop k origin) (sym (encode-long fit e (asked .edition) (grown .count))));
+            ∙ ap (λ (x : List ℕ). encode 2 c m l tree ++ x) (grown-behind
+            ∙ ap (λ (k : ℕ). drop k origin) (sym (encode-long fit (grown .count))));
         count = grown .count;
         few = grown .few;
         cleared = cleared ∙ wiped-whole work ∙ ap (λ (k : ℕ). replicate k 0) half;

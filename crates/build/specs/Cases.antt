@@ -1,8 +1,8 @@
--- The builds that 01 marks P, The five-row table, in both editions: one column, m = 2 and l = 2. Assumes nothing.
+-- The builds that 01 marks P, The five-row table: one column, m = 2 and l = 2. Assumes nothing.
 use Prim.Native.Nat.{_*_, _≤_, ℕ}
 use Rattle.build.specs.Calls.{Builds}
 use Rattle.tree.specs.Calls.{roomOf}
-use Rattle.tree.specs.Cases.{five, fiveWords, wideWords}
+use Rattle.tree.specs.Cases.{five, fiveWords}
 use Rattle.words.specs.Words.{N#}
 use lib.ListN.{drop, length, replicate}
 use mathlib.Core.List.{List, [], _++_, _∷_}
@@ -15,17 +15,6 @@ sevens = 7 ∷ 7 ∷ 7 ∷ 7 ∷ []
 -- the words of their index
 abbrev pub sevenWords : List ℕ
 sevenWords =
-    1 ∷ 4 ∷ 1 ∷ 2 ∷ 2 ∷ 5 ∷ 1 ∷ 0
-    ∷ 0 ∷ 4 ∷ 1 ∷ 0
-    ∷ 0 ∷ 3 ∷ 3 ∷ 0
-    ∷ 3 ∷ 1 ∷ 0 ∷ 0
-    ∷ 0 ∷ 2 ∷ 0 ∷ 0
-    ∷ 2 ∷ 1 ∷ 0 ∷ 0
-    ∷ 0 ∷ 0 ∷ 3 ∷ 0 ∷ 2 ∷ 0 ∷ 1 ∷ 0 ∷ []
-
--- the same in edition 2: all inner reaches are 0
-abbrev pub sevenWide : List ℕ
-sevenWide =
     2 ∷ 4 ∷ 1 ∷ 2 ∷ 2 ∷ 5 ∷ 1 ∷ 0
     ∷ 0 ∷ 4 ∷ 1 ∷ 0 ∷ 0
     ∷ 0 ∷ 3 ∷ 3 ∷ 0 ∷ 0
@@ -35,22 +24,19 @@ sevenWide =
     ∷ 0 ∷ 0 ∷ 3 ∷ 0 ∷ 2 ∷ 0 ∷ 1 ∷ 0 ∷ []
 
 -- no rows
-abbrev pub emptyWords : ℕ → List ℕ
-emptyWords e = e ∷ 0 ∷ 1 ∷ 2 ∷ 2 ∷ 0 ∷ 1 ∷ 0 ∷ []
+abbrev pub emptyWords : List ℕ
+emptyWords = 2 ∷ 0 ∷ 1 ∷ 2 ∷ 2 ∷ 0 ∷ 1 ∷ 0 ∷ []
 
--- a table, an edition, and the words of the table's index
+-- a table, and the words of its index
 abbrev pub Case : Type 0
-Case = List ℕ × ℕ × List ℕ
+Case = List ℕ × List ℕ
 
--- each table in both editions
+-- the tables
 abbrev pub table : List Case
 table =
-    (five, 1, fiveWords)
-    ∷ (five, 2, wideWords)
-    ∷ (sevens, 1, sevenWords)
-    ∷ (sevens, 2, sevenWide)
-    ∷ ([], 1, emptyWords 1)
-    ∷ ([], 2, emptyWords 2)
+    (five, fiveWords)
+    ∷ (sevens, sevenWords)
+    ∷ ([], emptyWords)
     ∷ []
 
 -- what the call left: number 0, the words in the room, counted, and the workspace cleared
@@ -64,5 +50,5 @@ pub record Left (T ws room work room′ work′ : List ℕ) (number words nodes 
 -- any call on the table, with room enough, leaves these words
 abbrev pub Comes : Case → Type 0
 Comes v =
-    (room work room′ work′ : List ℕ) (number words nodes : ℕ) → roomOf (v .1) (length (v .0)) ≤ length room → 6 * length (v .0) ≤ length work
-    → Builds (v .0) 1 (v .1) 2 2 room work room′ work′ number words nodes → Left (v .0) (v .2) room work room′ work′ number words nodes
+    (room work room′ work′ : List ℕ) (number words nodes : ℕ) → roomOf (length (v .0)) ≤ length room → 6 * length (v .0) ≤ length work
+    → Builds (v .0) 1 2 2 2 room work room′ work′ number words nodes → Left (v .0) (v .1) room work room′ work′ number words nodes

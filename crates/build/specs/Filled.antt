@@ -1,27 +1,25 @@
 -- The pieces that a build writes, and the whole of them: 01, The tree, Index words. Assumes nothing.
-use Prim.Native.Nat.{_*_, _+_, _≤_, suc, zero, ℕ}
+use Prim.Native.Nat.{_*_, _≤_, ℕ}
 use Rattle.build.specs.Levels.{Item, allNodes, leaves}
 use Rattle.build.specs.Stages.{Fit, Stage, withNodes}
 use Rattle.laws.specs.Lists.{each, lowest, range, rest}
 use Rattle.laws.specs.Upto.{mostTo}
 use Rattle.limits.specs.Limits.{maxDepth}
 use Rattle.measure.specs.Table.{between}
-use Rattle.split.specs.Places.{nodeAt}
 use Rattle.split.specs.Runs.{laid}
 use Rattle.tree.specs.Build.{plant}
 use Rattle.tree.specs.Calls.{roomOf}
 use Rattle.tree.specs.Encode.{encode, numbered, pairWords}
 use Rattle.tree.specs.Grove.{entries}
-use Rattle.words.specs.Words.{at, width}
-use lib.Dec.{eqb, ltb}
+use lib.Dec.{ltb}
 use lib.ListN.{drop, length, replicate, take}
-use mathlib.Core.Bool.{Bool, _||_, cond}
+use mathlib.Core.Bool.{Bool, _||_}
 use mathlib.Core.List.{List, [], _++_, _∷_, map}
 use mathlib.Core.Path.{_≡_}
 
--- the header's words: edition, n, c, m, l, the node count, distance kind 1, zero
-abbrev pub headerOf : ℕ → ℕ → ℕ → ℕ → ℕ → ℕ → List ℕ
-headerOf e n c m l nodes = e ∷ n ∷ c ∷ m ∷ l ∷ nodes ∷ 1 ∷ 0 ∷ []
+-- the header's words: edition 2, n, c, m, l, the node count, distance kind 1, zero
+abbrev pub headerOf : ℕ → ℕ → ℕ → ℕ → ℕ → List ℕ
+headerOf n c m l nodes = 2 ∷ n ∷ c ∷ m ∷ l ∷ nodes ∷ 1 ∷ 0 ∷ []
 
 -- of each entry the row and the distance
 unfoldable pub pairsIn : List ℕ → List ℕ
@@ -41,26 +39,8 @@ pub record RootLaid (d : ℕ → ℕ → ℕ) (n : ℕ) (work work′ : List ℕ
   pub words : work′ ≡ each (entryOf0 d) (range 0 n) ++ drop (3 * n) work
 
 -- 5: the room or the workspace is too short for n rows
-abbrev pub shortOf : ℕ → ℕ → ℕ → ℕ → Bool
-shortOf e n room work = ltb room (roomOf e n) || ltb work (6 * n)
-
--- ---- the nodes as the edition has them
--- where the words behind k nodes start
-abbrev pub endOf : ℕ → ℕ → ℕ
-endOf e k = 8 + width e * k
-
--- four words from place p on
-abbrev pub fourAt : List ℕ → ℕ → List ℕ
-fourAt w p = at w p ∷ at w (p + 1) ∷ at w (p + 2) ∷ at w (p + 3) ∷ []
-
--- of the first k nodes, as they grew, the words but the inner reach
-unfoldable pub narrowed : List ℕ → ℕ → List ℕ
-narrowed w zero = []
-narrowed w (suc k) = narrowed w k ++ fourAt w (nodeAt k)
-
--- the room where the first k nodes have the words of the edition
-abbrev pub settled : ℕ → ℕ → List ℕ → List ℕ
-settled e k w = cond (eqb e 2) w ((take 8 w ++ narrowed w k) ++ drop (endOf 1 k) w)
+abbrev pub shortOf : ℕ → ℕ → ℕ → Bool
+shortOf n room work = ltb room (roomOf n) || ltb work (6 * n)
 
 -- ---- the root and the levels below it
 -- the root's item
@@ -88,10 +68,10 @@ abbrev pub Leveled : (ℕ → ℕ → ℕ) → ℕ → ℕ → ℕ → List ℕ 
 Leveled d m l n room work room′ work′ made = (g : Planted d m l n room work) → Layered d m l n (g .origin) room′ work′ made
 
 -- ---- the whole
--- the numbers fit, and room and workspace are long enough for the tree to grow
+-- the numbers fit, and room and workspace are long enough
 pub record Room (t : List ℕ) (c m l n : ℕ) (room work : List ℕ) : Type 0 where
   pub fit : Fit t c m l n
-  pub space : 10 * n + 8 ≤ length room
+  pub space : roomOf n ≤ length room
   pub halves : length work ≡ 6 * n
 
 -- the tree's nodes stand in the room, and its positions in the workspace
@@ -101,15 +81,9 @@ pub record Grown (t : List ℕ) (c m l n : ℕ) (origin room work : List ℕ) (m
   pub few : made ≤ 2 * n
   pub pairs : pairsIn (take (3 * n) work) ≡ each pairWords (entries (plant (between t c) m l n))
 
--- and the room is long enough for the index in edition e
-pub record Fillable (t : List ℕ) (c e m l n : ℕ) (room work : List ℕ) : Type 0 where
-  pub growing : Room t c m l n room work
-  pub edition : (1 ≤ e) × (e ≤ 2)
-  pub wide : roomOf e n ≤ length room
-
 -- the index stands in the room, and the workspace is cleared
-pub record Filled (t : List ℕ) (c e m l n : ℕ) (room room′ work′ : List ℕ) (nodes : ℕ) : Type 0 where
-  pub index : room′ ≡ encode e c m l (plant (between t c) m l n) ++ drop (length (encode e c m l (plant (between t c) m l n))) room
+pub record Filled (t : List ℕ) (c m l n : ℕ) (room room′ work′ : List ℕ) (nodes : ℕ) : Type 0 where
+  pub index : room′ ≡ encode 2 c m l (plant (between t c) m l n) ++ drop (length (encode 2 c m l (plant (between t c) m l n))) room
   pub count : nodes ≡ length (numbered (plant (between t c) m l n))
   pub few : nodes ≤ 2 * n
   pub cleared : work′ ≡ replicate (6 * n) 0

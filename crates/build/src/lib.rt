@@ -2,13 +2,12 @@
 // position: the row, its distance from the first of its run, and that first. The second half takes a run's entries as they are shared out.
 ghost use Prim.Native.Nat.{_*_, _+_, _/_, _≤_};
 ghost use Rattle.build.specs.Calls.{Builds};
-ghost use Rattle.build.specs.Filled.{Fillable, Filled, Grown, Leveled, Planted, Room, RootLaid, Rooted, endOf, fourAt, headerOf, pairsIn, settled, shortOf};
+ghost use Rattle.build.specs.Filled.{Filled, Grown, Leveled, Planted, Room, RootLaid, Rooted, headerOf, pairsIn, shortOf};
 ghost use Rattle.build.specs.Stages.{Fit, Level, Openable, Opened, Staged};
 ghost use Rattle.limits.specs.Limits.{maxColumns, maxRows};
 ghost use Rattle.limits.specs.Said.{fault, lengthFaults, said};
 ghost use Rattle.measure.specs.Table.{between};
 ghost use Rattle.split.specs.Groups.{stretch};
-ghost use Rattle.split.specs.Places.{nodeAt};
 ghost use lib.ListN.{drop, length, replicate};
 ghost use mathlib.Core.List.{_++_};
 ghost use mathlib.Core.Path.{_≡_};
@@ -173,55 +172,14 @@ fn grow(
     levels(table, c, m, l, n, room, work)
 }
 
-// ---- the nodes as the edition has them
-
-// A node's first four words, moved from word k of a part to its front.
-fn move_node(part: &mut [u32], k: usize)
-    requires { ⌜ k + 4 ≤ length (now part) ⌝ }
-    ensures { λ _. ⌜ now (part .exit) ≡ fourAt (now (part .entry)) k ++ drop 4 (now (part .entry)) ⌝ }
-{
-    let start = part[k];
-    let count = part[k + 1];
-    let child = part[k + 2];
-    let radius = part[k + 3];
-    part[0] = start;
-    part[1] = count;
-    part[2] = child;
-    part[3] = radius;
-}
-
-// Edition 1 has no inner reach: its nodes move up to each other.
-fn narrow(room: &mut [u32], nodes: usize, edition: usize)
-    requires { ⌜ nodeAt nodes ≤ length (now room) ⌝ }
-    ensures { λ _. ⌜ now (room .exit) ≡ settled edition nodes (now (room .entry)) ⌝ }
-{
-    if edition == Params::LAST_EDITION {
-        return;
-    }
-    let mut k = 0;
-    while k < nodes {
-        let at = HEADER + 4 * k;
-        move_node(&mut room[at..], k);
-        k += 1;
-    }
-}
-
-// Where the words behind this many nodes start.
-fn end_of(edition: usize, nodes: usize) -> usize
-    requires { ⌜ (edition ≤ 2) × (nodes ≤ 2097152) ⌝ }
-    ensures { λ r. ⌜ (r ≡ endOf edition nodes) × (r ≤ nodeAt nodes) ⌝ }
-{
-    HEADER + (3 + edition) * nodes
-}
-
 // ---- the header, the positions, and the cleared workspace
 
 // The header's eight words.
 fn put_header(room: &mut [u32], n: usize, c: usize, p: Params, nodes: usize)
-    requires { ⌜ (8 ≤ length (now room)) × (n ≤ maxRows) × (c ≤ maxColumns) × (p .edition ≤ 2) × (p .centres ≤ 64) × (p .leaf ≤ 1024) × (nodes ≤ 2097152) ⌝ }
-    ensures { λ _. ⌜ now (room .exit) ≡ headerOf (p .edition) n c (p .centres) (p .leaf) nodes ++ drop 8 (now (room .entry)) ⌝ }
+    requires { ⌜ (8 ≤ length (now room)) × (n ≤ maxRows) × (c ≤ maxColumns) × (p .centres ≤ 64) × (p .leaf ≤ 1024) × (nodes ≤ 2097152) ⌝ }
+    ensures { λ _. ⌜ now (room .exit) ≡ headerOf n c (p .centres) (p .leaf) nodes ++ drop 8 (now (room .entry)) ⌝ }
 {
-    room[0] = p.edition as u32;
+    room[0] = Params::LAST_EDITION as u32;
     room[1] = n as u32;
     room[2] = c as u32;
     room[3] = p.centres as u32;
@@ -254,13 +212,12 @@ pub fn fill(
     room: &mut [u32],
     work: &mut [u32],
 ) -> usize
-    requires { ⌜ Fillable (now table) c (p .edition) (p .centres) (p .leaf) n (now room) (now work) ⌝ }
-    ensures { λ r. ⌜ Filled (now (table .entry)) c (p .edition) (p .centres) (p .leaf) n (now (room .entry)) (now (room .exit)) (now (work .exit)) r ⌝ }
+    requires { ⌜ Room (now table) c (p .centres) (p .leaf) n (now room) (now work) ⌝ }
+    ensures { λ r. ⌜ Filled (now (table .entry)) c (p .centres) (p .leaf) n (now (room .entry)) (now (room .exit)) (now (work .exit)) r ⌝ }
 {
     let nodes = grow(table, c, p.centres, p.leaf, n, room, work);
-    narrow(room, nodes, p.edition);
     put_header(room, n, c, p, nodes);
-    let at = end_of(p.edition, nodes);
+    let at = HEADER + WIDTH * nodes;
     put_positions(&mut room[at..], n, work);
     clear_words(work, work.len());
     nodes
@@ -269,26 +226,26 @@ pub fn fill(
 // ---- the public call
 
 // The room or the workspace is too short for n rows.
-fn too_short(edition: usize, n: usize, room: usize, work: usize) -> bool
-    requires { ⌜ (edition ≤ 2) × (n ≤ maxRows) ⌝ }
-    ensures { λ r. ⌜ r ≡ shortOf edition n room work ⌝ }
+fn too_short(n: usize, room: usize, work: usize) -> bool
+    requires { ⌜ n ≤ maxRows ⌝ }
+    ensures { λ r. ⌜ r ≡ shortOf n room work ⌝ }
 {
-    if room < (8 + 2 * edition) * n + 8 {
+    if room < 12 * n + 8 {
         return true;
     }
     work < 6 * n
 }
 
 // What is wrong with the lengths of a table of c columns, of the room and of the workspace: 3, 4, 5, or 0 for nothing.
-fn lengths_number(length: usize, c: usize, edition: usize, room: usize, work: usize) -> u32
-    requires { ⌜ (1 ≤ c) × (edition ≤ 2) ⌝ }
-    ensures { λ r. ⌜ r ≡ said (lengthFaults length c ++ fault 5 (shortOf edition (length / c) room work)) .0 ⌝ }
+fn lengths_number(length: usize, c: usize, room: usize, work: usize) -> u32
+    requires { ⌜ 1 ≤ c ⌝ }
+    ensures { λ r. ⌜ r ≡ said (lengthFaults length c ++ fault 5 (shortOf (length / c) room work)) .0 ⌝ }
 {
     let number = length_number(length, c);
     if number != 0 {
         return number;
     }
-    if too_short(edition, length / c, room, work) {
+    if too_short(length / c, room, work) {
         return 5;
     }
     0
@@ -305,7 +262,7 @@ fn refused(number: u32) -> Built
     }
 }
 
-// Builds the index into the room, in the edition that is asked for.
+// Builds the index into the room, where the edition that is asked for is 2.
 pub fn build(
     table: &[u16],
     c: usize,
@@ -323,7 +280,7 @@ pub fn build(
     let Chosen::Taken(p) = Params::new(m, l, edition) else {
         return refused(2);
     };
-    let number = lengths_number(table.len(), c, p.edition, room.len(), work.len());
+    let number = lengths_number(table.len(), c, room.len(), work.len());
     if number != 0 {
         return refused(number);
     }
@@ -332,7 +289,7 @@ pub fn build(
     let nodes = fill(table, c, p, n, room, &mut work[..used]);
     Built {
         number: 0,
-        words: end_of(p.edition, nodes) + 2 * n,
+        words: HEADER + WIDTH * nodes + 2 * n,
         nodes,
     }
 }

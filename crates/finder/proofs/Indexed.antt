@@ -36,7 +36,7 @@ module _ {t : List ℕ} {c e m l : ℕ} {room work room′ work′ : List ℕ} {
   -- the words that the build counts stand in the room
   pub words-there : words ≤ length room′
   words-there =
-      let w : List ℕ = build t c e m l in
+      let w : List ℕ = build t c 2 m l in
       let long : words ≡ length w = b .counted .0 ∙ ap (λ (x : ℕ). cond (eqb x 0) (length w) 0) z in
       let there : room′ ≡ w ++ drop (length w) room = b .index ∙ ap (λ (x : ℕ). cond (eqb x 0) (w ++ drop (length w) room) room) z in
       omega (arith, simp length-append at (ap length there))

@@ -27,7 +27,7 @@ pub fn mark_like(
     ensures { λ f. ⌜ Alike (now (table .entry)) c (row· (now (table .entry)) c row) r (now (how .exit)) (f .number) ⌝ }
 {
     let query = row_of(table, c, row);
-    let built = build::build(table, c, CENTRES, LEAF, Params::FIRST_EDITION, room, work);
+    let built = build::build(table, c, CENTRES, LEAF, Params::LAST_EDITION, room, work);
     let number = built.number;
     if number != 0 {
         return Found {
@@ -56,7 +56,7 @@ pub fn find_nearest(
     ensures { λ g. ⌜ Closest (now (table .entry)) c (row· (now (table .entry)) c row) w (now (rows .exit)) (now (distances .exit)) (g .number) (g .given) ⌝ }
 {
     let query = row_of(table, c, row);
-    let built = build::build(table, c, CENTRES, LEAF, Params::FIRST_EDITION, room, work);
+    let built = build::build(table, c, CENTRES, LEAF, Params::LAST_EDITION, room, work);
     let number = built.number;
     if number != 0 {
         return Given {

@@ -31,6 +31,6 @@ columnsOk c = within 1 maxColumns c
 abbrev pub shareOk : ℕ → ℕ → Bool
 shareOk m l = within 2 64 m && within m 1_024 l
 
--- the two editions; edition 2 has the inner reach (02, R-4)
+-- the two editions that a card may be of; edition 2 has the inner reach (02, R-4)
 abbrev pub editionOk : ℕ → Bool
 editionOk e = within 1 2 e

@@ -5,11 +5,10 @@ ghost use Rattle.limits.specs.Limits.{columnsOk, editionOk, shareOk, wit
 ghost use Rattle.limits.specs.Said.{lengthFaults, said, tableFaults};
 ghost use mathlib.Core.Path.{_≡_};
 
-// What an index is built with: the centres of an inner node, the rows that a leaf may have, and the edition.
+// What an index is built with: the centres of an inner node, and the rows that a leaf may have.
 pub struct Params {
     pub centres: usize,
     pub leaf: usize,
-    pub edition: usize,
 }
 
 // What the constructor answers.
@@ -37,19 +36,15 @@ impl Params {
 
     pub const LAST_EDITION: usize = 2;
 
-    // Centres, leaf size and edition, where all are in range.
+    // Centres and leaf size, where both are in range and the edition is the one that is built.
     pub fn new(centres: usize, leaf: usize, edition: usize) -> Chosen
         ensures { λ r. ⌜ told r ≡ chosen centres leaf edition ⌝ }
     {
         if !share_ok(centres, leaf) {
             return Chosen::Refused;
         }
-        if edition_ok(edition) {
-            return Chosen::Taken(Params {
-                centres,
-                leaf,
-                edition,
-            });
+        if edition == Params::LAST_EDITION {
+            return Chosen::Taken(Params { centres, leaf });
         }
         Chosen::Refused
     }
@@ -82,7 +77,7 @@ pub fn share_ok(centres: usize, leaf: usize) -> bool
     is_within(centres, Params::MOST_LEAF, leaf)
 }
 
-// An index may be of this edition.
+// An index on a card may be of this edition.
 pub fn edition_ok(edition: usize) -> bool
     ensures { λ r. ⌜ r ≡ editionOk edition ⌝ }
 {

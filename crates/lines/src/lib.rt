@@ -47,20 +47,23 @@ pub fn make_room(text: &[u8], at: usize, need: usize) -> usize
     0
 }
 
-// Puts a word into the text, and behind it a newline or a space. Gives where that ends.
-fn put_word(text: &mut [u8], at: usize, word: u32, last: bool) -> usize
+// Puts a word into the text, if its place in the line is below `shown`, and behind it a space, or a newline behind the last. Gives where that ends.
+fn put_word(text: &mut [u8], at: usize, word: u32, place: usize, shown: usize) -> usize
     requires { ⌜ (at ≤ length (now text)) × (21 ≤ length (now text)) ⌝ }
     ensures { λ r. ⌜ r ≤ length (now (text .entry)) ⌝ }
 {
+    if shown <= place {
+        return at;
+    }
     let from = make_room(text, at, MOST);
-    if last {
+    if place + 1 == shown {
         return put_number(text, from, word as u64, b'\n');
     }
     put_number(text, from, word as u64, b' ')
 }
 
-// Prints the words, `width` to a line. Gives how many it printed.
-pub fn print_lines(words: &[u32], width: usize) -> usize
+// Prints the words, `width` to a line, but of each line only the first `shown`. Gives how many words there were.
+pub fn print_lines(words: &[u32], width: usize, shown: usize) -> usize
     requires { ⌜ 1 ≤ width ⌝ }
     ensures { λ r. ⌜ r ≡ length (now (words .entry)) ⌝ }
 {
@@ -68,9 +71,8 @@ pub fn print_lines(words: &[u32], width: usize) -> usize
     let mut at = 0;
     let mut i = 0;
     while i < words.len() {
-        let next = i + 1;
-        at = put_word(&mut text, at, words[i], next % width == 0);
-        i = next;
+        at = put_word(&mut text, at, words[i], i % width, shown);
+        i += 1;
     }
     io::write_all(STDOUT_FILENO, &text[..at]);
     i

@@ -1,6 +1,6 @@
 -- No number that the program meets is above 18. Assumes nothing.
 use Prim.Native.Nat.{_%_, _*_, _+_, _≤_, ℕ}
-use Rattle.limits.specs.Limits.{columnsOk, editionOk, maxRows, shareOk}
+use Rattle.limits.specs.Limits.{columnsOk, maxRows, shareOk}
 use Rattle.limits.specs.Said.{fault, said}
 use Rattle.measure.specs.Table.{rowsOf}
 use Rattle.text.specs.Calls.{saidRead}
@@ -23,12 +23,12 @@ five-low false false false false true = omega arith
 five-low false false false false false = omega arith
 
 -- the number of a build
-pub build-low : (T : List ℕ) (c m l room work number : ℕ) → number ≡ saidBuild T c 1 m l room work .0 → number ≤ 18
+pub build-low : (T : List ℕ) (c m l room work number : ℕ) → number ≡ saidBuild T c 2 m l room work .0 → number ≤ 18
 unfolding saidBuild
 build-low T c m l room work number e =
     subst (λ n. n ≤ 18) (sym e)
-    (five-low (not (columnsOk c)) (not (shareOk m l && editionOk 1)) (not (eqb (length T % c) 0)) (ltb maxRows (rowsOf T c))
-    (ltb room (10 * rowsOf T c + 8) || ltb work (6 * rowsOf T c)))
+    (five-low (not (columnsOk c)) (not (shareOk m l && true)) (not (eqb (length T % c) 0)) (ltb maxRows (rowsOf T c))
+    (ltb room (12 * rowsOf T c + 8) || ltb work (6 * rowsOf T c)))
 
 -- 18, 5 or 0
 text-cases : (a b : Bool) → cond {A = ℕ} a (cond b 5 0) 18 ≤ 18

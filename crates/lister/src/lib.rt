@@ -10,8 +10,10 @@ use limits::Params;
 use lines::print_lines;
 use words::places::HEADER;
 
-// How many words a node has in edition 1, which the program builds.
-const WIDTH: usize = 4;
+// How many words a node has, and how many of them are listed: all but the inner reach.
+const WIDTH: usize = 5;
+
+const LISTED: usize = 4;
 
 // One byte more than the longest readable text has, so that a text which fills it is unreadable whatever comes after.
 const TEXT: usize = 6_163;
@@ -19,7 +21,7 @@ const TEXT: usize = 6_163;
 const NUMBERS: usize = 1_027;
 
 // Room and workspace for 1,024 rows.
-const ROOM: usize = 10_248;
+const ROOM: usize = 12_296;
 
 const WORK: usize = 6_144;
 
@@ -67,11 +69,11 @@ fn read_text(text: &mut [u8]) -> usize
 
 // Prints an index: a line for each node, and then one for each position.
 fn print_index(index: &[u32], nodes: usize, words: usize)
-    requires { ⌜ (8 + width 1 * nodes ≤ words) × (words ≤ length (now index)) ⌝ }
+    requires { ⌜ (8 + width 2 * nodes ≤ words) × (words ≤ length (now index)) ⌝ }
 {
     let at = HEADER + WIDTH * nodes;
-    print_lines(&index[HEADER..at], WIDTH);
-    print_lines(&index[at..words], 2);
+    print_lines(&index[HEADER..at], WIDTH, LISTED);
+    print_lines(&index[at..words], 2, 2);
 }
 
 fn print_refused(number: u32) {
@@ -92,7 +94,7 @@ fn list(numbers: &[u16], room: &mut [u32], work: &mut [u32]) -> u32
     let c = wide(numbers[0]);
     let m = wide(numbers[1]);
     let l = wide(numbers[2]);
-    let built = build::build(&numbers[3..], c, m, l, Params::FIRST_EDITION, room, work);
+    let built = build::build(&numbers[3..], c, m, l, Params::LAST_EDITION, room, work);
     let number = built.number;
     if number != 0 {
         print_refused(number);
@@ -131,7 +133,7 @@ fn number_buffer() -> [u16; NUMBERS]
 }
 
 fn index_room() -> [u32; ROOM]
-    ensures { λ r. ⌜ 10248 ≡ length r ⌝ }
+    ensures { λ r. ⌜ 12296 ≡ length r ⌝ }
 {
     [0; ROOM]
 }

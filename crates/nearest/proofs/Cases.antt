@@ -26,7 +26,7 @@ use mathlib.Core.Path.{_∙_, _≡_, ap, ap₂, refl, subst, sym}
 use native.Mathlib.Omega.{arith}
 
 -- the build writes the index of the five-row table
-built : build five 1 1 2 2 ≡ fiveWords
+built : build five 1 2 2 2 ≡ fiveWords
 unfolding sumTo l1 between family broods levelNodes nodes numbered encode choose split grow build
 built = refl
 
@@ -34,7 +34,7 @@ built = refl
 accepted : Accepted (between five 1) fiveWords
 accepted =
     subst (Accepted (between five 1)) built
-    (build-accepted five 1 1 2 2 refl refl refl (omega arith) (omega arith, (omega arith, (omega arith, (omega arith, (omega arith, tt))))))
+    (build-accepted five 1 2 2 2 refl refl refl (omega arith) (omega arith, (omega arith, (omega arith, (omega arith, (omega arith, tt))))))
 
 -- how far the query q is from a row
 abbrev x : ℕ → ℕ → ℕ

@@ -7,10 +7,11 @@ use Rattle.limits.specs.Said.{Said, fault, said, tableFaults}
 use Rattle.measure.specs.Table.{rowsOf}
 use Rattle.nearest.specs.Calls.{Lent}
 use Rattle.tree.specs.Calls.{saidNearest}
-use Rattle.words.proofs.Index.{over}
+use Rattle.words.proofs.Headers.{words-whole}
+use Rattle.words.proofs.Index.{index-tests, over}
 use Rattle.words.specs.Calls.{indexFaults}
 use Rattle.words.specs.InShape.{Over}
-use Rattle.words.specs.Words.{n#}
+use Rattle.words.specs.Words.{edition#, n#}
 use borrow.Author.Tests.{eq-eqb, eqb-false, eqb-true, le-ltb, lt-ltb, ltb-false, ne-eqb, not-false}
 use lib.Dec.{eqb, ltb}
 use lib.ListN.{length}
@@ -24,6 +25,7 @@ use native.Mathlib.Omega.{arith}
 pub record Clear (t : List ℕ) (c : ℕ) (w q : List ℕ) (wanted room how work : ℕ) : Type 0 where
   pub table : Sized (length t) c
   pub index : Over w (rowsOf t c) c
+  pub edition : edition# w ≡ 2
   pub answers : min wanted (rowsOf t c) ≤ room
   pub bytes : rowsOf t c ≤ how
   pub words : 6 * rowsOf t c ≤ work
@@ -140,6 +142,7 @@ module _ (t : List ℕ) (c : ℕ) (w q : List ℕ) (wanted room how work : ℕ) 
       record {
         table = sized (length t) c (tab .0);
         index = over w n c (sym (h .1));
+        edition = words-whole w (index-tests w n c (sym (h .1)) .0) .0;
         answers = ltb-false room (min wanted n) (o .0);
         bytes = ltb-false how n (o .1);
         words = ltb-false work (6 * n) (p .1);
@@ -155,6 +158,7 @@ fits t c w q wanted room rs ds how work fit k ek z =
     let same : n# w ≡ rowsOf t c = C .index .rows in
     record {
       shape = C .index .shape;
+      edition = C .edition;
       table = subst (λ (n : ℕ). c * n ≤ length t) (sym same) (C .table .inside);
       columns = C .table .few;
       query = C .query;

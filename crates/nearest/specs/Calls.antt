@@ -8,16 +8,17 @@ use Rattle.tree.specs.Check.{Accepted}
 use Rattle.tree.specs.Grove.{treeOf}
 use Rattle.tree.specs.Nearest.{answers, isMeasured, measured, nearHow}
 use Rattle.words.specs.InShape.{InShape}
-use Rattle.words.specs.Words.{n#}
+use Rattle.words.specs.Words.{edition#, n#}
 use lib.Dec.{T}
 use lib.ListN.{drop, getD, length, replicate, take}
 use mathlib.Core.List.{List, _++_, map}
 use mathlib.Core.Path.{_≡_}
 
--- ---- the search on an index that is known to be in shape, with what is lent known to fit it
+-- ---- the search on an index that is known to be in shape and of edition 2, with what is lent known to fit it
 -- the index w, the table t of c columns and the query q; what is lent: rs and ds for rows and distances, how-bytes and workspace
 pub record Lent (t : List ℕ) (c : ℕ) (w q : List ℕ) (wanted : ℕ) (rs ds how work : List ℕ) : Type 0 where
   pub shape : InShape w
+  pub edition : edition# w ≡ 2
   pub table : c * n# w ≤ length t
   pub columns : c ≤ maxColumns
   pub query : length q ≡ c

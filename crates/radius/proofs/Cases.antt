@@ -41,14 +41,14 @@ same-is (x ∷ a) (y ∷ b) h = ap₂ (λ z l. z ∷ l) (eqb→eq x y (and-l (eq
 unfoldable fit : List ℕ → Bool
 unfolding sumTo tableFaults l1 between cardOk headerOk wholeOk wordsOk born level tile nodeOk shapeOk indexFaults again family broods levelNodes nodes numbered encode choose split grow build
 fit t =
-    let w = build t 1 1 2 2 in
+    let w = build t 1 2 2 2 in
     eqb (rowsOf t 1) (length t) && eqb (n# w) (length t) && eqb (said (tableFaults (length t) 1) .0) 0 && eqb (said (indexFaults w (rowsOf t 1) 1) .0) 0
     && all (λ p. not (again w p)) (range 0 (n# w))
 
 module _ (t : List ℕ) (f : T (fit t)) where
   -- the index built over the table
   abbrev w : List ℕ
-  w = build t 1 1 2 2
+  w = build t 1 2 2 2
 
   -- the five tests, each true
   tests : (rowsOf t 1 ≡ length t) × (n# w ≡ length t) × (said (tableFaults (length t) 1) .0 ≡ 0) × (said (indexFaults w (rowsOf t 1) 1) .0 ≡ 0) × Once w

@@ -6,10 +6,11 @@ use Rattle.limits.specs.Said.{Said, fault, said, tableFaults}
 use Rattle.measure.specs.Table.{rowsOf}
 use Rattle.radius.specs.Lent.{Lent}
 use Rattle.tree.specs.Calls.{saidRadius}
-use Rattle.words.proofs.Index.{over}
+use Rattle.words.proofs.Headers.{words-whole}
+use Rattle.words.proofs.Index.{index-tests, over}
 use Rattle.words.specs.Calls.{indexFaults}
 use Rattle.words.specs.InShape.{Over}
-use Rattle.words.specs.Words.{n#}
+use Rattle.words.specs.Words.{edition#, n#}
 use borrow.Author.Tests.{eq-eqb, eqb-true, le-ltb, lt-ltb, ltb-false, ne-eqb, not-false}
 use lib.Dec.{eqb, ltb}
 use lib.ListN.{length}
@@ -22,6 +23,7 @@ use native.Mathlib.Omega.{arith}
 pub record Clear (T : List ℕ) (c : ℕ) (w q : List ℕ) (room : ℕ) : Type 0 where
   pub table : Sized (length T) c
   pub index : Over w (rowsOf T c) c
+  pub edition : edition# w ≡ 2
   pub bytes : rowsOf T c ≤ room
   pub query : length q ≡ c
 
@@ -92,6 +94,7 @@ module _ (T : List ℕ) (c : ℕ) (w q : List ℕ) (room : ℕ) where
       record {
         table = sized (length T) c (t .0);
         index = over w n c (sym (g .1));
+        edition = words-whole w (index-tests w n c (sym (g .1)) .0) .0;
         bytes = ltb-false room n (f .0);
         query = eqb-true (length q) c (not-false b (g .0));
       }
@@ -103,6 +106,7 @@ fits T c w q h z =
     let same : n# w ≡ rowsOf T c = C .index .rows in
     record {
       shape = C .index .shape;
+      edition = C .edition;
       table = subst (λ (n : ℕ). c * n ≤ length T) (sym same) (C .table .inside);
       columns = C .table .few;
       query = C .query;

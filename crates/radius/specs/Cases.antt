@@ -11,5 +11,5 @@ use mathlib.Core.Path.{_≡_}
 abbrev pub Gives : List ℕ → ℕ → ℕ → List ℕ → ℕ → ℕ → Type 0
 Gives T q r how i k =
     (before after : List ℕ) (number in# met : ℕ) → length T ≤ length before
-    → Searched T 1 (build T 1 1 2 2) (q ∷ []) r before after number in# met
+    → Searched T 1 (build T 1 2 2 2) (q ∷ []) r before after number in# met
     → (number ≡ 0) × (after ≡ how ++ drop (length T) before) × (in# ≡ i) × (met ≡ k)

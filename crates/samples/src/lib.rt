@@ -20,29 +20,29 @@ pub fn put(line: &[u32], index: &mut [u32], at: usize)
     }
 }
 
-// The five-row table's index, as the listing program prints it behind the header: a line a node, then the positions.
-pub fn five_index() -> [u32; 38]
-    ensures { λ r. ⌜ 38 ≡ length r ⌝ }
+// The five-row table's index: behind the header a line a node, each with its inner reach last, then the positions.
+pub fn five_index() -> [u32; 43]
+    ensures { λ r. ⌜ 43 ≡ length r ⌝ }
 {
-    let mut index = [0; 38];
-    put(&[1, 5, 1, 2, 2, 5, 1, 0], &mut index, 0);
-    put(&[0, 5, 1, 20], &mut index, 8);
-    put(&[0, 3, 3, 10], &mut index, 12);
-    put(&[3, 2, 0, 9], &mut index, 16);
-    put(&[0, 2, 0, 1], &mut index, 20);
-    put(&[2, 1, 0, 0], &mut index, 24);
-    put(&[0, 0, 1, 1, 2, 0, 4, 0, 3, 9], &mut index, 28);
+    let mut index = [0; 43];
+    put(&[2, 5, 1, 2, 2, 5, 1, 0], &mut index, 0);
+    put(&[0, 5, 1, 20, 1], &mut index, 8);
+    put(&[0, 3, 3, 10, 1], &mut index, 13);
+    put(&[3, 2, 0, 9, 9], &mut index, 18);
+    put(&[0, 2, 0, 1, 1], &mut index, 23);
+    put(&[2, 1, 0, 0, 0], &mut index, 28);
+    put(&[0, 0, 1, 1, 2, 0, 4, 0, 3, 9], &mut index, 33);
     index
 }
 
 // The rows (1, 2), (3, 4), (10, 10), all in one leaf.
-pub fn pairs_index() -> [u32; 18]
-    ensures { λ r. ⌜ 18 ≡ length r ⌝ }
+pub fn pairs_index() -> [u32; 19]
+    ensures { λ r. ⌜ 19 ≡ length r ⌝ }
 {
-    let mut index = [0; 18];
-    put(&[1, 3, 2, 2, 4, 1, 1, 0], &mut index, 0);
-    put(&[0, 3, 0, 17], &mut index, 8);
-    put(&[0, 0, 1, 4, 2, 17], &mut index, 12);
+    let mut index = [0; 19];
+    put(&[2, 3, 2, 2, 4, 1, 1, 0], &mut index, 0);
+    put(&[0, 3, 0, 17, 4], &mut index, 8);
+    put(&[0, 0, 1, 4, 2, 17], &mut index, 13);
     index
 }
 

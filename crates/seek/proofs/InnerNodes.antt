@@ -132,6 +132,7 @@ module _ (t : List ℕ) (c : ℕ) (q w : List ℕ) (wanted : ℕ) (how work : Li
     inner-room : Room w work₁ n len (m# w)
     inner-room = record {
       shape = S;
+      edition = T .room .edition;
       rows = en;
       queue = front .0;
       fits = omega (arith, T .room .fits, kids-fit);

@@ -21,7 +21,7 @@ use Rattle.seek.specs.Answers.{Held, greatestWord, lastOf}
 use Rattle.seek.specs.Frontier.{Searched, State, Taken, Takes, amiss, atMost, itemOf, items}
 use Rattle.seek.specs.Standing.{Since, Stands}
 use Rattle.words.specs.InShape.{InShape}
-use Rattle.words.specs.Words.{at, n#}
+use Rattle.words.specs.Words.{at, edition#, n#}
 use lib.ListN.{getD}
 use mathlib.Core.List.{List, _++_, _∷_}
 use mathlib.Core.Logic.{_↔_}
@@ -96,11 +96,12 @@ module _ (t : List ℕ) (c : ℕ) (q w : List ℕ) (wanted : ℕ) (S : InShape w
       others-sound = omega (arith, bag (amiss w how), St .sound)
 
       -- THE ITEM CAN BE TAKEN
-      pub takes : Takes t c q w wanted how work₁ (len - 1) held (itemOf w (from t c q) v)
-      takes = record {
+      pub takes : edition# w ≡ 2 → Takes t c q w wanted how work₁ (len - 1) held (itemOf w (from t c q) v)
+      takes two = record {
         ready = ready-on t c q (n# w) wanted how how work work₁ held held (St .ready) popped-stands;
         room = record {
           shape = S;
+          edition = two;
           rows = refl;
           queue = P .queue;
           fits = omega (

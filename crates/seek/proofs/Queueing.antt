@@ -19,7 +19,8 @@ use native.Mathlib.Omega.{arith}
 -- ---- room
 -- there is room for fewer
 pub room-less : (w work : List ℕ) (n len k k′ : ℕ) → Room w work n len k → k′ ≤ k → Room w work n len k′
-room-less w work n len k k′ R h = record { shape = R .shape; rows = R .rows; queue = R .queue; fits = omega (arith, R .fits); words = R .words }
+room-less w work n len k k′ R h =
+    record { shape = R .shape; edition = R .edition; rows = R .rows; queue = R .queue; fits = omega (arith, R .fits); words = R .words }
 
 -- there is room for k, the number of rows being told as the code holds it
 pub room-at : (w work : List ℕ) (n len k : ℕ) → n ≡ n# w → Room w work (n# w) len k → Room w work n len k

@@ -14,7 +14,7 @@ use Rattle.seek.specs.Standing.{Grew, Ready, Since, Stands, kept}
 use Rattle.tree.specs.Grove.{reach#}
 use Rattle.tree.specs.Homes.{childBound}
 use Rattle.words.specs.InShape.{InShape}
-use Rattle.words.specs.Words.{N#, at, first#, n#}
+use Rattle.words.specs.Words.{N#, at, edition#, first#, n#}
 use lib.Dec.{leb, ltb}
 use lib.ListN.{length}
 use mathlib.Core.Bool.{cond}
@@ -55,9 +55,10 @@ pub record More (work work′ : List ℕ) (len k : ℕ) (g : ℕ → ℕ) (last 
   pub bag : SameBag (entries work′ 0 len′) (atMost keyOf last (upto g k) ++ entries work 0 len)
   pub outside : Outside work work′ 0 (len + k + (len + k))
 
--- there is room to queue k more, on an index in shape over n rows
+-- there is room to queue k more, on an index in shape and of edition 2 over n rows
 pub record Room (w work : List ℕ) (n len k : ℕ) : Type 0 where
   pub shape : InShape w
+  pub edition : edition# w ≡ 2
   pub rows : n ≡ n# w
   pub queue : Queue work 0 len
   pub fits : len + k ≤ n
@@ -97,10 +98,11 @@ pub record State (t : List ℕ) (c : ℕ) (q w : List ℕ) (wanted : ℕ) (how w
   pub run : (x′ : ℕ → ℕ) → Fits w wanted (from t c q) x′
       → Held (from t c q) (at how) (n# w) work (3 * n# w) wanted held × Running w wanted (from t c q) (items w (from t c q) work len) (at how)
 
--- Before it begins: an index in shape that is not empty, and no row marked.
+-- Before it begins: an index in shape and of edition 2 that is not empty, and no row marked.
 pub record Blank (t : List ℕ) (c : ℕ) (q w : List ℕ) (wanted : ℕ) (how work : List ℕ) : Type 0 where
   pub ready : Ready t c q (n# w) wanted how work 0
   pub shape : InShape w
+  pub edition : edition# w ≡ 2
   pub filled : 1 ≤ n# w
   pub blank : (r : ℕ) → r < n# w → at how r ≡ 0
 

@@ -10,16 +10,16 @@ use lib.ListN.{length}
 use mathlib.Core.Bool.{_&&_, _||_, not}
 use mathlib.Core.List.{List, _++_}
 
--- how many words of room a build over n rows asks for in an edition: 10n + 8, or 12n + 8
-abbrev pub roomOf : ℕ → ℕ → ℕ
-roomOf e n = (8 + 2 * e) * n + 8
+-- how many words of room a build over n rows asks for
+abbrev pub roomOf : ℕ → ℕ
+roomOf n = 12 * n + 8
 
 -- build: 1, 2, 3, 4, 5. `room` and `work` are the lengths of what is lent
 unfoldable pub saidBuild : List ℕ → ℕ → ℕ → ℕ → ℕ → ℕ → ℕ → Said
 saidBuild T c e m l room work =
     let n = rowsOf T c in
     said (columnsFault c ++ fault 2 (not (shareOk m l && eqb e 2)) ++ lengthFaults (length T) c
-    ++ fault 5 (ltb room (roomOf e n) || ltb work (6 * n)))
+    ++ fault 5 (ltb room (roomOf n) || ltb work (6 * n)))
 
 -- check: 1, 3, 4, 5, 8, 9, and then what the full check finds
 unfoldable pub saidCheck : List ℕ → ℕ → List ℕ → ℕ → Said

@@ -4,7 +4,7 @@ ghost use Rattle.laws.specs.Lists.{gap};
 ghost use Rattle.tree.specs.Grove.{reach#, reaching};
 ghost use Rattle.tree.specs.Homes.{childBound};
 ghost use Rattle.words.specs.InShape.{Whole};
-ghost use Rattle.words.specs.Words.{N#};
+ghost use Rattle.words.specs.Words.{N#, edition#};
 ghost use mathlib.Core.Path.{_≡_};
 use words::places::node_inner;
 use words::places::node_radius;
@@ -57,7 +57,7 @@ pub fn child_bound(b: u32, y: u32, x: u32, radius: u32, inner: u32) -> u32
 // The same of node j, by its words.
 pub fn kid_bound(index: &[u32], j: usize, b: u32, y: u32, x: u32) -> u32
     requires { ⌜ Whole (now index) ⌝ }
-    requires { ⌜ j < N# (now index) ⌝ }
+    requires { ⌜ (j < N# (now index)) × (edition# (now index) ≡ 2) ⌝ }
     ensures { λ r. ⌜ r ≡ childBound b y x (reach# (now (index .entry)) j) ⌝ }
 {
     child_bound(b, y, x, node_radius(index, j), node_inner(index, j))

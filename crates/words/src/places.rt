@@ -109,15 +109,13 @@ pub fn node_radius(index: &[u32], k: usize) -> u32
     index[at]
 }
 
-// Node k's inner reach: 0 in edition 1, which has none.
+// Node k's inner reach, in edition 2.
 pub fn node_inner(index: &[u32], k: usize) -> u32
     requires { ⌜ Whole (now index) ⌝ }
     requires { ⌜ k < N# (now index) ⌝ }
+    requires { ⌜ edition# (now index) ≡ 2 ⌝ }
     ensures { λ r. ⌜ r ≡ inner# (now (index .entry)) k ⌝ }
 {
-    if word(index, 0) != 2 {
-        return 0;
-    }
     let at = node_at(index, k) + 4;
     index[at]
 }

@@ -4,7 +4,7 @@ ghost use Rattle.laws.specs.Lists.{all, range};
 ghost use Rattle.words.specs.InShape.{Whole};
 ghost use Rattle.words.specs.Pass.{fits, roomy};
 ghost use Rattle.words.specs.Shape.{brood, positionOk, rootFits, shapeOk, tile, treeFits};
-ghost use Rattle.words.specs.Words.{N#, n#, nodeAt, wordsOk};
+ghost use Rattle.words.specs.Words.{N#, edition#, n#, nodeAt, wordsOk};
 ghost use mathlib.Core.Bool.{true};
 ghost use mathlib.Core.Path.{_≡_};
 use crate::places::HEADER;
@@ -54,7 +54,7 @@ fn has_room(index: &[u32], k: usize, next: usize) -> bool
 // Node k, whose words stand from `here` on, fits, at the given depth, if `next` is the number that its first child must have.
 fn node_fits(index: &[u32], k: usize, here: usize, next: usize, depth: usize) -> bool
     requires { ⌜ Whole (now index) ⌝ }
-    requires { ⌜ (k < N# (now index)) × (here ≡ nodeAt (now index) k) × (k < next) × (next ≤ 64 * k + 1) ⌝ }
+    requires { ⌜ (k < N# (now index)) × (here ≡ nodeAt (now index) k) × (k < next) × (next ≤ 64 * k + 1) × (edition# (now index) ≡ 2) ⌝ }
     ensures { λ r. ⌜ r ≡ fits (now (index .entry)) k next depth ⌝ }
 {
     let count = word(index, here + 1);
@@ -112,6 +112,7 @@ fn root_fits(index: &[u32]) -> bool
 // words stand.
 fn tree_fits(index: &[u32]) -> bool
     requires { ⌜ Whole (now index) ⌝ }
+    requires { ⌜ edition# (now index) ≡ 2 ⌝ }
     ensures { λ r. ⌜ r ≡ treeFits (now (index .entry)) ⌝ }
 {
     let total = nodes(index);

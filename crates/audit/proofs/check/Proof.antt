@@ -6,6 +6,7 @@ use Rattle.audit.proofs.check.Statement.{statement}
 use Rattle.audit.proofs.check.Tie as tie
 use Rattle.audit.specs.Refusals.{refusals}
 use Rattle.limits.specs.Said.{said}
+use Rattle.words.proofs.Headers.{words-whole}
 use borrow.Author.Needs.{needs}
 use lib.ListN.{length}
 use mathlib.Core.Path.{_∙_, _≡_, sym}
@@ -36,7 +37,7 @@ returns c =
 first-fault-requires : tie.Need-first-fault-requires
 first-fault-requires c κs =
     let P = going (c .before) in
-    (P .index, omega (arith, P .words, P .index .rows))
+    (P .index, (omega (arith, P .words, P .index .rows), words-whole _ (P .there) .0))
 
 same-length : tie.Need-same-length
 same-length c = search needs

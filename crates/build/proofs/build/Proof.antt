@@ -1,19 +1,20 @@
 -- `build::build` meets its contract: each return has its number, and the last one the index.
 -- Assumes nothing.
-use Prim.Native.Nat.{_*_, _+_, _≤_, ℕ}
-use Rattle.build.proofs.Outcomes.{Passed, answer-refused, answer-taken, built-builds, built-room, edition-low, part-long, refused-builds, rows-most, work-long}
+use Prim.Native.Nat.{_*_, _≤_, ℕ}
+use Rattle.build.proofs.Outcomes.{Passed, answer-refused, answer-taken, built-builds, built-room, part-long, refused-builds, rows-most, work-long}
 use Rattle.build.proofs.Refusals.{by-lengths, one, two}
 use Rattle.build.proofs.build.Statement.{statement}
 use Rattle.build.proofs.build.Tie as tie
 use Rattle.laws.proofs.Tests.{no, yes}
 use Rattle.limits.proofs.Ranges.{columns-are}
-use Rattle.limits.specs.Limits.{columnsOk, editionOk, maxRows, shareOk}
+use Rattle.limits.specs.Limits.{columnsOk, maxRows, shareOk}
 use Rattle.measure.specs.Table.{rowsOf}
 use Rattle.tree.specs.Calls.{saidBuild}
 use borrow.Author.Needs.{needs}
+use lib.Dec.{eqb}
 use lib.ListN.{length}
 use mathlib.Core.Bool.{_&&_, true}
-use mathlib.Core.Path.{_∙_, _≡_, ap, sym}
+use mathlib.Core.Path.{_∙_, _≡_, sym}
 use native.Mathlib.Omega.{arith}
 
 -- ---- the tests, one after the other
@@ -31,20 +32,13 @@ tested c = c .before .before .before
 abbrev begun : tie.After-p → tie.Start
 begun c = start (tested c .before)
 
--- m, l and the edition are in range, and the parameters hold them
+-- m and l are in range, the parameters hold them, and the edition is 2
 answer : (c : tie.After-p)
-    → ((shareOk (begun c .args .m) (begun c .args .l) && editionOk (begun c .args .edition)) ≡ true)
+    → ((shareOk (begun c .args .m) (begun c .args .l) && eqb (begun c .args .edition) 2) ≡ true)
     × (c .p .given .0 .0 .centres ≡ begun c .args .m) × (c .p .given .0 .0 .leaf ≡ begun c .args .l)
-    × (c .p .given .0 .0 .edition ≡ begun c .args .edition)
 answer c =
     let a = begun c .args in
     answer-taken (a .m) (a .l) (a .edition) (c .p .given .1) (c .before .before .new .ensures)
-
--- the edition is at most 2
-low : (c : tie.After-p) → c .p .given .0 .0 .edition ≤ 2
-low c =
-    let a = begun c .args in
-    edition-low (a .m) (a .l) (a .edition) (c .p .given .0 .0 .edition) (answer c .0) (answer c .3)
 
 -- what the call says
 abbrev says : tie.After-p → ℕ
@@ -84,7 +78,7 @@ returns-2 c =
     refused-builds (two _ _ _ _ _ _ _ (columns e) share) (λ q. omega arith) (c .refused2 .ensures)
 
 lengths-number-requires : tie.Need-lengths-number-requires
-lengths-number-requires c κs = (columns-are _ (columns (tested (c .before))) .0, low (c .before))
+lengths-number-requires c κs = columns-are _ (columns (tested (c .before))) .0
 
 refused-requires-3 : tie.Need-refused-requires-3
 refused-requires-3 c κs = search needs
@@ -95,7 +89,7 @@ said-is c =
     let p = c .before .before in
     let a = begun p .args in
     by-lengths (a .table .now) (a .c) (a .edition) (a .m) (a .l) (length (a .room .now)) (length (a .work .now)) (columns (tested p)) (answer p .0)
-    (answer p .3) (c .lengths-number .ensures)
+    (c .lengths-number .ensures)
 
 returns-3 : tie.Need-returns-3
 returns-3 c = refused-builds (said-is (c .before .before)) (c .before .if2 .taken) (c .refused3 .ensures)
@@ -112,7 +106,7 @@ passed : (c : tie.Else2)
     (begun (held c) .args .l) (begun (held c) .args .room .now) (begun (held c) .args .work .now) (held c .p .given .0 .0)
 passed c =
     let r = answer (held c) in
-    record { none = sym (said-is (c .before)) ∙ c .if2 .left; m-is = r .1; l-is = r .2; e-is = r .3 }
+    record { none = sym (said-is (c .before)) ∙ c .if2 .left; m-is = r .1; l-is = r .2 }
 
 -- few rows and few nodes
 few : (c : tie.After-fill)
@@ -141,22 +135,17 @@ slice-aggregate-fill c = sym (part-long (passed (c .before .before)))
 fill-requires : tie.Need-fill-requires
 fill-requires c κs = built-room (passed (c .before .before))
 
-end-of-requires : tie.Need-end-of-requires
-end-of-requires c κs =
-    let f = c .before .before .before .before in
-    let small = few f in
-    (low (held (past f)), search needs)
+mul-t16 : tie.Need-mul-t16
+mul-t16 c = omega (arith, few (c .before .before .before .before))
 
-mul-t18 : tie.Need-mul-t18
-mul-t18 c =
-    let small = few (c .before .before .before .before .before) in
-    search needs
+add-t18 : tie.Need-add-t18
+add-t18 c = omega (arith, few (c .before .before .before .before))
 
-add-t17 : tie.Need-add-t17
-add-t17 c =
-    let small = few (c .before .before .before .before .before) in
-    let end = c .end-of .ensures .1 in
-    search needs
+mul-t17 : tie.Need-mul-t17
+mul-t17 c = omega (arith, few (c .before .before .before .before))
+
+add-t23 : tie.Need-add-t23
+add-t23 c = omega (arith, few (c .before .before .before .before))
 
 same-length : tie.Need-same-length
 same-length c = search needs
@@ -166,9 +155,8 @@ same-length-2 c = search needs
 
 returns-4 : tie.Need-returns-4
 returns-4 c =
-    let f = c .before .before .before .before .before in
-    let a = begun (held (past f)) .args in
-    built-builds (passed (past f)) (f .fill .ensures) (search needs) (ap (λ (k : ℕ). k + 2 * rowsOf (a .table .now) (a .c)) (c .end-of .ensures .0))
+    let f = c .before .before .before .before in
+    built-builds (passed (past f)) (f .fill .ensures) (search needs) (omega arith)
 
 pub build-spec : {M : Type 1} → statement M
 build-spec =
@@ -190,9 +178,10 @@ build-spec =
     slice-relend-prefix-fill
     slice-aggregate-fill
     fill-requires
-    end-of-requires
-    mul-t18
-    add-t17
+    mul-t16
+    add-t18
+    mul-t17
+    add-t23
     same-length
     same-length-2
     returns-4)

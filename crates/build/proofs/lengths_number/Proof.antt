@@ -13,26 +13,26 @@ length-number-requires c κs = search needs
 returns : tie.Need-returns
 returns c =
     let a = c .before .before .args in
-    by-length (a .length) (a .c) (a .edition) (a .room) (a .work) (c .before .length-number .ensures) (c .if1 .taken)
+    by-length (a .length) (a .c) (a .room) (a .work) (c .before .length-number .ensures) (c .if1 .taken)
 
 div-too-short : tie.Need-div-too-short
 div-too-short c = search needs
 
 too-short-requires : tie.Need-too-short-requires
-too-short-requires c κs = (c .before .before .pre .1, length-right _ _ (sym (c .before .length-number .ensures) ∙ c .if1 .left) .1)
+too-short-requires c κs = length-right _ _ (sym (c .before .length-number .ensures) ∙ c .if1 .left) .1
 
 returns-2 : tie.Need-returns-2
 returns-2 c =
     let numbered = c .before .before .before in
     let a = numbered .before .args in
-    by-rooms (a .length) (a .c) (a .edition) (a .room) (a .work) (numbered .length-number .ensures) (c .before .before .if1 .left)
+    by-rooms (a .length) (a .c) (a .room) (a .work) (numbered .length-number .ensures) (c .before .before .if1 .left)
     (sym (c .if2 .taken) ∙ c .before .too-short .ensures)
 
 returns-3 : tie.Need-returns-3
 returns-3 c =
     let numbered = c .before .before .before in
     let a = numbered .before .args in
-    by-rooms (a .length) (a .c) (a .edition) (a .room) (a .work) (numbered .length-number .ensures) (c .before .before .if1 .left)
+    by-rooms (a .length) (a .c) (a .room) (a .work) (numbered .length-number .ensures) (c .before .before .if1 .left)
     (sym (c .if2 .left) ∙ c .before .too-short .ensures)
 
 pub lengths-number-spec : {M : Type 1} → statement M

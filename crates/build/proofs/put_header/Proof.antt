@@ -53,7 +53,7 @@ same-length : tie.Need-same-length
 same-length c = search needs
 
 returns : tie.Need-returns
-returns c = eight-sets (c .before .before .before .args .room .now) _ _ _ _ _ _ _ _ (c .before .before .before .pre .0)
+returns c = eight-sets (c .before .before .args .room .now) _ _ _ _ _ _ _ _ (c .before .before .pre .0)
 
 pub put-header-spec : {M : Type 1} → statement M
 put-header-spec =

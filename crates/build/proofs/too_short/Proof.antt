@@ -1,28 +1,15 @@
 -- `build::too_short` meets its contract: the two tests are those of `shortOf`.
 -- Assumes nothing.
-use Prim.Native.Nat.{_*_, _+_, _≤_}
 use Rattle.build.proofs.too_short.Statement.{statement}
 use Rattle.build.proofs.too_short.Tie as tie
 use borrow.Author.Needs.{needs}
 use borrow.Author.Tests.{le-ltb, lt-ltb}
-use native.Mathlib.Nat.{mul-le-mul-right}
-use native.Mathlib.Omega.{arith}
-
--- twelve words a row at most
-most : (c : tie.Start) → (8 + 2 * c .args .edition) * c .args .n ≤ 12 * c .args .n
-most c = mul-le-mul-right (c .args .n) (omega arith)
 
 mul-if1 : tie.Need-mul-if1
 mul-if1 c = search needs
 
 add-if1 : tie.Need-add-if1
 add-if1 c = search needs
-
-mul-if1-2 : tie.Need-mul-if1-2
-mul-if1-2 c = omega (arith, most c)
-
-add-if1-2 : tie.Need-add-if1-2
-add-if1-2 c = omega (arith, most c)
 
 returns : tie.Need-returns
 returns c = simp (lt-ltb _ _ (c .if1 .taken))
@@ -34,4 +21,4 @@ returns-2 : tie.Need-returns-2
 returns-2 c = simp (le-ltb _ _ (c .if1 .left))
 
 pub too-short-spec : {M : Type 1} → statement M
-too-short-spec = tie.close (tie.spec mul-if1 add-if1 mul-if1-2 add-if1-2 returns mul-result returns-2)
+too-short-spec = tie.close (tie.spec mul-if1 add-if1 returns mul-result returns-2)

@@ -1,4 +1,4 @@
--- `lines::print_lines` meets its contract: each turn puts one word into the text, and all are printed.
+-- `lines::print_lines` meets its contract: each turn puts one word into the text, or leaves it out.
 -- Assumes nothing.
 use Prim.Native.Nat.{_-_, _≤_}
 use Rattle.lines.proofs.print_lines.Statement.{statement}
@@ -10,10 +10,10 @@ use mathlib.Core.Path.{_≡_, sym}
 use native.Mathlib.Omega.{arith}
 
 abbrev Inv-loop : tie.InvT-loop
-Inv-loop words width text₀ at₀ i₀ text at i = (i ≤ length words) × (4096 ≡ length text) × (at ≤ 4096)
+Inv-loop words width shown text₀ at₀ i₀ text at i = (i ≤ length words) × (4096 ≡ length text) × (at ≤ 4096)
 
 abbrev μ-loop : tie.MeasureT-loop
-μ-loop words width text₀ at₀ i₀ text at i = length words - i
+μ-loop words width shown text₀ at₀ i₀ text at i = length words - i
 
 buffer-requires : tie.Need-buffer-requires Inv-loop μ-loop
 buffer-requires c κs = search needs
@@ -21,8 +21,8 @@ buffer-requires c κs = search needs
 loop-holds : tie.Need-loop-holds Inv-loop μ-loop
 loop-holds c = search needs
 
-add-next : tie.Need-add-next Inv-loop μ-loop
-add-next c = search needs
+add-i : tie.Need-add-i Inv-loop μ-loop
+add-i c = search needs
 
 slice-aggregate-put-word : tie.Need-slice-aggregate-put-word Inv-loop μ-loop
 slice-aggregate-put-word c = search needs
@@ -65,12 +65,12 @@ print-lines-spec =
     μ-loop
     buffer-requires
     loop-holds
-    add-next
     slice-aggregate-put-word
     mul-put-word
     shared-slice-read-put-word
     rem-put-word
     put-word-requires
+    add-i
     loop-less
     loop-again
     array-share-prefix-text

@@ -7,7 +7,7 @@ use lib.ListN.{length-replicate}
 use mathlib.Core.Path.{sym}
 
 returns : tie.Need-returns
-returns c = sym (length-replicate {A = ℕ} 655_368 0)
+returns c = sym (length-replicate {A = ℕ} 786_440 0)
 
 pub index-room-spec : {M : Type 1} → statement M
 index-room-spec = tie.close (tie.spec returns)

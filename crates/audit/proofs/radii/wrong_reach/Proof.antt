@@ -1,7 +1,7 @@
--- `audit::radii::wrong_reach` meets its contract: the radius, and in edition 2 the inner reach.
+-- `audit::radii::wrong_reach` meets its contract: the radius, and the inner reach.
 -- Assumes nothing.
 use Prim.Native.Nat.{ℕ}
-use Rattle.audit.proofs.Farthest.{reach-far, reach-near, reach-old}
+use Rattle.audit.proofs.Farthest.{reach-far, reach-near}
 use Rattle.audit.proofs.radii.wrong_reach.Statement.{statement}
 use Rattle.audit.proofs.radii.wrong_reach.Tie as tie
 use Rattle.measure.specs.Table.{between}
@@ -32,37 +32,17 @@ returns c =
     let s = start r in
     reach-far (dist s) (s .args .index .now) (s .args .k) (r .reaches .ensures) (c .before .before .node-radius .ensures) (λ e. omega arith)
 
-word-requires : tie.Need-word-requires
-word-requires c κs = omega (arith, start (passed c) .pre .0 .shape .whole .words)
-
-returns-2 : tie.Need-returns-2
-returns-2 c =
-    let b = c .before .before in
-    let r = passed b in
-    let s = start r in
-    reach-old (dist s) (s .args .index .now) (s .args .k) (r .reaches .ensures) (b .before .before .node-radius .ensures) (omega arith)
-    (λ e. omega (arith, c .if2 .taken, c .before .word .ensures .0))
-
 node-inner-requires : tie.Need-node-inner-requires
 node-inner-requires c κs = search needs
 
-returns-3 : tie.Need-returns-3
-returns-3 c =
+returns-2 : tie.Need-returns-2
+returns-2 c =
     let i = c .before in
-    let b = i .before .before .before in
+    let b = i .before in
     let r = passed b in
     let s = start r in
-    reach-near (dist s) (s .args .index .now) (s .args .k) (r .reaches .ensures) (b .before .before .node-radius .ensures) (omega arith)
-    (omega (arith, i .before .if2 .left, i .before .before .word .ensures .0)) (i .node-inner .ensures)
+    reach-near (dist s) (s .args .index .now) (s .args .k) (r .reaches .ensures) (b .before .before .node-radius .ensures) (omega arith) (s .pre .1 .1)
+    (i .node-inner .ensures)
 
 pub wrong-reach-spec : {M : Type 1} → statement M
-wrong-reach-spec =
-    tie.close
-    (tie.spec
-    reaches-requires
-    node-radius-requires
-    returns
-    word-requires
-    returns-2
-    node-inner-requires
-    returns-3)
+wrong-reach-spec = tie.close (tie.spec reaches-requires node-radius-requires returns node-inner-requires returns-2)

@@ -4,7 +4,8 @@ use Rattle.laws.proofs.Tests.{no, yes}
 use Rattle.limits.proofs.Params.new.Statement.{statement}
 use Rattle.limits.proofs.Params.new.Tie as tie
 use borrow.Author.Needs.{needs}
-use mathlib.Core.Path.{_∙_, sym}
+use borrow.Author.Tests.{eq-eqb, ne-eqb}
+use native.Mathlib.Omega.{arith}
 
 share-ok-requires : tie.Need-share-ok-requires
 share-ok-requires c κs = search needs
@@ -12,18 +13,15 @@ share-ok-requires c κs = search needs
 returns : tie.Need-returns
 returns c = rw (no (c .before .share-ok .ensures) (c .if1 .taken))
 
-edition-ok-requires : tie.Need-edition-ok-requires
-edition-ok-requires c κs = search needs
-
 returns-2 : tie.Need-returns-2
 returns-2 c =
     let e = c .before in
-    rw (yes (e .before .before .share-ok .ensures) (e .before .if1 .left), sym (e .edition-ok .ensures) ∙ c .if2 .taken)
+    rw (yes (e .before .share-ok .ensures) (e .if1 .left), eq-eqb (e .before .before .args .edition) 2 (omega arith))
 
 returns-3 : tie.Need-returns-3
 returns-3 c =
     let e = c .before in
-    rw (yes (e .before .before .share-ok .ensures) (e .before .if1 .left), sym (e .edition-ok .ensures) ∙ c .if2 .left)
+    rw (yes (e .before .share-ok .ensures) (e .if1 .left), ne-eqb (e .before .before .args .edition) 2 (λ z. omega arith))
 
 pub new-spec : {M : Type 1} → statement M
-new-spec = tie.close (tie.spec share-ok-requires returns edition-ok-requires returns-2 returns-3)
+new-spec = tie.close (tie.spec share-ok-requires returns returns-2 returns-3)

@@ -168,7 +168,7 @@ descend-node-radius-requires-2 t c κs =
 descend-kid-bound-requires : (t : ℕ) → descend-lts.Need-kid-bound-requires (claims t) (descend-at t) descend.Post descend-Inv-loop descend-μ-loop
 descend-kid-bound-requires t c κs =
     let l = c .before .before .loop in
-    (l .inv .0 .shape .whole, omega (arith, l .inv .1 .inside, l .inv .4, c .before .loop-test .taken))
+    (l .inv .0 .shape .whole, (omega (arith, l .inv .1 .inside, l .inv .4, c .before .loop-test .taken), l .inv .0 .edition))
 
 descend-add-j : (t : ℕ) → descend-lts.Need-add-j (claims t) (descend-at t) descend.Post descend-Inv-loop descend-μ-loop
 descend-add-j t c = search needs

@@ -123,7 +123,7 @@ take-item-requires : tie.Need-take-item-requires Inv-loop μ-loop
 take-item-requires c κs =
     let p = c .before .before .before .before .before .before .before .before in
     let l = turn p in (
-      takes _ _ _ _ _ (start l .pre .shape) _ _ _ _ (l .loop .inv .0) _ _ (p .pop .ensures) (p .before .before .loop-test .taken),
+      takes _ _ _ _ _ (start l .pre .shape) _ _ _ _ (l .loop .inv .0) _ _ (p .pop .ensures) (p .before .before .loop-test .taken) (start l .pre .edition),
       (counted l .rows .ensures .0, met l .before .before .before .before .pair-at .ensures),
     )
 

@@ -1,7 +1,7 @@
 -- `nearest::waiting::queue_children` meets its contract: each round queues one node, under the bound of its kept distance.
 -- Assumes nothing.
 use Prim.Native.Nat.{_+_, _-_, ℕ}
-use Rattle.seek.proofs.Queueing.{QueuedTo, kept-there, node-entry, node-words, queued-done, queued-room, queued-start, queued-step}
+use Rattle.seek.proofs.Queueing.{QueuedTo, kept-there, node-entry, queued-done, queued-room, queued-start, queued-step}
 use Rattle.seek.proofs.waiting.queue_children.Statement.{statement}
 use Rattle.seek.proofs.waiting.queue_children.Tie as tie
 use Rattle.seek.specs.Frontier.{noded}
@@ -40,7 +40,7 @@ slice-read-x c =
 kid-bound-requires : tie.Need-kid-bound-requires Inv-loop μ-loop
 kid-bound-requires c κs =
     let pre = c .before .before .before .before .before .before .pre in
-    node-words _ _ (pre .0 .shape) (omega (arith, pre .1 .1))
+    (pre .0 .shape .whole, (omega (arith, pre .1 .1), pre .0 .edition))
 
 cast-push-due : tie.Need-cast-push-due Inv-loop μ-loop
 cast-push-due c =

@@ -9,7 +9,9 @@ use Rattle.words.proofs.shape.shape_ok.Tie as tie
 use mathlib.Core.Path.{_∙_}
 
 tree-fits-requires : tie.Need-tree-fits-requires
-tree-fits-requires c κs = whole _ (words-whole (c .before .args .index .now) (c .before .pre) .1)
+tree-fits-requires c κs =
+    let w = words-whole (c .before .args .index .now) (c .before .pre) in
+    (whole _ (w .1), w .0)
 
 returns : tie.Need-returns
 returns c = shape-stop (c .before .before .before .args .index .now) (no (c .before .tree-fits .ensures) (c .if1 .taken))

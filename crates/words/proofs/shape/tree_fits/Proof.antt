@@ -74,7 +74,7 @@ add-next : tie.Need-add-next Inv-loop μ-loop
 add-next c =
     let at-loop = c .before .before .before .before .before in
     let s = start at-loop in
-    omega (arith, brood-few (s .args .index .now) (at-loop .loop .k) (s .pre .fan .1), c .brood-of .ensures, at-loop .loop .inv .0 .next-low)
+    omega (arith, brood-few (s .args .index .now) (at-loop .loop .k) (s .pre .0 .fan .1), c .brood-of .ensures, at-loop .loop .inv .0 .next-low)
 
 add-k : tie.Need-add-k Inv-loop μ-loop
 add-k c = search needs
@@ -85,7 +85,7 @@ add-here c =
     let s = start at-loop in
     let k = at-loop .loop .k in
     let last = c .before .before .before .before .loop-test .taken in
-    let inside = nodes-there (s .args .index .now) (s .pre) (k + 1) (omega (arith, at-loop .loop .inv .0, last)) in
+    let inside = nodes-there (s .args .index .now) (s .pre .0) (k + 1) (omega (arith, at-loop .loop .inv .0, last)) in
     omega (arith, ahead at-loop, inside, s .good)
 
 add-depth : tie.Need-add-depth Inv-loop μ-loop
@@ -101,7 +101,7 @@ loop-again c =
     let at-loop = at3 .before .before in
     let s = start at-loop in
     let going = going-turn (s .args .index .now) (at-loop .loop .inv .0) (at3 .before .loop-test .taken) (omega (arith, at3 .if3 .left))
-    (s .pre .fan .1) (yes (at4 .before .node-fits .ensures) (at4 .if4 .left)) (c .before .brood-of .ensures) (c .if5 .taken) in
+    (s .pre .0 .fan .1) (yes (at4 .before .node-fits .ensures) (at4 .if4 .left)) (c .before .brood-of .ensures) (c .if5 .taken) in
     (going, ahead at-loop, at-loop .loop .inv .2)
 
 loop-less-2 : tie.Need-loop-less-2 Inv-loop μ-loop
@@ -114,7 +114,7 @@ loop-again-2 c =
     let at-loop = at3 .before .before in
     let s = start at-loop in
     let going = going-on (s .args .index .now) (at-loop .loop .inv .0) (at3 .before .loop-test .taken) (omega (arith, at3 .if3 .left))
-    (s .pre .fan .1) (yes (at4 .before .node-fits .ensures) (at4 .if4 .left)) (c .before .brood-of .ensures) (c .if5 .left) in
+    (s .pre .0 .fan .1) (yes (at4 .before .node-fits .ensures) (at4 .if4 .left)) (c .before .brood-of .ensures) (c .if5 .left) in
     (going, ahead at-loop, at-loop .loop .inv .2)
 
 returns-5 : tie.Need-returns-5 Inv-loop μ-loop
