@@ -10,14 +10,15 @@ use Rattle.bourascul.specs.Calls.{ReadsBlock}
 use Rattle.bourascul.specs.Recorded.{Recorded}
 use Rattle.build.proofs.Theorems.{build-accepted, build-headed}
 use Rattle.build.specs.Calls.{Builds}
-use Rattle.image.proofs.Calls.{reads-none}
-use Rattle.image.proofs.RoundTrip.{round-trip}
-use Rattle.image.proofs.Small.{read-placed, write-whole}
+use Rattle.image.proofs.Small.{write-whole}
+use Rattle.card.proofs.RoundTrip.{round-trip}
+use Rattle.card.proofs.Theorems.{read-accepted, read-clear, read-headed, read-placed, read-refused as call-refused, read-wide}
+use Rattle.card.specs.Cards.{cardWords}
 use Rattle.image.specs.Below.{Below}
 use Rattle.image.specs.Calls.{Writes}
 use Rattle.laws.specs.Every.{Every}
 use Rattle.laws.specs.Lists.{last, times}
-use Rattle.limits.proofs.Sized.{sized-of}
+use Rattle.limits.proofs.Sized.{Sized}
 use Rattle.measure.specs.Table.{between, from, row, rowsOf}
 use Rattle.nearest.proofs.Promises.{nearest-exact as call-exact, nearest-measured, nearest-measured-all, nearest-two-tables}
 use Rattle.nearest.specs.Calls.{Answered, Settled}
@@ -25,15 +26,15 @@ use Rattle.items.specs.Fits.{homeBound}
 use Rattle.radius.proofs.Promises.{radius-call-exact}
 use Rattle.radius.specs.Calls.{Searched}
 use Rattle.tree.proofs.Theorems.{one-home}
+use Rattle.tree.specs.Check.{Accepted}
 use Rattle.tree.specs.Grove.{treeOf}
 use Rattle.tree.specs.Homes.{homes}
 use Rattle.tree.specs.Nearest.{answers, isMeasured, lastDistance, measured}
-use Rattle.widen.proofs.Theorems.{widen-call-accepted, widen-exact, widen-headed, widen-refused}
-use Rattle.widen.specs.Calls.{Widens}
-use Rattle.words.proofs.InShape.{in-shape}
+use Rattle.tree.specs.Widen.{widen}
 use Rattle.words.proofs.Listed.{list-only, node-there, part-none, part-pairs}
 use Rattle.words.specs.Calls.{Lists, listed, lists}
-use Rattle.words.specs.Words.{edition#, n#, wordsOf}
+use Rattle.words.specs.Shape.{shapeOk}
+use Rattle.words.specs.Words.{c#, edition#, n#, wordsOf}
 use borrow.Author.Tests.{le-leb, lt-leb, ne-eqb}
 use lib.Dec.{T, eqb}
 use lib.ListN.{drop, getD, length, replicate, take}
@@ -86,10 +87,10 @@ pub write-refused : {w before after : List ℕ} {number blocks : ℕ} → Writes
 write-refused {number = number} s k = (rw (ne-eqb number 0 k) at (s .counted), rw (ne-eqb number 0 k) at (s .lent))
 
 -- a refused reading of one: 15 names a block, no other number does
-pub read-refused : {i before after : List ℕ} {number place words : ℕ} → ReadsBlock i before after number place words
+pub read-refused : {t : List ℕ} {c : ℕ} {i before after : List ℕ} {number place words : ℕ} → ReadsBlock t c i before after number place words
     → (number ≡ 0 → ⊥) → (words ≡ 0) × (after ≡ before) × ((number ≡ 15 → ⊥) → place ≡ 0)
-read-refused {i} {before} {after} {number} {place} {words} s k =
-    let p = reads-none i before after number (s .block) words (s .reads) k in
+read-refused s k =
+    let p = call-refused (s .reads) k in
     (p .0, p .1, λ h. omega (arith, s .named, read-placed (s .reads) h))
 
 -- a listing of nothing
@@ -138,21 +139,47 @@ module _ {t : List ℕ} {c : ℕ} {w work₀ work₁ : List ℕ} {place second :
       → as₁ ≡ map (λ a. made (a .0) (a .1)) (answers (from t c q) (n# w) wanted) ++ drop (min wanted (n# w)) as₀
   answers-exact s = records-exact s refl (passed ok .accepted)
 
--- an index that was written, and the written blocks read into a room that is long enough
-module _ {w before after room room′ : List ℕ} {blocks number place words : ℕ} (s : Writes w before after 0 blocks) (low : Below (2 ^ 32) w)
-    (enough : wordsOf w ≤ length room) (r : ReadsBlock (take (512 * blocks) after) room room′ number place words) where
+-- an index in shape that was written, and the written blocks read over a table of its rows and columns into a room that is long enough
+module _ {t : List ℕ} {c : ℕ} {w before after room room′ : List ℕ} {blocks number place words : ℕ} (fine : Sized (length t) c) (rows : n# w ≡ rowsOf t c)
+    (columns : c# w ≡ c) (shape : shapeOk w ≡ true) (s : Writes w before after 0 blocks) (low : Below (2 ^ 32) w) (enough : wordsOf w ≤ length room)
+    (r : ReadsBlock t c (take (512 * blocks) after) room room′ number place words) where
   -- it is the same, word for word
   pub image-same : (number ≡ 0) × (place ≡ 0) × (words ≡ wordsOf w) × (take words room′ ≡ take (wordsOf w) w)
   image-same =
-      let d = round-trip w before after room room′ blocks number (r .block) words low s enough (r .reads) in
-      let t = take-at (take (wordsOf w) w) (drop (wordsOf w) room) (wordsOf w) (length-take-le (wordsOf w) w (write-whole s)) in
-      (d .0, omega (arith, r .named, read-placed (r .reads) (λ e. omega (arith, d .0))), d .1, ap₂ take (d .1) (d .2) ∙ t)
+      let d = round-trip fine rows columns shape low s enough (r .reads) in
+      let f = take-at (take (wordsOf w) w) (drop (wordsOf w) room) (wordsOf w) (length-take-le (wordsOf w) w (write-whole s)) in
+      (d .0, omega (arith, r .named, read-placed (r .reads) (λ e. omega (arith, d .0))), d .1, ap₂ take (d .1) (d .2) ∙ f)
 
   -- so that where nothing stood behind it, a check says the same of both
-  pub image-checked : {t : List ℕ} {c : ℕ} {work work₁ work₂ : List ℕ} {n₁ p₁ s₁ n₂ p₂ s₂ : ℕ} → length w ≡ wordsOf w
+  pub image-checked : {work work₁ work₂ : List ℕ} {n₁ p₁ s₁ n₂ p₂ s₂ : ℕ} → length w ≡ wordsOf w
       → Checks t c w work work₁ n₁ p₁ s₁ → Checks t c (take words room′) work work₂ n₂ p₂ s₂ → (n₁ ≡ n₂) × (p₁ ≡ p₂) × (s₁ ≡ s₂) × (work₁ ≡ work₂)
-  image-checked {t} {c} {work} {work₂ = work₂} {n₂ = n₂} {p₂} {s₂} e a b =
+  image-checked {work} {work₂ = work₂} {n₂ = n₂} {p₂} {s₂} e a b =
       check-only a (subst (λ (v : List ℕ). Checks t c v work work₂ n₂ p₂ s₂) (image-same .3 ∙ take-all (wordsOf w) w (omega arith)) b)
+
+-- a card of either edition, read with 0 over a table: where its index is accepted, a check of what was read gives 0, in a workspace that is long enough
+pub card-passes : {t : List ℕ} {c : ℕ} {i before after : List ℕ} {place words : ℕ} → ReadsBlock t c i before after 0 place words
+    → Accepted (between t c) (cardWords i) → {work work₁ : List ℕ} {number place₁ second : ℕ} → 6 * rowsOf t c ≤ length work
+    → Checks t c (take words after) work work₁ number place₁ second → (number ≡ 0) × (place₁ ≡ 0) × (second ≡ 0)
+card-passes {t} {c} s ok enough k =
+    let h = read-headed (s .reads) refl in
+    let S = read-clear (s .reads) refl .table in
+    let y = check-exact k .1 (record {
+      columns = (S .some, S .few);
+      multiple = S .whole;
+      few = S .rows;
+      room = enough;
+      same-rows = h .1;
+      same-columns = h .2;
+      edition = h .0;
+      accepted = read-accepted (s .reads) refl ok;
+    }) in
+    let q = check-placeless k (omega arith) in
+    (y, q .0, q .1)
+
+-- and a card of edition 1 is read as the index that widening gives
+pub card-widened : {t : List ℕ} {c : ℕ} {i before after : List ℕ} {place words : ℕ} → ReadsBlock t c i before after 0 place words
+    → edition# (cardWords i) ≡ 1 → take words after ≡ widen (between t c) (cardWords i)
+card-widened s = read-wide (s .reads) refl
 
 -- ---- DEMAND 3: WHICH ROWS A NEAREST SEARCH MEASURES, AND THAT ITS OUTCOME RESTS ON THESE ALONE
 module _ {t : List ℕ} {c : ℕ} {w work₀ work₁ : List ℕ} {place second : ℕ} (ok : Checks t c w work₀ work₁ 0 place second) where
@@ -201,43 +228,3 @@ module _ {t : List ℕ} {c : ℕ} {w work₀ work₁ : List ℕ} {place second :
 pub measured-counted : {t : List ℕ} {c : ℕ} {w q : List ℕ} {wanted room : ℕ} {rs rs′ ds ds′ how how′ work work′ : List ℕ} {given met : ℕ}
     → Answered t c w q wanted room rs rs′ ds ds′ how how′ work work′ 0 given met → met ≡ measured (take (n# w) how′)
 measured-counted s = s .counted refl
-
--- ---- AN EDITION 1 INDEX WIDENED: DEMAND 1 AND DEMAND 2
-module _ {t : List ℕ} {c : ℕ} {w room room′ : List ℕ} {number words : ℕ} (s : Widens t c w room room′ number words) where
-  -- a refused widening
-  pub widened-refused : (number ≡ 0 → ⊥) → (words ≡ 0) × (room′ ≡ room)
-  widened-refused = widen-refused s
-
-  -- an index of which a check gave 0
-  module _ {work₀ work₁ : List ℕ} {place second : ℕ} (ok : Checks t c w work₀ work₁ 0 place second) where
-    -- it is widened where it is edition 1 and the room has 12n + 8 words
-    pub widened-taken : edition# w ≡ 1 → 12 * n# w + 8 ≤ length room → number ≡ 0
-    widened-taken e h =
-        let p = passed ok in
-        let a = p .accepted in
-        widen-exact s .1 (record {
-          table = sized-of (length t) c (p .columns) (p .multiple) (p .few);
-          space = omega (arith, p .same-rows);
-          index = record { shape = in-shape w (a .words) (a .shape); rows = p .same-rows; columns = p .same-columns };
-          edition = e;
-          there = a .words;
-          shape = a .shape;
-        })
-
-    -- and a check of what then stands in the room gives 0 too, in a workspace that is long enough
-    pub widened-passes : {work₂ work₃ : List ℕ} {number₂ place₂ second₂ : ℕ} → number ≡ 0 → 6 * rowsOf t c ≤ length work₂
-        → Checks t c (take words room′) work₂ work₃ number₂ place₂ second₂ → (number₂ ≡ 0) × (place₂ ≡ 0) × (second₂ ≡ 0)
-    widened-passes z enough s₂ =
-        let p = passed ok in
-        let h = widen-headed s z in
-        let y = check-exact s₂ .1 (record {
-          columns = p .columns;
-          multiple = p .multiple;
-          few = p .few;
-          room = enough;
-          same-rows = h .0;
-          same-columns = h .1;
-          accepted = widen-call-accepted s z (p .accepted);
-        }) in
-        let q = check-placeless s₂ (omega arith) in
-        (y, q .0, q .1)

@@ -6,7 +6,7 @@ use Rattle.answers.specs.Records.{made, records}
 use Rattle.answers.specs.declared.Answer.{Answer}
 use Rattle.bourascul.specs.Calls.{ReadsBlock}
 use Rattle.bourascul.specs.Recorded.{Recorded}
-use Rattle.image.proofs.Only.{read-only}
+use Rattle.card.proofs.Theorems.{read-only}
 use Rattle.measure.specs.Table.{between, from, row}
 use Rattle.nearest.proofs.Contract.{same-answers}
 use Rattle.nearest.proofs.Promises.{Same, nearest-exact, nearest-only, nearest-two-tables}
@@ -96,8 +96,8 @@ module _ {t : List ℕ} {c : ℕ} {w q : List ℕ} {wanted : ℕ} {as₀ as₁ a
 
 -- ---- reading an image, with the number of a wrong block in 32 bits
 -- NO SECOND OUTCOME FITS
-pub read-block-only : {i before a a′ : List ℕ} {n n′ p p′ k k′ : ℕ} → ReadsBlock i before a n p k → ReadsBlock i before a′ n′ p′ k′
+pub read-block-only : {T : List ℕ} {c : ℕ} {i before a a′ : List ℕ} {n n′ p p′ k k′ : ℕ} → ReadsBlock T c i before a n p k → ReadsBlock T c i before a′ n′ p′ k′
     → (n ≡ n′) × (p ≡ p′) × (k ≡ k′) × (a ≡ a′)
-read-block-only {i} {before} {a} {a′} {n} {n′} {p} {p′} {k} {k′} x y =
-    let e = read-only i before a a′ n n′ (x .block) (y .block) k k′ (x .reads) (y .reads) in
+read-block-only x y =
+    let e = read-only (x .reads) (y .reads) in
     (e .0, x .named ∙ ap (λ (b : ℕ). min b 4294967295) (e .1) ∙ sym (y .named), e .2, e .3)

@@ -12,6 +12,7 @@ use Rattle.limits.proofs.Sized.{Sized}
 use Rattle.limits.specs.Said.{said}
 use Rattle.measure.specs.Table.{rowsOf}
 use Rattle.tree.proofs.Alike.{Alike, shape-alike}
+use Rattle.words.proofs.Headers.{words-whole}
 use Rattle.words.proofs.InShape.{in-shape, whole}
 use Rattle.words.proofs.Strides.{stride}
 use Rattle.words.specs.Image.{image}
@@ -69,10 +70,11 @@ module _ (w : List ℕ) (W : Whole w) where
   inner-own e k h = ap₂ kept (word-own 0 (omega arith)) (node-own k 4 h (omega arith))
 
 -- the shape of an edition 2 index is its own words'
-own-shape : (w : List ℕ) → wordsOk w ≡ true → edition# w ≡ 2 → shapeOk w ≡ true → shapeOk (take (wordsOf w) w) ≡ true
-own-shape w ok e s =
-    let S = in-shape w ok s in
-    shape-alike (own-alike w (S .whole)) S s (λ k h. omega (arith, inner-own w (S .whole) e k h, S .node k h .nearer))
+own-shape : (w : List ℕ) → wordsOk w ≡ true → shapeOk w ≡ true → shapeOk (take (wordsOf w) w) ≡ true
+own-shape w ok s =
+    let t = words-whole w ok in
+    let S = in-shape w (t .1) s in
+    shape-alike (own-alike w (S .whole)) S s (λ k h. omega (arith, inner-own w (S .whole) (t .0) k h, S .node k h .nearer))
 
 -- ---- the image of an index
 module _ (w : List ℕ) (ok : wordsOk w ≡ true) (small : Below (2 ^ 32) w) where
@@ -83,34 +85,34 @@ module _ (w : List ℕ) (ok : wordsOk w ≡ true) (small : Below (2 ^ 32) w) whe
 
   -- its header is the index's
   head-own : (j : ℕ) → j < 8 → at (cardWords (image w)) j ≡ at w j
-  head-own j h = ap (λ l. at l j) card-own ∙ word-own w (whole w ok) j (omega arith)
+  head-own j h = ap (λ l. at l j) card-own ∙ word-own w (whole w (words-whole w ok .1)) j (omega arith)
 
-  -- of an edition 2 index as many words are read as it has
-  total-own : edition# w ≡ 2 → readTotal (image w) ≡ wordsOf w
-  total-own e =
+  -- as many words are read as it has
+  total-own : readTotal (image w) ≡ wordsOf w
+  total-own =
       total-wide (image w) ∙ ap₂ (λ (N n : ℕ). 8 + 5 * N + 2 * n) (head-own 5 (omega arith)) (head-own 1 (omega arith))
-      ∙ ap (λ (e : ℕ). 8 + width e * N# w + 2 * n# w) (sym e)
+      ∙ ap (λ (e : ℕ). 8 + width e * N# w + 2 * n# w) (sym (words-whole w ok .0))
 
--- THE ROUND TRIP: AN EDITION 2 INDEX IN SHAPE THAT WAS WRITTEN IS READ BACK OVER A TABLE OF ITS ROWS AND COLUMNS, AS THE SAME WORDS, WHERE THE ROOM
+-- THE ROUND TRIP: AN INDEX IN SHAPE THAT WAS WRITTEN IS READ BACK OVER A TABLE OF ITS ROWS AND COLUMNS, AS THE SAME WORDS, WHERE THE ROOM
 -- IS LONG ENOUGH
 pub round-trip : {T : List ℕ} {c : ℕ} {w before after room room′ : List ℕ} {blocks number place words : ℕ} → Sized (length T) c
-    → n# w ≡ rowsOf T c → c# w ≡ c → edition# w ≡ 2 → shapeOk w ≡ true → Below (2 ^ 32) w → Writes w before after 0 blocks
+    → n# w ≡ rowsOf T c → c# w ≡ c → shapeOk w ≡ true → Below (2 ^ 32) w → Writes w before after 0 blocks
     → wordsOf w ≤ length room → Reads T c (take (512 * blocks) after) room room′ number place words
     → (number ≡ 0) × (words ≡ wordsOf w) × (room′ ≡ take (wordsOf w) w ++ drop (wordsOf w) room)
-round-trip {T} {c} {w} {before} {after} {room} {room′} {blocks} {number} {place} {words} fine rows columns two shape small x enough y =
+round-trip {T} {c} {w} {before} {after} {room} {room′} {blocks} {number} {place} {words} fine rows columns shape small x enough y =
     let ok = written-ok w (length before) (sym (x .said)) in
     let r = subst (λ (l : List ℕ). Reads T c l room room′ number place words) (written-image small x) y in
     let own = card-own w ok small in
-    let total = total-own w ok small two in
+    let total = total-own w ok small in
     let C : Clear T c (image w) (length room) =
     record {
       table = fine;
       image = ap (λ fs. said fs .0) (image-sound w ok small);
       rows = head-own w ok small 1 (omega arith) ∙ rows;
       columns = head-own w ok small 2 (omega arith) ∙ columns;
-      shape = ap shapeOk own ∙ own-shape w ok two shape;
+      shape = ap shapeOk own ∙ own-shape w ok shape;
       space = omega (arith, total);
     } in
     let z = read-taken r C in
-    let new = read-own T c (image w) (λ e. omega (arith, e, head-own w ok small 0 (omega arith))) in
+    let new = read-own T c (image w) (λ e. omega (arith, e, head-own w ok small 0 (omega arith), words-whole w ok .0)) in
     (z, read-count r z ∙ total, read-room r z ∙ ap₂ (λ (l : List ℕ) (n : ℕ). l ++ drop n room) (new ∙ own) total)

@@ -7,11 +7,11 @@ use Rattle.laws.specs.Upto.{sumTo}
 use Rattle.limits.specs.Said.{tableFaults}
 use Rattle.measure.specs.Distance.{l1}
 use Rattle.measure.specs.Table.{between}
-use Rattle.tree.specs.Cases.{five, fiveWords, wideWords}
+use Rattle.tree.specs.Cases.{five, fiveWords, oldWords}
 use Rattle.tree.specs.Widen.{widen}
 use Rattle.words.specs.Image.{block, blockGood, blocks, blocksFor, bytes, checkFrom, checkWord, image, imageFaults, imageTotal, imageWord, imageWords, rotate, step, window, wordAt, wordsAt}
 use Rattle.words.specs.Shape.{born, level, nodeOk, shapeOk, tile}
-use Rattle.words.specs.Words.{headerOk}
+use Rattle.words.specs.Words.{cardOk}
 use lib.Dec.{eqb}
 use lib.ListN.{set, take}
 use mathlib.Core.Bool.{Bool, _&&_}
@@ -25,7 +25,7 @@ pub data Case : Type 0 where
 
 -- a case comes out as it says
 unfoldable pub right : Case → Bool
-unfolding sumTo tableFaults l1 between headerOk born level tile nodeOk shapeOk widen block blockGood blocks blocksFor bytes checkFrom checkWord image imageFaults imageTotal imageWord imageWords rotate step window wordAt wordsAt cardFaults cardWords readTotal readWords saidRead
+unfolding sumTo tableFaults l1 between cardOk born level tile nodeOk shapeOk widen block blockGood blocks blocksFor bytes checkFrom checkWord image imageFaults imageTotal imageWord imageWords rotate step window wordAt wordsAt cardFaults cardWords readTotal readWords saidRead
 right (gives w T room v) = let i = image w in eqb (saidRead T 1 i room .0) 0 && same (readWords T 1 i) v
 right (says w T room k) = let i = image w in eqb (saidRead T 1 i room .0) k
 
@@ -33,15 +33,15 @@ right (says w T room k) = let i = image w in eqb (saidRead T 1 i room .0) k
 -- since 5 is last; a table with a row less gives 8, which comes before 9, and a header that is impossible 16, which comes before 8
 abbrev pub table : List Case
 table =
-    gives fiveWords five 43 wideWords
-    ∷ gives wideWords five 43 wideWords
+    gives oldWords five 43 fiveWords
+    ∷ gives fiveWords five 43 fiveWords
     ∷ gives (1 ∷ 0 ∷ 1 ∷ 2 ∷ 2 ∷ 0 ∷ 1 ∷ 0 ∷ []) [] 8 (2 ∷ 0 ∷ 1 ∷ 2 ∷ 2 ∷ 0 ∷ 1 ∷ 0 ∷ [])
     ∷ gives (2 ∷ 0 ∷ 1 ∷ 2 ∷ 2 ∷ 0 ∷ 1 ∷ 0 ∷ []) [] 8 (2 ∷ 0 ∷ 1 ∷ 2 ∷ 2 ∷ 0 ∷ 1 ∷ 0 ∷ [])
+    ∷ says oldWords five 42 5
     ∷ says fiveWords five 42 5
-    ∷ says wideWords five 42 5
-    ∷ says (set fiveWords 10 0) five 0 9
-    ∷ says (set wideWords 10 0) five 43 9
-    ∷ says fiveWords (take 4 five) 43 8
-    ∷ says (set fiveWords 10 0) (take 4 five) 0 8
-    ∷ says (set fiveWords 6 2) (take 4 five) 0 16
+    ∷ says (set oldWords 10 0) five 0 9
+    ∷ says (set fiveWords 10 0) five 43 9
+    ∷ says oldWords (take 4 five) 43 8
+    ∷ says (set oldWords 10 0) (take 4 five) 0 8
+    ∷ says (set oldWords 6 2) (take 4 five) 0 16
     ∷ []

@@ -2,7 +2,7 @@
 -- Assumes nothing.
 use Rattle.bourascul.proofs.bourascul_read.Statement.{statement}
 use Rattle.bourascul.proofs.bourascul_read.Tie as tie
-use Rattle.image.proofs.Small.{read-small}
+use Rattle.card.proofs.Theorems.{read-small}
 use borrow.Author.Needs.{needs}
 use native.Mathlib.Omega.{arith}
 
