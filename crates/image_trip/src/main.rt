@@ -66,7 +66,19 @@ fn load(path: &[u8], bytes: &mut [u8]) -> usize
     got
 }
 
-// The five-row index through a file: what writing and reading say, then its nodes, of which four words are printed, and its positions.
+// The five nodes of an index, four words of each, and its positions.
+fn print_index(room: &[u32])
+    requires { ⌜ 33 ≤ length (now room) ⌝ }
+{
+    print_lines(&room[8..12], 4);
+    print_lines(&room[13..17], 4);
+    print_lines(&room[18..22], 4);
+    print_lines(&room[23..27], 4);
+    print_lines(&room[28..32], 4);
+    print_lines(&room[33..], 2);
+}
+
+// The five-row index through a file: what writing and reading say, then its nodes and positions.
 fn trip(image: &mut [u8], table: &[u16]) {
     let index = five_index();
     let written = image::write_image(&index, image);
@@ -77,12 +89,7 @@ fn trip(image: &mut [u8], table: &[u16]) {
     let mut room = [0u32; 43];
     let read = read_image(&back[..n], table, 1, &mut room);
     print_pair(read.number, read.words);
-    print_lines(&room[8..12], 4);
-    print_lines(&room[13..17], 4);
-    print_lines(&room[18..22], 4);
-    print_lines(&room[23..27], 4);
-    print_lines(&room[28..32], 4);
-    print_lines(&room[33..], 2);
+    print_index(&room);
 }
 
 // The image of 150 rows in one leaf, in three blocks.
