@@ -16,7 +16,7 @@ fn print_pair(a: u32, b: usize) {
 
 // What reading says of the image, into a room that the five-row index fits: the number and its place.
 fn print_said(image: &[u8]) {
-    let mut room = [0u32; 38];
+    let mut room = [0u32; 43];
     let read = image::read_image(image, &mut room);
     print_pair(read.number, read.place);
 }
@@ -72,17 +72,17 @@ fn trip(image: &mut [u8]) {
     save(b"five", image);
     let mut back = [0u8; 512];
     let n = load(b"five", &mut back);
-    let mut room = [0u32; 38];
+    let mut room = [0u32; 43];
     let read = image::read_image(&back[..n], &mut room);
     print_pair(read.number, read.words);
-    print_lines(&room[8..28], 4);
-    print_lines(&room[28..], 2);
+    print_lines(&room[8..33], 5, 4);
+    print_lines(&room[33..], 2, 2);
 }
 
 // The image of 150 rows in one leaf, in three blocks.
 fn write_three(image: &mut [u8]) {
-    let mut index = [0u32; 312];
-    index[0] = 1;
+    let mut index = [0u32; 313];
+    index[0] = 2;
     index[1] = 150;
     index[2] = 1;
     index[3] = 2;
