@@ -36,7 +36,7 @@ fn show(table: &[u16], c: usize, index: &[u32], work: &mut [u32]) {
 }
 
 // An index over the five rows.
-fn five(index: [u32; 38]) {
+fn five(index: [u32; 43]) {
     let mut work = [7u32; 31];
     show(&ROWS, 1, &index, &mut work);
 }
@@ -44,36 +44,53 @@ fn five(index: [u32; 38]) {
 // The five-row index with one word changed.
 fn spoilt(at: usize, word: u32) {
     let mut index = five_index();
-    if at < 38 {
+    if at < 43 {
         index[at] = word;
     }
     five(index);
 }
 
+// The five-row index as edition 1 has it, without inner reaches: it is not taken.
+fn old_edition() {
+    let mut index = [0; 38];
+    put(&[1, 5, 1, 2, 2, 5, 1, 0], &mut index, 0);
+    put(&[0, 5, 1, 20], &mut index, 8);
+    put(&[0, 3, 3, 10], &mut index, 12);
+    put(&[3, 2, 0, 9], &mut index, 16);
+    put(&[0, 2, 0, 1], &mut index, 20);
+    put(&[2, 1, 0, 0], &mut index, 24);
+    put(&[0, 0, 1, 1, 2, 0, 4, 0, 3, 9], &mut index, 28);
+    let mut work = [7u32; 31];
+    show(&ROWS, 1, &index, &mut work);
+}
+
 // Each number from 8 on.
 fn one_fault() {
     // edition
-    spoilt(0, 2);
+    spoilt(0, 3);
+    old_edition();
     // n
     spoilt(1, 4);
     // the root's start, a leaf's count, a row number that is none
     spoilt(8, 1);
-    spoilt(21, 1);
-    spoilt(28, 5);
+    spoilt(24, 1);
+    spoilt(33, 5);
     // row 0 at position 1 again
-    spoilt(30, 0);
+    spoilt(35, 0);
     // row 0 at position 4 again, two leaves on
-    spoilt(36, 0);
-    // the distance of position 1, and the root's radius
-    spoilt(31, 2);
+    spoilt(41, 0);
+    // the distance of position 1, the root's radius, and its inner reach
+    spoilt(36, 2);
     spoilt(11, 19);
+    spoilt(12, 2);
     // row 3, at 11, stands with the centre 0 and is closer to 20
     let mut stray = five_index();
-    stray[15] = 11;
-    stray[19] = 10;
-    stray[32] = 3;
-    stray[36] = 2;
-    stray[37] = 10;
+    stray[16] = 11;
+    stray[21] = 10;
+    stray[22] = 10;
+    stray[37] = 3;
+    stray[41] = 2;
+    stray[42] = 10;
     five(stray);
 }
 
@@ -81,27 +98,28 @@ fn one_fault() {
 fn more_faults() {
     // positions 1 and 4; position 4's leaf has the lower number
     let mut index = five_index();
-    index[31] = 2;
-    index[37] = 8;
+    index[36] = 2;
+    index[42] = 8;
     five(index);
     // nodes 0 and 1
     index = five_index();
     index[11] = 19;
-    index[15] = 11;
+    index[16] = 11;
     five(index);
     // a row again at position 4, and the distance of position 1
     index = five_index();
-    index[31] = 2;
-    index[36] = 0;
+    index[36] = 2;
+    index[41] = 0;
     five(index);
     // a stray, and a radius
     index = five_index();
-    index[15] = 11;
-    index[19] = 10;
-    index[23] = 2;
-    index[32] = 3;
-    index[36] = 2;
-    index[37] = 10;
+    index[16] = 11;
+    index[21] = 10;
+    index[22] = 10;
+    index[26] = 2;
+    index[37] = 3;
+    index[41] = 2;
+    index[42] = 10;
     five(index);
 }
 
@@ -133,19 +151,19 @@ fn other_table() {
 fn missing_word() {
     let index = five_index();
     let mut work = [7u32; 31];
-    show(&ROWS, 1, &index[0..37], &mut work);
+    show(&ROWS, 1, &index[0..42], &mut work);
 }
 
 // The index of the rows 0 10 5, with the last at its later centre.
-fn later_index() -> [u32; 26]
-    ensures { λ r. ⌜ 26 ≡ length r ⌝ }
+fn later_index() -> [u32; 29]
+    ensures { λ r. ⌜ 29 ≡ length r ⌝ }
 {
-    let mut index = [0; 26];
-    put(&[1, 3, 1, 2, 2, 3, 1, 0], &mut index, 0);
-    put(&[0, 3, 1, 10], &mut index, 8);
-    put(&[0, 1, 0, 0], &mut index, 12);
-    put(&[1, 2, 0, 5], &mut index, 16);
-    put(&[0, 0, 1, 0, 2, 5], &mut index, 20);
+    let mut index = [0; 29];
+    put(&[2, 3, 1, 2, 2, 3, 1, 0], &mut index, 0);
+    put(&[0, 3, 1, 10, 5], &mut index, 8);
+    put(&[0, 1, 0, 0, 0], &mut index, 13);
+    put(&[1, 2, 0, 5, 5], &mut index, 18);
+    put(&[0, 0, 1, 0, 2, 5], &mut index, 23);
     index
 }
 
@@ -155,7 +173,7 @@ fn free() {
     let later = later_index();
     let mut work = [7u32; 19];
     show(&rows, 1, &later, &mut work);
-    let none: [u32; 8] = [1, 0, 1, 2, 2, 0, 1, 0];
+    let none: [u32; 8] = [2, 0, 1, 2, 2, 0, 1, 0];
     let mut kept = [7u32; 2];
     show(&rows[..0], 1, &none, &mut kept);
 }

@@ -12,34 +12,34 @@ use samples::pairs_index;
 use samples::put;
 
 // The index of the rows 6 9 5 3 0.
-fn odd_index() -> [u32; 46]
-    ensures { λ r. ⌜ 46 ≡ length r ⌝ }
+fn odd_index() -> [u32; 53]
+    ensures { λ r. ⌜ 53 ≡ length r ⌝ }
 {
-    let mut index = [0; 46];
-    put(&[1, 5, 1, 2, 2, 7, 1, 0], &mut index, 0);
-    put(&[0, 5, 1, 6], &mut index, 8);
-    put(&[0, 4, 3, 3], &mut index, 12);
-    put(&[4, 1, 0, 0], &mut index, 16);
-    put(&[0, 3, 5, 3], &mut index, 20);
-    put(&[3, 1, 0, 0], &mut index, 24);
-    put(&[0, 2, 0, 1], &mut index, 28);
-    put(&[2, 1, 0, 0], &mut index, 32);
-    put(&[0, 0, 2, 1, 3, 0, 1, 0, 4, 0], &mut index, 36);
+    let mut index = [0; 53];
+    put(&[2, 5, 1, 2, 2, 7, 1, 0], &mut index, 0);
+    put(&[0, 5, 1, 6, 1], &mut index, 8);
+    put(&[0, 4, 3, 3, 1], &mut index, 13);
+    put(&[4, 1, 0, 0, 0], &mut index, 18);
+    put(&[0, 3, 5, 3, 1], &mut index, 23);
+    put(&[3, 1, 0, 0, 0], &mut index, 28);
+    put(&[0, 2, 0, 1, 1], &mut index, 33);
+    put(&[2, 1, 0, 0, 0], &mut index, 38);
+    put(&[0, 0, 2, 1, 3, 0, 1, 0, 4, 0], &mut index, 43);
     index
 }
 
 // The index of the rows 7 7 7 7.
-fn sevens_index() -> [u32; 36]
-    ensures { λ r. ⌜ 36 ≡ length r ⌝ }
+fn sevens_index() -> [u32; 41]
+    ensures { λ r. ⌜ 41 ≡ length r ⌝ }
 {
-    let mut index = [0; 36];
-    put(&[1, 4, 1, 2, 2, 5, 1, 0], &mut index, 0);
-    put(&[0, 4, 1, 0], &mut index, 8);
-    put(&[0, 3, 3, 0], &mut index, 12);
-    put(&[3, 1, 0, 0], &mut index, 16);
-    put(&[0, 2, 0, 0], &mut index, 20);
-    put(&[2, 1, 0, 0], &mut index, 24);
-    put(&[0, 0, 3, 0, 2, 0, 1, 0], &mut index, 28);
+    let mut index = [0; 41];
+    put(&[2, 4, 1, 2, 2, 5, 1, 0], &mut index, 0);
+    put(&[0, 4, 1, 0, 0], &mut index, 8);
+    put(&[0, 3, 3, 0, 0], &mut index, 13);
+    put(&[3, 1, 0, 0, 0], &mut index, 18);
+    put(&[0, 2, 0, 0, 0], &mut index, 23);
+    put(&[2, 1, 0, 0, 0], &mut index, 28);
+    put(&[0, 0, 3, 0, 2, 0, 1, 0], &mut index, 33);
     index
 }
 
@@ -155,7 +155,7 @@ fn two_columns() {
 }
 
 fn no_row() {
-    show(&[], 1, &[1, 0, 1, 2, 2, 0, 1, 0], &[3], 7);
+    show(&[], 1, &[2, 0, 1, 2, 2, 0, 1, 0], &[3], 7);
 }
 
 // 1: no column, and too many. 3: the length is odd. Each with later ones wrong too.
@@ -254,7 +254,7 @@ fn other_table() {
 fn changed(at: usize, word: u32) {
     let mut index = five_index();
     let table = FIVE_ROWS;
-    if at < 38 {
+    if at < 43 {
         index[at] = word;
         show(&table, 1, &index, &[9], 2);
     }
@@ -262,17 +262,17 @@ fn changed(at: usize, word: u32) {
 
 // 8: the edition. 9: the root's start, its radius, and a row number.
 fn wrong_index() {
-    changed(0, 2);
+    changed(0, 1);
     changed(8, 1);
     changed(11, 1048561);
-    changed(28, 5);
+    changed(33, 5);
 }
 
 // 0: row 1 stands twice and row 4 not at all, which no table fits. The number and the zero workspace are settled, and what lies beyond.
 fn row_twice() {
     let mut index = five_index();
     let table = FIVE_ROWS;
-    index[34] = 1;
+    index[39] = 1;
     let mut rows = [9u32; 6];
     let mut distances = [99u32; 6];
     let mut how = [9u8; 8];

@@ -12,17 +12,17 @@ use samples::pairs_index;
 use samples::put;
 
 // The index of the rows 4 2 2 6 7.
-fn odd_index() -> [u32; 38]
-    ensures { λ r. ⌜ 38 ≡ length r ⌝ }
+fn odd_index() -> [u32; 43]
+    ensures { λ r. ⌜ 43 ≡ length r ⌝ }
 {
-    let mut index = [0; 38];
-    put(&[1, 5, 1, 2, 2, 5, 1, 0], &mut index, 0);
-    put(&[0, 5, 1, 3], &mut index, 8);
-    put(&[0, 3, 3, 2], &mut index, 12);
-    put(&[3, 2, 0, 1], &mut index, 16);
-    put(&[0, 1, 0, 0], &mut index, 20);
-    put(&[1, 2, 0, 0], &mut index, 24);
-    put(&[0, 0, 1, 0, 2, 0, 4, 0, 3, 1], &mut index, 28);
+    let mut index = [0; 43];
+    put(&[2, 5, 1, 2, 2, 5, 1, 0], &mut index, 0);
+    put(&[0, 5, 1, 3, 2], &mut index, 8);
+    put(&[0, 3, 3, 2, 2], &mut index, 13);
+    put(&[3, 2, 0, 1, 1], &mut index, 18);
+    put(&[0, 1, 0, 0, 0], &mut index, 23);
+    put(&[1, 2, 0, 0, 0], &mut index, 28);
+    put(&[0, 0, 1, 0, 2, 0, 4, 0, 3, 1], &mut index, 33);
     index
 }
 
@@ -87,7 +87,7 @@ fn two_columns() {
 }
 
 fn no_row() {
-    show(&[], 1, &[1, 0, 1, 2, 2, 0, 1, 0], &[3], 7);
+    show(&[], 1, &[2, 0, 1, 2, 2, 0, 1, 0], &[3], 7);
 }
 
 // 1: no column, and too many. 3: the length is odd. Each with later ones wrong too.
@@ -128,7 +128,7 @@ fn other_table() {
 fn missing_words() {
     let index = five_index();
     let table = FIVE_ROWS;
-    show(&table, 1, &index[0..37], &[9], 1);
+    show(&table, 1, &index[0..42], &[9], 1);
     show(&table, 1, &[], &[9], 1);
 }
 
@@ -136,7 +136,7 @@ fn missing_words() {
 fn changed(at: usize, word: u32) {
     let mut index = five_index();
     let table = FIVE_ROWS;
-    if at < 38 {
+    if at < 43 {
         index[at] = word;
         show(&table, 1, &index, &[9], 1);
     }
@@ -144,10 +144,10 @@ fn changed(at: usize, word: u32) {
 
 // 8: the edition. 9: the root's start, its radius, and a row number.
 fn wrong_index() {
-    changed(0, 2);
+    changed(0, 1);
     changed(8, 1);
     changed(11, 1048561);
-    changed(28, 5);
+    changed(33, 5);
 }
 
 // 4: a row too many.
