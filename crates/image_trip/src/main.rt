@@ -70,12 +70,8 @@ fn load(path: &[u8], bytes: &mut [u8]) -> usize
 fn print_index(room: &[u32])
     requires { ⌜ 33 ≤ length (now room) ⌝ }
 {
-    print_lines(&room[8..12], 4);
-    print_lines(&room[13..17], 4);
-    print_lines(&room[18..22], 4);
-    print_lines(&room[23..27], 4);
-    print_lines(&room[28..32], 4);
-    print_lines(&room[33..], 2);
+    print_lines(&room[8..33], 5, 4);
+    print_lines(&room[33..], 2, 2);
 }
 
 // The five-row index through a file: what writing and reading say, then its nodes and positions.
