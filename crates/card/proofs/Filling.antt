@@ -52,8 +52,8 @@ module _ (i : List ℕ) where
         ∙ ap (λ (b : Bool). cond b (widen (between T c) (cardWords i)) (cardWords i) ++ drop (readTotal i) room) (sym b)
 
   -- an edition 1 card's are widened
-  pub wide-put : (T : List ℕ) (c : ℕ) (room : List ℕ) {room′ : List ℕ} → edition# (cardWords i) ≡ 1 → room′ ≡ withWide (between T c) (cardWords i) room
-      → room′ ≡ readWords T c i ++ drop (readTotal i) room
+  pub wide-put : (T : List ℕ) (c : ℕ) (room : List ℕ) {room′ : List ℕ} → edition# (cardWords i) ≡ 1
+      → room′ ≡ withWide (between T c) (cardWords i) room → room′ ≡ readWords T c i ++ drop (readTotal i) room
   unfolding readWords readTotal
   wide-put T c room e q =
       let b = eq-eqb (edition# (cardWords i)) 1 e in

@@ -120,7 +120,8 @@ module _ (T : List ℕ) (c : ℕ) (i : List ℕ) (room : ℕ) where
   in-turn : said (first ++ next) ≡ says
   unfolding saidRead
   in-turn =
-      ap said (sym (append-assoc (first ++ imageFaults i) (cardFaults T c i) (fault 5 (ltb room (readTotal i))) ∙ append-assoc first (imageFaults i) last))
+      ap said
+      (sym (append-assoc (first ++ imageFaults i) (cardFaults T c i) (fault 5 (ltb room (readTotal i))) ∙ append-assoc first (imageFaults i) last))
 
   -- a refusal counts no word
   none-counted : {number : ℕ} → (number ≡ 0 → ⊥) → 0 ≡ cond (eqb number 0) (readTotal i) 0

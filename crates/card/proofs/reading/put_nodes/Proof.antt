@@ -90,8 +90,9 @@ loop-again c =
     let st = ch .before .before in
     let l = st .before .before in
     let s = start l in (
-      noded-step (dist s) (cardWords (s .args .image .now)) (l .loop .inv .0) (omega (arith, s .pre .1)) (w .put-node .ensures) (st .card-start .ensures .0)
-          (ch .before .card-count .ensures .0) (ch .card-child .ensures .0) (r .before .card-radius .ensures) (r .card-nearest .ensures) (search needs),
+      noded-step (dist s) (cardWords (s .args .image .now)) (l .loop .inv .0) (omega (arith, s .pre .1)) (w .put-node .ensures)
+          (st .card-start .ensures .0) (ch .before .card-count .ensures .0) (ch .card-child .ensures .0) (r .before .card-radius .ensures)
+          (r .card-nearest .ensures) (search needs),
       l .loop .inv .1,
       omega arith,
     )

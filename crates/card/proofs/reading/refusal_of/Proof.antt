@@ -66,7 +66,8 @@ returns-4 c =
     let m = k .before .before .before in
     let t = m .before .before in
     five _ _ _ _ (t .table-number .ensures) (m .before .if1 .left) (m .check-image .ensures) (k .before .if2 .left) (k .card-number .ensures)
-    (l .before .if3 .left) (l .card-total .ensures) (c .before .if4 .taken) (c .refused4 .ensures .0) (c .refused4 .ensures .1) (c .refused4 .ensures .2)
+    (l .before .if3 .left) (l .card-total .ensures) (c .before .if4 .taken)
+    (c .refused4 .ensures .0) (c .refused4 .ensures .1) (c .refused4 .ensures .2)
 
 returns-5 : tie.Need-returns-5
 returns-5 c =
