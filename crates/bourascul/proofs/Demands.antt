@@ -116,8 +116,16 @@ pub build-passes : {t : List ℕ} {c e m l : ℕ} {room work room′ work′ wor
 build-passes {t} {c} {e} {m} {l} {room} {work} {room′} {work′} {words = words} {nodes} b small enough s =
     let h = build-headed t c e m l room work b refl in
     let a = build-accepted t c e m l room work room′ work′ 0 words nodes b refl small in
-    let z = check-exact s .1
-    (record { columns = (h .0 .some, h .0 .few); multiple = h .0 .whole; few = h .0 .rows; room = enough; same-rows = h .1; same-columns = h .2; accepted = a }) in
+    let z = check-exact s .1 (record {
+      columns = (h .0 .some, h .0 .few);
+      multiple = h .0 .whole;
+      few = h .0 .rows;
+      room = enough;
+      same-rows = h .1;
+      same-columns = h .2;
+      edition = h .4;
+      accepted = a;
+    }) in
     let p = check-placeless s (omega arith) in
     (z, p .0, p .1)
 

@@ -15,6 +15,7 @@ use Rattle.radius.specs.Calls.{Searched}
 use Rattle.tree.proofs.Answers.{answers-length}
 use Rattle.tree.specs.Calls.{saidNearest}
 use Rattle.tree.specs.Nearest.{answers, lastDistance}
+use Rattle.words.proofs.Headers.{whole-words}
 use Rattle.words.proofs.Index.{none-wrong}
 use Rattle.words.specs.Calls.{indexFaults}
 use Rattle.words.specs.Words.{n#}
@@ -37,7 +38,8 @@ module _ {t : List ℕ} {c : ℕ} {w work₀ work₁ : List ℕ} {place second :
 
   -- the index is not refused
   index-right : 0 ≡ said (indexFaults w (rowsOf t c) c) .0
-  index-right = none-wrong w (rowsOf t c) c (passed .accepted .words) (passed .same-rows) (passed .same-columns) (passed .accepted .shape)
+  index-right =
+      none-wrong w (rowsOf t c) c (whole-words w (passed .edition) (passed .accepted .words)) (passed .same-rows) (passed .same-columns) (passed .accepted .shape)
 
   -- A RADIUS SEARCH IS NOT REFUSED WHERE THE QUERY HAS c NUMBERS AND THERE IS A HOW-BYTE FOR EACH ROW
   pub radius-taken : {q : List ℕ} {r : ℕ} {before after : List ℕ} {number in# met : ℕ} → Searched t c w q r before after number in# met

@@ -12,8 +12,8 @@ read-image-requires c κs = search needs
 block-number-requires : tie.Need-block-number-requires
 block-number-requires c κs = search needs
 
-cast-t7 : tie.Need-cast-t7
-cast-t7 c =
+cast-t10 : tie.Need-cast-t10
+cast-t10 c =
     let read-image = c .before .before .before .before .read-image in
     omega (arith, read-small (read-image .ensures))
 
@@ -28,4 +28,4 @@ returns c =
 
 pub bourascul-read-spec : {M : Type 1} → statement M
 bourascul-read-spec =
-    tie.close (tie.spec read-image-requires block-number-requires cast-t7 same-length returns)
+    tie.close (tie.spec read-image-requires block-number-requires cast-t10 same-length returns)
