@@ -341,32 +341,32 @@ static uint32_t calls_of(int kind, uint32_t n)
     return n > 500000 ? QUERIES / 3 : QUERIES;
 }
 
-static uint32_t passes_of(int kind, uint32_t n)
-{
-    if (kind <= CHECK)
-        return n > 500000 ? 3 : n > 50000 ? 6 : 20;
-    return n > 50000 ? 6 : 12;
-}
-
-/* The mean of one pass, where it is less than the least so far. */
+/* The mean of one pass, where it is less than the least so far. A call before it takes what the way before left in the caches. */
 static void time_pass(struct set *s, int kind, int way)
 {
-    double *best = &s->line->took[kind][way], begin = now();
+    double *best = &s->line->took[kind][way];
     uint32_t calls = calls_of(kind, s->table.n);
+    if (kind > CHECK)
+        run(s, kind, way, 0);
+    double begin = now();
     for (uint32_t q = 0; q < calls; q++)
         run(s, kind, way, q % QUERIES);
     double mean = (now() - begin) / calls;
     *best = *best == 0 || mean < *best ? mean : *best;
 }
 
-/* The least mean over several passes; the ways take turns, so that a busy moment hits all of them. */
-static void time_kind(struct set *s, int kind)
+/* The least mean over several passes of every kind by every way. They take turns, each time another way first, so that a busy moment, or the memory
+   that the kind before left, hits none of them always. */
+static void time_kinds(struct set *s)
 {
-    uint32_t passes = passes_of(kind, s->table.n);
-    for (uint32_t pass = 0; pass < passes; pass++)
-        for (int way = 0; way < WAYS; way++)
-            if (is_there(kind, way))
-                time_pass(s, kind, way);
+    int passes = s->table.n > 500000 ? 4 : s->table.n > 50000 ? 8 : 30;
+    for (int pass = 0; pass < passes; pass++)
+        for (int kind = 0; kind < KINDS; kind++)
+            for (int turn = 0; turn < WAYS; turn++) {
+                int way = (pass + turn) % WAYS;
+                if (is_there(kind, way))
+                    time_pass(s, kind, way);
+            }
 }
 
 static void time_line(struct line *l)
@@ -374,8 +374,7 @@ static void time_line(struct line *l)
     fprintf(stderr, "bench: %s, %u columns, %u rows\n", bench_data(l), l->c, l->n);
     struct set s = make_set(l);
     compare_all(&s);
-    for (int kind = 0; kind < KINDS; kind++)
-        time_kind(&s, kind);
+    time_kinds(&s);
     free_set(&s);
 }
 
