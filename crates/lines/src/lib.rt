@@ -52,10 +52,10 @@ fn put_word(text: &mut [u8], at: usize, word: u32, place: usize, shown: usize) -
     requires { ⌜ (at ≤ length (now text)) × (21 ≤ length (now text)) ⌝ }
     ensures { λ r. ⌜ r ≤ length (now (text .entry)) ⌝ }
 {
-    if shown <= place {
-        return at;
-    }
     let from = make_room(text, at, MOST);
+    if shown <= place {
+        return from;
+    }
     if place + 1 == shown {
         return put_number(text, from, word as u64, b'\n');
     }
