@@ -1,4 +1,4 @@
--- `nearest::searching::search` meets its contract: each round takes the item with the least bound, while it is due; what is left falls with each.
+-- `seek::searching::search` meets its contract: each round takes the item with the least bound, while it is due; what is left falls with each.
 -- Assumes nothing.
 use Rattle.laws.specs.Bags.{total}
 use Rattle.measure.specs.Table.{from}

@@ -1,4 +1,4 @@
--- `nearest::taking::measure_centres` meets its contract: each round measures one centre.
+-- `seek::taking::measure_centres` meets its contract: each round measures one centre.
 -- Assumes nothing.
 use Prim.Native.Nat.{_-_}
 use Rattle.measure.specs.Table.{from}

@@ -1,4 +1,4 @@
--- `nearest::taking::measure_row` meets its contract: the distance is kept and entered as it was measured.
+-- `seek::taking::measure_row` meets its contract: the distance is kept and entered as it was measured.
 -- Assumes nothing.
 use Rattle.measure.proofs.Rows.{row-ends}
 use Rattle.seek.proofs.OneRow.{room-to-enter, took}

@@ -1,4 +1,4 @@
--- `nearest::taking::open_inner` meets its contract: its centres are measured before the least of them and the last distance are looked for, and
+-- `seek::taking::open_inner` meets its contract: its centres are measured before the least of them and the last distance are looked for, and
 -- these before its children are queued.
 -- Assumes nothing.
 use Rattle.seek.proofs.InnerNodes.{inner-asks, inner-done, inner-then}

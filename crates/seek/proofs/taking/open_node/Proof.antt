@@ -1,4 +1,4 @@
--- `nearest::taking::open_node` meets its contract: a leaf and an inner node are told apart by the first child.
+-- `seek::taking::open_node` meets its contract: a leaf and an inner node are told apart by the first child.
 -- Assumes nothing.
 use Rattle.seek.proofs.Queueing.{node-words, room-at}
 use Rattle.seek.proofs.Rounds.{node-there, taken-leaf}

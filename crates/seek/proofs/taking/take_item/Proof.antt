@@ -1,4 +1,4 @@
--- `nearest::taking::take_item` meets its contract: the id tells a node from a position.
+-- `seek::taking::take_item` meets its contract: the id tells a node from a position.
 -- Assumes nothing.
 use Prim.Native.Nat.{_*_, _+_, _-_, _<_, ℕ}
 use Rattle.seek.proofs.Queueing.{place-words}

@@ -1,4 +1,4 @@
--- `nearest::waiting::nearest_centre` meets its contract: each round looks at one centre.
+-- `seek::waiting::nearest_centre` meets its contract: each round looks at one centre.
 -- Assumes nothing.
 use Prim.Native.Nat.{_*_, _-_, _<_, _≤_, ℕ}
 use Rattle.limits.specs.Limits.{maxRows}

@@ -1,4 +1,4 @@
--- `nearest::waiting::open_leaf` meets its contract: the rows but the first of its run are queued.
+-- `seek::waiting::open_leaf` meets its contract: the rows but the first of its run are queued.
 -- Assumes nothing.
 use Rattle.seek.proofs.Queueing.{kept-there, leaf-more, leaf-room, node-words}
 use Rattle.seek.proofs.waiting.open_leaf.Statement.{statement}

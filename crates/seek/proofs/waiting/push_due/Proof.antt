@@ -1,4 +1,4 @@
--- `nearest::waiting::push_due` meets its contract: an entry is pushed exactly where its key is at most the last distance.
+-- `seek::waiting::push_due` meets its contract: an entry is pushed exactly where its key is at most the last distance.
 -- Assumes nothing.
 use Rattle.seek.proofs.Beyond.{more-above, more-pushed}
 use Rattle.seek.proofs.waiting.push_due.Statement.{statement}

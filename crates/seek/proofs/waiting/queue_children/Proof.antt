@@ -1,4 +1,4 @@
--- `nearest::waiting::queue_children` meets its contract: each round queues one node, under the bound of its kept distance.
+-- `seek::waiting::queue_children` meets its contract: each round queues one node, under the bound of its kept distance.
 -- Assumes nothing.
 use Prim.Native.Nat.{_+_, _-_, ℕ}
 use Rattle.seek.proofs.Queueing.{QueuedTo, kept-there, node-entry, queued-done, queued-room, queued-start, queued-step}

@@ -1,4 +1,4 @@
--- `nearest::waiting::queue_rows` meets its contract: each round queues one position, under its own bound.
+-- `seek::waiting::queue_rows` meets its contract: each round queues one position, under its own bound.
 -- Assumes nothing.
 use Prim.Native.Nat.{_+_, _-_, suc, ℕ}
 use Rattle.seek.proofs.Queueing.{QueuedTo, place-entry, place-words, queued-done, queued-room, queued-start, queued-step}
