@@ -32,10 +32,9 @@ use Rattle.words.proofs.Strides.{words-few}
 use Rattle.words.specs.InShape.{InShape}
 use Rattle.words.specs.Words.{N#, c#, edition#, l#, m#, n#, wordsOf}
 use borrow.Author.Tests.{eq-eqb, ne-eqb}
-use lib.Dec.{eqb}
 use lib.ListN.{drop, length, length-append, length-drop, length-map, take}
 use lib.Seq.{drop-append-le, take-append-le}
-use mathlib.Core.Bool.{Bool, cond, false, true}
+use mathlib.Core.Bool.{Bool, cond, true}
 use mathlib.Core.List.{List, _++_, _∷_}
 use mathlib.Core.Path.{_∙_, _≡_, ap, ap₂, refl, subst, sym}
 use native.Mathlib.Nat.{div-self, mul-add-div}

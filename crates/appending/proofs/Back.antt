@@ -260,7 +260,8 @@ module _ (w : List ℕ) (S : InShape w) (t : T (treeFits w)) where
       let less = born-le w a (N# w) h in
       let end = closed w t some in
       let stop : below fs ≡ [] = no-below fs a c l in
-      let fin : nx ≡ N# w = last-node nx (omega arith) (ap (born w) e ∙ sym (r .1) ∙ ap (λ (hs : List (ℕ × Grove)). nx + members hs) stop ∙ add-zero nx) in
+      let fin : nx ≡ N# w =
+      last-node nx (omega arith) (ap (born w) e ∙ sym (r .1) ∙ ap (λ (hs : List (ℕ × Grove)). nx + members hs) stop ∙ add-zero nx) in
       let sum : members fs ≡ N# w - a = omega arith in
       r .0 ∙ ap (λ (k : ℕ). map (node# w) (range a k)) sum
     where

@@ -34,7 +34,8 @@ module _ (d : ℕ → ℕ → ℕ) where
       let others : List ℕ = map (d f) (rest is) in
       record {
         up = subst (λ (r : ℕ). Every (λ i. d f i ≤ r) is) (sym (s .0)) (every-unmap (λ v. v ≤ greatest all) (d f) is (greatest-le all));
-        low = subst (λ (r : ℕ). Every (λ i. r ≤ d f i) (rest is)) (sym (s .1)) (every-unmap (λ v. lowest others ≤ v) (d f) (rest is) (lowest-le others));
+        low = subst (λ (r : ℕ). Every (λ i. r ≤ d f i) (rest is)) (sym (s .1))
+            (every-unmap (λ v. lowest others ≤ v) (d f) (rest is) (lowest-le others));
       }
 
   -- AN EXACT REACH WITH ONE ROW MORE IS EXACT, in any order with the same first

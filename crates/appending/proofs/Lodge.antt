@@ -8,7 +8,7 @@ use Rattle.laws.proofs.Lists.{map-append, tally-append}
 use Rattle.laws.proofs.Shares.{bit}
 use Rattle.laws.proofs.Times.{lefts, tally-lefts}
 use Rattle.laws.specs.Every.{Every}
-use Rattle.laws.specs.Lists.{head, tally, times}
+use Rattle.laws.specs.Lists.{head, tally}
 use Rattle.tree.specs.Build.{grow, leafOf, reach, split}
 use Rattle.tree.specs.Grove.{Grove, Reach, bare, entries, fork, leaf}
 use borrow.Author.Tests.{ne-eqb}
@@ -175,4 +175,5 @@ module _ (d : ℕ → ℕ → ℕ) (m l z : ℕ) where
         go false e p q = p
         go true e p q =
             q ∙ ap (keepOwn (own R es)) (sym (grow-leaf deep (longer z es) g e))
-            ∙ ap₂ (λ (k : Reach) (x : List (ℕ × ℕ)). leaf k x g) (ap (λ (i : ℕ). reachWith (length es) R (d i z)) (head-more (lefts es) z some)) pairs-more
+            ∙ ap₂ (λ (k : Reach) (x : List (ℕ × ℕ)). leaf k x g) (ap (λ (i : ℕ). reachWith (length es) R (d i z)) (head-more (lefts es) z some))
+            pairs-more

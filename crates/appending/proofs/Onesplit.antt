@@ -20,7 +20,7 @@ use borrow.Author.Tests.{le-leb, leb-false, lt-leb, ne-eqb}
 use lib.Dec.{T, eqb, leb, leb→le}
 use lib.ListN.{length, length-append, length-map}
 use mathlib.Core.Bool.{Bool, _||_, cond, false, or-false, or-true, true}
-use mathlib.Core.List.{List, [], _++_, _∷_, foldr, map}
+use mathlib.Core.List.{List, [], _∷_, foldr, map}
 use mathlib.Core.Path.{_∙_, _≡_, ap, ap₂, refl, subst, sym}
 use native.Mathlib.Nat.{add-zero, not-suc-le-zero}
 use native.Mathlib.Omega.{arith}
@@ -90,8 +90,8 @@ module _ (d : ℕ → ℕ → ℕ) (m l : ℕ) (m2 : 2 ≤ m) (ml : m ≤ l) whe
     stays-count deep es = ap (λ (k : ℕ). leb k l || eqb deep 0) (longer-length z es)
 
     -- A LEAF OF l ROWS ABOVE DEPTH 24 THAT TAKES ONE MORE BECOMES AN INNER NODE OVER m LEAVES
-    pub lodge-split : (deep : ℕ) (R : Reach) (es : List (ℕ × ℕ)) (g : Grove) → Made d m l (suc deep) (leaf R es g) → Once z (leaf R es g) → length es ≡ l
-        → lodge d m l z (suc deep) R es g ≡ fork (reach d (ordered z es)) (foldr (leafOf d) bare (split d m (ordered z es))) g
+    pub lodge-split : (deep : ℕ) (R : Reach) (es : List (ℕ × ℕ)) (g : Grove) → Made d m l (suc deep) (leaf R es g) → Once z (leaf R es g)
+        → length es ≡ l → lodge d m l z (suc deep) R es g ≡ fork (reach d (ordered z es)) (foldr (leafOf d) bare (split d m (ordered z es))) g
     lodge-split deep R es g M o e =
         let b : (leb (length es + 1) l || eqb (suc deep) 0) ≡ false =
         ap₂ (λ (x y : Bool). x || y) (lt-leb (length es + 1) l (omega arith)) (ne-eqb (suc deep) 0 (λ q. omega arith)) in

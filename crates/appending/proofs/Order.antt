@@ -46,8 +46,8 @@ module _ (d : ℕ → ℕ → ℕ) (m l z : ℕ) where
   abbrev pub longest : List (ℕ × ℕ) → List (ℕ × ℕ)
   longest es = es ++ (z, d (head (lefts es)) z) ∷ []
 
-  -- the groups of nodes g at depth dep, and of g′ that have the row z too: one group makes way for others. Where it has fewer than l rows, or stands at
-  -- depth 24, the row stands last in it; else it is split by the build's rule, its rows put in order before
+  -- the groups of nodes g at depth dep, and of g′ that have the row z too: one group makes way for others. Where it has fewer than l rows, or
+  -- stands at depth 24, the row stands last in it; else it is split by the build's rule, its rows put in order before
   pub record Order (dep : ℕ) (g g′ : Grove) : Type 0 where
     pub before : List Group
     pub depth : ℕ

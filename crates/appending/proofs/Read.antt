@@ -146,8 +146,8 @@ pub encode-tree : (c m l : ℕ) (t : Grove) → span t ≡ 1 → Even m t → Fi
 unfolding treeOf encode numbered
 encode-tree c m l t one ev fi =
     let ed : Edition 2 = (omega arith, omega arith) in
-    let r = nodes-read (encode 2 c m l t) refl l maxDepth 0 (span t) ((0, t) ∷ []) (encode-nodes 2 c m l ed t) (encode-pairs 2 c m l ed t, tt) (ev, tt)
-    (fi, tt) (omega arith) (omega arith) in
+    let r = nodes-read (encode 2 c m l t) refl l maxDepth 0 (span t) ((0, t) ∷ []) (encode-nodes 2 c m l ed t) (encode-pairs 2 c m l ed t, tt)
+    (ev, tt) (fi, tt) (omega arith) (omega arith) in
     let q : min (length (numbered t)) 1 ≡ span t = omega (arith, nodes-some maxDepth (span t) ((0, t) ∷ [])) in
     ap (λ (k : ℕ). forest (encode 2 c m l t) maxDepth 0 k) q ∙ r .0
 

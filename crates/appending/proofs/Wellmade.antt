@@ -177,7 +177,8 @@ module _ (w : List ℕ) (S : InShape w) (t : T (treeFits w)) where
   tight-tree d f =
       tree-of (λ deep g. Tight d g) (λ deep. tt)
       (λ dep deep k g h q u e p.
-      (subst (λ (i : ℕ). Spans d (reach# w k) i (lefts (members# w k))) (sym (run-first w S (start# w k) (count# w k) (S .node k h .some))) (f k h), p))
+      let first = run-first w S (start# w k) (count# w k) (S .node k h .some) in
+      (subst (λ (i : ℕ). Spans d (reach# w k) i (lefts (members# w k))) (sym first) (f k h), p))
       (λ dep deep k g h q u e ks p.
       let K : Grove = forest w deep (child# w k) (m# w) in (
         subst (λ (i : ℕ). Spans d (reach# w k) i (rowsIn K)) (sym (kids-first w S deep k h q))
@@ -187,13 +188,15 @@ module _ (w : List ℕ) (S : InShape w) (t : T (treeFits w)) where
       ))
 
 -- the exact reach of node k, read from the check
-reach-is : (d : ℕ → ℕ → ℕ) (w : List ℕ) → Accepted d w → edition# w ≡ 2 → (k : ℕ) → k < N# w → Spans d (reach# w k) (first# w k) (lefts (members# w k))
+reach-is : (d : ℕ → ℕ → ℕ) (w : List ℕ) → Accepted d w → edition# w ≡ 2 → (k : ℕ) → k < N# w
+    → Spans d (reach# w k) (first# w k) (lefts (members# w k))
 reach-is d w A two k h =
     let f : ℕ → ℕ = d (first# w k) in
     let O = no-faults d w (A .sound) in
     let rows : map (row# w) (run# w k) ≡ lefts (members# w k) = map-map (λ e. e .0) (λ p. (row# w p, dist# w p)) (run# w k) in (
       radius-is d w O k h ∙ ap greatest (map-map f (row# w) (run# w k) ∙ ap (map f) rows),
-      inner-is-nearest d w O two k h ∙ ap lowest (map-map f (row# w) (rest (run# w k)) ∙ ap (map f) (sym (rest-map (row# w) (run# w k)) ∙ ap rest rows)),
+      inner-is-nearest d w O two k h
+          ∙ ap lowest (map-map f (row# w) (rest (run# w k)) ∙ ap (map f) (sym (rest-map (row# w) (run# w k)) ∙ ap rest rows)),
     )
 
 -- THE TREE OF AN ACCEPTED INDEX IS WELL MADE, in edition 2: edition 1 does not keep the inner reaches

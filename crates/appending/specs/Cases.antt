@@ -37,10 +37,13 @@ sevens = 7 ∷ 7 ∷ 7 ∷ 7 ∷ []
 abbrev six : List ℕ
 six = 3 ∷ 9 ∷ 4 ∷ 1 ∷ 7 ∷ 2 ∷ []
 
--- the cases: a leaf stays or is split, a tie, an empty table; a leaf at depth 24; and of words that no build gives, two leaves out of order, one with a
--- row twice, one with wrong numbers
-abbrev pub cases : List Case
-cases =
+-- a leaf at depth 24: 27 equal rows, and one more
+abbrev pub deepest : Case
+deepest = order (map (λ i. 7) (range 0 27)) 6 (0 ∷ 25 ∷ 26 ∷ 27 ∷ map (λ i. 24 - i) (range 0 24)) 49
+
+-- the five rows and an empty table
+abbrev pub marked : List Case
+marked =
     built five 6 (
     2 ∷ 6 ∷ 1 ∷ 2 ∷ 2 ∷ 5 ∷ 1 ∷ 0
     ∷ 0 ∷ 6 ∷ 1 ∷ 20 ∷ 1
@@ -49,15 +52,6 @@ cases =
     ∷ 0 ∷ 2 ∷ 0 ∷ 1 ∷ 1
     ∷ 2 ∷ 2 ∷ 0 ∷ 4 ∷ 4
     ∷ 0 ∷ 0 ∷ 1 ∷ 1 ∷ 2 ∷ 0 ∷ 5 ∷ 4 ∷ 4 ∷ 0 ∷ 3 ∷ 9 ∷ []
-    )
-    ∷ built five 10 (
-    2 ∷ 6 ∷ 1 ∷ 2 ∷ 2 ∷ 5 ∷ 1 ∷ 0
-    ∷ 0 ∷ 6 ∷ 1 ∷ 20 ∷ 1
-    ∷ 0 ∷ 4 ∷ 3 ∷ 10 ∷ 1
-    ∷ 4 ∷ 2 ∷ 0 ∷ 9 ∷ 9
-    ∷ 0 ∷ 2 ∷ 0 ∷ 1 ∷ 1
-    ∷ 2 ∷ 2 ∷ 0 ∷ 0 ∷ 0
-    ∷ 0 ∷ 0 ∷ 1 ∷ 1 ∷ 2 ∷ 0 ∷ 5 ∷ 0 ∷ 4 ∷ 0 ∷ 3 ∷ 9 ∷ []
     )
     ∷ built five 12 (
     2 ∷ 6 ∷ 1 ∷ 2 ∷ 2 ∷ 7 ∷ 1 ∷ 0
@@ -80,6 +74,25 @@ cases =
     ∷ 0 ∷ 2 ∷ 0 ∷ 0 ∷ 0
     ∷ 2 ∷ 1 ∷ 0 ∷ 0 ∷ 0
     ∷ 0 ∷ 0 ∷ 5 ∷ 0 ∷ 1 ∷ 0 ∷ 2 ∷ 0 ∷ 4 ∷ 0 ∷ 3 ∷ 9 ∷ []
+    )
+    ∷ built [] 4 (
+    2 ∷ 1 ∷ 1 ∷ 2 ∷ 2 ∷ 1 ∷ 1 ∷ 0
+    ∷ 0 ∷ 1 ∷ 0 ∷ 0 ∷ 0
+    ∷ 0 ∷ 0 ∷ []
+    )
+    ∷ []
+
+-- more: a tie of two centres, radii that grow, equal rows, leaves of one row, rows in no order
+abbrev pub ours : List Case
+ours =
+    built five 10 (
+    2 ∷ 6 ∷ 1 ∷ 2 ∷ 2 ∷ 5 ∷ 1 ∷ 0
+    ∷ 0 ∷ 6 ∷ 1 ∷ 20 ∷ 1
+    ∷ 0 ∷ 4 ∷ 3 ∷ 10 ∷ 1
+    ∷ 4 ∷ 2 ∷ 0 ∷ 9 ∷ 9
+    ∷ 0 ∷ 2 ∷ 0 ∷ 1 ∷ 1
+    ∷ 2 ∷ 2 ∷ 0 ∷ 0 ∷ 0
+    ∷ 0 ∷ 0 ∷ 1 ∷ 1 ∷ 2 ∷ 0 ∷ 5 ∷ 0 ∷ 4 ∷ 0 ∷ 3 ∷ 9 ∷ []
     )
     ∷ built five 25 (
     2 ∷ 6 ∷ 1 ∷ 2 ∷ 2 ∷ 7 ∷ 1 ∷ 0
@@ -181,13 +194,13 @@ cases =
     ∷ 2 ∷ 1 ∷ 0 ∷ 0 ∷ 0
     ∷ 0 ∷ 0 ∷ 5 ∷ 1 ∷ 2 ∷ 0 ∷ 3 ∷ 0 ∷ 1 ∷ 0 ∷ 4 ∷ 2 ∷ 6 ∷ 0 ∷ []
     )
-    ∷ built [] 4 (
-    2 ∷ 1 ∷ 1 ∷ 2 ∷ 2 ∷ 1 ∷ 1 ∷ 0
-    ∷ 0 ∷ 1 ∷ 0 ∷ 0 ∷ 0
-    ∷ 0 ∷ 0 ∷ []
-    )
-    ∷ order (map (λ i. 7) (range 0 27)) 6 (0 ∷ 25 ∷ 26 ∷ 27 ∷ map (λ i. 24 - i) (range 0 24)) 49
-    ∷ given (5 ∷ 9 ∷ 1 ∷ 6 ∷ []) (
+    ∷ []
+
+-- words that no build gives: two leaves out of order, one stays and one is split; a row twice; wrong numbers, which are measured anew but for the
+-- reach that the leaf had
+abbrev pub unbuilt : List Case
+unbuilt =
+    given (5 ∷ 9 ∷ 1 ∷ 6 ∷ []) (
     2 ∷ 3 ∷ 1 ∷ 2 ∷ 4 ∷ 1 ∷ 1 ∷ 0
     ∷ 0 ∷ 3 ∷ 0 ∷ 4 ∷ 4
     ∷ 0 ∷ 0 ∷ 2 ∷ 4 ∷ 1 ∷ 4 ∷ []
