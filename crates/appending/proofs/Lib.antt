@@ -1,4 +1,3 @@
-pub mod Cases
 pub mod Read
 pub mod Back
 pub mod Wellmade
@@ -11,3 +10,4 @@ pub mod Agree
 pub mod Onesplit
 pub mod Order
 pub mod Appending
+pub mod Cases

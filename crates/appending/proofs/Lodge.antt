@@ -84,7 +84,7 @@ module _ (d : ℕ → ℕ → ℕ) (m l z : ℕ) where
   own R es = reachWith (length es) R (d (head (longer z es)) z)
 
   -- the leaf of all its rows in their order
-  abbrev unsplit : Reach → List (ℕ × ℕ) → Grove → Grove
+  abbrev pub unsplit : Reach → List (ℕ × ℕ) → Grove → Grove
   unsplit R es g = leaf (own R es) (map (λ i. (i, d (head (longer z es)) i)) (longer z es)) g
 
   -- the node over them put in order
@@ -127,7 +127,7 @@ module _ (d : ℕ → ℕ → ℕ) (m l z : ℕ) where
   laid-tally deep es f =
       laid-has (λ is. tally f is ≡ tally f (lefts es) + bit (f z)) deep es (omega (arith, tally-append f (lefts es) (z ∷ []))) (ordered-tally z f es)
 
-  -- there is one more
+  -- there are rows
   laid-some : (deep : ℕ) (es : List (ℕ × ℕ)) → 1 ≤ length (laid deep es)
   laid-some deep es = laid-has (λ is. 1 ≤ length is) deep es (omega (arith, longer-length z es)) (omega (arith, ordered-length z es))
 

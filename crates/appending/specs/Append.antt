@@ -43,9 +43,9 @@ keepOwn R (leaf S es g) = leaf R es g
 keepOwn R (fork S ks g) = fork R ks g
 
 module _ (d : ℕ → ℕ → ℕ) (m l z : ℕ) where
-  -- The leaf that takes the new row, before the nodes g: it stands last. Where there are then more than l rows, a level is left below and no row
-  -- stands twice, the leaf is split by the build's own rule, its rows put in order before. Its distances are measured; its reach is the old one
-  -- with the new row.
+  -- The leaf that takes the new row, before the nodes g: the row stands last. Where there are then more than l rows, a level is left below and
+  -- no row stands twice, the leaf is split by the build's own rule, its rows put in order before. Its distances are measured; its reach is the
+  -- old one with the new row.
   unfoldable pub lodge : ℕ → Reach → List (ℕ × ℕ) → Grove → Grove
   lodge deep R es g =
       let run : List ℕ = map (λ e. e .0) es ++ z ∷ [] in
