@@ -1,0 +1,2 @@
+// The leaf that a new row joins, and its run laid in the workspace.
+pub mod way;
