@@ -1,3 +1,8 @@
+-- `leafward::way::leaf_for` meets its contract: the walk has come to a node of the way, and node numbers grow (`Walking`). Assumes nothing.
+use native.Mathlib.Omega.{arith}
+use Rattle.words.specs.Words.{N#}
+use Rattle.leafward.proofs.Walking.{Walking, walking-done, walking-down, walking-inner, walking-later, walking-start, walking-step}
+use Prim.Native.Nat.{_-_}
 use borrow.Author.Needs.{needs}
 use Rattle.leafward.proofs.way.leaf_for.Statement.{statement}
 use Rattle.leafward.proofs.way.leaf_for.Tie as tie
@@ -7,46 +12,44 @@ use Rattle.leafward.proofs.way.closest_child.Reads as closest-child-rea
 use Rattle.words.proofs.places.node_child.Reads as node-child-reads
 
 abbrev Inv-loop : tie.InvT-loop
-Inv-loop table c index z node₀ left₀ child₀ node left child = ?
+Inv-loop table c index z node₀ left₀ child₀ node left child = Walking table c index z node left child
 
 abbrev μ-loop : tie.MeasureT-loop
-μ-loop table c index z node₀ left₀ child₀ node left child = ?
+μ-loop table c index z node₀ left₀ child₀ node left child = N# index - node
 
--- src/way.rt:52:9
 node-child-requires : tie.Need-node-child-requires Inv-loop μ-loop
-node-child-requires c κs = search needs
+node-child-requires c κs = (c .before .before .pre .0 .shape .whole, omega arith)
 
--- src/way.rt:53:5
 loop-holds : tie.Need-loop-holds Inv-loop μ-loop
-loop-holds c = search needs
+loop-holds c = walking-start (c .before .before .before .pre .0) (c .before .before .before .pre .1) (c .node-child .ensures .0)
 
--- src/way.rt:54:24
 closest-child-requires : tie.Need-closest-child-requires Inv-loop μ-loop
-closest-child-requires c κs = search needs
+closest-child-requires c κs = (c .before .loop .inv .lent, (c .before .loop .inv .there, walking-inner (c .before .loop .inv) (c .loop-test .taken)))
 
--- src/way.rt:54:16
 add-node : tie.Need-add-node Inv-loop μ-loop
-add-node c = search needs
+add-node c =
+    omega (
+      arith,
+      walking-later (c .before .before .loop .inv) (c .before .loop-test .taken) (c .closest-child .ensures .1),
+      c .before .before .loop .inv .lent .shape .whole .nodes,
+      c .before .before .loop .inv .lent .shape .whole .rows,
+    )
 
--- src/way.rt:55:9
 sub-left : tie.Need-sub-left Inv-loop μ-loop
-sub-left c = search needs
+sub-left c = walking-down (c .before .before .loop .inv) (c .before .loop-test .taken)
 
--- src/way.rt:56:9
 node-child-requires-2 : tie.Need-node-child-requires-2 Inv-loop μ-loop
-node-child-requires-2 c κs = search needs
+node-child-requires-2 c κs =
+    (c .before .before .loop .inv .lent .shape .whole, walking-later (c .before .before .loop .inv) (c .before .loop-test .taken) (c .closest-child .ensures .1) .0)
 
--- src/way.rt:53:5
 loop-less : tie.Need-loop-less Inv-loop μ-loop
-loop-less c = search needs
+loop-less c = omega (arith, walking-later (c .before .before .before .loop .inv) (c .before .before .loop-test .taken) (c .before .closest-child .ensures .1))
 
--- src/way.rt:53:5
 loop-again : tie.Need-loop-again Inv-loop μ-loop
-loop-again c = search needs
+loop-again c = walking-step (c .before .before .before .loop .inv) (c .before .before .loop-test .taken) (c .before .closest-child .ensures) (c .node-child2 .ensures .0)
 
--- src/way.rt:45:1
 returns : tie.Need-returns Inv-loop μ-loop
-returns c = search needs
+returns c = walking-done (c .before .loop .inv) (c .loop-test .left)
 
 pub leaf-for-spec : {M : Type 1} → statement M
 leaf-for-spec =
