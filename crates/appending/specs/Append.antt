@@ -1,5 +1,6 @@
 -- One row more in the tree: 02, R-2. Over the distance d between rows; z is the new row. Assumes nothing.
-use Prim.Native.Nat.{max, min, suc, zero, ℕ}
+use Prim.Native.Nat.{_≤_, max, min, suc, zero, ℕ}
+use Rattle.laws.specs.Every.{Every}
 use Rattle.laws.specs.Lists.{all, has, head, rest}
 use Rattle.limits.specs.Limits.{maxDepth}
 use Rattle.measure.specs.Table.{between}
@@ -25,6 +26,11 @@ enter i (j ∷ js) = cond (ltb j i) (j ∷ enter i js) (i ∷ j ∷ js)
 -- a run as the build has it: its first, and behind it the others ascending
 abbrev pub orderly : List ℕ → List ℕ
 orderly run = head run ∷ foldr enter [] (rest run)
+
+-- no row is above one behind it
+abbrev pub Ascends : List ℕ → Type 0
+Ascends [] = Unit {0}
+Ascends (x ∷ xs) = Every (λ y. x ≤ y) xs × Ascends xs
 
 -- a row stands twice in the run
 abbrev pub twice : List ℕ → Bool

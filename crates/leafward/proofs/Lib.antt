@@ -1,3 +1,5 @@
 pub mod Choosing
 pub mod Walking
 pub mod Changing
+pub mod Halves
+pub mod Storing
