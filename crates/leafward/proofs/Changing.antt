@@ -9,14 +9,14 @@ use Rattle.laws.proofs.Ranges.{range-length}
 use Rattle.laws.specs.Lists.{range}
 use Rattle.leafward.proofs.Walking.{way-end, way-step}
 use Rattle.leafward.specs.Changed.{Holds, Reaches, changedAt}
-use Rattle.leafward.specs.Way.{closestKid, leftAt, toKid, wayTo}
+use Rattle.leafward.specs.Way.{Found, closestKid, leftAt, toKid, wayTo}
 use Rattle.limits.specs.Limits.{maxDepth}
 use Rattle.tree.proofs.Forks.{as-fork, as-leaf, forkNode, kids-first, kidsAt, leafNode, no-levels}
-use Rattle.tree.proofs.Members.{entries-at, held, kids-entries, kids-firsts}
+use Rattle.tree.proofs.Members.{entries-at, kids-entries, kids-firsts}
 use Rattle.tree.proofs.Rows.{by-root}
 use Rattle.tree.specs.Grove.{Grove, Reach, bare, entries, first, firsts, fork, leaf, members#, reach#, treeAt, treeOf}
 use Rattle.words.proofs.Tiles.{tile-head, tile-part, tile-tail}
-use Rattle.words.specs.InShape.{InShape, Kids}
+use Rattle.words.specs.InShape.{InShape}
 use Rattle.words.specs.Shape.{inner, tile}
 use Rattle.words.specs.Words.{N#, child#, count#, dist#, first#, l#, m#, row#, start#}
 use borrow.Author.Tests.{eq-eqb, ne-eqb}
@@ -215,7 +215,7 @@ module _ (d : ℕ → ℕ → ℕ) (w : List ℕ) (S : InShape w) (z : ℕ) wher
               ap (join d (m# w) (l# w) z (suc deep) 0) (as-leaf w (suc deep) k g e) ∙ leaf-joined (suc deep) k g (u .0 ∙ s .0) (u .1 ∙ s .1)
 
       -- THE TREE THAT TAKES ROW Z: the leaf at the end of the way is another, the nodes whose run holds its reach to the row, and all else stays
-      pub join-changed : 1 ≤ N# w → Leads maxDepth 0
+      pub join-changed : 1 ≤ N# w → Found d w z v left
           → join d (m# w) (l# w) z maxDepth 0 (treeOf w) ≡ changedAt w R v anew maxDepth 0 bare
-      join-changed h u =
-          by-root (λ g. join d (m# w) (l# w) z maxDepth 0 g ≡ A maxDepth 0 bare) w (λ q. node-joined maxDepth 0 bare q u) (λ e. absurd (omega arith))
+      join-changed h F =
+          by-root (λ g. join d (m# w) (l# w) z maxDepth 0 g ≡ A maxDepth 0 bare) w (λ q. node-joined maxDepth 0 bare q (F .node, F .levels)) (λ e. absurd (omega arith))

@@ -1,5 +1,5 @@
 -- The child whose centre is closest to a row, found in one pass over the children. Assumes nothing.
-use Prim.Native.Nat.{_*_, _+_, _<_, _≤_, suc, ℕ}
+use Prim.Native.Nat.{_*_, _+_, _<_, _≤_, ℕ}
 use Rattle.appending.proofs.Lowest.{lowest-first, lowest-least, lowest-there}
 use Rattle.appending.specs.Append.{lowestAt}
 use Rattle.laws.proofs.Every.{every-unmap}
@@ -9,16 +9,15 @@ use Rattle.leafward.specs.Way.{Lent, closestKid, toKid}
 use Rattle.limits.specs.Limits.{maxColumns}
 use Rattle.measure.proofs.Rows.{row-ends}
 use Rattle.measure.specs.Table.{between}
-use Rattle.words.specs.InShape.{InShape, Whole}
 use Rattle.words.specs.Shape.{inner}
 use Rattle.words.specs.Words.{N#, child#, first#, m#, n#}
 use lib.ListN.{getD, length, length-map}
 use mathlib.Core.Bool.{true}
 use mathlib.Core.List.{List, map}
 use mathlib.Core.Logic.{by-cases}
-use mathlib.Core.Path.{_∙_, _≡_, ap, refl, sym}
+use mathlib.Core.Path.{_∙_, _≡_, ap}
 use native.Mathlib.Decide.{decLt}
-use native.Mathlib.Nat.{add-zero, zero-add}
+use native.Mathlib.Nat.{zero-add}
 use native.Mathlib.Omega.{arith}
 
 -- ---- the lowest of f 0, f 1, ..

@@ -8,3 +8,4 @@ pub mod Lining
 pub mod Popping
 pub mod Seeing
 pub mod Finishing
+pub mod Handing

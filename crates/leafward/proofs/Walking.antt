@@ -9,10 +9,9 @@ use Rattle.words.specs.InShape.{Kids, Left}
 use Rattle.words.specs.Shape.{inner}
 use Rattle.words.specs.Words.{N#, child#, m#}
 use borrow.Author.Tests.{eq-eqb}
-use mathlib.Core.Bool.{cond, false, not, true}
+use mathlib.Core.Bool.{false, not, true}
 use mathlib.Core.List.{List}
 use mathlib.Core.Path.{_∙_, _≡_, ap, ap₂, refl, subst, sym}
-use native.Mathlib.Nat.{not-suc-le-zero}
 use native.Mathlib.Omega.{arith}
 
 -- ---- one step of the way

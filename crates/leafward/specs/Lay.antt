@@ -2,7 +2,7 @@
 use Prim.Native.Nat.{_%_, _*_, _+_, _<_, _≤_, ℕ}
 use Rattle.appending.specs.Append.{Ascends, orderly, twice}
 use Rattle.laws.specs.Bags.{SameBag}
-use Rattle.laws.specs.Lists.{each, head, range, rest}
+use Rattle.laws.specs.Lists.{each, head, rest}
 use Rattle.leafward.specs.Way.{Lent}
 use Rattle.limits.specs.Limits.{maxRows}
 use Rattle.queue.specs.Queue.{Queue, entries}

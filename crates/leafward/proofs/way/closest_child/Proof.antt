@@ -3,8 +3,6 @@ use Prim.Native.Nat.{_-_}
 use Rattle.leafward.proofs.Choosing.{Choosing, choosing-done, choosing-moves, choosing-start, choosing-stays, kids-there, measurable}
 use Rattle.leafward.proofs.way.closest_child.Statement.{statement}
 use Rattle.leafward.proofs.way.closest_child.Tie as tie
-use Rattle.leafward.proofs.way.closest_child.Reads as reads
-use Rattle.leafward.proofs.way.closest_child.Lts as lts
 use borrow.Author.Needs.{needs}
 use native.Mathlib.Omega.{arith}
 
@@ -21,18 +19,24 @@ centres-requires : tie.Need-centres-requires Inv-loop μ-loop
 centres-requires c κs = omega (arith, c .before .before .before .pre .0 .shape .whole .words)
 
 node-first-requires : tie.Need-node-first-requires Inv-loop μ-loop
-node-first-requires c κs = (c .before .before .before .before .pre .0 .shape, omega (arith, kids-there (c .before .before .before .before .pre .0) (c .before .before .before .before .pre .1 .0) (c .before .before .before .before .pre .1 .1) (c .before .node-child .ensures .0) (c .centres .ensures .0)))
+node-first-requires c κs =
+    let c4 = c .before .before .before .before in
+    (c4 .pre .0 .shape, omega (arith, kids-there (c4 .pre .0) (c4 .pre .1 .0) (c4 .pre .1 .1) (c .before .node-child .ensures .0) (c .centres .ensures .0)))
 
 row-distance-requires : tie.Need-row-distance-requires Inv-loop μ-loop
 row-distance-requires c κs = measurable (c .before .before .before .before .before .pre .0) (c .node-first .ensures .1)
 
 loop-holds : tie.Need-loop-holds Inv-loop μ-loop
 loop-holds c =
-    choosing-start (c .before .before .before .before .before .before .pre .0) (c .before .before .before .before .before .before .pre .1 .0) (c .before .before .before .before .before .before .pre .1 .1) (c .before .before .before .node-child .ensures .0) (c .before .before .centres .ensures .0)
+    let c2 = c .before .before in
+    let c3 = c2 .before in
+    let c6 = c3 .before .before .before in
+    choosing-start (c6 .pre .0) (c6 .pre .1 .0) (c6 .pre .1 .1) (c3 .node-child .ensures .0) (c2 .centres .ensures .0)
     (c .before .node-first .ensures .0) (c .row-distance .ensures .0)
 
 add-node-first : tie.Need-add-node-first Inv-loop μ-loop
-add-node-first c = omega (arith, c .before .loop .inv .inside, c .before .loop .inv .lent .shape .whole .nodes, c .before .loop .inv .lent .shape .whole .rows)
+add-node-first c =
+    omega (arith, c .before .loop .inv .inside, c .before .loop .inv .lent .shape .whole .nodes, c .before .loop .inv .lent .shape .whole .rows)
 
 node-first-requires-2 : tie.Need-node-first-requires-2 Inv-loop μ-loop
 node-first-requires-2 c κs = (c .before .loop .inv .lent .shape, omega (arith, c .before .loop .inv .inside))
@@ -48,14 +52,18 @@ loop-less c = search needs
 
 loop-again : tie.Need-loop-again Inv-loop μ-loop
 loop-again c =
-    choosing-moves (c .before .before .before .before .loop .inv) (omega arith) (c .before .before .node-first2 .ensures .0) (c .before .row-distance2 .ensures .0) (omega arith)
+    let c2 = c .before .before in
+    let c4 = c2 .before .before in
+    choosing-moves (c4 .loop .inv) (omega arith) (c2 .node-first2 .ensures .0) (c .before .row-distance2 .ensures .0) (omega arith)
 
 loop-less-2 : tie.Need-loop-less-2 Inv-loop μ-loop
 loop-less-2 c = search needs
 
 loop-again-2 : tie.Need-loop-again-2 Inv-loop μ-loop
 loop-again-2 c =
-    choosing-stays (c .before .before .before .before .loop .inv) (omega arith) (c .before .before .node-first2 .ensures .0) (c .before .row-distance2 .ensures .0) (omega arith)
+    let c2 = c .before .before in
+    let c4 = c2 .before .before in
+    choosing-stays (c4 .loop .inv) (omega arith) (c2 .node-first2 .ensures .0) (c .before .row-distance2 .ensures .0) (omega arith)
 
 returns : tie.Need-returns Inv-loop μ-loop
 returns c = choosing-done (c .before .loop .inv) (omega arith)

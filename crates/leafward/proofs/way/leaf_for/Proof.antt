@@ -1,15 +1,10 @@
 -- `leafward::way::leaf_for` meets its contract: the walk has come to a node of the way, and node numbers grow (`Walking`). Assumes nothing.
-use native.Mathlib.Omega.{arith}
-use Rattle.words.specs.Words.{N#}
-use Rattle.leafward.proofs.Walking.{Walking, walking-done, walking-down, walking-inner, walking-later, walking-start, walking-step}
 use Prim.Native.Nat.{_-_}
-use borrow.Author.Needs.{needs}
+use Rattle.leafward.proofs.Walking.{Walking, walking-done, walking-down, walking-inner, walking-later, walking-start, walking-step}
 use Rattle.leafward.proofs.way.leaf_for.Statement.{statement}
 use Rattle.leafward.proofs.way.leaf_for.Tie as tie
-use Rattle.leafward.proofs.way.leaf_for.Reads as reads
-use Rattle.leafward.proofs.way.leaf_for.Lts as lts
-use Rattle.leafward.proofs.way.closest_child.Reads as closest-child-reads
-use Rattle.words.proofs.places.node_child.Reads as node-child-reads
+use Rattle.words.specs.Words.{N#}
+use native.Mathlib.Omega.{arith}
 
 abbrev Inv-loop : tie.InvT-loop
 Inv-loop table c index z node₀ left₀ child₀ node left child = Walking table c index z node left child
@@ -40,13 +35,20 @@ sub-left c = walking-down (c .before .before .loop .inv) (c .before .loop-test .
 
 node-child-requires-2 : tie.Need-node-child-requires-2 Inv-loop μ-loop
 node-child-requires-2 c κs =
-    (c .before .before .loop .inv .lent .shape .whole, walking-later (c .before .before .loop .inv) (c .before .loop-test .taken) (c .closest-child .ensures .1) .0)
+    let c2 = c .before .before in
+    (c2 .loop .inv .lent .shape .whole, walking-later (c2 .loop .inv) (c .before .loop-test .taken) (c .closest-child .ensures .1) .0)
 
 loop-less : tie.Need-loop-less Inv-loop μ-loop
-loop-less c = omega (arith, walking-later (c .before .before .before .loop .inv) (c .before .before .loop-test .taken) (c .before .closest-child .ensures .1))
+loop-less c =
+    let c2 = c .before .before in
+    let c3 = c2 .before in
+    omega (arith, walking-later (c3 .loop .inv) (c2 .loop-test .taken) (c .before .closest-child .ensures .1))
 
 loop-again : tie.Need-loop-again Inv-loop μ-loop
-loop-again c = walking-step (c .before .before .before .loop .inv) (c .before .before .loop-test .taken) (c .before .closest-child .ensures) (c .node-child2 .ensures .0)
+loop-again c =
+    let c2 = c .before .before in
+    let c3 = c2 .before in
+    walking-step (c3 .loop .inv) (c2 .loop-test .taken) (c .before .closest-child .ensures) (c .node-child2 .ensures .0)
 
 returns : tie.Need-returns Inv-loop μ-loop
 returns c = walking-done (c .before .loop .inv) (c .loop-test .left)
