@@ -218,4 +218,5 @@ module _ (d : ℕ → ℕ → ℕ) (w : List ℕ) (S : InShape w) (z : ℕ) wher
       pub join-changed : 1 ≤ N# w → Found d w z v left
           → join d (m# w) (l# w) z maxDepth 0 (treeOf w) ≡ changedAt w R v anew maxDepth 0 bare
       join-changed h F =
-          by-root (λ g. join d (m# w) (l# w) z maxDepth 0 g ≡ A maxDepth 0 bare) w (λ q. node-joined maxDepth 0 bare q (F .node, F .levels)) (λ e. absurd (omega arith))
+          by-root (λ g. join d (m# w) (l# w) z maxDepth 0 g ≡ A maxDepth 0 bare) w
+          (λ q. node-joined maxDepth 0 bare q (F .node, F .levels)) (λ e. absurd (omega arith))

@@ -21,7 +21,8 @@ centres-requires c κs = omega (arith, c .before .before .before .pre .0 .shape 
 node-first-requires : tie.Need-node-first-requires Inv-loop μ-loop
 node-first-requires c κs =
     let c4 = c .before .before .before .before in
-    (c4 .pre .0 .shape, omega (arith, kids-there (c4 .pre .0) (c4 .pre .1 .0) (c4 .pre .1 .1) (c .before .node-child .ensures .0) (c .centres .ensures .0)))
+    let L = c4 .pre .0 in
+    (L .shape, omega (arith, kids-there L (c4 .pre .1 .0) (c4 .pre .1 .1) (c .before .node-child .ensures .0) (c .centres .ensures .0)))
 
 row-distance-requires : tie.Need-row-distance-requires Inv-loop μ-loop
 row-distance-requires c κs = measurable (c .before .before .before .before .before .pre .0) (c .node-first .ensures .1)
