@@ -9,6 +9,7 @@ use Rattle.measure.specs.Table.{between}
 use Rattle.queue.specs.Queue.{Queue, entries}
 use Rattle.split.specs.Groups.{stretch}
 use Rattle.split.specs.Runs.{laid, rows}
+use Rattle.words.specs.InShape.{InShape}
 use Rattle.words.specs.Words.{N#, count#, l#, n#, row#, run#, start#}
 use lib.Dec.{eqb, leb}
 use lib.ListN.{drop, length, take}
@@ -34,12 +35,17 @@ ready w v left z = cond (unsplit w v left z) (withRow w v z) (orderly (withRow w
 abbrev pub half : List ℕ → ℕ
 half w = 3 * (n# w + 1)
 
--- v is a node, and the workspace has two halves
-pub record Laying (t : List ℕ) (c : ℕ) (w : List ℕ) (z v : ℕ) (work : List ℕ) : Type 0 where
-  pub lent : Lent t c w z
+-- v is a node of an index in shape, and the workspace has two halves
+pub record Space (w : List ℕ) (v : ℕ) (work : List ℕ) : Type 0 where
+  pub shape : InShape w
   pub there : v < N# w
-  pub small : z ≤ maxRows
   pub halves : half w + half w ≤ length work
+
+-- so it is, and the table has the rows of the index and row z
+pub record Laying (t : List ℕ) (c : ℕ) (w : List ℕ) (z v : ℕ) (work : List ℕ) : Type 0 where
+  pub space : Space w v work
+  pub lent : Lent t c w z
+  pub small : z ≤ maxRows
 
 -- the entries of the rows xs at the distances f, all of centre a, written over the words h from lo on
 abbrev pub written : (ℕ → ℕ) → ℕ → ℕ → List ℕ → List ℕ → List ℕ
