@@ -47,7 +47,7 @@ abbrev byCase : Bool → Bool → Bool → Bool → Bool
 byCase few none next tiles = cond few none (next && tiles)
 
 -- children's numbers start at 1
-born-some : (w : List ℕ) (k : ℕ) → 1 ≤ born w k
+pub born-some : (w : List ℕ) (k : ℕ) → 1 ≤ born w k
 unfolding born
 born-some w zero = omega arith
 born-some w (suc k) = omega (arith, born-some w k)

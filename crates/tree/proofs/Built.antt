@@ -40,7 +40,7 @@ module _ (d : ℕ → ℕ → ℕ) (S : Space d) (D : (i j : ℕ) → d i j ≤ 
       (every-all (λ i. d (head run) i ≤ maxDistance) (λ i. D (head run) i) run)) h
 
   -- and those of a grown node
-  grown-dists : (deep : ℕ) (run : List ℕ) (g : Grove) → InRange g → InRange (grow d m l deep run g)
+  pub grown-dists : (deep : ℕ) (run : List ℕ) (g : Grove) → InRange g → InRange (grow d m l deep run g)
   unfolding grow
   grown-dists zero run g h = leaf-dists run g h
   grown-dists (suc deep) run g h = go (λ q f k. grown-dists deep q f k) (leb (length run) l)
@@ -57,7 +57,7 @@ module _ (d : ℕ → ℕ → ℕ) (S : Space d) (D : (i j : ℕ) → d i j ≤ 
           every-append (λ e. e .1 ≤ maxDistance) (entries (foldr (grow d m l deep) bare (split d m run))) (entries g) (forest ih (split d m run)) h
 
   -- THE TREE OF ONE ROW OR MORE IS WELL MADE, AND HAS ALL OF THEM
-  planted : (n : ℕ) → (length (entries (plant d m l (suc n))) ≡ suc n) × Good d m l (plant d m l (suc n))
+  pub planted : (n : ℕ) → (length (entries (plant d m l (suc n))) ≡ suc n) × Good d m l (plant d m l (suc n))
   planted n =
       let run : List ℕ = range 0 (suc n) in
       let r : Run run = (omega (arith, range-length 0 (suc n)), λ i. range-times i 0 (suc n)) in

@@ -87,7 +87,7 @@ family-born w j nx s (fork R ks g) h ev n b =
 
 -- ---- a level
 -- how many nodes two lists of families have
-members-append : (xs ys : List (ℕ × Grove)) → members (xs ++ ys) ≡ members xs + members ys
+pub members-append : (xs ys : List (ℕ × Grove)) → members (xs ++ ys) ≡ members xs + members ys
 members-append [] ys = omega arith
 members-append (x ∷ xs) ys = omega (arith, members-append xs ys)
 

@@ -31,7 +31,7 @@ use native.Mathlib.Omega.{arith}
 
 -- ---- how many nodes: at most 2n - 1
 -- how many nodes a tree has, all levels together
-abbrev size : Grove → ℕ
+abbrev pub size : Grove → ℕ
 size bare = 0
 size (leaf R es g) = 1 + size g
 size (fork R ks g) = 1 + size ks + size g
@@ -59,7 +59,7 @@ below-sizes [] = refl
 below-sizes (f ∷ fs) = omega (arith, below-sizes fs, broods-sizes (f .0) (f .1), sizes-append (broods (f .0) (f .1)) (below fs))
 
 -- the numbering has every node once
-nodes-size : (l deep nx : ℕ) (fs : List (ℕ × Grove)) → Every (λ f. Fine l deep (f .1)) fs → length (nodes deep nx fs) ≡ sizes fs
+pub nodes-size : (l deep nx : ℕ) (fs : List (ℕ × Grove)) → Every (λ f. Fine l deep (f .1)) fs → length (nodes deep nx fs) ≡ sizes fs
 unfolding nodes
 nodes-size l zero nx fs h = let e = ap sizes (below-none l fs h) in omega (arith, level-length nx fs, below-sizes fs, e)
 nodes-size l (suc deep) nx fs h =

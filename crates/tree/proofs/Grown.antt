@@ -30,7 +30,7 @@ Tight d (leaf R es g) = Spans d R (head (lefts es)) (lefts es) × Tight d g
 Tight d (fork R ks g) = Spans d R (first ks) (rowsIn ks) × Tight d ks × Tight d g
 
 -- the greatest is the same in any order
-greatest-same : (f : ℕ → ℕ) (xs ys : List ℕ) → ((i : ℕ) → times i ys ≡ times i xs) → greatest (map f xs) ≡ greatest (map f ys)
+pub greatest-same : (f : ℕ → ℕ) (xs ys : List ℕ) → ((i : ℕ) → times i ys ≡ times i xs) → greatest (map f xs) ≡ greatest (map f ys)
 greatest-same f xs ys e =
     let a = greatest-under (greatest (map f ys)) (map f xs) (every-map (λ v. v ≤ greatest (map f ys)) f xs
     (every-same (λ i. f i ≤ greatest (map f ys)) ys xs (λ i. sym (e i))
@@ -40,7 +40,7 @@ greatest-same f xs ys e =
     omega arith
 
 -- so is the lowest
-lowest-same : (f : ℕ → ℕ) (xs ys : List ℕ) → ((i : ℕ) → times i ys ≡ times i xs) → lowest (map f xs) ≡ lowest (map f ys)
+pub lowest-same : (f : ℕ → ℕ) (xs ys : List ℕ) → ((i : ℕ) → times i ys ≡ times i xs) → lowest (map f xs) ≡ lowest (map f ys)
 lowest-same f [] [] e = refl
 lowest-same f [] (y ∷ ys) e = absurd (every-same (λ i. ⊥) [] (y ∷ ys) e tt .0)
 lowest-same f (x ∷ xs) [] e = absurd (every-same (λ i. ⊥) [] (x ∷ xs) (λ i. sym (e i)) tt .0)
@@ -55,7 +55,7 @@ lowest-same f (x ∷ xs) (y ∷ ys) e =
         (every-same (λ i. lowest (map f xs) ≤ f i) xs ys e (every-unmap (λ v. lowest (map f xs) ≤ v) f xs (lowest-le (map f xs)))))
 
 -- rows but the first are the same in any order, where the first is the same
-rest-same : (xs ys : List ℕ) → 1 ≤ length xs → 1 ≤ length ys → head ys ≡ head xs → ((i : ℕ) → times i ys ≡ times i xs) → (i : ℕ)
+pub rest-same : (xs ys : List ℕ) → 1 ≤ length xs → 1 ≤ length ys → head ys ≡ head xs → ((i : ℕ) → times i ys ≡ times i xs) → (i : ℕ)
     → times i (rest ys) ≡ times i (rest xs)
 rest-same xs ys h k q e i = omega (arith, times-split i xs h, times-split i ys k, e i, ap (λ a. times i (a ∷ [])) q)
 
@@ -108,7 +108,7 @@ module _ (d : ℕ → ℕ → ℕ) (self : (i : ℕ) → d i i ≡ 0) (m l : ℕ
   chosen-head run = choose-head d (m - 1) (head run) [] (rest run)
 
   -- a grown node's first is its run's head
-  grown-firsts : (deep : ℕ) (run : List ℕ) (g : Grove) → firsts (grow d m l deep run g) ≡ head run ∷ firsts g
+  pub grown-firsts : (deep : ℕ) (run : List ℕ) (g : Grove) → firsts (grow d m l deep run g) ≡ head run ∷ firsts g
   unfolding grow
   grown-firsts zero run g = ap (λ is. head is ∷ firsts g) (rows-paired d run)
   grown-firsts (suc deep) run g = go (λ q f. grown-firsts deep q f) (leb (length run) l)
@@ -155,7 +155,7 @@ module _ (d : ℕ → ℕ → ℕ) (self : (i : ℕ) → d i i ≡ 0) (m l : ℕ
   }
 
   -- a grown node's rows are as close to its first as its run's were
-  grown-close : (cs : List ℕ) (deep : ℕ) (run : List ℕ) (g : Grove) → Run run → Near cs run → Close d cs g → Close d cs (grow d m l deep run g)
+  pub grown-close : (cs : List ℕ) (deep : ℕ) (run : List ℕ) (g : Grove) → Run run → Near cs run → Close d cs g → Close d cs (grow d m l deep run g)
   unfolding grow
   grown-close cs zero run g r h c = (subst (λ is. Near cs is) (sym (rows-paired d run)) h, c)
   grown-close cs (suc deep) run g r h c = go (leb (length run) l) refl

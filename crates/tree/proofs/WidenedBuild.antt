@@ -28,14 +28,14 @@ use native.Mathlib.Omega.{arith}
 -- ---- a written tree is read back
 module _ (e c m l : ℕ) (ed : Edition e) (t : Grove) where
   -- its nodes
-  encode-nodes : Holds (encode e c m l t) 0 (numbered t)
+  pub encode-nodes : Holds (encode e c m l t) 0 (numbered t)
   unfolding encode
   encode-nodes =
       read-nodes e ed (numbered t) (e ∷ length (entries t) ∷ c ∷ m ∷ l ∷ length (numbered t) ∷ 1 ∷ 0 ∷ []) (each pairWords (entries t))
       (encode e c m l t) 0 refl refl (omega (arith, mul-zero (width e)))
 
   -- and its pairs
-  encode-pairs : At (encode e c m l t) 0 (entries t)
+  pub encode-pairs : At (encode e c m l t) 0 (entries t)
   unfolding encode
   encode-pairs =
       let H : List ℕ = e ∷ length (entries t) ∷ c ∷ m ∷ l ∷ length (numbered t) ∷ 1 ∷ 0 ∷ [] in
@@ -72,7 +72,7 @@ nodes-back d w v j (u ∷ us) h g e f =
     (nodes-back d w v (suc j) us (h .4) (g .4) e (λ k a b. f k (omega arith) (omega arith)))
 
 -- so are the pairs
-pairs-back : (w : List ℕ) (s : ℕ) (es : List (ℕ × ℕ)) → At w s es → map (λ p. (row# w p, dist# w p)) (range s (length es)) ≡ es
+pub pairs-back : (w : List ℕ) (s : ℕ) (es : List (ℕ × ℕ)) → At w s es → map (λ p. (row# w p, dist# w p)) (range s (length es)) ≡ es
 pairs-back w s [] h = refl
 pairs-back w s (e ∷ es) h = ap₂ (λ a as′. a ∷ as′) (ap₂ (λ a b. (a, b)) (h .0) (h .1)) (pairs-back w (suc s) es (h .2))
 

@@ -1,0 +1,13 @@
+pub mod Read
+pub mod Back
+pub mod Wellmade
+pub mod Lowest
+pub mod Further
+pub mod Nodes
+pub mod Lodge
+pub mod Joined
+pub mod Agree
+pub mod Onesplit
+pub mod Order
+pub mod Appending
+pub mod Cases

@@ -1,0 +1,3 @@
+pub mod Append
+pub mod Groups
+pub mod Cases

@@ -1,0 +1,3 @@
+pub mod Way
+pub mod Changed
+pub mod Lay
