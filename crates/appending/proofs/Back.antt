@@ -19,7 +19,7 @@ use Rattle.words.proofs.Nodes.{closed, node-at, not-orphan}
 use Rattle.words.proofs.Tiles.{tile-head, tile-tail}
 use Rattle.words.specs.InShape.{InShape, Left}
 use Rattle.words.specs.Shape.{born, inner, level, positionOk, shapeOk, tile, treeFits}
-use Rattle.words.specs.Words.{N#, at, c#, child#, count#, edition#, editionOk, headerOk, kept, kind#, l#, last#, m#, n#, nodeAt, nodesOk, pairAt, start#, width, wordsOf, wordsOk}
+use Rattle.words.specs.Words.{N#, at, c#, child#, count#, edition#, editionOk, cardOk, kept, kind#, l#, last#, m#, n#, nodeAt, nodesOk, pairAt, start#, width, wordsOf, wholeOk}
 use borrow.Author.Tests.{eqb-false, eqb-true, not-false}
 use lib.Dec.{T, eqb, eqb-refl, eqb→eq, leb}
 use lib.ListN.{drop, length, length-map, take}
@@ -376,8 +376,8 @@ module _ (w : List ℕ) where
       ∙ sym (words-append (pairAt w p) 2 (2 * n)) ∙ ap (wordsFrom (pairAt w p)) (sym e)
 
 -- the two fixed words of a possible header
-header-fixed : (w : List ℕ) → wordsOk w ≡ true → (kind# w ≡ 1) × (last# w ≡ 0)
-unfolding wordsOk headerOk
+header-fixed : (w : List ℕ) → wholeOk w ≡ true → (kind# w ≡ 1) × (last# w ≡ 0)
+unfolding wholeOk cardOk
 header-fixed w e =
     let a = editionOk (edition# w) in
     let b = leb (n# w) maxRows in
@@ -413,7 +413,7 @@ entries-tree w S =
     empty (suc n) f = absurd (f (omega arith))
 
 -- AN INDEX IN SHAPE IS ITS TREE, NUMBERED AND WRITTEN IN ITS EDITION
-pub tree-encode : (w : List ℕ) → wordsOk w ≡ true → shapeOk w ≡ true → encode (edition# w) (c# w) (m# w) (l# w) (treeOf w) ≡ take (wordsOf w) w
+pub tree-encode : (w : List ℕ) → wholeOk w ≡ true → shapeOk w ≡ true → encode (edition# w) (c# w) (m# w) (l# w) (treeOf w) ≡ take (wordsOf w) w
 unfolding encode
 tree-encode w ok sh =
     let S = in-shape w ok sh in
@@ -440,7 +440,7 @@ tree-encode w ok sh =
     ∙ ap (λ (k : ℕ). take k w) sum
 
 -- TWO INDEXES IN SHAPE OF ONE EDITION WITH THE SAME COLUMNS, m AND l AND THE SAME TREE HAVE THE SAME WORDS
-pub tree-only : (w v : List ℕ) → wordsOk w ≡ true → shapeOk w ≡ true → wordsOk v ≡ true → shapeOk v ≡ true → edition# w ≡ edition# v → c# w ≡ c# v
+pub tree-only : (w v : List ℕ) → wholeOk w ≡ true → shapeOk w ≡ true → wholeOk v ≡ true → shapeOk v ≡ true → edition# w ≡ edition# v → c# w ≡ c# v
     → m# w ≡ m# v → l# w ≡ l# v → treeOf w ≡ treeOf v → take (wordsOf w) w ≡ take (wordsOf v) v
 tree-only w v a b a′ b′ o p q r e =
     sym (tree-encode w a b) ∙ ap₂ (λ (e : ℕ) (g : Grove). encode e (c# w) (m# w) (l# w) g) o e
