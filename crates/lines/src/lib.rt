@@ -47,19 +47,20 @@ pub fn make_room(text: &[u8], at: usize, need: usize) -> usize
     0
 }
 
-// Puts a word into the text, if its place in the line is below `shown`, and behind it a space, or a newline behind the last. Gives where that ends.
-fn put_word(text: &mut [u8], at: usize, word: u32, place: usize, shown: usize) -> usize
-    requires { ⌜ (at ≤ length (now text)) × (21 ≤ length (now text)) ⌝ }
+// Puts a word into the text, from byte `from` on if it can, where its place in the line is below `shown`; behind it a space, or a newline behind
+// the last that is shown. Gives where that ends.
+fn put_word(text: &mut [u8], from: usize, word: u32, place: usize, shown: usize) -> usize
+    requires { ⌜ (from ≤ length (now text)) × (21 ≤ length (now text)) ⌝ }
     ensures { λ r. ⌜ r ≤ length (now (text .entry)) ⌝ }
 {
     if shown <= place {
-        return at;
+        return from;
     }
-    let from = make_room(text, at, MOST);
+    let at = make_room(text, from, MOST);
     if place + 1 == shown {
-        return put_number(text, from, word as u64, b'\n');
+        return put_number(text, at, word as u64, b'\n');
     }
-    put_number(text, from, word as u64, b' ')
+    put_number(text, at, word as u64, b' ')
 }
 
 // Prints the words, `width` to a line, but of each line only the first `shown`. Gives how many words there were.
