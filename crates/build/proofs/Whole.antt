@@ -11,7 +11,7 @@ use Rattle.build.specs.Stages.{Fit, withNodes}
 use Rattle.laws.proofs.Lists.{tally-length}
 use Rattle.laws.proofs.Parts.{put-more}
 use Rattle.laws.proofs.Ranges.{range-length}
-use Rattle.laws.specs.Lists.{each, head, range}
+use Rattle.laws.specs.Lists.{each, range}
 use Rattle.limits.specs.Limits.{maxDepth}
 use Rattle.measure.specs.Table.{between}
 use Rattle.split.specs.Groups.{stretch}
@@ -27,7 +27,7 @@ use borrow.Rule.Slice.PartMut.{midOf, putMid}
 use lib.ListN.{drop, length, length-append, length-map, replicate, take, take-append-drop}
 use lib.Seq.{drop-append-add, drop-at, drop-drop, length-take-le}
 use mathlib.Core.Bool.{true}
-use mathlib.Core.List.{List, [], _++_, _∷_, append-assoc, append-nil, map}
+use mathlib.Core.List.{List, [], _++_, _∷_, append-assoc, append-nil}
 use mathlib.Core.Path.{_∙_, _≡_, ap, ap₂, refl, sym}
 use native.Mathlib.Nat.{add-zero}
 use native.Mathlib.Omega.{arith}

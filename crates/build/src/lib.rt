@@ -8,7 +8,7 @@ ghost use Rattle.limits.specs.Limits.{maxColumns, maxRows};
 ghost use Rattle.limits.specs.Said.{fault, lengthFaults, said};
 ghost use Rattle.measure.specs.Table.{between};
 ghost use Rattle.split.specs.Groups.{stretch};
-ghost use lib.ListN.{drop, length, replicate};
+ghost use lib.ListN.{drop, length};
 ghost use mathlib.Core.List.{_++_};
 ghost use mathlib.Core.Path.{_≡_};
 use buffers::clear_words;

@@ -16,4 +16,5 @@ module _ {w T : List ℕ} {c : ℕ} {q h : List ℕ} (L : Lent w T c q h) where
 
   -- how-bytes of the same length fit
   pub lent-same : (h′ : List ℕ) → length h′ ≡ length h → Lent w T c q h′
-  lent-same h′ e = record { shape = L .shape; edition = L .edition; table = L .table; columns = L .columns; query = L .query; how = omega (arith, L .how) }
+  lent-same h′ e =
+      record { shape = L .shape; edition = L .edition; table = L .table; columns = L .columns; query = L .query; how = omega (arith, L .how) }

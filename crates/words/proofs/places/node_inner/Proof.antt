@@ -5,7 +5,6 @@ use Rattle.words.proofs.Strides.{inner-some, inner-there}
 use Rattle.words.proofs.places.node_inner.Statement.{statement}
 use Rattle.words.proofs.places.node_inner.Tie as tie
 use Rattle.words.specs.Words.{nodeAt}
-use borrow.Author.Needs.{needs}
 use lib.ListN.{length}
 use native.Mathlib.Omega.{arith}
 
