@@ -5,7 +5,7 @@ use Rattle.laws.proofs.Lists.{map-append}
 use Rattle.laws.proofs.Ranges.{range-append, range-length}
 use Rattle.laws.proofs.Tests.{and-l, and-r, holds}
 use Rattle.laws.specs.Lists.{all, each, range}
-use Rattle.limits.specs.Limits.{columnsOk, maxDepth, maxRows, shareOk}
+use Rattle.limits.specs.Limits.{columnsOk, editionOk, maxDepth, maxRows, shareOk}
 use Rattle.tree.proofs.Encode.{members-append}
 use Rattle.tree.proofs.Forks.{as-fork, as-leaf, kidsAt}
 use Rattle.tree.proofs.Members.{entries-at, held, kids-entries, kids-firsts}
@@ -19,7 +19,7 @@ use Rattle.words.proofs.Nodes.{closed, node-at, not-orphan}
 use Rattle.words.proofs.Tiles.{tile-head, tile-tail}
 use Rattle.words.specs.InShape.{InShape, Left}
 use Rattle.words.specs.Shape.{born, inner, level, positionOk, shapeOk, tile, treeFits}
-use Rattle.words.specs.Words.{N#, at, c#, child#, count#, edition#, editionOk, cardOk, kept, kind#, l#, last#, m#, n#, nodeAt, nodesOk, pairAt, start#, width, wordsOf, wholeOk}
+use Rattle.words.specs.Words.{N#, at, c#, child#, count#, edition#, cardOk, kept, kind#, l#, last#, m#, n#, nodeAt, nodesOk, pairAt, start#, width, wordsOf, wholeOk}
 use borrow.Author.Tests.{eqb-false, eqb-true, not-false}
 use lib.Dec.{T, eqb, eqb-refl, eqb→eq, leb}
 use lib.ListN.{drop, length, length-map, take}
