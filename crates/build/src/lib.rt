@@ -226,7 +226,7 @@ pub fn fill(
 // ---- the public call
 
 // The room or the workspace is too short for n rows.
-fn too_short(n: usize, room: usize, work: usize) -> bool
+pub fn too_short(n: usize, room: usize, work: usize) -> bool
     requires { ⌜ n ≤ maxRows ⌝ }
     ensures { λ r. ⌜ r ≡ shortOf n room work ⌝ }
 {

@@ -1,0 +1,87 @@
+-- The theorems on the call: what it wrote is accepted where the old index was, all other groups keep their order, and no second outcome fits.
+-- Assumes nothing.
+use Prim.Native.Nat.{_*_, _+_, _≤_, ℕ}
+use Rattle.append.proofs.Refusals.{Clear, clear}
+use Rattle.append.specs.Calls.{Appends}
+use Rattle.appending.proofs.Appending.{Longer, append-accepted as words-accepted, append-header, append-length, append-one as words-one, append-order as words-order, longer-of}
+use Rattle.appending.proofs.Order.{Order}
+use Rattle.appending.specs.Append.{appended}
+use Rattle.laws.specs.Every.{Every}
+use Rattle.measure.specs.Table.{between, rowsOf}
+use Rattle.tree.specs.Build.{build}
+use Rattle.tree.specs.Check.{Accepted}
+use Rattle.tree.specs.Grove.{treeOf}
+use Rattle.words.proofs.Headers.{words-whole}
+use Rattle.words.specs.Words.{N#, c#, edition#, l#, m#, n#, wordsOf}
+use borrow.Author.Tests.{eq-eqb}
+use lib.Dec.{eqb}
+use lib.ListN.{drop, length, length-drop, replicate, take, take-append-drop}
+use lib.Seq.{length-take-le, take-at}
+use mathlib.Core.Bool.{cond, true}
+use mathlib.Core.List.{List, _++_}
+use mathlib.Core.Path.{_∙_, _≡_, ap, ap₂, refl, subst, sym}
+use native.Mathlib.Nat.{div-add-mod, mul-add}
+use native.Mathlib.Omega.{arith}
+
+module _ {T : List ℕ} {c : ℕ} {w room work room′ work′ : List ℕ} {number words nodes : ℕ}
+    (b : Appends T c w room work room′ work′ number words nodes) (z : number ≡ 0) where
+  -- nothing is refused
+  cleared : Clear T c w (length room) (length work)
+  cleared = clear T c w (length room) (length work) (sym (b .said) ∙ z)
+
+  -- the index stands at the front of the room
+  pub append-there : take words room′ ≡ appended T c w
+  append-there =
+      let q : eqb number 0 ≡ true = eq-eqb number 0 z in
+      ap₂ take (rw q at (b .counted .0)) (rw q at (b .index))
+      ∙ take-at (appended T c w) (drop (length (appended T c w)) room) (length (appended T c w)) refl
+
+  -- ON AN EMPTY INDEX IT IS THE BUILD OF ONE ROW, with the m and l of its header
+  pub append-one : n# w ≡ 0 → (rowsOf T c ≡ 1) × (take words room′ ≡ build T c 2 (m# w) (l# w))
+  append-one e = (omega (arith, cleared .rows), append-there ∙ words-one T c w e)
+
+  -- the table before the row came
+  abbrev pub older : List ℕ
+  older = take (c * n# w) T
+
+  module _ (small : Every (λ v. v ≤ 65535) T) (accepted : Accepted (between older c) w) where
+    -- the table has the old one's rows and one more
+    longer : Longer (between older c) T c w
+    longer =
+        let C = cleared in
+        let k : ℕ = c * n# w in
+        let long : length T ≡ k + c = omega (arith, div-add-mod (length T) c, C .table .whole, ap (λ (i : ℕ). c * i) (C .rows), mul-add c (n# w) 1) in
+        let parts : older ++ drop k T ≡ T = take-append-drop k T in
+        subst (λ (t : List ℕ). Longer (between older c) t c w) parts
+        (longer-of older (drop k T) c w accepted (words-whole w (C .whole) .0) (C .columns) (length-take-le k T (omega arith))
+        (omega (arith, length-drop k T)) (omega (arith, C .rows, C .table .rows)) (subst (Every (λ v. v ≤ 65535)) (sym parts) small))
+
+    -- WHERE THE OLD INDEX PASSED THE FULL CHECK WITH THE OLD TABLE, THE NEW ONE PASSES IT WITH THE NEW
+    pub append-accepted : Accepted (between T c) (take words room′)
+    append-accepted = subst (Accepted (between T c)) (sym append-there) (words-accepted longer)
+
+    -- ITS HEADER HAS ONE ROW MORE AND ELSE WHAT THE OLD ONE HAS, AND ASKS FOR JUST THESE WORDS
+    pub append-headed : (n# (take words room′) ≡ rowsOf T c) × (c# (take words room′) ≡ c) × (m# (take words room′) ≡ m# w)
+        × (l# (take words room′) ≡ l# w) × (edition# (take words room′) ≡ 2) × (length (take words room′) ≡ wordsOf (take words room′))
+    append-headed =
+        let h = append-header longer in
+        rw append-there (h .1 ∙ cleared .rows, h .2, h .3, h .4, h .0, append-length longer)
+
+    -- ONE GROUP TAKES THE ROW, AND IS SPLIT WHERE IT MUST BE; ALL OTHERS STAY AS THEY ARE, IN THEIR ORDER
+    pub append-order : 1 ≤ n# w → Order (between T c) (m# w) (l# w) (n# w) 0 (treeOf w) (treeOf (take words room′))
+    append-order h = rw append-there (words-order longer h)
+
+-- NO SECOND OUTCOME FITS
+pub append-only : (T : List ℕ) (c : ℕ) (w room work room₁ work₁ room₂ work₂ : List ℕ) (number₁ words₁ nodes₁ number₂ words₂ nodes₂ : ℕ)
+    → Appends T c w room work room₁ work₁ number₁ words₁ nodes₁ → Appends T c w room work room₂ work₂ number₂ words₂ nodes₂
+    → (number₁ ≡ number₂) × (words₁ ≡ words₂) × (nodes₁ ≡ nodes₂) × (room₁ ≡ room₂) × (work₁ ≡ work₂)
+append-only T c w room work room₁ work₁ room₂ work₂ number₁ words₁ nodes₁ number₂ words₂ nodes₂ a b =
+    let n : number₁ ≡ number₂ = a .said ∙ sym (b .said) in
+    let B : List ℕ = appended T c w in
+    let k : ℕ = 6 * rowsOf T c in (
+      n,
+      a .counted .0 ∙ ap (λ (i : ℕ). cond (eqb i 0) (length B) 0) n ∙ sym (b .counted .0),
+      a .counted .1 ∙ ap (λ (i : ℕ). cond (eqb i 0) (N# B) 0) n ∙ sym (b .counted .1),
+      a .index ∙ ap (λ (i : ℕ). cond (eqb i 0) (B ++ drop (length B) room) room) n ∙ sym (b .index),
+      a .cleared ∙ ap (λ (i : ℕ). cond (eqb i 0) (replicate k 0 ++ drop k work) work) n ∙ sym (b .cleared),
+    )
