@@ -45,7 +45,7 @@ columns-ok : (w : List ℕ) → InShape w → columnsOk (c# w) ≡ true
 columns-ok w S = both-within 1 maxColumns (c# w) (S .whole .columns .0) (S .whole .columns .1)
 
 -- so are its m and l
-share-ok : (w : List ℕ) → InShape w → shareOk (m# w) (l# w) ≡ true
+pub share-ok : (w : List ℕ) → InShape w → shareOk (m# w) (l# w) ≡ true
 share-ok w S =
     rw (both-within 2 64 (m# w) (S .whole .fan .0) (S .whole .fan .1), both-within (m# w) 1_024 (l# w) (S .whole .leaf .0) (S .whole .leaf .1))
 

@@ -252,7 +252,7 @@ fn lengths_number(length: usize, c: usize, room: usize, work: usize) -> u32
 }
 
 // A refusal: its number, and zero counts.
-fn refused(number: u32) -> Built
+pub fn refused(number: u32) -> Built
     ensures { λ r. ⌜ (r .number ≡ number) × (r .words ≡ 0) × (r .nodes ≡ 0) ⌝ }
 {
     Built {

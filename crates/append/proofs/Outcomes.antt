@@ -1,0 +1,130 @@
+-- The call's outcomes: a refusal, the build of one row, and the index that a row has joined. Assumes nothing.
+use Prim.Native.Nat.{_*_, _+_, _<_, _≤_, ℕ}
+use Rattle.append.proofs.Refusals.{Clear, clear}
+use Rattle.append.specs.Calls.{Appends, saidAppend}
+use Rattle.append.specs.Joining.{Joinable, Joins}
+use Rattle.appending.proofs.Appending.{append-one, share-ok}
+use Rattle.appending.proofs.Back.{tree-fits}
+use Rattle.appending.specs.Append.{appended}
+use Rattle.build.proofs.Refusals.{by-lengths, by-rooms}
+use Rattle.build.specs.Calls.{Builds}
+use Rattle.build.specs.Filled.{shortOf}
+use Rattle.laws.proofs.Tests.{or-none}
+use Rattle.limits.proofs.Numbers.{none-of-length}
+use Rattle.limits.proofs.Sized.{sized-columns}
+use Rattle.limits.specs.Limits.{maxRows}
+use Rattle.measure.specs.Table.{rowsOf}
+use Rattle.tree.specs.Build.{build}
+use Rattle.tree.specs.Calls.{roomOf, saidBuild}
+use Rattle.words.proofs.Headers.{words-whole}
+use Rattle.words.proofs.InShape.{in-shape}
+use Rattle.words.specs.InShape.{InShape}
+use Rattle.words.specs.Words.{N#, l#, m#, n#}
+use borrow.Author.Tests.{le-ltb, ne-eqb}
+use lib.Dec.{eqb, ltb}
+use lib.ListN.{drop, length, replicate, take}
+use lib.Seq.{length-take-le}
+use mathlib.Core.Bool.{false}
+use mathlib.Core.List.{List, _++_}
+use mathlib.Core.Logic.{_≢_}
+use mathlib.Core.Path.{_∙_, _≡_, ap, refl, subst, sym}
+use native.Mathlib.Omega.{arith}
+
+-- ---- a refusal
+-- both rooms are as they were, and the counts are 0: the contract is met
+pub refused-appends : {T : List ℕ} {c : ℕ} {w room work : List ℕ} {k number words nodes : ℕ}
+    → k ≡ saidAppend T c w (length room) (length work) .0 → k ≢ 0 → (number ≡ k) × (words ≡ 0) × (nodes ≡ 0)
+    → Appends T c w room work room work number words nodes
+refused-appends {number = number} q h r =
+    let f : eqb number 0 ≡ false = ne-eqb number 0 (λ z. h (sym (r .0) ∙ z)) in
+    record {
+      said = r .0 ∙ q;
+      counted = (rw f (r .1), rw f (r .2));
+      index = rw f;
+      cleared = rw f;
+    }
+
+-- ---- nothing is refused
+pub record Passed (T : List ℕ) (c : ℕ) (w room work : List ℕ) : Type 0 where
+  pub none : saidAppend T c w (length room) (length work) .0 ≡ 0
+
+module _ {T : List ℕ} {c : ℕ} {w room work : List ℕ} (passed : Passed T c w room work) where
+  -- every test is passed
+  cleared : Clear T c w (length room) (length work)
+  cleared = clear T c w (length room) (length work) (passed .none)
+
+  -- the index is in shape
+  pub shape-is : InShape w
+  shape-is = in-shape w (words-whole w (cleared .whole) .1) (cleared .shape)
+
+  -- it has a header
+  pub header-there : 8 ≤ length w
+  header-there = omega (arith, shape-is .whole .words)
+
+  -- it has one row less than the table, which has few enough
+  pub rows-are : (n# w + 1 ≡ rowsOf T c) × (n# w + 1 ≤ maxRows)
+  rows-are = (cleared .rows, omega (arith, cleared .rows, cleared .table .rows))
+
+  -- the part of the workspace that is used, k rows being in the table
+  pub work-long : {k : ℕ} → k ≡ n# w + 1 → 6 * k ≤ length work
+  work-long e = omega (arith, cleared .rows, cleared .words)
+
+  -- as it is lent
+  pub part-long : {k : ℕ} → k ≡ n# w + 1 → length (take (6 * k) work) ≡ 6 * k
+  part-long {k} e = length-take-le (6 * k) work (work-long e)
+
+  -- a build with the header's m and l says 0
+  builds-none : 0 ≡ saidBuild T c 2 (m# w) (l# w) (length room) (length work) .0
+  builds-none =
+      let C = cleared in
+      let n : ℕ = rowsOf T c in
+      let short : false ≡ shortOf n (length room) (length work) =
+      sym (or-none (ltb (length room) (roomOf n)) (ltb (length work) (6 * n)) (le-ltb (length room) (roomOf n) (C .space))
+      (le-ltb (length work) (6 * n) (C .words))) in
+      by-lengths T c 2 (m# w) (l# w) (length room) (length work) (sized-columns (length T) c (C .table)) (rw (share-ok w shape-is))
+      (by-rooms (length T) c (length room) (length work) (none-of-length (length T) c (C .table .whole) (C .table .rows)) refl short)
+
+  -- the build of one row: the contract is met
+  pub built-appends : {m l : ℕ} {room′ work′ : List ℕ} {number words nodes : ℕ} → n# w ≡ 0 → m ≡ m# w → l ≡ l# w
+      → Builds T c 2 m l room work room′ work′ number words nodes → Appends T c w room work room′ work′ number words nodes
+  built-appends {room′ = room′} {work′} {number} {words} {nodes} e p q b =
+      let B : Builds T c 2 (m# w) (l# w) room work room′ work′ number words nodes = rw (p, q) at b in
+      let one = append-one T c w e in
+      record {
+        said = B .said ∙ sym builds-none ∙ sym (passed .none);
+        counted = rw one (B .counted);
+        index = rw one (B .index);
+        cleared = B .cleared;
+      }
+
+  -- what joining asks
+  pub joinable : {k : ℕ} → k ≡ n# w + 1 → (k ≡ 1 → ⊥) → Joinable T c w room (take (6 * k) work)
+  joinable {k} e h =
+      let C = cleared in
+      record {
+        shape = shape-is;
+        tree = tree-fits w (C .shape);
+        edition = words-whole w (C .whole) .0;
+        columns = C .columns;
+        some = omega (arith, more h);
+        few = rows-are .1;
+        table = subst (λ (i : ℕ). c * i ≤ length T) (sym (C .rows)) (C .table .inside);
+        space = subst (λ (i : ℕ). roomOf i ≤ length room) (sym (C .rows)) (C .space);
+        halves = part-long e ∙ ap (λ (i : ℕ). 6 * i) e;
+      }
+    where
+      more : (k ≡ 1 → ⊥) → 1 < k
+      more h = omega arith
+
+  -- the row has joined: the contract is met
+  pub joined-appends : {k nodes words : ℕ} {room′ part′ work′ : List ℕ} → k ≡ n# w + 1 → Joins T c w room (take (6 * k) work) room′ part′ nodes
+      → work′ ≡ part′ ++ drop (6 * k) work → words ≡ 8 + 5 * nodes + 2 * k → Appends T c w room work room′ work′ 0 words nodes
+  joined-appends {k} {work′ = work′} e j h q =
+      let zeros : work′ ≡ replicate (6 * k) 0 ++ drop (6 * k) work =
+      h ∙ ap (λ (x : List ℕ). x ++ drop (6 * k) work) (j .cleared ∙ ap (λ (i : ℕ). replicate i 0) (part-long e)) in
+      record {
+        said = sym (passed .none);
+        counted = (omega (arith, j .long), j .count);
+        index = j .index;
+        cleared = zeros ∙ ap (λ (i : ℕ). replicate (6 * i) 0 ++ drop (6 * i) work) (e ∙ cleared .rows);
+      }

@@ -1,0 +1,135 @@
+-- `append::append` meets its contract: each return has its number, and the last two the index.
+-- Assumes nothing.
+use Prim.Native.Nat.{_*_, _+_, _≤_, ℕ}
+use Rattle.append.proofs.Outcomes.{Passed, built-appends, joinable, joined-appends, part-long, refused-appends, rows-are, header-there, work-long}
+use Rattle.append.proofs.append.Statement.{statement}
+use Rattle.append.proofs.append.Tie as tie
+use Rattle.limits.specs.Limits.{maxRows}
+use Rattle.words.specs.Words.{n#}
+use borrow.Author.Needs.{needs}
+use mathlib.Core.Path.{_∙_, ap, sym}
+use native.Mathlib.Omega.{arith}
+
+-- the start, seen from behind the refusals
+abbrev start : tie.Else1 → tie.Start
+start c = c .before .before .before .before .before .before
+
+-- there is no refusal
+none : (c : tie.Else1)
+    → Passed (start c .args .table .now) (start c .args .c) (start c .args .index .now) (start c .args .room .now) (start c .args .work .now)
+none c = record { none = sym (c .before .refusal-of .ensures) ∙ c .if1 .left }
+
+-- few rows
+few : (c : tie.Else1) → n# (start c .args .index .now) + 1 ≤ maxRows
+few c = rows-are (none c) .1
+
+-- few nodes
+little : (c : tie.After-join-row)
+    → c .join-row .result ≤ 2 * (n# (start (c .before .before .before .before .before) .args .index .now) + 1)
+little c = c .join-row .ensures .few
+
+refusal-of-requires : tie.Need-refusal-of-requires
+refusal-of-requires c κs = search needs
+
+refused-requires : tie.Need-refused-requires
+refused-requires c κs = search needs
+
+returns : tie.Need-returns
+returns c = refused-appends (c .before .before .refusal-of .ensures) (c .before .if1 .taken) (c .refused .ensures)
+
+rows-requires : tie.Need-rows-requires
+rows-requires c κs = header-there (none c)
+
+add-n : tie.Need-add-n
+add-n c = omega (arith, few (c .before), c .rows .ensures)
+
+centres-requires : tie.Need-centres-requires
+centres-requires c κs = header-there (none (c .before .before))
+
+leaf-size-requires : tie.Need-leaf-size-requires
+leaf-size-requires c κs = header-there (none (c .before .before .before))
+
+build-requires : tie.Need-build-requires
+build-requires c κs = search needs
+
+same-length : tie.Need-same-length
+same-length c = search needs
+
+same-length-2 : tie.Need-same-length-2
+same-length-2 c = search needs
+
+returns-2 : tie.Need-returns-2
+returns-2 c =
+    let b = c .before .before .before .before in
+    let i = b .before .before .before .before .before in
+    built-appends (none (i .before .before)) (omega (arith, i .if2 .taken, i .before .rows .ensures)) (b .before .before .before .before .centres .ensures .0)
+    (b .before .before .before .leaf-size .ensures .0) (b .build .ensures)
+
+mul-used : tie.Need-mul-used
+mul-used c = omega (arith, few (c .before .before), c .before .rows .ensures)
+
+slice-relend-prefix-join-row : tie.Need-slice-relend-prefix-join-row
+slice-relend-prefix-join-row c =
+    let r = c .before .before in
+    work-long (none (r .before)) (ap (λ (i : ℕ). i + 1) (r .rows .ensures .0))
+
+slice-aggregate-join-row : tie.Need-slice-aggregate-join-row
+slice-aggregate-join-row c =
+    let r = c .before .before .before in
+    sym (part-long (none (r .before)) (ap (λ (i : ℕ). i + 1) (r .rows .ensures .0)))
+
+join-row-requires : tie.Need-join-row-requires
+join-row-requires c κs =
+    let i = c .before .before in
+    joinable (none (i .before .before)) (ap (λ (k : ℕ). k + 1) (i .before .rows .ensures .0)) (i .if2 .left)
+
+mul-t10 : tie.Need-mul-t10
+mul-t10 c = search needs
+
+add-t11 : tie.Need-add-t11
+add-t11 c = search needs
+
+mul-t23 : tie.Need-mul-t23
+mul-t23 c = search needs
+
+add-t24 : tie.Need-add-t24
+add-t24 c = search needs
+
+same-length-3 : tie.Need-same-length-3
+same-length-3 c = search needs
+
+same-length-4 : tie.Need-same-length-4
+same-length-4 c = search needs
+
+returns-3 : tie.Need-returns-3
+returns-3 c =
+    let j = c .before .before .before .before in
+    let r = j .before .before .before .before in
+    joined-appends (none (r .before)) (ap (λ (k : ℕ). k + 1) (r .rows .ensures .0)) (j .join-row .ensures) (search needs) (omega arith)
+
+pub append-spec : {M : Type 1} → statement M
+append-spec =
+    tie.close
+    (tie.spec
+    refusal-of-requires
+    refused-requires
+    returns
+    rows-requires
+    add-n
+    centres-requires
+    leaf-size-requires
+    build-requires
+    same-length
+    same-length-2
+    returns-2
+    mul-used
+    slice-relend-prefix-join-row
+    slice-aggregate-join-row
+    join-row-requires
+    mul-t10
+    add-t11
+    mul-t23
+    add-t24
+    same-length-3
+    same-length-4
+    returns-3)
