@@ -1,3 +1,4 @@
 pub mod Refusals
+pub mod Joining
 pub mod Outcomes
 pub mod Theorems
