@@ -21,7 +21,7 @@ use native.Mathlib.Omega.{arith}
 -- ---- the leaves of runs, one level down
 module _ (d : ℕ → ℕ → ℕ) (m l : ℕ) where
   -- a run of at most l rows is a leaf at any depth
-  small-leaf : (deep : ℕ) (r : List ℕ) → leb (length r) l ≡ true → leaves d m l deep r ≡ r ∷ []
+  pub small-leaf : (deep : ℕ) (r : List ℕ) → leb (length r) l ≡ true → leaves d m l deep r ≡ r ∷ []
   unfolding leaves
   small-leaf zero r e = refl
   small-leaf (suc deep) r e = ap (λ (b : Bool). cond b (r ∷ []) (each (leaves d m l deep) (split d m r))) e
@@ -37,14 +37,14 @@ module _ (d : ℕ → ℕ → ℕ) (m l : ℕ) where
       go false e = refl
 
   -- so for runs that follow each other
-  leaves-down : (deep : ℕ) (ts : List (List ℕ)) → each (leaves d m l (suc deep)) ts ≡ each (leaves d m l deep) (each (opened d m l) ts)
+  pub leaves-down : (deep : ℕ) (ts : List (List ℕ)) → each (leaves d m l (suc deep)) ts ≡ each (leaves d m l deep) (each (opened d m l) ts)
   leaves-down deep [] = refl
   leaves-down deep (r ∷ ts) =
       ap₂ (λ (x y : List (List ℕ)). x ++ y) (leaves-opened deep r) (leaves-down deep ts)
       ∙ sym (each-append (leaves d m l deep) (opened d m l r) (each (opened d m l) ts))
 
   -- where no level is left, each run is a leaf
-  leaves-none : (ts : List (List ℕ)) → each (leaves d m l 0) ts ≡ ts
+  pub leaves-none : (ts : List (List ℕ)) → each (leaves d m l 0) ts ≡ ts
   unfolding leaves
   leaves-none [] = refl
   leaves-none (r ∷ ts) = ap (λ (x : List (List ℕ)). r ∷ x) (leaves-none ts)

@@ -52,7 +52,7 @@ module _ (d : ℕ → ℕ → ℕ) (m l : ℕ) (m1 : 1 ≤ m) (ml : m ≤ l) whe
   inner next q = (q .0, length (q .1), next, reach d (q .1))
 
   -- of two stretches of items, the second numbers its children after the first's
-  pub out-append : (next : ℕ) (ps qs : List Item)
+  out-append : (next : ℕ) (ps qs : List Item)
       → levelOut d m l next (ps ++ qs) ≡ levelOut d m l next ps ++ levelOut d m l (next + length (nextLevel d m l ps)) qs
   unfolding levelOut
   out-append next [] qs = rw add-zero

@@ -3,7 +3,7 @@ use Prim.Native.Nat.{_*_, _+_, _<_, _≤_, ℕ}
 use Rattle.build.proofs.Halfway.{Half, Levelling, fore, one}
 use Rattle.build.proofs.Items.{out-long}
 use Rattle.build.proofs.Opening.{half-open, half-step}
-use Rattle.build.proofs.Waiting.{next-waits, none-waiting, small-opened}
+use Rattle.build.proofs.Waiting.{next-waits, none-waiting, runs-able, small-opened}
 use Rattle.build.specs.Levels.{Item, leafNode, levelOut, nextLevel, opened}
 use Rattle.build.specs.Stages.{Level, Openable, Opened, Stage, Tiled, withNodes}
 use Rattle.laws.proofs.Joins.{each-append}
@@ -96,5 +96,6 @@ module _ {t : List ℕ} {c m l n : ℕ} {room₀ work₀ : List ℕ} {lo hi : �
               last = omega (arith, out, f .count, ap (λ (x : List Item). length (nextLevel d m l x)) e, g .stage .last);
               few = subst (λ (x : List (List ℕ)). made + 1 ≤ 2 * length x) ts (f .few);
               tiled = subst (Tiled d n work) ts (f .tiled);
-              wait = next-waits d m l (one g) (g .fit .leafy) (g .items) (g .tiles) (g .stage .tiled .runs) (g .stage .wait);
+              wait = next-waits d m l (one g) (g .fit .leafy) 0 (g .items) (g .tiles) (runs-able l (g .tiles) (g .stage .tiled .runs))
+                  (g .stage .wait);
             }

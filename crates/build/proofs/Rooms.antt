@@ -9,7 +9,7 @@ use Rattle.tree.proofs.Written.{each-words}
 use Rattle.tree.specs.Build.{innerReach, radius}
 use Rattle.tree.specs.Encode.{Node, nodeWords}
 use Rattle.tree.specs.Grove.{Reach}
-use Rattle.split.specs.Places.{count#, nodeAt, start#}
+use Rattle.split.specs.Places.{child#, count#, nodeAt, start#}
 use lib.ListN.{drop, getD, length, length-append, length-drop, set, take}
 use lib.Seq.{drop-append-add, drop-drop, getD-at, length-take-le, set-at, take-at}
 use mathlib.Core.List.{List, [], _++_, _∷_, append-assoc, map}
@@ -71,6 +71,13 @@ module _ (o : List ℕ) (eight : 8 ≤ length o) where
         ap (λ (z : List ℕ). getD z (nodeAt (length ns) + 1) 0) (cut x ∙ sym (append-assoc front (s ∷ []) (n ∷ x ∷ r .outer ∷ r .inner ∷ rear)))
         ∙ getD-at (front ++ s ∷ []) n (x ∷ r .outer ∷ r .inner ∷ rear) 0 (nodeAt (length ns) + 1)
         (length-append front (s ∷ []) ∙ ap (λ (k : ℕ). k + 1) (front-long ns))
+
+    -- its first child's number is read
+    pub read-child : child# (withNodes o (ns ++ (s, n, x, r) ∷ os)) (length ns) ≡ x
+    read-child =
+        ap (λ (z : List ℕ). getD z (nodeAt (length ns) + 2) 0) (cut x ∙ sym (append-assoc front (s ∷ n ∷ []) (x ∷ r .outer ∷ r .inner ∷ rear)))
+        ∙ getD-at (front ++ s ∷ n ∷ []) x (r .outer ∷ r .inner ∷ rear) 0 (nodeAt (length ns) + 2)
+        (length-append front (s ∷ n ∷ []) ∙ ap (λ (k : ℕ). k + 2) (front-long ns))
 
     -- its first child's number is written
     pub child-set : (y : ℕ) → set (withNodes o (ns ++ (s, n, x, r) ∷ os)) (nodeAt (length ns) + 2) y ≡ withNodes o (ns ++ (s, n, y, r) ∷ os)

@@ -32,7 +32,7 @@ every-joined P [] h = tt
 every-joined P (r ∷ rs) h = (every-left P r (joined rs) h, every-joined P rs (every-right P r (joined rs) h))
 
 -- what holds of a run's rows holds of its children's
-split-rows : (d : ℕ → ℕ → ℕ) (m : ℕ) (run : List ℕ) → 1 ≤ m → m ≤ length run → Run run → (P : ℕ → Type 0) → Every P run
+pub split-rows : (d : ℕ → ℕ → ℕ) (m : ℕ) (run : List ℕ) → 1 ≤ m → m ≤ length run → Run run → (P : ℕ → Type 0) → Every P run
     → Every (Every P) (split d m run)
 split-rows d m run m1 centred r P h =
     every-joined P (split d m run) (every-same P run (joined (split d m run)) (λ i. split-tally d m m m1 (omega arith) (eqb i) run r centred) h)

@@ -1,6 +1,7 @@
 -- The items that wait to be split: the next of them among the tiles, and those of the level below. Assumes nothing.
 use Prim.Native.Nat.{_+_, _≤_, ℕ}
-use Rattle.build.specs.Levels.{Item, nextLevel, opened, parts, placed, waits}
+use Rattle.build.specs.Levels.{Able, Item, nextLevel, opened, parts, placed, waits}
+use Rattle.laws.proofs.Every.{every-of}
 use Rattle.laws.proofs.Joins.{keep-append}
 use Rattle.laws.specs.Every.{Every}
 use Rattle.laws.specs.Lists.{each, joined, keep}
@@ -79,6 +80,15 @@ none-waiting l s (t ∷ ts) e = go (leb (length t) l) refl (λ h. none-waiting l
     go true p ih e = (p, ih e)
     go false p ih e = absurd (cons≢nil (sym e))
 
+-- ---- runs that can be opened
+-- a run can be
+pub runs-able : (l : ℕ) (rs : List (List ℕ)) → Every Run rs → Every (Able l) rs
+runs-able l rs h = every-of Run (Able l) (λ r f. (f .0, λ k. f .1)) rs h
+
+-- where it has more than l rows, no row stands in it twice
+pub able-run : (l : ℕ) (r : List ℕ) → Able l r → leb (length r) l ≡ false → Run r
+able-run l r h e = (h .0, h .1 (leb-false (length r) l e))
+
 -- ---- one level down
 module _ (d : ℕ → ℕ → ℕ) (m l : ℕ) where
   -- small runs stay
@@ -98,7 +108,7 @@ module _ (d : ℕ → ℕ → ℕ) (m l : ℕ) where
 
   module _ (m1 : 1 ≤ m) (ml : m ≤ l) where
     -- those of the level below that wait are the opened tiles that wait
-    opened-waiting : (s : ℕ) (ts : List (List ℕ)) → Every Run ts
+    opened-waiting : (s : ℕ) (ts : List (List ℕ)) → Every (Able l) ts
         → keep (waits l) (nextLevel d m l (placed s ts)) ≡ keep (waits l) (placed s (each (opened d m l) ts))
     opened-waiting s [] h = refl
     opened-waiting s (t ∷ ts) h = go (leb (length t) l) refl (opened-waiting (s + length t) ts (h .1))
@@ -112,7 +122,7 @@ module _ (d : ℕ → ℕ → ℕ) (m l : ℕ) where
             h ∙ sym (ap (λ (b : Bool). cond (not b) ((s, t) ∷ more) more) e)
         go false e h′ =
             let k : s + length t ≡ s + length (joined (split d m t)) =
-            ap (λ (j : ℕ). s + j) (sym (split-joined d m t m1 (omega (arith, leb-false (length t) l e)) (h .0))) in
+            ap (λ (j : ℕ). s + j) (sym (split-joined d m t m1 (omega (arith, leb-false (length t) l e)) (able-run l t (h .0) e))) in
             keep-append (waits l) (placed s (split d m t)) (nextLevel d m l (placed (s + length t) ts))
             ∙ ap (λ (x : List Item). keep (waits l) (placed s (split d m t)) ++ x)
             (h′ ∙ ap (λ (j : ℕ). keep (waits l) (placed j (each (opened d m l) ts))) k)
@@ -120,7 +130,7 @@ module _ (d : ℕ → ℕ → ℕ) (m l : ℕ) where
             ∙ ap (keep (waits l)) (sym (placed-append s (split d m t) (each (opened d m l) ts)))
 
     -- WHERE THE ITEMS THAT WAIT ARE THE TILES THAT WAIT, SO ARE THEY ONE LEVEL DOWN
-    pub next-waits : (qs : List Item) (ts : List (List ℕ)) → Every Run ts → keep (waits l) qs ≡ keep (waits l) (placed 0 ts)
-        → keep (waits l) (nextLevel d m l qs) ≡ keep (waits l) (placed 0 (each (opened d m l) ts))
-    next-waits qs ts h e =
-        ap (keep (waits l)) (parts-waiting qs ∙ ap (nextLevel d m l) e ∙ sym (parts-waiting (placed 0 ts))) ∙ opened-waiting 0 ts h
+    pub next-waits : (s : ℕ) (qs : List Item) (ts : List (List ℕ)) → Every (Able l) ts → keep (waits l) qs ≡ keep (waits l) (placed s ts)
+        → keep (waits l) (nextLevel d m l qs) ≡ keep (waits l) (placed s (each (opened d m l) ts))
+    next-waits s qs ts h e =
+        ap (keep (waits l)) (parts-waiting qs ∙ ap (nextLevel d m l) e ∙ sym (parts-waiting (placed s ts))) ∙ opened-waiting s ts h

@@ -1,6 +1,6 @@
 -- The tree level by level, as the code makes it: rows of runs, each where it stands. Assumes nothing.
-use Prim.Native.Nat.{_+_, suc, zero, ℕ}
-use Rattle.laws.specs.Lists.{each}
+use Prim.Native.Nat.{_+_, _<_, _≤_, suc, zero, ℕ}
+use Rattle.laws.specs.Lists.{each, times}
 use Rattle.tree.specs.Build.{reach, split}
 use Rattle.tree.specs.Encode.{Node}
 use lib.Dec.{leb}
@@ -16,6 +16,10 @@ Item = ℕ × List ℕ
 abbrev pub placed : ℕ → List (List ℕ) → List Item
 placed s [] = []
 placed s (r ∷ rs) = (s, r) ∷ placed (s + length r) rs
+
+-- a run that can be opened: not empty, and no row twice where it has more than l rows
+abbrev pub Able : ℕ → List ℕ → Type 0
+Able l r = (1 ≤ length r) × (l < length r → (i : ℕ) → times i r ≤ 1)
 
 -- more than l rows: the item waits to be split, where a level is left
 abbrev pub waits : ℕ → Item → Bool

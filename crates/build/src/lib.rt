@@ -34,9 +34,9 @@ pub struct Built {
 }
 
 // How far a run reaches: the greatest distance from its first, and the least of a member other than the first, 0 where there is none.
-struct Reach {
-    radius: u32,
-    inner: u32,
+pub struct Reach {
+    pub radius: u32,
+    pub inner: u32,
 }
 
 // ---- the nodes, level by level, into the room
@@ -78,7 +78,7 @@ fn root(table: &[u16], c: usize, m: usize, l: usize, n: usize, room: &mut [u32],
 }
 
 // Opens node k, where it has more than l rows. Gives the number of nodes there are then.
-fn open_node(
+pub fn open_node(
     table: &[u16],
     c: usize,
     m: usize,
@@ -175,7 +175,7 @@ fn grow(
 // ---- the header, the positions, and the cleared workspace
 
 // The header's eight words.
-fn put_header(room: &mut [u32], n: usize, c: usize, p: Params, nodes: usize)
+pub fn put_header(room: &mut [u32], n: usize, c: usize, p: Params, nodes: usize)
     requires { ⌜ (8 ≤ length (now room)) × (n ≤ maxRows) × (c ≤ maxColumns) × (p .centres ≤ 64) × (p .leaf ≤ 1024) × (nodes ≤ 2097152) ⌝ }
     ensures { λ _. ⌜ now (room .exit) ≡ headerOf n c (p .centres) (p .leaf) nodes ++ drop 8 (now (room .entry)) ⌝ }
 {
@@ -190,7 +190,7 @@ fn put_header(room: &mut [u32], n: usize, c: usize, p: Params, nodes: usize)
 }
 
 // Each position's row and its distance from its leaf's first.
-fn put_positions(part: &mut [u32], n: usize, work: &[u32])
+pub fn put_positions(part: &mut [u32], n: usize, work: &[u32])
     requires { ⌜ (2 * n ≤ length (now part)) × (3 * n ≤ length (now work)) ⌝ }
     ensures { λ _. ⌜ now (part .exit) ≡ pairsIn (stretch (now (work .entry)) 0 (3 * n)) ++ drop (2 * n) (now (part .entry)) ⌝ }
 {

@@ -14,3 +14,7 @@ start# w k = at w (nodeAt k)
 -- how many rows it has
 abbrev pub count# : List ℕ → ℕ → ℕ
 count# w k = at w (nodeAt k + 1)
+
+-- its first child's number, 0 for a leaf
+abbrev pub child# : List ℕ → ℕ → ℕ
+child# w k = at w (nodeAt k + 2)

@@ -1,0 +1,1 @@
+// A tree's nodes, level by level, as single ones: definitions and laws alone.

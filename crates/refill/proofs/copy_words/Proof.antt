@@ -1,0 +1,70 @@
+-- `refill::copy_words` meets its contract: i words are copied.
+-- Assumes nothing.
+use Prim.Native.Nat.{_-_, _≤_}
+use Rattle.refill.proofs.Wording.{copying-done, copying-step}
+use borrow.Author.Needs.{needs}
+use lib.ListN.{drop, length, take}
+use mathlib.Core.List.{_++_}
+use mathlib.Core.Path.{_≡_, refl}
+use native.Mathlib.Omega.{arith}
+use Rattle.refill.proofs.copy_words.Statement.{statement}
+use Rattle.refill.proofs.copy_words.Tie as tie
+
+abbrev Inv-loop : tie.InvT-loop
+Inv-loop part₀ from k i₀ part i = (length part ≡ length part₀) × (i ≤ k) × (part ≡ take i from ++ drop i part₀)
+
+abbrev μ-loop : tie.MeasureT-loop
+μ-loop part₀ from k i₀ part i = k - i
+
+loop-holds : tie.Need-loop-holds Inv-loop μ-loop
+loop-holds c = (refl, search needs, refl)
+
+mul-part : tie.Need-mul-part Inv-loop μ-loop
+mul-part c = search needs
+
+shared-slice-read-part : tie.Need-shared-slice-read-part Inv-loop μ-loop
+shared-slice-read-part c = search needs
+
+mul-part-2 : tie.Need-mul-part-2 Inv-loop μ-loop
+mul-part-2 c = search needs
+
+slice-write-part : tie.Need-slice-write-part Inv-loop μ-loop
+slice-write-part c = search needs
+
+add-i : tie.Need-add-i Inv-loop μ-loop
+add-i c = search needs
+
+loop-less : tie.Need-loop-less Inv-loop μ-loop
+loop-less c = search needs
+
+loop-again : tie.Need-loop-again Inv-loop μ-loop
+loop-again c =
+    let l = c .before .before in
+    let a = l .before .args in
+    (search needs, search needs, copying-step (a .from .now) (a .part .now) (l .loop .i) (omega arith) (omega arith) (l .loop .inv .2))
+
+same-length : tie.Need-same-length Inv-loop μ-loop
+same-length c = search needs
+
+returns : tie.Need-returns Inv-loop μ-loop
+returns c =
+    let l = c .before in
+    let a = l .before .args in
+    copying-done (a .from .now) (a .part .now) (l .loop .i) (a .k) (omega arith) (l .loop .inv .2)
+
+pub copy-words-spec : {M : Type 1} → statement M
+copy-words-spec =
+    tie.close
+    (tie.spec
+    Inv-loop
+    μ-loop
+    loop-holds
+    mul-part
+    shared-slice-read-part
+    mul-part-2
+    slice-write-part
+    add-i
+    loop-less
+    loop-again
+    same-length
+    returns)

@@ -1,0 +1,130 @@
+-- `refill::refill` meets its contract: the nodes, the header before them and the positions behind them are the words of the tree.
+-- Assumes nothing.
+use Prim.Native.Nat.{_*_, _+_}
+use Rattle.refill.proofs.Refilling.{refilled}
+use Rattle.refill.proofs.Wording.{mid-long}
+use borrow.Author.Needs.{needs}
+use native.Mathlib.Omega.{arith}
+use Rattle.refill.proofs.refill.Statement.{statement}
+use Rattle.refill.proofs.refill.Tie as tie
+
+regrow-requires : tie.Need-regrow-requires
+regrow-requires c κs = search needs
+
+centres-requires : tie.Need-centres-requires
+centres-requires c κs = search needs
+
+leaf-size-requires : tie.Need-leaf-size-requires
+leaf-size-requires c κs = search needs
+
+rows-requires : tie.Need-rows-requires
+rows-requires c κs = search needs
+
+add-n : tie.Need-add-n
+add-n c = search needs
+
+columns-requires : tie.Need-columns-requires
+columns-requires c κs = search needs
+
+put-header-requires : tie.Need-put-header-requires
+put-header-requires c κs =
+    let n = c .before .before .before in
+    let l = n .before in
+    let m = l .before in
+    let k = m .before .before .before .before .before in
+    let g = k .before .before .before .before .before .before .before .pre in
+    let W = g .change .shape .whole in (
+      omega (arith, g .space),
+      omega (arith, g .change .rows, n .rows .ensures .0),
+      omega (arith, W .columns .1, c .columns .ensures .0),
+      omega (arith, W .fan .1, m .centres .ensures .0),
+      omega (arith, W .leaf .1, l .leaf-size .ensures .0),
+      omega (arith, k .regrow .ensures g .few, g .change .rows),
+    )
+
+mul-at : tie.Need-mul-at
+mul-at c =
+    let k = c .before .before .before .before .before .before .before .before .before .before .before .before .before in
+    let g = k .before .before .before .before .before .before .before .pre in
+    omega (arith, k .regrow .ensures g .few, g .space, g .change .rows)
+
+add-at : tie.Need-add-at
+add-at c =
+    let k = c .before .before .before .before .before .before .before .before .before .before .before .before .before in
+    let g = k .before .before .before .before .before .before .before .pre in
+    omega (arith, k .regrow .ensures g .few, g .space, g .change .rows)
+
+mul-put-pairs : tie.Need-mul-put-pairs
+mul-put-pairs c =
+    let k = c .before .before .before .before .before .before .before .before .before .before .before .before .before in
+    let g = k .before .before .before .before .before .before .before .pre in
+    omega (arith, k .regrow .ensures g .few, g .space, g .change .rows)
+
+sub-put-pairs : tie.Need-sub-put-pairs
+sub-put-pairs c =
+    let k = c .before .before .before .before .before .before .before .before .before .before .before .before .before in
+    let g = k .before .before .before .before .before .before .before .pre in
+    omega (arith, k .regrow .ensures g .few, g .space, g .change .rows)
+
+part-put-pairs-start : tie.Need-part-put-pairs-start
+part-put-pairs-start c =
+    let k = c .before .before .before .before .before .before .before .before .before .before .before .before .before in
+    let g = k .before .before .before .before .before .before .before .pre in
+    omega (arith, k .regrow .ensures g .few, g .space, g .change .rows)
+
+part-put-pairs-end : tie.Need-part-put-pairs-end
+part-put-pairs-end c = search needs
+
+put-pairs-requires : tie.Need-put-pairs-requires
+put-pairs-requires c κs =
+    let h = c .before .before .before .before in
+    let k = h .before .before .before .before .before .before .before .before .before .before .before in
+    let g = k .before .before .before .before .before .before .before .pre in (
+      g .change .shape,
+      record {
+        there = g .change .there;
+        rows = g .change .rows;
+        space = omega (arith, k .regrow .ensures g .few, g .space, mid-long (8 + 5 * k .regrow .result) (h .put-header .last .0));
+        entries = omega (arith, g .halves);
+      },
+    )
+
+same-length : tie.Need-same-length
+same-length c = search needs
+
+same-length-2 : tie.Need-same-length-2
+same-length-2 c = search needs
+
+returns : tie.Need-returns
+returns c =
+    let p = c .before .before in
+    let h = p .before .before .before .before .before in
+    let o = h .before in
+    let n = o .before .before .before in
+    let l = n .before in
+    let m = l .before in
+    let k = m .before .before .before .before .before in
+    λ g. refilled g (k .regrow .ensures g) (search needs) (omega (arith, n .rows .ensures .0)) (o .columns .ensures .0) (m .centres .ensures .0)
+    (l .leaf-size .ensures .0) (h .put-header .ensures) (p .put-pairs .ensures)
+
+pub refill-spec : {M : Type 1} → statement M
+refill-spec =
+    tie.close
+    (tie.spec
+    regrow-requires
+    centres-requires
+    leaf-size-requires
+    rows-requires
+    add-n
+    columns-requires
+    put-header-requires
+    mul-at
+    add-at
+    mul-put-pairs
+    sub-put-pairs
+    part-put-pairs-start
+    part-put-pairs-end
+    put-pairs-requires
+    same-length
+    same-length-2
+    returns)

@@ -1,0 +1,15 @@
+pub mod Copies
+pub mod Opens
+pub mod Rows
+pub mod Paving
+pub mod Halves
+pub mod Steps
+pub mod Turns
+pub mod Dues
+pub mod Going
+pub mod Trees
+pub mod Found
+pub mod Around
+pub mod Changes
+pub mod Few
+pub mod Planting

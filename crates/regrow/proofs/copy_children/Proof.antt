@@ -1,0 +1,84 @@
+-- `regrow::copy_children` meets its contract: i old nodes are copied (`withCopies`).
+-- Assumes nothing.
+use borrow.Author.Needs.{needs}
+use mathlib.Core.Path.{_≡_}
+use lib.ListN.{length}
+use Rattle.words.specs.Words.{c#, m#}
+use Rattle.regrow.specs.Stages.{withCopies}
+use Rattle.regrow.specs.Pieces.{copied}
+use Rattle.measure.specs.Table.{between}
+use Prim.Native.Nat.{_-_, _≤_}
+use native.Mathlib.Omega.{arith}
+use Rattle.regrow.proofs.Copies.{copies-done, copies-start, copies-step}
+use Rattle.regrow.proofs.copy_children.Statement.{statement}
+use Rattle.regrow.proofs.copy_children.Tie as tie
+
+abbrev Inv-loop : tie.InvT-loop
+Inv-loop table index p room₀ child made m i₀ room i =
+    (length room ≡ length room₀) × (i ≤ m) × (room ≡ withCopies (copied (between table (c# index)) index (p .node) (p .added)) child i room₀ made)
+
+abbrev μ-loop : tie.MeasureT-loop
+μ-loop table index p room₀ child made m i₀ room i = m - i
+
+centres-requires : tie.Need-centres-requires Inv-loop μ-loop
+centres-requires c κs = search needs
+
+loop-holds : tie.Need-loop-holds Inv-loop μ-loop
+loop-holds c =
+    let a = c .before .before .before .before .args in (
+      search needs,
+      search needs,
+      copies-start (copied (between (a .table .now) (c# (a .index .now))) (a .index .now) (a .p .node) (a .p .added)) (a .child) (a .room .now) (a .made),
+    )
+
+add-copied-node : tie.Need-add-copied-node Inv-loop μ-loop
+add-copied-node c = search needs
+
+add-copied-node-2 : tie.Need-add-copied-node-2 Inv-loop μ-loop
+add-copied-node-2 c = search needs
+
+copied-node-requires : tie.Need-copied-node-requires Inv-loop μ-loop
+copied-node-requires c κs = search needs
+
+add-i : tie.Need-add-i Inv-loop μ-loop
+add-i c = search needs
+
+loop-less : tie.Need-loop-less Inv-loop μ-loop
+loop-less c = search needs
+
+loop-again : tie.Need-loop-again Inv-loop μ-loop
+loop-again c =
+    let l = c .before .before .before .before .before in
+    let a = l .before .before .before .before .before .args in (
+      search needs,
+      search needs,
+      copies-step (copied (between (a .table .now) (c# (a .index .now))) (a .index .now) (a .p .node) (a .p .added)) (a .child) (a .room .now) (a .made)
+          (l .loop .i) (omega arith) (l .loop .inv .2) (c .before .before .copied-node .ensures),
+    )
+
+same-length : tie.Need-same-length Inv-loop μ-loop
+same-length c = search needs
+
+returns : tie.Need-returns Inv-loop μ-loop
+returns c =
+    let l = c .before in
+    let a = l .before .before .before .before .before .args in
+    copies-done (copied (between (a .table .now) (c# (a .index .now))) (a .index .now) (a .p .node) (a .p .added)) (a .child) (a .room .now) (a .made) (l .loop .i)
+    (m# (a .index .now)) (omega (arith, l .before .centres .ensures .0)) (l .loop .inv .2)
+
+pub copy-children-spec : {M : Type 1} → statement M
+copy-children-spec =
+    tie.close
+    (tie.spec
+    Inv-loop
+    μ-loop
+    centres-requires
+    loop-holds
+    add-copied-node
+    add-copied-node-2
+    copied-node-requires
+    add-i
+    loop-less
+    loop-again
+    same-length
+    returns)

@@ -1,0 +1,32 @@
+-- `regrow::start_of` meets its contract: a run behind node v's has moved, any other has not.
+-- Assumes nothing.
+use borrow.Author.Needs.{needs}
+use native.Mathlib.Omega.{arith}
+use Rattle.regrow.proofs.Copies.{start-moved, start-stays}
+use Rattle.regrow.proofs.start_of.Statement.{statement}
+use Rattle.regrow.proofs.start_of.Tie as tie
+
+node-start-requires : tie.Need-node-start-requires
+node-start-requires c κs = search needs
+
+node-end-requires : tie.Need-node-end-requires
+node-end-requires c κs = search needs
+
+add-result : tie.Need-add-result
+add-result c = search needs
+
+returns : tie.Need-returns
+returns c =
+    let s = c .before .before .before .before in
+    let k = s .pre .0 .node (s .args .k) (s .pre .1 .1) in
+    (start-moved _ _ _ _ (c .before .before .node-start .ensures .0) (c .before .node-end .ensures .0) (omega arith), omega (arith, k .run, c .before .before .node-start .ensures .0))
+
+returns-2 : tie.Need-returns-2
+returns-2 c =
+    let s = c .before .before .before .before in
+    let k = s .pre .0 .node (s .args .k) (s .pre .1 .1) in
+    (start-stays _ _ _ _ (c .before .before .node-start .ensures .0) (c .before .node-end .ensures .0) (omega arith), omega (arith, k .run, c .before .before .node-start .ensures .0))
+
+pub start-of-spec : {M : Type 1} → statement M
+start-of-spec =
+    tie.close (tie.spec node-start-requires node-end-requires add-result returns returns-2)
