@@ -52,52 +52,8 @@ module _ {t : List ℕ} {c : ℕ} {w room work : List ℕ} (J : Joinable t c w r
       }
 
   module _ {v left : ℕ} (F : Found (between t c) w (n# w) v left) where
-    -- the run that is laid
-    abbrev run : List ℕ
-    run = ready w v left (n# w)
-
-    -- it has one row more than the leaf
-    run-long : length run ≡ count# w v + 1
-    run-long = ready-long w (J .shape) (n# w) v left (F .there)
-
-    -- the tree can be grown anew with it
-    pub regrowable : {limit : ℕ} {stays : Bool} {work′ : List ℕ} → Lays t c w v left (n# w) work work′ stays → limit ≡ cond stays maxRows (l# w)
-        → Regrowable t w v 1 limit room work′
-    regrowable {limit} {stays} {work′} L q =
-        let k : count# w v ≤ n# w = omega (arith, J .shape .node v (F .there) .run) in
-        let e : limit ≡ cond (unsplit w v left (n# w)) maxRows (l# w) = q ∙ ap (λ (b : Bool). cond b maxRows (l# w)) (L .said) in
-        record {
-          change = record {
-            shape = J .shape;
-            edition = J .edition;
-            there = F .there;
-            leafy = leafy (unsplit w v left (n# w)) e;
-            rows = J .few;
-            table = subst (λ (i : ℕ). i * (n# w + 1) ≤ length t) (sym (J .columns)) (J .table);
-          };
-          tree = J .tree;
-          run = run;
-          count = run-long;
-          once = once (unsplit w v left (n# w)) refl e;
-          rows = ready-rows w (J .shape) (n# w) v left (F .there) refl;
-          stands = ap (λ (i : ℕ). stretch work′ (3 * start# w v) (3 * start# w v + 3 * i)) run-long ∙ L .run
-              ∙ ap (λ (i : ℕ). laid (between t i) run) (sym (J .columns));
-          halves = omega (arith, J .halves, L .long);
-          space = J .space;
-        }
-      where
-        leafy : (b : Bool) → limit ≡ cond b maxRows (l# w) → l# w ≤ limit
-        leafy true e = omega (arith, J .shape .whole .leaf .1)
-        leafy false e = omega arith
-
-        once : (b : Bool) → unsplit w v left (n# w) ≡ b → limit ≡ cond b maxRows (l# w) → limit < length run → (i : ℕ) → times i run ≤ 1
-        once true u e h = absurd (omega (arith, run-long, J .few, J .shape .node v (F .there) .run))
-        once false u e h = ready-run w (J .shape) (n# w) v left (F .there) u .1
-
     -- what is written is the index that the row has joined
     pub joins : {limit made : ℕ} {work₁ room′ work₂ work′ : List ℕ}
-        → regrownOf t w v 1 limit run ≡ join (between t c) (m# w) (l# w) (n# w) maxDepth 0 (treeOf w)
-        → length (entries (regrownOf t w v 1 limit run)) ≡ n# w + 1
         → Refilled t w v 1 limit run room work₁ room′ work₂ made → work′ ≡ replicate (length work) 0
         → Joins t c w room work room′ work′ made
     joins {limit} {made} {room′ = room′} tree many R zeros =

@@ -190,5 +190,6 @@ module _ {t w : List ℕ} {v added limit : ℕ} {room work room₁ work₁ : Lis
             ∙ ap₂ (λ (x : List ℕ) (k : ℕ). x ++ drop k room) front-are whole;
         count = r .count;
         few = r .few;
+        words = sym whole;
         long = same;
       }

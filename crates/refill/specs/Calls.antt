@@ -34,6 +34,7 @@ pub record Refilled (t w : List ℕ) (v added limit : ℕ) (run room work room�
   pub index : room′ ≡ regrownWords t w v added limit run ++ drop (length (regrownWords t w v added limit run)) room
   pub count : made ≡ length (numbered (regrownOf t w v added limit run))
   pub few : made + 1 ≤ 2 * (n# w + added)
+  pub words : length (regrownWords t w v added limit run) ≡ 8 + 5 * made + 2 * (n# w + added)
   pub long : length work′ ≡ length work
 
 -- it does, whatever the run
