@@ -1,24 +1,28 @@
 -- The tree that is grown anew when one row joins a leaf is the tree that takes the row: 02, R-2. Assumes nothing.
-use Prim.Native.Nat.{_+_, _<_, _≤_, suc, zero, ℕ}
-use Rattle.appending.specs.Append.{join, keepOwn}
-use Rattle.laws.specs.Lists.{range}
-use Rattle.leafward.proofs.Handing.{join-laid, leafAnew, ready-long}
+use Prim.Native.Nat.{_*_, _+_, _<_, _≤_, suc, zero, ℕ}
+use Rattle.appending.specs.Append.{appended, join, keepOwn}
+use Rattle.laws.specs.Lists.{range, times}
+use Rattle.leafward.proofs.Handing.{join-laid, leafAnew, ready-long, ready-rows, ready-run}
 use Rattle.leafward.specs.Changed.{changedAt}
-use Rattle.leafward.specs.Lay.{ready, unsplit}
+use Rattle.leafward.specs.Lay.{Lays, ready, unsplit}
 use Rattle.leafward.specs.Way.{Found}
 use Rattle.limits.specs.Limits.{maxDepth, maxRows}
 use Rattle.measure.specs.Table.{between}
+use Rattle.refill.specs.Calls.{regrownWords}
 use Rattle.regrow.proofs.Changes.{one-reaches}
 use Rattle.regrow.proofs.Trees.{small-grown}
-use Rattle.regrow.specs.Calls.{regrownOf}
+use Rattle.regrow.specs.Calls.{Regrowable, regrownOf}
 use Rattle.regrow.specs.Pieces.{newReach}
-use Rattle.tree.specs.Build.{grow, leafOf}
+use Rattle.split.specs.Groups.{stretch}
+use Rattle.tree.specs.Build.{build, grow, leafOf}
+use Rattle.tree.specs.Calls.{roomOf}
+use Rattle.tree.specs.Encode.{encode}
 use Rattle.tree.specs.Grove.{Grove, Reach, bare, fork, leaf, members#, treeOf}
 use Rattle.words.specs.InShape.{InShape}
-use Rattle.words.specs.Shape.{inner}
-use Rattle.words.specs.Words.{N#, c#, child#, l#, m#, n#}
-use borrow.Author.Tests.{le-leb}
-use lib.Dec.{eqb}
+use Rattle.words.specs.Shape.{inner, treeFits}
+use Rattle.words.specs.Words.{N#, c#, child#, count#, edition#, l#, m#, n#, start#}
+use borrow.Author.Tests.{le-leb, ne-eqb}
+use lib.Dec.{T, eqb}
 use lib.ListN.{length}
 use mathlib.Core.Bool.{Bool, cond, false, true}
 use mathlib.Core.List.{List, [], _∷_, foldr}
@@ -65,6 +69,40 @@ module _ (t w : List ℕ) (S : InShape w) (v left : ℕ) (there : v < N# w) (few
       go true = ap (keepOwn R) (small-grown d (m# w) maxRows deep run g (le-leb (length run) maxRows run-few))
       go false = refl
 
+  -- no old leaf has more rows than the limit
+  leaf-under : l# w ≤ limitOf w v left (n# w)
+  leaf-under = go (unsplit w v left (n# w))
+    where
+      go : (b : Bool) → l# w ≤ cond b maxRows (l# w)
+      go true = omega (arith, S .whole .leaf .1)
+      go false = omega arith
+
+  -- a run that has more stands with no row twice
+  run-once : limitOf w v left (n# w) < length run → (i : ℕ) → times i run ≤ 1
+  run-once = go (unsplit w v left (n# w)) refl
+    where
+      go : (b : Bool) → unsplit w v left (n# w) ≡ b → cond b maxRows (l# w) < length run → (i : ℕ) → times i run ≤ 1
+      go true e h = absurd (omega (arith, run-few))
+      go false e h = ready-run w S (n# w) v left there e .1
+
+  -- WHAT IS LAID CAN BE GROWN ANEW
+  pub laid-regrowable : {room work work′ : List ℕ} {stays : Bool} → edition# w ≡ 2 → T (treeFits w) → c# w * (n# w + 1) ≤ length t
+      → 6 * (n# w + 1) ≤ length work → roomOf (n# w + 1) ≤ length room → Lays t (c# w) w v left (n# w) work work′ stays
+      → Regrowable t w v 1 (limitOf w v left (n# w)) room work′
+  laid-regrowable {work′ = work′} two tree table halves space laid =
+      let long : length run ≡ count# w v + 1 = ready-long w S (n# w) v left there in
+      record {
+        change = record { shape = S; edition = two; there = there; leafy = leaf-under; rows = few; table = table };
+        tree = tree;
+        run = run;
+        count = long;
+        once = run-once;
+        rows = ready-rows w S (n# w) v left there refl;
+        stands = ap (λ (k : ℕ). stretch work′ (3 * start# w v) (3 * start# w v + 3 * k)) long ∙ laid .run;
+        halves = omega (arith, laid .long);
+        space = space;
+      }
+
   -- THE TREE GROWN ANEW FROM THE RUN THAT IS LAID IS THE TREE THAT TAKES THE NEW ROW
   pub regrown-joined : 1 ≤ N# w → Found d w (n# w) v left
       → regrownOf t w v 1 (limitOf w v left (n# w)) (ready w v left (n# w)) ≡ join (between t (c# w)) (m# w) (l# w) (n# w) maxDepth 0 (treeOf w)
@@ -74,3 +112,13 @@ module _ (t w : List ℕ) (S : InShape w) (v left : ℕ) (there : v < N# w) (few
       changed-same w R v (λ deep g. keepOwn (R v) (grow d (m# w) (limitOf w v left (n# w)) deep run g)) (leafAnew w S (n# w) v left there d (R v))
       (anew-same (R v)) maxDepth 0 bare
       ∙ sym (join-laid w S (n# w) v left there d R (one-reaches d w v) some F)
+
+  -- ITS WORDS ARE THOSE OF THE INDEX WITH THE TABLE'S LAST ROW IN IT
+  pub regrown-appended : 1 ≤ n# w → Found d w (n# w) v left
+      → regrownWords t w v 1 (limitOf w v left (n# w)) (ready w v left (n# w)) ≡ appended t (c# w) w
+  unfolding appended
+  regrown-appended some F =
+      let tree : Grove = join (between t (c# w)) (m# w) (l# w) (n# w) maxDepth 0 (treeOf w) in
+      ap (encode 2 (c# w) (m# w) (l# w)) (regrown-joined (S .root some .there) F)
+      ∙ sym (ap (λ (b : Bool). cond b (build t (c# w) 2 (m# w) (l# w)) (encode 2 (c# w) (m# w) (l# w) tree))
+      (ne-eqb (n# w) 0 (λ e. absurd (omega arith))))

@@ -36,7 +36,8 @@ fn copy_words(part: &mut [u32], from: &[u32], k: usize)
 fn put_pairs(index: &[u32], v: usize, added: usize, part: &mut [u32], work: &[u32])
     requires { ⌜ InShape (now index) ⌝ }
     requires { ⌜ Pairing (now index) v added (now part) (now work) ⌝ }
-    ensures { λ _. ⌜ now (part .exit) ≡ pairsThen (now (index .entry)) v added (now (work .entry)) ++ drop (2 * (n# (now (index .entry)) + added)) (now (part .entry)) ⌝ }
+    ensures { λ _. ⌜ now (part .exit) ≡ pairsThen (now (index .entry)) v added (now (work .entry))
+        ++ drop (2 * (n# (now (index .entry)) + added)) (now (part .entry)) ⌝ }
 {
     let s = node_start(index, v);
     let count = node_count(index, v) + added;
@@ -54,7 +55,8 @@ fn put_pairs(index: &[u32], v: usize, added: usize, part: &mut [u32], work: &[u3
 // Writes the index whose tree is grown anew below a node, whose run stands in the workspace with the rows that have come. Gives the number of nodes.
 pub fn refill(table: &[u16], index: &[u32], p: Growth, room: &mut [u32], work: &mut [u32]) -> usize
     requires { ⌜ Regrowable (now table) (now index) (p .node) (p .added) (p .limit) (now room) (now work) ⌝ }
-    ensures { λ r. ⌜ Refills (now (table .entry)) (now (index .entry)) (p .node) (p .added) (p .limit) (now (room .entry)) (now (work .entry)) (now (room .exit)) (now (work .exit)) r ⌝ }
+    ensures { λ r. ⌜ Refills (now (table .entry)) (now (index .entry)) (p .node) (p .added) (p .limit) (now (room .entry)) (now (work .entry))
+        (now (room .exit)) (now (work .exit)) r ⌝ }
 {
     let made = regrow::regrow(table, index, p, room, work);
     let centres = centres(index);

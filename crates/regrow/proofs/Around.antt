@@ -10,7 +10,7 @@ use Rattle.laws.specs.Lists.{each, range}
 use Rattle.leafward.specs.Changed.{Holds}
 use Rattle.limits.specs.Limits.{maxDepth, maxDistance}
 use Rattle.regrow.proofs.Dues.{both-none}
-use Rattle.regrow.proofs.Found.{child-same, dues, dues-down, j, kids, own-piece, stays-kept}
+use Rattle.regrow.proofs.Found.{child-same, dues, dues-down, j, kids, leaf-few, own-piece, stays-kept}
 use Rattle.regrow.proofs.Rows.{piece-node}
 use Rattle.regrow.specs.Pieces as pieces
 use Rattle.regrow.specs.Pieces.{Fitting, Follow, Piece, copied, due, end#, fresh, kept, newChild, newCount, newStart, pending, piece}
@@ -243,26 +243,6 @@ module _ (t w : List ℕ) (v added limit : ℕ) (run : List ℕ) (fits : T (tree
         side (inr a) = inr (a .1)
 
     -- ---- a node of the old index that stays
-    -- a leaf above depth 24 has at most l rows
-    leaf-few : (k : ℕ) → k < N# w → k < level w maxDepth → child# w k ≡ 0 → count# w k ≤ l# w
-    unfolding nodeOk born
-    leaf-few k h f z = go (leb (count# w k) (l# w)) refl (node-ok w fits k h)
-      where
-        go : (few : Bool) → leb (count# w k) (l# w) ≡ few
-            → T (leb 1 (count# w k) && leb (radius# w k) maxDistance && leb (inner# w k) maxDistance
-            && cond (few || leb (level w maxDepth) k) (eqb (child# w k) 0)
-            (eqb (child# w k) (born w k) && tile w (child# w k) (m# w) (start# w k) (start# w k + count# w k)))
-            → count# w k ≤ l# w
-        go true e q = leb-true (count# w k) (l# w) e
-        go false e q =
-            let deep : leb (level w maxDepth) k ≡ false = lt-leb (level w maxDepth) k f in
-            let A : Bool = leb 1 (count# w k) && leb (radius# w k) maxDistance && leb (inner# w k) maxDistance in
-            let B : Bool = eqb (child# w k) (born w k) in
-            let C : Bool = tile w (child# w k) (m# w) (start# w k) (start# w k + count# w k) in
-            let r : T (A && (cond (false || leb (level w maxDepth) k) (eqb (child# w k) 0) (B && C))) = q in
-            let r′ : T (A && (B && C)) = subst (λ (b : Bool). T (A && cond (false || b) (eqb (child# w k) 0) (B && C))) deep r in
-            absurd (omega (arith, eqb→eq (child# w k) (born w k) (and-l B C (and-r A (B && C) r′)), born-le w 0 k (omega arith)))
-
     -- a leaf has the members that it counts
     members-long : (k : ℕ) → length (members# w k) ≡ count# w k
     members-long k = length-map (run# w k) (λ p. (row# w p, dist# w p)) ∙ range-length (start# w k) (count# w k)
@@ -336,7 +316,7 @@ module _ (t w : List ℕ) (v added limit : ℕ) (run : List ℕ) (fits : T (tree
           λ z.
               let e : J .copy k .1 ≡ count# w k = count-apart k c (leaf-apart deep k n (sym same ∙ z) near) in
               let up : level w (suc maxDepth - suc deep) ≤ level w maxDepth = level-le w (suc maxDepth - suc deep) maxDepth (omega arith) in
-              (omega (arith, e, leafy, leaf-few k h (omega (arith, up)) (sym same ∙ z)), members-long k ∙ sym e),
+              (omega (arith, e, leafy, leaf-few w fits k h (omega (arith, up)) (sym same ∙ z)), members-long k ∙ sym e),
           λ y.
               let x : child# w k ≡ 0 → ⊥ = λ z. y (same ∙ z) in
               let i : inner w k ≡ true = inner-is w k x in

@@ -4,22 +4,43 @@ use Rattle.build.specs.Levels.{Item}
 use Rattle.laws.proofs.Joins.{each-append}
 use Rattle.laws.proofs.Lists.{map-append}
 use Rattle.laws.proofs.Ranges.{range-append, range-every}
+use Rattle.laws.proofs.Tests.{and-l, and-r}
 use Rattle.laws.specs.Every.{Every}
 use Rattle.laws.specs.Lists.{each, range}
-use Rattle.limits.specs.Limits.{maxDepth}
+use Rattle.limits.specs.Limits.{maxDepth, maxDistance}
 use Rattle.regrow.specs.Pieces.{Job, Piece, copied, due, fresh, jobOf, kept, newChild, piece}
 use Rattle.words.proofs.Levels.{born-inner, born-le, born-leaf, inner-is}
-use Rattle.words.proofs.Nodes.{closed, node-at, not-orphan}
-use Rattle.words.specs.Shape.{born, inner, level, treeFits}
-use Rattle.words.specs.Words.{N#, c#, child#, m#}
-use borrow.Author.Tests.{eq-eqb, eqb-false, eqb-true, ltb-false, ltb-true, ne-eqb}
-use lib.Dec.{T, eqb, ltb}
+use Rattle.words.proofs.Nodes.{closed, node-at, node-ok, not-orphan}
+use Rattle.words.specs.Shape.{born, inner, level, nodeOk, tile, treeFits}
+use Rattle.words.specs.Words.{N#, c#, child#, count#, inner#, l#, m#, radius#, start#}
+use borrow.Author.Tests.{eq-eqb, eqb-false, eqb-true, leb-true, lt-leb, ltb-false, ltb-true, ne-eqb}
+use lib.Dec.{T, eqb, eqb→eq, leb, ltb}
 use lib.ListN.{length}
-use mathlib.Core.Bool.{Bool, cond, false, true}
+use mathlib.Core.Bool.{Bool, _&&_, _||_, cond, false, true}
 use mathlib.Core.List.{List, [], _++_, _∷_, append-nil, map}
 use mathlib.Core.Path.{_∙_, _≡_, ap, ap₂, refl, subst, sym}
 use native.Mathlib.Nat.{add-zero}
 use native.Mathlib.Omega.{arith}
+
+-- a leaf above depth 24 has at most l rows
+pub leaf-few : (w : List ℕ) → T (treeFits w) → (k : ℕ) → k < N# w → k < level w maxDepth → child# w k ≡ 0 → count# w k ≤ l# w
+unfolding nodeOk born
+leaf-few w fits k h f z = go (leb (count# w k) (l# w)) refl (node-ok w fits k h)
+  where
+    go : (few : Bool) → leb (count# w k) (l# w) ≡ few
+        → T (leb 1 (count# w k) && leb (radius# w k) maxDistance && leb (inner# w k) maxDistance
+        && cond (few || leb (level w maxDepth) k) (eqb (child# w k) 0)
+        (eqb (child# w k) (born w k) && tile w (child# w k) (m# w) (start# w k) (start# w k + count# w k)))
+        → count# w k ≤ l# w
+    go true e q = leb-true (count# w k) (l# w) e
+    go false e q =
+        let A : Bool = leb 1 (count# w k) && leb (radius# w k) maxDistance && leb (inner# w k) maxDistance in
+        let B : Bool = eqb (child# w k) (born w k) in
+        let C : Bool = tile w (child# w k) (m# w) (start# w k) (start# w k + count# w k) in
+        let r : T (A && (cond (false || leb (level w maxDepth) k) (eqb (child# w k) 0) (B && C))) = q in
+        let r′ : T (A && (B && C)) =
+        subst (λ (b : Bool). T (A && cond (false || b) (eqb (child# w k) 0) (B && C))) (lt-leb (level w maxDepth) k f) r in
+        absurd (omega (arith, eqb→eq (child# w k) (born w k) (and-l B C (and-r A (B && C) r′)), born-le w 0 k (omega arith)))
 
 module _ (t w : List ℕ) (v added limit : ℕ) (run : List ℕ) (fits : T (treeFits w)) (there : v < N# w) where
   -- the work at hand

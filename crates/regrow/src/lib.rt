@@ -101,7 +101,8 @@ fn child_of(index: &[u32], v: usize, k: usize) -> usize
 fn reach_of(table: &[u16], index: &[u32], p: Growth, k: usize) -> Reach
     requires { ⌜ Change (now table) (now index) (p .node) (p .added) (p .limit) ⌝ }
     requires { ⌜ k < N# (now index) ⌝ }
-    ensures { λ r. ⌜ Numbers (newReach (between (now (table .entry)) (c# (now (index .entry)))) (now (index .entry)) (p .node) (p .added) k) (r .radius) (r .inner) ⌝ }
+    ensures { λ r. ⌜ Numbers (newReach (between (now (table .entry)) (c# (now (index .entry)))) (now (index .entry)) (p .node) (p .added) k)
+        (r .radius) (r .inner) ⌝ }
 {
     let radius = node_radius(index, k);
     let inner = node_inner(index, k);
@@ -122,7 +123,9 @@ fn reach_of(table: &[u16], index: &[u32], p: Growth, k: usize) -> Reach
 fn copied_node(table: &[u16], index: &[u32], p: Growth, room: &mut [u32], o: usize, made: usize)
     requires { ⌜ Change (now table) (now index) (p .node) (p .added) (p .limit) ⌝ }
     requires { ⌜ (o < N# (now index)) × (made ≤ 2097152) × (nodeAt (made + 1) ≤ length (now room)) ⌝ }
-    ensures { λ _. ⌜ now (room .exit) ≡ withCopies (copied (between (now (table .entry)) (c# (now (index .entry)))) (now (index .entry)) (p .node) (p .added)) o 1 (now (room .entry)) made ⌝ }
+    ensures { λ _. ⌜ now (room .exit) ≡ withCopies
+        (copied (between (now (table .entry)) (c# (now (index .entry)))) (now (index .entry)) (p .node) (p .added))
+        o 1 (now (room .entry)) made ⌝ }
 {
     let start = start_of(index, p.node, p.added, o);
     let count = count_of(index, p.node, p.added, o);
@@ -149,8 +152,11 @@ fn copy_children(
     made: usize,
 )
     requires { ⌜ Change (now table) (now index) (p .node) (p .added) (p .limit) ⌝ }
-    requires { ⌜ (child + m# (now index) ≤ N# (now index)) × (made + m# (now index) ≤ 2097152) × (nodeAt (made + m# (now index)) ≤ length (now room)) ⌝ }
-    ensures { λ _. ⌜ now (room .exit) ≡ withCopies (copied (between (now (table .entry)) (c# (now (index .entry)))) (now (index .entry)) (p .node) (p .added)) child (m# (now (index .entry))) (now (room .entry)) made ⌝ }
+    requires { ⌜ (child + m# (now index) ≤ N# (now index)) × (made + m# (now index) ≤ 2097152) ×
+        (nodeAt (made + m# (now index)) ≤ length (now room)) ⌝ }
+    ensures { λ _. ⌜ now (room .exit) ≡ withCopies
+        (copied (between (now (table .entry)) (c# (now (index .entry)))) (now (index .entry)) (p .node) (p .added))
+        child (m# (now (index .entry))) (now (room .entry)) made ⌝ }
 {
     let m = centres(index);
     let mut i = 0;
@@ -173,7 +179,8 @@ fn open_piece(
     made: usize,
 ) -> usize
     requires { ⌜ Openable′ (now table) (now index) (p .node) (p .added) (p .limit) (now room) (now work) k made ⌝ }
-    ensures { λ r. ⌜ Opened′ (now (table .entry)) (now (index .entry)) (p .node) (p .added) (p .limit) (now (room .entry)) (now (work .entry)) k made (now (room .exit)) (now (work .exit)) r ⌝ }
+    ensures { λ r. ⌜ Opened′ (now (table .entry)) (now (index .entry)) (p .node) (p .added) (p .limit) (now (room .entry)) (now (work .entry))
+        k made (now (room .exit)) (now (work .exit)) r ⌝ }
 {
     let child = word(room, HEADER + WIDTH * k + 2);
     let m = centres(index);
@@ -206,7 +213,8 @@ fn level(
     hi: usize,
 ) -> usize
     requires { ⌜ Level (now table) (now index) (p .node) (p .added) (p .limit) (now room) (now work) lo hi ⌝ }
-    ensures { λ r. ⌜ Staged (now (table .entry)) (now (index .entry)) (p .node) (p .added) (p .limit) (now (room .entry)) (now (work .entry)) lo hi (now (room .exit)) (now (work .exit)) r ⌝ }
+    ensures { λ r. ⌜ Staged (now (table .entry)) (now (index .entry)) (p .node) (p .added) (p .limit) (now (room .entry)) (now (work .entry))
+        lo hi (now (room .exit)) (now (work .exit)) r ⌝ }
 {
     let mut made = hi;
     let mut k = lo;
@@ -220,7 +228,8 @@ fn level(
 // Opens the nodes of all levels below the root. Gives the number of nodes.
 fn levels(table: &[u16], index: &[u32], p: Growth, room: &mut [u32], work: &mut [u32]) -> usize
     requires { ⌜ Planted (now table) (now index) (p .node) (p .added) (p .limit) (now room) (now work) ⌝ }
-    ensures { λ r. ⌜ Leveled (now (table .entry)) (now (index .entry)) (p .node) (p .added) (p .limit) (now (room .entry)) (now (work .entry)) (now (room .exit)) (now (work .exit)) r ⌝ }
+    ensures { λ r. ⌜ Leveled (now (table .entry)) (now (index .entry)) (p .node) (p .added) (p .limit) (now (room .entry)) (now (work .entry))
+        (now (room .exit)) (now (work .exit)) r ⌝ }
 {
     let mut lo: usize = 0;
     let mut hi: usize = 1;
@@ -237,7 +246,8 @@ fn levels(table: &[u16], index: &[u32], p: Growth, room: &mut [u32], work: &mut 
 // Grows the tree of an index anew below a node, whose run stands in the workspace with the rows that have come. Gives the number of nodes.
 pub fn regrow(table: &[u16], index: &[u32], p: Growth, room: &mut [u32], work: &mut [u32]) -> usize
     requires { ⌜ Regrowable (now table) (now index) (p .node) (p .added) (p .limit) (now room) (now work) ⌝ }
-    ensures { λ r. ⌜ Regrows (now (table .entry)) (now (index .entry)) (p .node) (p .added) (p .limit) (now (room .entry)) (now (work .entry)) (now (room .exit)) (now (work .exit)) r ⌝ }
+    ensures { λ r. ⌜ Regrows (now (table .entry)) (now (index .entry)) (p .node) (p .added) (p .limit) (now (room .entry)) (now (work .entry))
+        (now (room .exit)) (now (work .exit)) r ⌝ }
 {
     copied_node(table, index, p, room, 0, 0);
     levels(table, index, p, room, work)
