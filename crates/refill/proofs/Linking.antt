@@ -70,7 +70,7 @@ module _ (t w : List ℕ) (S : InShape w) (v left : ℕ) (there : v < N# w) (few
       go false = refl
 
   -- no old leaf has more rows than the limit
-  leaf-under : l# w ≤ limitOf w v left (n# w)
+  pub leaf-under : l# w ≤ limitOf w v left (n# w)
   leaf-under = go (unsplit w v left (n# w))
     where
       go : (b : Bool) → l# w ≤ cond b maxRows (l# w)
@@ -78,30 +78,12 @@ module _ (t w : List ℕ) (S : InShape w) (v left : ℕ) (there : v < N# w) (few
       go false = omega arith
 
   -- a run that has more stands with no row twice
-  run-once : limitOf w v left (n# w) < length run → (i : ℕ) → times i run ≤ 1
+  pub run-once : limitOf w v left (n# w) < length run → (i : ℕ) → times i run ≤ 1
   run-once = go (unsplit w v left (n# w)) refl
     where
       go : (b : Bool) → unsplit w v left (n# w) ≡ b → cond b maxRows (l# w) < length run → (i : ℕ) → times i run ≤ 1
       go true e h = absurd (omega (arith, run-few))
       go false e h = ready-run w S (n# w) v left there e .1
-
-  -- WHAT IS LAID CAN BE GROWN ANEW
-  pub laid-regrowable : {room work work′ : List ℕ} {stays : Bool} → edition# w ≡ 2 → T (treeFits w) → c# w * (n# w + 1) ≤ length t
-      → 6 * (n# w + 1) ≤ length work → roomOf (n# w + 1) ≤ length room → Lays t (c# w) w v left (n# w) work work′ stays
-      → Regrowable t w v 1 (limitOf w v left (n# w)) room work′
-  laid-regrowable {work′ = work′} two tree table halves space laid =
-      let long : length run ≡ count# w v + 1 = ready-long w S (n# w) v left there in
-      record {
-        change = record { shape = S; edition = two; there = there; leafy = leaf-under; rows = few; table = table };
-        tree = tree;
-        run = run;
-        count = long;
-        once = run-once;
-        rows = ready-rows w S (n# w) v left there refl;
-        stands = ap (λ (k : ℕ). stretch work′ (3 * start# w v) (3 * start# w v + 3 * k)) long ∙ laid .run;
-        halves = omega (arith, laid .long);
-        space = space;
-      }
 
   -- THE TREE GROWN ANEW FROM THE RUN THAT IS LAID IS THE TREE THAT TAKES THE NEW ROW
   pub regrown-joined : 1 ≤ N# w → Found d w (n# w) v left
