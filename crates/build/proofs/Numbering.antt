@@ -6,9 +6,8 @@ use Rattle.build.specs.Levels.{Item, allNodes, leafNode, levelOut, nextL
 use Rattle.laws.proofs.Every.{every-append}
 use Rattle.laws.proofs.Lists.{map-append, tally-length}
 use Rattle.laws.specs.Every.{Every}
-use Rattle.laws.specs.Lists.{head}
 use Rattle.levels.proofs.Singles.{numbered-items}
-use Rattle.levels.specs.Singles.{Single, kidsOf, levelOf, levelsOf, lower, singles, wordsAt}
+use Rattle.levels.specs.Singles.{Single, kidsOf, levelOf, levelsOf, lower, singles}
 use Rattle.limits.specs.Limits.{maxDepth}
 use Rattle.tree.proofs.Grow.{forest-span, forest-tally, split-length, split-runs, split-tally}
 use Rattle.tree.specs.Build.{Run, grow, leafOf, reach, split}

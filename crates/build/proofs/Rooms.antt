@@ -4,12 +4,12 @@ use Rattle.build.specs.Levels.{leafNode, placed}
 use Rattle.build.specs.Stages.{withNodes}
 use Rattle.laws.proofs.Joins.{each-append}
 use Rattle.laws.specs.Lists.{each}
+use Rattle.split.specs.Places.{child#, count#, nodeAt, start#}
 use Rattle.split.specs.Runs.{runNodes}
 use Rattle.tree.proofs.Written.{each-words}
 use Rattle.tree.specs.Build.{innerReach, radius}
 use Rattle.tree.specs.Encode.{Node, nodeWords}
 use Rattle.tree.specs.Grove.{Reach}
-use Rattle.split.specs.Places.{child#, count#, nodeAt, start#}
 use lib.ListN.{drop, getD, length, length-append, length-drop, set, take}
 use lib.Seq.{drop-append-add, drop-drop, getD-at, length-take-le, set-at, take-at}
 use mathlib.Core.List.{List, [], _++_, _∷_, append-assoc, map}

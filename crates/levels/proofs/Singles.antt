@@ -2,8 +2,8 @@
 use Prim.Native.Nat.{_+_, suc, zero, ℕ}
 use Rattle.laws.proofs.Joins.{each-append}
 use Rattle.laws.specs.Lists.{each}
-use Rattle.limits.specs.Limits.{maxDepth}
 use Rattle.levels.specs.Singles.{Single, kidsOf, levelOf, levelsOf, lower, singles, wordsAt}
+use Rattle.limits.specs.Limits.{maxDepth}
 use Rattle.tree.specs.Encode.{Node, below, broods, family, levelNodes, members, nodes, numbered, span}
 use Rattle.tree.specs.Grove.{Grove, bare, entries, fork, leaf}
 use lib.ListN.{length, length-append}
@@ -39,7 +39,8 @@ family-out : (next s : ℕ) (g : Grove) → family next s g ≡ levelOf next (si
 unfolding family singles levelOf
 family-out next s bare = refl
 family-out next s (leaf R es g) =
-    ap (λ (l : List Node). (s, length es, 0, R) ∷ l) (family-out next (s + length es) g ∙ ap (λ (k : ℕ). levelOf k (singles (s + length es) g)) (sym (add-zero next)))
+    ap (λ (l : List Node). (s, length es, 0, R) ∷ l)
+    (family-out next (s + length es) g ∙ ap (λ (k : ℕ). levelOf k (singles (s + length es) g)) (sym (add-zero next)))
 family-out next s (fork R ks g) =
     let n : ℕ = length (entries ks) in
     ap (λ (l : List Node). (s, n, next, R) ∷ l)

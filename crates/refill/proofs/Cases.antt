@@ -1,5 +1,4 @@
 -- The five-row index with one row more, computed: 6 goes to a leaf that stays, 12 to one that is split. Assumes nothing.
-use Prim.Native.Nat.{ℕ}
 use Rattle.laws.specs.Upto.{sumTo}
 use Rattle.leafward.specs.Changed.{changedAt}
 use Rattle.measure.specs.Distance.{l1}
@@ -10,7 +9,7 @@ use Rattle.regrow.specs.Pieces.{holds, newReach}
 use Rattle.tree.specs.Build.{choose, grow, split}
 use Rattle.tree.specs.Cases.{five, fiveWords}
 use Rattle.tree.specs.Encode.{broods, encode, family, levelNodes, nodes, numbered}
-use mathlib.Core.List.{List, [], _++_, _∷_}
+use mathlib.Core.List.{[], _++_, _∷_}
 use mathlib.Core.Path.{_≡_, refl}
 
 -- ROW 5 IS 6: IT STANDS LAST IN NODE 4, WHICH HAS NOW A RADIUS AND AN INNER REACH

@@ -65,7 +65,8 @@ module _ (t w : List ℕ) (S : InShape w) (v left : ℕ) (there : v < N# w) (few
       → keepOwn R (grow d (m# w) (limitOf w v left (n# w)) deep run g) ≡ leafAnew w S (n# w) v left there d R deep g
   anew-same R deep g = go (unsplit w v left (n# w))
     where
-      go : (b : Bool) → keepOwn R (grow d (m# w) (cond b maxRows (l# w)) deep run g) ≡ keepOwn R (cond b (leafOf d run g) (grow d (m# w) (l# w) deep run g))
+      go : (b : Bool) → keepOwn R (grow d (m# w) (cond b maxRows (l# w)) deep run g)
+          ≡ keepOwn R (cond b (leafOf d run g) (grow d (m# w) (l# w) deep run g))
       go true = ap (keepOwn R) (small-grown d (m# w) maxRows deep run g (le-leb (length run) maxRows run-few))
       go false = refl
 

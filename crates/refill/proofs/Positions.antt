@@ -1,4 +1,5 @@
--- The positions of the tree that is grown anew: those of the old index before the run and behind it, and its leaves' members between. Assumes nothing.
+-- The positions of the tree that is grown anew: those of the old index before the run and behind it, and its leaves' members between.
+-- Assumes nothing.
 use Prim.Native.Nat.{_+_, _-_, _<_, _≤_, suc, zero, ℕ}
 use Rattle.appending.specs.Append.{keepOwn}
 use Rattle.build.proofs.Positions.{entries-leaves, pairsOf}
@@ -15,7 +16,7 @@ use Rattle.regrow.proofs.Found.{own-due}
 use Rattle.regrow.proofs.Trees.{keep-entries}
 use Rattle.regrow.specs.Calls.{regrownOf}
 use Rattle.regrow.specs.Pieces as pieces
-use Rattle.regrow.specs.Pieces.{copied, due, end#, newReach, piece}
+use Rattle.regrow.specs.Pieces.{due, end#, newReach, piece}
 use Rattle.tree.specs.Build.{grow}
 use Rattle.tree.specs.Grove.{Grove, Reach, bare, entries, fork, leaf, members#}
 use Rattle.words.proofs.Levels.{inner-is}
@@ -84,8 +85,12 @@ module _ (t w : List ℕ) (v added limit : ℕ) (run : List ℕ) (fits : T (tree
   trees deep i n = foldr (changedAt w R v anew deep) bare (range i n)
 
   -- ---- where nothing is due, the positions are as they were
+  -- those of a node
+  abbrev Old : ℕ → Type 0
+  Old deep = (k : ℕ) (g : Grove) → k < N# w → due j deep (piece j k) ≡ [] → entries (tree deep k g) ≡ held w (start# w k) (count# w k) ++ entries g
+
   -- nodes whose runs tile a part
-  old-all : (deep : ℕ) → ((k : ℕ) (g : Grove) → k < N# w → due j deep (piece j k) ≡ [] → entries (tree deep k g) ≡ held w (start# w k) (count# w k) ++ entries g)
+  old-all : (deep : ℕ) → Old deep
       → (i n s e : ℕ) → i + n ≤ N# w → T (tile w i n s e) → dues deep (range i n) ≡ []
       → entries (trees deep i n) ≡ held w s (e - s)
   old-all deep one i zero s e h f d =
@@ -101,7 +106,7 @@ module _ (t w : List ℕ) (v added limit : ℕ) (run : List ℕ) (fits : T (tree
       ∙ held-append w s (s + count# w i) e (omega arith) (tile-le w (suc i) n (s + count# w i) e later)
 
   -- one node
-  old-one : (deep k : ℕ) (g : Grove) → k < N# w → due j deep (piece j k) ≡ [] → entries (tree deep k g) ≡ held w (start# w k) (count# w k) ++ entries g
+  old-one : (deep : ℕ) → Old deep
   unfolding changedAt
   old-one zero k g h d = go (eqb k v) refl
     where
@@ -113,14 +118,14 @@ module _ (t w : List ℕ) (v added limit : ℕ) (run : List ℕ) (fits : T (tree
       go false e = refl
   old-one (suc deep) k g h d = go (eqb k v) refl (λ o x y z. old-one deep o x y z)
     where
-      go : (b : Bool) → eqb k v ≡ b
-          → ((k : ℕ) (g : Grove) → k < N# w → due j deep (piece j k) ≡ [] → entries (tree deep k g) ≡ held w (start# w k) (count# w k) ++ entries g)
+      go : (b : Bool) → eqb k v ≡ b → Old deep
           → entries (cond b (anew (suc deep) g)
           (cond (inner w k) (fork (R k) (trees deep (child# w k) (m# w)) g) (leaf (R k) (members# w k) g)))
           ≡ held w (start# w k) (count# w k) ++ entries g
       go true e ih =
           absurd
-          (cons≢nil (sym (own-due t w v added limit run fits there (suc deep)) ∙ ap (λ (o : ℕ). due j (suc deep) (piece j o)) (sym (eqb-true k v e)) ∙ d))
+          (cons≢nil (sym (own-due t w v added limit run fits there (suc deep))
+          ∙ ap (λ (o : ℕ). due j (suc deep) (piece j o)) (sym (eqb-true k v e)) ∙ d))
       go false e ih =
           by (eqb (child# w k) 0) refl
         where

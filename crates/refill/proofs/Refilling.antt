@@ -1,5 +1,5 @@
 -- The words of the whole index: header, nodes, positions. Assumes nothing.
-use Prim.Native.Nat.{_*_, _+_, _-_, _<_, _≤_, ℕ}
+use Prim.Native.Nat.{_*_, _+_, _-_, _≤_, ℕ}
 use Rattle.build.proofs.Positions.{pairs-laid, pairsOf}
 use Rattle.build.proofs.Rooms.{room-long}
 use Rattle.build.proofs.Whole.{encode-words}
@@ -9,22 +9,21 @@ use Rattle.laws.proofs.Joins.{each-append, part-two}
 use Rattle.laws.proofs.Parts.{put-more}
 use Rattle.laws.proofs.Ranges.{range-length}
 use Rattle.laws.specs.Lists.{each, head, joined, range}
-use Rattle.limits.specs.Limits.{maxDepth}
 use Rattle.measure.specs.Table.{between}
-use Rattle.regrow.proofs.Around.{own-start}
 use Rattle.refill.proofs.Positions.{held, regrown-entries}
 use Rattle.refill.proofs.Wording.{held-words}
 use Rattle.refill.specs.Calls.{Refilled, pairsThen}
+use Rattle.regrow.proofs.Around.{own-start}
 use Rattle.regrow.specs.Calls.{Regrowable, Regrown, regrownOf}
 use Rattle.regrow.specs.Pieces.{end#}
 use Rattle.split.proofs.Laid.{runs-long}
 use Rattle.split.specs.Groups.{stretch}
+use Rattle.split.specs.Places.{nodeAt}
 use Rattle.split.specs.Runs.{laid}
 use Rattle.tree.proofs.Written.{each-words}
 use Rattle.tree.specs.Encode.{Node, encode, nodeWords, numbered, pairWords}
 use Rattle.tree.specs.Grove.{Grove, entries}
-use Rattle.split.specs.Places.{nodeAt}
-use Rattle.words.specs.Words.{N#, c#, count#, dist#, l#, m#, n#, pairAt, row#, start#}
+use Rattle.words.specs.Words.{c#, count#, dist#, l#, m#, n#, row#, start#}
 use borrow.Rule.Slice.PartMut.{midOf, putMid}
 use lib.ListN.{drop, length, length-append, length-drop, length-map, take}
 use lib.Seq.{drop-at, length-take-le}
@@ -143,8 +142,10 @@ module _ {t w : List ℕ} {v added limit : ℕ} {room work room₁ work₁ : Lis
       let M : List (ℕ × ℕ) = each (pairsOf d) ls in
       let B : List (ℕ × ℕ) = held w (end# w v) (n# w - end# w v) in
       ap₂ (λ (x y : List ℕ). x ++ y) (sym (held-words w (start# w v) 0 (omega (arith, W, lies))))
-      (ap₂ (λ (x y : List ℕ). x ++ y) (ap pairsIn middle ∙ pairs-laid d ls) (sym (held-words w (n# w - end# w v) (end# w v) (omega (arith, W, lies)))))
-      ∙ sym (ap (each pairWords) entries-are ∙ each-append pairWords A (M ++ B) ∙ ap (λ (x : List ℕ). each pairWords A ++ x) (each-append pairWords M B))
+      (ap₂ (λ (x y : List ℕ). x ++ y) (ap pairsIn middle ∙ pairs-laid d ls)
+      (sym (held-words w (n# w - end# w v) (end# w v) (omega (arith, W, lies)))))
+      ∙ sym (ap (each pairWords) entries-are ∙ each-append pairWords A (M ++ B)
+      ∙ ap (λ (x : List ℕ). each pairWords A ++ x) (each-append pairWords M B))
 
   -- ---- the header before the nodes, the positions behind them
   -- the words before the positions
@@ -153,7 +154,8 @@ module _ {t w : List ℕ} {v added limit : ℕ} {room work room₁ work₁ : Lis
 
   front-long : length front ≡ nodeAt made
   front-long =
-      length-append (headerOf n (c# w) (m# w) (l# w) made) (each (nodeWords 2) (numbered tree)) ∙ omega (arith, each-words 2 (numbered tree) (omega arith, omega arith), r .count)
+      length-append (headerOf n (c# w) (m# w) (l# w) made) (each (nodeWords 2) (numbered tree))
+      ∙ omega (arith, each-words 2 (numbered tree) (omega arith, omega arith), r .count)
 
   -- they are those of 01
   front-are : front ++ each pairWords (entries tree) ≡ encode 2 (c# w) (m# w) (l# w) tree
@@ -185,7 +187,8 @@ module _ {t w : List ℕ} {v added limit : ℕ} {room work room₁ work₁ : Lis
       omega (arith, encode-words (c# w) (m# w) (l# w) tree, entries-long, r .count) in
       record {
         index =
-            put-more front (each pairWords (entries tree)) room room₂ ys (nodeAt made) (2 * n) front-long (omega (arith, long, g .space, r .few)) headed
+            put-more front (each pairWords (entries tree)) room room₂ ys (nodeAt made) (2 * n) front-long
+            (omega (arith, long, g .space, r .few)) headed
             (f ∙ ap (λ (x : List ℕ). x ++ drop (2 * n) (midOf (nodeAt made) (length room₂ - nodeAt made) room₂)) words-are)
             ∙ ap₂ (λ (x : List ℕ) (k : ℕ). x ++ drop k room) front-are whole;
         count = r .count;

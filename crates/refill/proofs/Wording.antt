@@ -96,7 +96,8 @@ module _ {w part work : List ℕ} {v added : ℕ} (S : InShape w) (h : Pairing w
       (ap₂ (λ (i j : ℕ). take (2 * i) (drop j w)) (ap₂ _-_ en ee) b))
 
   pub pairs-put : {part₁ part₂ ys zs : List ℕ} → part₁ ≡ take (2 * s) (midOf base (length w - base) w) ++ drop (2 * s) part
-      → ys ≡ pairsIn (stretch (midOf (3 * s) (length work - 3 * s) work) 0 (3 * count)) ++ drop (2 * count) (midOf (2 * s) (length part₁ - 2 * s) part₁)
+      → ys ≡ pairsIn (stretch (midOf (3 * s) (length work - 3 * s) work) 0 (3 * count))
+      ++ drop (2 * count) (midOf (2 * s) (length part₁ - 2 * s) part₁)
       → part₂ ≡ putMid (2 * s) (length part₁ - 2 * s) part₁ ys
       → zs ≡ take (2 * (n0 - e)) (midOf (base + 2 * e) (length w - (base + 2 * e)) w)
       ++ drop (2 * (n0 - e)) (midOf (2 * (s + count)) (length part₂ - 2 * (s + count)) part₂)

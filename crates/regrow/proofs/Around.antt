@@ -1,32 +1,32 @@
 -- The old nodes' words when rows have come to the end of node v's run: each run holds node v's or stands apart from it, so that runs follow each
 -- other as before. Assumes nothing.
-use Prim.Native.Nat.{_*_, _+_, _-_, _<_, _≤_, suc, zero, ℕ}
+use Prim.Native.Nat.{_+_, _-_, _<_, _≤_, suc, zero, ℕ}
 use Rattle.build.specs.Levels.{Able, Item}
 use Rattle.laws.proofs.Every.{every-map}
 use Rattle.laws.proofs.Ranges.{every-range, range-every, range-length}
-use Rattle.laws.proofs.Tests.{and-l, and-r, holds, is-true}
+use Rattle.laws.proofs.Tests.{holds}
 use Rattle.laws.specs.Every.{Every}
 use Rattle.laws.specs.Lists.{each, range}
 use Rattle.leafward.specs.Changed.{Holds}
-use Rattle.limits.specs.Limits.{maxDepth, maxDistance}
+use Rattle.limits.specs.Limits.{maxDepth}
 use Rattle.regrow.proofs.Dues.{both-none}
 use Rattle.regrow.proofs.Found.{child-same, dues, dues-down, j, kids, leaf-few, own-piece, stays-kept}
 use Rattle.regrow.proofs.Rows.{piece-node}
 use Rattle.regrow.specs.Pieces as pieces
-use Rattle.regrow.specs.Pieces.{Fitting, Follow, Piece, copied, due, end#, fresh, kept, newChild, newCount, newStart, pending, piece}
+use Rattle.regrow.specs.Pieces.{Fitting, Follow, copied, due, end#, kept, newChild, newCount, newStart, pending, piece}
 use Rattle.regrow.specs.Stages.{Own}
 use Rattle.tree.specs.Encode.{Node}
 use Rattle.tree.specs.Grove.{members#}
 use Rattle.words.proofs.Levels.{born-inner, born-le, inner-is, level-le}
-use Rattle.words.proofs.Nodes.{node-at, node-ok}
+use Rattle.words.proofs.Nodes.{node-at}
 use Rattle.words.proofs.Tiles.{tile-head, tile-none, tile-part, tile-tail}
 use Rattle.words.specs.InShape.{InShape, Left}
-use Rattle.words.specs.Shape.{born, inner, level, nodeOk, tile, treeFits}
-use Rattle.words.specs.Words.{N#, child#, count#, dist#, inner#, l#, m#, radius#, row#, run#, start#}
-use borrow.Author.Tests.{eq-eqb, eqb-false, eqb-true, le-leb, leb-false, leb-true, lt-leb, ne-eqb, not-false}
-use lib.Dec.{T, eqb, eqb→eq, leb}
+use Rattle.words.specs.Shape.{born, inner, level, tile, treeFits}
+use Rattle.words.specs.Words.{N#, child#, count#, dist#, l#, m#, row#, run#, start#}
+use borrow.Author.Tests.{eq-eqb, eqb-false, eqb-true, le-leb, lt-leb, ne-eqb, not-false}
+use lib.Dec.{T, eqb, leb}
 use lib.ListN.{length, length-map}
-use mathlib.Core.Bool.{Bool, _&&_, _||_, cond, false, not, true}
+use mathlib.Core.Bool.{Bool, _&&_, cond, false, not, true}
 use mathlib.Core.List.{List, [], _++_, _∷_, append-nil, cons≢nil, map}
 use mathlib.Core.Logic.{_⊎_, inl, inr}
 use mathlib.Core.Path.{_∙_, _≡_, ap, ap₂, refl, subst, sym}
@@ -287,7 +287,8 @@ module _ (t w : List ℕ) (v added limit : ℕ) (run : List ℕ) (fits : T (tree
         (sym (kept-due deep k n ∙ ap (D deep) (inner-kids k c)) ∙ a .0)
     kids-near deep k h n c (inr a) =
         let kid = S .node k h .kids (inner-is w k c) in
-        near-none deep (child# w k) (m# w) (sym (kept-due deep k n ∙ ap (D deep) (inner-kids k c)) ∙ a .0) (λ q f. apart (child# w k + q) (a .1) (kid .part q f))
+        near-none deep (child# w k) (m# w) (sym (kept-due deep k n ∙ ap (D deep) (inner-kids k c)) ∙ a .0)
+        (λ q f. apart (child# w k + q) (a .1) (kid .part q f))
       where
         apart : (o : ℕ) → Apart k → (start# w k ≤ start# w o) × (end# w o ≤ end# w k) → Apart o
         apart o (inl b) p = inl (omega (arith, p .1))

@@ -1,22 +1,21 @@
 -- The tree of an index with one node grown anew, told by pieces; and how far its nodes reach. Assumes nothing.
 use Prim.Native.Nat.{_<_, suc, zero, ℕ}
-use Rattle.appending.specs.Append.{keepOwn, reachWith}
-use Rattle.laws.proofs.Tests.{and-l, and-r}
+use Rattle.appending.specs.Append.{keepOwn}
 use Rattle.laws.specs.Lists.{range}
 use Rattle.leafward.specs.Changed.{Holds, Reaches, changedAt}
 use Rattle.measure.specs.Table.{between}
 use Rattle.regrow.proofs.Found.{child-same, j}
 use Rattle.regrow.proofs.Trees.{grove, grown}
-use Rattle.regrow.specs.Pieces.{Job, Piece, copied, end#, fresh, holds, kept, newReach, piece}
+use Rattle.regrow.specs.Pieces.{Job, copied, end#, fresh, holds, kept, newReach, piece}
 use Rattle.tree.specs.Build.{grow}
-use Rattle.tree.specs.Grove.{Grove, Reach, bare, fork, leaf, members#, reach#}
+use Rattle.tree.specs.Grove.{Grove, Reach, bare, fork, leaf, members#}
 use Rattle.words.specs.Shape.{treeFits}
-use Rattle.words.specs.Words.{N#, c#, child#, count#, first#, m#, n#, start#}
+use Rattle.words.specs.Words.{N#, c#, child#, m#, n#, start#}
 use borrow.Author.Tests.{eqb-false, le-leb, leb-true}
 use lib.Dec.{T, eqb, leb}
 use mathlib.Core.Bool.{Bool, _&&_, cond, false, not, true}
 use mathlib.Core.List.{List, [], _∷_, foldr, map}
-use mathlib.Core.Path.{_∙_, _≡_, ap, ap₂, refl, sym}
+use mathlib.Core.Path.{_∙_, _≡_, ap, refl, sym}
 
 -- ---- the tree
 module _ (t w : List ℕ) (v added limit : ℕ) (run : List ℕ) (fits : T (treeFits w)) (there : v < N# w) where
@@ -58,7 +57,8 @@ module _ (t w : List ℕ) (v added limit : ℕ) (run : List ℕ) (fits : T (tree
           ≡ grown J (members# w) (suc deep) (cond b (fresh (J .copy v .0) (R v) run) (kept k)) g
       go true e ih = refl
       go false e ih =
-          inner-or (eqb (child# w k) 0) (fork (R k) (foldr (changedAt w R v anew deep) bare (range (child# w k) (m# w))) g) (leaf (R k) (members# w k) g)
+          inner-or (eqb (child# w k) 0) (fork (R k) (foldr (changedAt w R v anew deep) bare (range (child# w k) (m# w))) g)
+          (leaf (R k) (members# w k) g)
           ∙ ap (λ (x : Grove). cond (eqb (child# w k) 0) (leaf (R k) (members# w k) g) (fork (R k) x g)) (all ih (range (child# w k) (m# w)))
           ∙ ap (λ (c : ℕ). cond (eqb c 0) (leaf (R k) (members# w k) g) (fork (R k) (grove J (members# w) deep (map (piece J) (range c (m# w)))) g))
           (sym (child-same t w v added limit run fits there k (eqb-false k v e)))

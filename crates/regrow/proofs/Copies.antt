@@ -11,18 +11,18 @@ use Rattle.measure.proofs.Rows.{row-ends}
 use Rattle.measure.specs.Table.{between}
 use Rattle.regrow.specs.Pieces.{Numbers, copied, end#, holds, newChild, newCount, newReach, newStart}
 use Rattle.regrow.specs.Stages.{Change, withCopies}
+use Rattle.split.specs.Places.{nodeAt}
 use Rattle.tree.proofs.Written.{each-words}
 use Rattle.tree.specs.Encode.{Node, nodeWords}
-use Rattle.split.specs.Places.{nodeAt}
 use Rattle.words.specs.InShape.{InShape}
 use Rattle.words.specs.Words.{N#, c#, child#, count#, first#, inner#, n#, radius#, start#}
 use borrow.Author.Tests.{eq-eqb, eqb-false, eqb-true, le-leb, lt-leb, lt-ltb, ne-eqb}
 use borrow.Rule.Slice.PartMut.{midOf, putMid}
 use lib.Dec.{eqb, leb, ltb}
-use lib.ListN.{drop, length, length-append, length-drop, length-map, take, take-append-drop}
-use lib.Seq.{drop-append-add, drop-at, drop-drop, length-take-le, take-at}
-use mathlib.Core.Bool.{Bool, _&&_, cond, false, true}
-use mathlib.Core.List.{List, [], _++_, _∷_, append-assoc, append-nil, map}
+use lib.ListN.{drop, length, length-append, length-map, take, take-append-drop}
+use lib.Seq.{drop-append-add, drop-drop, length-take-le, take-at}
+use mathlib.Core.Bool.{Bool, cond, false, true}
+use mathlib.Core.List.{List, [], _++_, _∷_, append-assoc, map}
 use mathlib.Core.Path.{_∙_, _≡_, ap, ap₂, refl, sym}
 use native.Mathlib.Nat.{add-zero}
 use native.Mathlib.Omega.{arith}

@@ -1,14 +1,14 @@
 -- The run that a level's pieces come to: until it is among them, and when it is. Assumes nothing.
 use Prim.Native.Nat.{_+_, suc, zero, ℕ}
-use Rattle.build.specs.Levels.{Item, placed}
 use Rattle.build.specs.Levels as items
-use Rattle.laws.proofs.Joins.{each-append}
+use Rattle.build.specs.Levels.{Item, placed}
 use Rattle.laws.proofs.Empty.{append-nil-l, append-nil-r}
-use Rattle.laws.specs.Lists.{each, range}
+use Rattle.laws.proofs.Joins.{each-append}
+use Rattle.laws.specs.Lists.{each}
 use Rattle.regrow.specs.Pieces.{Job, Piece, due, fresh, freshOf, kept, nextLevel, parts, piece, runOf, runsOf}
 use Rattle.tree.specs.Build.{split}
 use Rattle.tree.specs.Grove.{Reach}
-use lib.Dec.{eqb, leb}
+use lib.Dec.{leb}
 use lib.ListN.{length}
 use mathlib.Core.Bool.{Bool, cond, false, true}
 use mathlib.Core.List.{List, [], _++_, _∷_, cons≢nil, map}

@@ -17,7 +17,7 @@ use lib.Dec.{eqb, leb}
 use lib.ListN.{length, length-append, length-map}
 use mathlib.Core.Bool.{Bool, cond, false, true}
 use mathlib.Core.List.{List, [], _++_, _∷_, map}
-use mathlib.Core.Path.{_∙_, _≡_, ap, refl}
+use mathlib.Core.Path.{_≡_, ap, refl}
 use native.Mathlib.Omega.{arith}
 
 module _ (j : Job) (es : ℕ → List (ℕ × ℕ)) (many : ℕ) (m2 : 2 ≤ j .m) (ml : j .m ≤ j .limit) where

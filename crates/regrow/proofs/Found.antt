@@ -8,14 +8,13 @@ use Rattle.laws.proofs.Tests.{and-l, and-r}
 use Rattle.laws.specs.Every.{Every}
 use Rattle.laws.specs.Lists.{each, range}
 use Rattle.limits.specs.Limits.{maxDepth, maxDistance}
-use Rattle.regrow.specs.Pieces.{Job, Piece, copied, due, fresh, jobOf, kept, newChild, piece}
+use Rattle.regrow.specs.Pieces.{Job, copied, due, fresh, jobOf, kept, newChild, piece}
 use Rattle.words.proofs.Levels.{born-inner, born-le, born-leaf, inner-is}
 use Rattle.words.proofs.Nodes.{closed, node-at, node-ok, not-orphan}
 use Rattle.words.specs.Shape.{born, inner, level, nodeOk, tile, treeFits}
-use Rattle.words.specs.Words.{N#, c#, child#, count#, inner#, l#, m#, radius#, start#}
+use Rattle.words.specs.Words.{N#, child#, count#, inner#, l#, m#, radius#, start#}
 use borrow.Author.Tests.{eq-eqb, eqb-false, eqb-true, leb-true, lt-leb, ltb-false, ltb-true, ne-eqb}
 use lib.Dec.{T, eqb, eqb→eq, leb, ltb}
-use lib.ListN.{length}
 use mathlib.Core.Bool.{Bool, _&&_, _||_, cond, false, true}
 use mathlib.Core.List.{List, [], _++_, _∷_, append-nil, map}
 use mathlib.Core.Path.{_∙_, _≡_, ap, ap₂, refl, subst, sym}
@@ -86,7 +85,8 @@ module _ (t w : List ℕ) (v added limit : ℕ) (run : List ℕ) (fits : T (tree
   dues deep ks = each (λ q. due j deep q) (map (piece j) ks)
 
   pub dues-append : (deep : ℕ) (xs ys : List ℕ) → dues deep (xs ++ ys) ≡ dues deep xs ++ dues deep ys
-  dues-append deep xs ys = ap (each (λ q. due j deep q)) (map-append (piece j) xs ys) ∙ each-append (λ q. due j deep q) (map (piece j) xs) (map (piece j) ys)
+  dues-append deep xs ys =
+      ap (each (λ q. due j deep q)) (map-append (piece j) xs ys) ∙ each-append (λ q. due j deep q) (map (piece j) xs) (map (piece j) ys)
 
   -- an old node's piece
   pub stays-kept : (o : ℕ) → (o ≡ v → ⊥) → piece j o ≡ kept o

@@ -1,8 +1,8 @@
 -- Level after level: the nodes and leaves that are still to come make up the whole with those that are there. Assumes nothing.
-use Prim.Native.Nat.{_+_, _-_, _<_, _≤_, suc, zero, ℕ}
+use Prim.Native.Nat.{_+_, _-_, _<_, _≤_, suc, ℕ}
 use Rattle.build.proofs.Growing.{leaves-down, leaves-none}
 use Rattle.build.proofs.Waiting.{next-waits}
-use Rattle.build.specs.Levels.{Item, leaves, opened, placed, waits}
+use Rattle.build.specs.Levels.{leaves, opened, placed, waits}
 use Rattle.build.specs.Stages.{withNodes}
 use Rattle.laws.specs.Every.{Every}
 use Rattle.laws.specs.Lists.{each, keep}
@@ -17,7 +17,7 @@ use Rattle.words.specs.Words.{N#, c#, m#, n#}
 use lib.ListN.{length, length-append, length-map}
 use mathlib.Core.List.{List, [], _++_, _∷_, append-assoc, append-nil, cons≢nil, map}
 use mathlib.Core.Logic.{_⊎_, inl, inr}
-use mathlib.Core.Path.{_∙_, _≡_, ap, ap₂, refl, subst, sym}
+use mathlib.Core.Path.{_∙_, _≡_, ap, refl, subst, sym}
 use native.Mathlib.Omega.{arith}
 
 -- the nodes of a level, and then those of the levels below it
@@ -228,7 +228,8 @@ module _ {t w : List ℕ} {v added limit : ℕ} {room₀ work₀ : List ℕ} (g 
                 calm = h .0;
                 paved = s .paved;
                 wait = ap (keep (waits limit)) (h .1)
-                    ∙ next-waits d (m# w) limit (omega (arith, W .fan .0)) (omega (arith, W .leaf .0, g .change .leafy)) (g .base) (runsOf (inv .items)) (a .tiles) (a .paved .runs)
+                    ∙ next-waits d (m# w) limit (omega (arith, W .fan .0)) (omega (arith, W .leaf .0, g .change .leafy)) (g .base)
+                    (runsOf (inv .items)) (a .tiles) (a .paved .runs)
                     (a .wait);
                 below = sym (leaves-down d (m# w) limit deep (a .tiles)) ∙ a .below;
               }

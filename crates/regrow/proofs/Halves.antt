@@ -1,7 +1,7 @@
 -- A level while its nodes are opened, one after the other: what stands in room and workspace, and one node among the others. Assumes nothing.
-use Prim.Native.Nat.{_*_, _+_, _<_, _≤_, suc, ℕ}
+use Prim.Native.Nat.{_+_, _≤_, suc, ℕ}
 use Rattle.build.proofs.Rooms.{child-set, nodes-added, read-child, read-count, read-start, room-long}
-use Rattle.build.specs.Levels.{Item, opened, placed, waits}
+use Rattle.build.specs.Levels.{opened, placed, waits}
 use Rattle.build.specs.Stages.{withNodes}
 use Rattle.laws.proofs.Every.{every-right}
 use Rattle.laws.proofs.Joins.{each-append}
@@ -10,14 +10,14 @@ use Rattle.laws.specs.Every.{Every}
 use Rattle.laws.specs.Lists.{each, joined, keep}
 use Rattle.measure.specs.Table.{between}
 use Rattle.regrow.proofs.Rows.{all-more, all-some, kids-some, next-last, out-last, out-long}
-use Rattle.regrow.specs.Pieces.{Job, Piece, Sound, allNodes, jobOf, levelOut, nextLevel, parts, pending, runsOf, withKids}
+use Rattle.regrow.specs.Pieces.{Job, Piece, Sound, jobOf, levelOut, nextLevel, parts, pending, runsOf, withKids}
 use Rattle.regrow.specs.Stages.{Level, Paved}
-use Rattle.tree.specs.Encode.{Node, nodeWords}
 use Rattle.split.specs.Places.{child#, count#, nodeAt, start#}
+use Rattle.tree.specs.Encode.{Node, nodeWords}
 use Rattle.words.specs.Words.{N#, c#, m#, n#}
 use lib.ListN.{drop, length, length-append, length-map, set, take}
 use mathlib.Core.List.{List, [], _++_, _∷_, append-assoc, append-nil, map}
-use mathlib.Core.Path.{_∙_, _≡_, ap, ap₂, refl, subst, sym}
+use mathlib.Core.Path.{_∙_, _≡_, ap, ap₂, subst, sym}
 use native.Mathlib.Omega.{arith}
 
 module _ {t w : List ℕ} {v added limit : ℕ} {room₀ work₀ : List ℕ} {lo hi : ℕ} (g : Level t w v added limit room₀ work₀ lo hi) where
@@ -216,7 +216,8 @@ module _ {t w : List ℕ} {v added limit : ℕ} {room₀ work₀ : List ℕ} {lo
           → Half (done ++ q ∷ []) rest past′ ahead′ room′ work′ r (k + 1)
       half-grows {m} {r} {room′} past′ ahead′ many er er′ runs paved wait =
           let room-is : room′ ≡ withNodes (g .origin) (nodes ++ map (pending job) kids) =
-          nodes-added (g .origin) header-fits nodes (map (pending job) kids) made m (all-long node) (length-map kids (pending job) ∙ many) set-is er′ in
+          nodes-added (g .origin) header-fits nodes (map (pending job) kids) made m (all-long node)
+          (length-map kids (pending job) ∙ many) set-is er′ in
           record {
             all = half .all ∙ sym (append-assoc done (q ∷ []) rest);
             runs = runs;

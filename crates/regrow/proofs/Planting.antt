@@ -1,8 +1,7 @@
 -- An index in shape and a run in the workspace are all that growing anew needs; and what it leaves. Assumes nothing.
-use Prim.Native.Nat.{_*_, _+_, _-_, _<_, _≤_, ℕ}
+use Prim.Native.Nat.{_*_, _+_, _-_, _≤_, ℕ}
 use Rattle.build.specs.Levels.{Able}
 use Rattle.build.specs.Stages.{withNodes}
-use Rattle.laws.specs.Lists.{each}
 use Rattle.limits.specs.Limits.{maxDepth}
 use Rattle.measure.specs.Table.{between}
 use Rattle.regrow.proofs.Around.{own-start, own-words, root-count, root-fits, root-start}
@@ -12,9 +11,8 @@ use Rattle.regrow.proofs.Found.{Comes, root-due}
 use Rattle.regrow.proofs.Rows.{piece-node}
 use Rattle.regrow.proofs.Trees.{fits-sound, numbered-pieces}
 use Rattle.regrow.specs.Calls.{Regrowable, Regrown, regrownOf}
-use Rattle.regrow.specs.Pieces.{Fitting, Job, allNodes, due, jobOf, pending, piece}
-use Rattle.regrow.specs.Stages.{Layered, Leveled, Own, Planted, Rooted, withCopies}
-use Rattle.split.proofs.Laid.{laid-long}
+use Rattle.regrow.specs.Pieces.{Fitting, Job, allNodes, due, jobOf, piece}
+use Rattle.regrow.specs.Stages.{Leveled, Own, Planted, withCopies}
 use Rattle.split.specs.Groups.{stretch}
 use Rattle.split.specs.Runs.{laid}
 use Rattle.tree.specs.Encode.{Node, numbered}
@@ -23,7 +21,7 @@ use Rattle.words.specs.Words.{N#, c#, count#, m#, n#, start#}
 use lib.ListN.{drop, length, take}
 use lib.Seq.{drop-drop, length-take-le, take-add}
 use mathlib.Core.List.{List, [], _++_, _∷_, append-nil}
-use mathlib.Core.Path.{_∙_, _≡_, ap, ap₂, refl, sym}
+use mathlib.Core.Path.{_∙_, _≡_, ap, ap₂, sym}
 use native.Mathlib.Omega.{arith}
 
 -- a list's first words in three parts

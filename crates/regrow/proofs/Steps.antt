@@ -1,10 +1,10 @@
 -- The next node of a level is opened: it stays a leaf, its old children are copied, or its run is split. Assumes nothing.
-use Prim.Native.Nat.{_*_, _+_, _<_, _≤_, suc, ℕ}
+use Prim.Native.Nat.{_+_, _<_, _≤_, ℕ}
 use Rattle.build.proofs.Items.{placed-long}
 use Rattle.build.proofs.Rooms.{run-nodes}
 use Rattle.build.proofs.Tiles.{joined-append}
 use Rattle.build.proofs.Waiting.{Next, next-waiting, small-opened}
-use Rattle.build.specs.Levels.{Item, leafNode, opened, placed, waits}
+use Rattle.build.specs.Levels.{Item, opened, placed, waits}
 use Rattle.build.specs.Stages.{Openable, Opened}
 use Rattle.laws.proofs.Joins.{each-append}
 use Rattle.laws.proofs.Ranges.{range-length}
@@ -14,18 +14,18 @@ use Rattle.regrow.proofs.Halves.{Half, Levelling, child-is, count-is, g
 use Rattle.regrow.proofs.Paving.{kids-paved, paved-inside, paved-read, paved-rows, paved-run, paved-words}
 use Rattle.regrow.proofs.Rows.{fresh-nodes, piece-nodes}
 use Rattle.regrow.specs.Pieces.{Piece, Sound, fresh, freshOf, kept, parts, pending, piece, runsOf}
-use Rattle.regrow.specs.Stages.{Level, Openable′, Opened′, Paved, withCopies}
+use Rattle.regrow.specs.Stages.{Level, Openable′, Opened′, Paved}
 use Rattle.split.proofs.Laid.{split-joined}
+use Rattle.split.specs.Places.{child#, count#, nodeAt, start#}
 use Rattle.split.specs.Runs.{Splittable, Splitted, laid, runAt, runNodes}
 use Rattle.tree.proofs.Grow.{split-length}
 use Rattle.tree.specs.Build.{split}
 use Rattle.tree.specs.Encode.{Node, nodeWords}
 use Rattle.tree.specs.Grove.{Reach}
-use Rattle.split.specs.Places.{child#, count#, nodeAt, start#}
 use Rattle.words.specs.Words.{N#, c#, m#, n#}
 use borrow.Author.Tests.{eqb-false, eqb-true, leb-false, leb-true, lt-leb, ne-eqb}
 use lib.Dec.{eqb, leb}
-use lib.ListN.{drop, length, length-append, length-map, length-set, set, take}
+use lib.ListN.{drop, length, length-map, set, take}
 use mathlib.Core.Bool.{Bool, cond, false, not, true}
 use mathlib.Core.List.{List, [], _++_, _∷_, append-assoc, append-nil, map}
 use mathlib.Core.Path.{_∙_, _≡_, ap, ap₂, refl, subst, sym}
@@ -99,7 +99,8 @@ module _ {t w : List ℕ} {v added limit : ℕ} {room₀ work₀ : List ℕ} {lo
               ahead = ahead;
               half = half-grows g half kids (kept-parts h) (omega (arith, kept-many, one)) past ahead kept-many (s .0)
                   (s .2 ∙ ap (λ (y : List Node). take (nodeAt made) room₁ ++ (each (nodeWords 2) y ++ drop (nodeAt (made + m# w)) room₁)) new)
-                  (half .runs) (subst (λ (y : List ℕ). Paved d limit (n# w + added) (g .base) (g .fore) (g .rear) y (gone g past ++ ahead)) (sym (s .1)) (half .paved))
+                  (half .runs)
+                  (subst (λ (y : List ℕ). Paved d limit (n# w + added) (g .base) (g .fore) (g .rear) y (gone g past ++ ahead)) (sym (s .1)) (half .paved))
                   (half .wait);
             }
 

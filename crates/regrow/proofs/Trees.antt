@@ -1,5 +1,5 @@
 -- The nodes of all levels are the numbering of 01: what the code makes is `numbered` of the tree that is grown anew. Assumes nothing.
-use Prim.Native.Nat.{_*_, _+_, _≤_, suc, zero, ℕ}
+use Prim.Native.Nat.{_+_, _≤_, suc, zero, ℕ}
 use Rattle.appending.specs.Append.{keepOwn}
 use Rattle.build.proofs.Items.{placed-long}
 use Rattle.build.proofs.Numbering.{forest, forest-singles, inner-long, single}
@@ -17,7 +17,7 @@ use Rattle.regrow.proofs.Rows.{kids-some}
 use Rattle.regrow.specs.Pieces.{Fitting, Follow, Job, Piece, Sound, allNodes, fresh, freshOf, kept, levelOut, nextLevel, parts, pending, piece, withKids}
 use Rattle.tree.proofs.Grow.{grown-tally, split-length, split-runs}
 use Rattle.tree.specs.Build.{Run, grow, leafOf, reach, split}
-use Rattle.tree.specs.Encode.{Node, numbered, span}
+use Rattle.tree.specs.Encode.{Node, numbered}
 use Rattle.tree.specs.Grove.{Grove, Reach, bare, entries, fork, leaf, rowsIn}
 use borrow.Author.Tests.{eqb-false, eqb-true, leb-false}
 use lib.Dec.{eqb, leb}
@@ -25,7 +25,6 @@ use lib.ListN.{length, length-append, length-map}
 use mathlib.Core.Bool.{Bool, cond, false, true}
 use mathlib.Core.List.{List, [], _++_, _∷_, foldr, map}
 use mathlib.Core.Path.{_∙_, _≡_, ap, ap₂, refl, sym}
-use native.Mathlib.Nat.{add-zero}
 use native.Mathlib.Omega.{arith}
 
 -- a node's members don't depend on how far it reaches
@@ -152,8 +151,13 @@ module _ (j : Job) (es : ℕ → List (ℕ × ℕ)) where
     grown-single (suc deep) s (fresh a R r) g h = go (leb (length r) (j .limit)) refl
       where
         go : (b : Bool) → leb (length r) (j .limit) ≡ b
-            → singles s (keepOwn R (cond b (leafOf (j .d) r g) (fork (reach (j .d) r) (forest (j .d) (j .m) (j .limit) m1 ml deep (split (j .d) (j .m) r)) g)))
-            ≡ (s, keepOwn R (cond b (leafOf (j .d) r bare) (fork (reach (j .d) r) (forest (j .d) (j .m) (j .limit) m1 ml deep (split (j .d) (j .m) r)) bare)))
+            → singles s (keepOwn R (cond b (leafOf (j .d) r g)
+            (fork (reach (j .d) r) (forest (j .d) (j .m) (j .limit) m1 ml deep (split (j .d) (j .m) r)) g)))
+            ≡ (
+              s,
+              keepOwn R (cond b (leafOf (j .d) r bare)
+                  (fork (reach (j .d) r) (forest (j .d) (j .m) (j .limit) m1 ml deep (split (j .d) (j .m) r)) bare)),
+            )
             ∷ singles (s + length r) g
         go true e = rw length-map refl
         go false e = rw (inner-long (j .d) (j .m) (j .limit) m1 ml deep r (able-run (j .limit) r h e) e) refl
@@ -279,7 +283,8 @@ module _ (j : Job) (es : ℕ → List (ℕ × ℕ)) where
               placed-long s (split (j .d) (j .m) r),
               split-length (j .d) (j .m) (j .limit) m1 ml r,
             ) in
-            ap (λ (a : ℕ). (s, a, next, R)) (inner-long (j .d) (j .m) (j .limit) m1 ml deep r (able-run (j .limit) r h e) e) ∙ sym (kids-some next (s, length r, 0, R) qs some)
+            ap (λ (a : ℕ). (s, a, next, R)) (inner-long (j .d) (j .m) (j .limit) m1 ml deep r (able-run (j .limit) r h e) e)
+            ∙ sym (kids-some next (s, length r, 0, R) qs some)
 
     -- where no level is left
     last-words : (next : ℕ) (q : Piece) → Fits zero q

@@ -1,5 +1,5 @@
 -- One level, node after node, from its first to behind its last. Assumes nothing.
-use Prim.Native.Nat.{_*_, _+_, _<_, _≤_, suc, zero, ℕ}
+use Prim.Native.Nat.{_+_, _<_, _≤_, suc, zero, ℕ}
 use Rattle.build.proofs.Waiting.{none-waiting, small-opened}
 use Rattle.build.specs.Levels.{opened, placed, waits}
 use Rattle.build.specs.Stages.{withNodes}
@@ -11,7 +11,7 @@ use Rattle.measure.specs.Table.{between}
 use Rattle.regrow.proofs.Halves.{Half, Levelling, behind, front, gone, job}
 use Rattle.regrow.proofs.Rows.{all-more, out-long}
 use Rattle.regrow.proofs.Steps.{half-open, half-step}
-use Rattle.regrow.specs.Pieces.{Job, Piece, Sound, allNodes, fresh, freshOf, kept, levelOut, nextLevel, parts, pending, piece, runsOf}
+use Rattle.regrow.specs.Pieces.{Job, Piece, Sound, fresh, freshOf, kept, levelOut, nextLevel, parts, pending, piece}
 use Rattle.regrow.specs.Stages.{Level, Openable′, Opened′, Paved, Stage}
 use Rattle.tree.specs.Build.{split}
 use Rattle.tree.specs.Encode.{Node}
@@ -22,7 +22,6 @@ use lib.ListN.{length, length-append}
 use mathlib.Core.Bool.{Bool, cond, false, true}
 use mathlib.Core.List.{List, [], _++_, _∷_, append-nil, map}
 use mathlib.Core.Path.{_∙_, _≡_, ap, ap₂, refl, subst, sym}
-use native.Mathlib.Nat.{add-zero}
 use native.Mathlib.Omega.{arith}
 
 -- ---- the level below can stay where this one can
@@ -102,7 +101,8 @@ module _ {t w : List ℕ} {v added limit : ℕ} {room₀ work₀ : List ℕ} {lo
         go (q ∷ rest) f = half-open g q f
 
     -- it is opened
-    pub levelling-step : {room′ work′ : List ℕ} {r : ℕ} → k < hi → length work′ ≡ length work → Opened′ t w v added limit room work k made room′ work′ r
+    pub levelling-step : {room′ work′ : List ℕ} {r : ℕ} → k < hi → length work′ ≡ length work
+        → Opened′ t w v added limit room work k made room′ work′ r
         → Levelling g room′ work′ r (k + 1)
     levelling-step {room′} {work′} {r} h same got = go (inv .todo) (inv .half)
       where

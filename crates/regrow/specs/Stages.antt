@@ -3,7 +3,7 @@ use Prim.Native.Nat.{_*_, _+_, _<_, _≤_, suc, ℕ}
 use Rattle.build.specs.Levels.{Able, leaves, opened, placed, waits}
 use Rattle.build.specs.Stages.{Openable, Opened, withNodes}
 use Rattle.laws.specs.Every.{Every}
-use Rattle.laws.specs.Lists.{each, joined, keep, range}
+use Rattle.laws.specs.Lists.{each, keep, range}
 use Rattle.limits.specs.Limits.{maxDepth, maxRows}
 use Rattle.measure.specs.Table.{between}
 use Rattle.regrow.specs.Pieces.{Job, Piece, Sound, allNodes, copied, due, jobOf, levelOut, nextLevel, pending, piece, runsOf}

@@ -2,13 +2,13 @@
 -- Assumes nothing.
 use Prim.Native.Nat.{_-_, _≤_}
 use Rattle.refill.proofs.Wording.{copying-done, copying-step}
+use Rattle.refill.proofs.copy_words.Statement.{statement}
+use Rattle.refill.proofs.copy_words.Tie as tie
 use borrow.Author.Needs.{needs}
 use lib.ListN.{drop, length, take}
 use mathlib.Core.List.{_++_}
 use mathlib.Core.Path.{_≡_, refl}
 use native.Mathlib.Omega.{arith}
-use Rattle.refill.proofs.copy_words.Statement.{statement}
-use Rattle.refill.proofs.copy_words.Tie as tie
 
 abbrev Inv-loop : tie.InvT-loop
 Inv-loop part₀ from k i₀ part i = (length part ≡ length part₀) × (i ≤ k) × (part ≡ take i from ++ drop i part₀)

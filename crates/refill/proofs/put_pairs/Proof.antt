@@ -1,14 +1,39 @@
 -- `refill::put_pairs` meets its contract: three parts, one behind the other.
 -- Assumes nothing.
-use Prim.Native.Nat.{_*_, _+_, _-_}
+use Prim.Native.Nat.{_*_, _+_, _-_, _≤_, ℕ}
 use Rattle.refill.proofs.Wording.{mid-long, pairs-put, tail-fits}
+use Rattle.refill.proofs.put_pairs.Statement.{statement}
+use Rattle.refill.proofs.put_pairs.Tie as tie
 use borrow.Author.Needs.{needs}
 use borrow.Rule.Slice.PartMut.{putMid}
 use lib.ListN.{length}
 use mathlib.Core.Path.{_≡_, refl}
 use native.Mathlib.Omega.{arith}
-use Rattle.refill.proofs.put_pairs.Statement.{statement}
-use Rattle.refill.proofs.put_pairs.Tie as tie
+
+-- the start, once the place of the positions is read
+abbrev start : tie.After-pair-at → tie.Start
+start a = a .before .before .before .before .before .before
+
+-- where node v's run starts, and how many rows it has now
+abbrev from : tie.After-pair-at → ℕ
+from a = a .before .before .node-start .result
+
+abbrev many : tie.After-pair-at → ℕ
+many a = a .before .node-count .result + start a .args .added
+
+-- the run lies in the words that are lent
+lies : (a : tie.After-pair-at)
+    → (a .pair-at .result + 2 * from a ≤ length (start a .args .index .now)) × (2 * (from a + many a) ≤ length (start a .args .part .now))
+    × (3 * (from a + many a) ≤ length (start a .args .work .now))
+lies a =
+    let s = start a in
+    let run = s .pre .0 .node (s .args .v) (s .pre .1 .there) .run in
+    let first = a .before .before .node-start .ensures .0 in
+    let count = a .before .node-count .ensures .0 in (
+      omega (arith, run, first, a .pair-at .ensures, s .pre .0 .whole .words),
+      omega (arith, run, first, count, s .pre .1 .space),
+      omega (arith, run, first, count, s .pre .1 .entries),
+    )
 
 node-start-requires : tie.Need-node-start-requires
 node-start-requires c κs = search needs
@@ -39,12 +64,8 @@ mul-copy-words-2 c = search needs
 
 copy-words-requires : tie.Need-copy-words-requires
 copy-words-requires c κs =
-    let s = c .before .before .before .before .before .before .before .before in
-    let b = s .pre .0 .node (s .args .v) (s .pre .1 .there) in
-    let es = c .before .before .before .before .node-start .ensures .0 in
-    let ec = c .before .before .before .node-count .ensures .0 in
-    let en = c .before .before .pair-at .ensures in
-    (omega (arith, b .run, es, ec, en, s .pre .1 .space, s .pre .1 .entries, s .pre .0 .whole .words), omega (arith, b .run, es, ec, en, s .pre .1 .space, s .pre .1 .entries, s .pre .0 .whole .words, mid-long (c .before .before .pair-at .result) (s .args .index .now)))
+    let a = c .before .before in
+    (omega (arith, lies a .1), omega (arith, lies a .0, mid-long (a .pair-at .result) (start a .args .index .now)))
 
 mul-at : tie.Need-mul-at
 mul-at c = search needs
@@ -56,22 +77,10 @@ mul-put-positions : tie.Need-mul-put-positions
 mul-put-positions c = search needs
 
 sub-put-positions : tie.Need-sub-put-positions
-sub-put-positions c =
-    let s = c .before .before .before .before .before .before .before .before .before .before .before in
-    let b = s .pre .0 .node (s .args .v) (s .pre .1 .there) in
-    let es = c .before .before .before .before .before .before .before .node-start .ensures .0 in
-    let ec = c .before .before .before .before .before .before .node-count .ensures .0 in
-    let en = c .before .before .before .before .before .pair-at .ensures in
-    omega (arith, b .run, es, ec, en, s .pre .1 .space, s .pre .1 .entries, s .pre .0 .whole .words)
+sub-put-positions c = omega (arith, lies (c .before .before .before .before .before) .1)
 
 part-put-positions-start : tie.Need-part-put-positions-start
-part-put-positions-start c =
-    let s = c .before .before .before .before .before .before .before .before .before .before .before in
-    let b = s .pre .0 .node (s .args .v) (s .pre .1 .there) in
-    let es = c .before .before .before .before .before .before .before .node-start .ensures .0 in
-    let ec = c .before .before .before .before .before .before .node-count .ensures .0 in
-    let en = c .before .before .before .before .before .pair-at .ensures in
-    omega (arith, b .run, es, ec, en, s .pre .1 .space, s .pre .1 .entries, s .pre .0 .whole .words)
+part-put-positions-start c = omega (arith, lies (c .before .before .before .before .before) .1)
 
 part-put-positions-end : tie.Need-part-put-positions-end
 part-put-positions-end c = search needs
@@ -80,34 +89,21 @@ mul-put-positions-2 : tie.Need-mul-put-positions-2
 mul-put-positions-2 c = search needs
 
 sub-put-positions-2 : tie.Need-sub-put-positions-2
-sub-put-positions-2 c =
-    let s = c .before .before .before .before .before .before .before .before .before .before .before .before in
-    let b = s .pre .0 .node (s .args .v) (s .pre .1 .there) in
-    let es = c .before .before .before .before .before .before .before .before .node-start .ensures .0 in
-    let ec = c .before .before .before .before .before .before .before .node-count .ensures .0 in
-    let en = c .before .before .before .before .before .before .pair-at .ensures in
-    omega (arith, b .run, es, ec, en, s .pre .1 .space, s .pre .1 .entries, s .pre .0 .whole .words)
+sub-put-positions-2 c = omega (arith, lies (c .before .before .before .before .before .before) .2)
 
 part-put-positions-start-2 : tie.Need-part-put-positions-start-2
-part-put-positions-start-2 c =
-    let s = c .before .before .before .before .before .before .before .before .before .before .before .before in
-    let b = s .pre .0 .node (s .args .v) (s .pre .1 .there) in
-    let es = c .before .before .before .before .before .before .before .before .node-start .ensures .0 in
-    let ec = c .before .before .before .before .before .before .before .node-count .ensures .0 in
-    let en = c .before .before .before .before .before .before .pair-at .ensures in
-    omega (arith, b .run, es, ec, en, s .pre .1 .space, s .pre .1 .entries, s .pre .0 .whole .words)
+part-put-positions-start-2 c = omega (arith, lies (c .before .before .before .before .before .before) .2)
 
 part-put-positions-end-2 : tie.Need-part-put-positions-end-2
 part-put-positions-end-2 c = search needs
 
 put-positions-requires : tie.Need-put-positions-requires
 put-positions-requires c κs =
-    let s = c .before .before .before .before .before .before .before .before .before .before .before .before .before in
-    let b = s .pre .0 .node (s .args .v) (s .pre .1 .there) in
-    let es = c .before .before .before .before .before .before .before .before .before .node-start .ensures .0 in
-    let ec = c .before .before .before .before .before .before .before .before .node-count .ensures .0 in
-    let en = c .before .before .before .before .before .before .before .pair-at .ensures in
-    (omega (arith, b .run, es, ec, en, s .pre .1 .space, s .pre .1 .entries, s .pre .0 .whole .words, mid-long (2 * c .before .before .before .before .before .before .before .before .before .node-start .result) (c .before .before .before .before .copy-words .last .0)), omega (arith, b .run, es, ec, en, s .pre .1 .space, s .pre .1 .entries, s .pre .0 .whole .words, mid-long (3 * c .before .before .before .before .before .before .before .before .before .node-start .result) (s .args .work .now)))
+    let w = c .before .before .before .before in
+    let a = w .before .before .before in (
+      omega (arith, lies a .1, mid-long (2 * from a) (w .copy-words .last .0)),
+      omega (arith, lies a .2, mid-long (3 * from a) (start a .args .work .now)),
+    )
 
 node-end-requires : tie.Need-node-end-requires
 node-end-requires c κs = search needs
@@ -159,26 +155,33 @@ mul-copy-words-5 c = search needs
 
 copy-words-requires-2 : tie.Need-copy-words-requires-2
 copy-words-requires-2 c κs =
-    let s = c .before .before .before .before .before .before .before .before .before .before .before .before .before .before .before .before .before .before .before .before in
-    let a = c .before .before .before .before .before .before .before .before .before .before .before .before .before .before .before .before .node-start .result in
-    let k = c .before .before .before .before .before .before .before .before .before .before .before .before .before .before .before .node-count .result + s .args .added in
-    let b = c .before .before .before .before .before .before .before .before .before .before .before .before .before .before .pair-at .result in
-    let p = c .before .before .before .before .before .before .before .before .before .before .before .copy-words .last .0 in
-    let ys = c .before .before .before .before .before .before .put-positions .last .0 in
-    let l : length (putMid (2 * a) (length p - 2 * a) p ys) ≡ length (s .args .part .now) = search needs in
-    tail-fits (s .pre .0) (s .pre .1) {s = a} {count = k} {base = b} (c .before .before .before .before .before .before .before .before .before .before .before .before .before .before .before .before .node-start .ensures .0)
-    (omega (arith, c .before .before .before .before .before .before .before .before .before .before .before .before .before .before .before .node-count .ensures .0)) (c .before .before .before .before .before .before .before .before .before .before .before .before .before .before .pair-at .ensures) (c .before .before .before .node-end .ensures .0)
-    (c .rows .ensures .0) (putMid (2 * a) (length p - 2 * a) p ys) l
+    let e = c .before .before .before in
+    let q = e .before .before .before in
+    let w = q .before .before .before .before .before in
+    let a = w .before .before .before in
+    let s = start a in
+    let p = w .copy-words .last .0 in
+    let ys = q .put-positions .last .0 in
+    let new = putMid (2 * from a) (length p - 2 * from a) p ys in
+    let l : length new ≡ length (s .args .part .now) = search needs in
+    tail-fits (s .pre .0) (s .pre .1) {s = from a} {count = many a} {base = a .pair-at .result} (a .before .before .node-start .ensures .0)
+    (omega (arith, a .before .node-count .ensures .0)) (a .pair-at .ensures) (e .node-end .ensures .0) (c .rows .ensures .0) new l
 
 same-length : tie.Need-same-length
 same-length c = search needs
 
 returns : tie.Need-returns
 returns c =
-    let s = c .before .before .before .before .before .before .before .before .before .before .before .before .before .before .before .before .before .before .before .before .before .before .before in
-    pairs-put (s .pre .0) (s .pre .1) (c .before .before .before .before .before .before .before .before .before .before .before .before .before .before .before .before .before .before .before .node-start .ensures .0) (omega (arith, c .before .before .before .before .before .before .before .before .before .before .before .before .before .before .before .before .before .before .node-count .ensures .0)) (c .before .before .before .before .before .before .before .before .before .before .before .before .before .before .before .before .before .pair-at .ensures)
-    (c .before .before .before .before .before .before .node-end .ensures .0) (c .before .before .before .rows .ensures .0)
-    (c .before .before .before .before .before .before .before .before .before .before .before .before .before .before .copy-words .ensures) (c .before .before .before .before .before .before .before .before .before .put-positions .ensures) refl (c .before .before .copy-words2 .ensures) (search needs) (search needs)
+    let r = c .before .before .before in
+    let e = r .before .before .before in
+    let q = e .before .before .before in
+    let w = q .before .before .before .before .before in
+    let a = w .before .before .before in
+    let s = start a in
+    pairs-put (s .pre .0) (s .pre .1) (a .before .before .node-start .ensures .0) (omega (arith, a .before .node-count .ensures .0))
+    (a .pair-at .ensures) (e .node-end .ensures .0) (r .rows .ensures .0) (w .copy-words .ensures) (q .put-positions .ensures) refl
+    (c .before .before .copy-words2 .ensures)
+    (search needs) (search needs)
 
 pub put-pairs-spec : {M : Type 1} → statement M
 put-pairs-spec =

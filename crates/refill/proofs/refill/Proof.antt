@@ -3,10 +3,10 @@
 use Prim.Native.Nat.{_*_, _+_}
 use Rattle.refill.proofs.Refilling.{refilled}
 use Rattle.refill.proofs.Wording.{mid-long}
-use borrow.Author.Needs.{needs}
-use native.Mathlib.Omega.{arith}
 use Rattle.refill.proofs.refill.Statement.{statement}
 use Rattle.refill.proofs.refill.Tie as tie
+use borrow.Author.Needs.{needs}
+use native.Mathlib.Omega.{arith}
 
 regrow-requires : tie.Need-regrow-requires
 regrow-requires c κs = search needs

@@ -1,9 +1,9 @@
 -- `regrow::child_of` meets its contract: node v has no child yet, any other its old one.
 -- Assumes nothing.
-use borrow.Author.Needs.{needs}
 use Rattle.regrow.proofs.Copies.{child-none, child-old}
 use Rattle.regrow.proofs.child_of.Statement.{statement}
 use Rattle.regrow.proofs.child_of.Tie as tie
+use borrow.Author.Needs.{needs}
 
 returns : tie.Need-returns
 returns c = (child-none _ _ _ (c .if1 .taken), search needs)

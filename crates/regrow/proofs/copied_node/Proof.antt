@@ -1,9 +1,9 @@
 -- `regrow::copied_node` meets its contract: the five words are written behind the nodes that are there.
 -- Assumes nothing.
-use borrow.Author.Needs.{needs}
 use Rattle.regrow.proofs.Copies.{copied-one}
 use Rattle.regrow.proofs.copied_node.Statement.{statement}
 use Rattle.regrow.proofs.copied_node.Tie as tie
+use borrow.Author.Needs.{needs}
 
 start-of-requires : tie.Need-start-of-requires
 start-of-requires c κs = search needs

@@ -1,21 +1,22 @@
 -- `regrow::copy_children` meets its contract: i old nodes are copied (`withCopies`).
 -- Assumes nothing.
-use borrow.Author.Needs.{needs}
-use mathlib.Core.Path.{_≡_}
-use lib.ListN.{length}
-use Rattle.words.specs.Words.{c#, m#}
-use Rattle.regrow.specs.Stages.{withCopies}
-use Rattle.regrow.specs.Pieces.{copied}
-use Rattle.measure.specs.Table.{between}
 use Prim.Native.Nat.{_-_, _≤_}
-use native.Mathlib.Omega.{arith}
+use Rattle.measure.specs.Table.{between}
 use Rattle.regrow.proofs.Copies.{copies-done, copies-start, copies-step}
 use Rattle.regrow.proofs.copy_children.Statement.{statement}
 use Rattle.regrow.proofs.copy_children.Tie as tie
+use Rattle.regrow.specs.Pieces.{copied}
+use Rattle.regrow.specs.Stages.{withCopies}
+use Rattle.words.specs.Words.{c#, m#}
+use borrow.Author.Needs.{needs}
+use lib.ListN.{length}
+use mathlib.Core.Path.{_≡_}
+use native.Mathlib.Omega.{arith}
 
 abbrev Inv-loop : tie.InvT-loop
 Inv-loop table index p room₀ child made m i₀ room i =
-    (length room ≡ length room₀) × (i ≤ m) × (room ≡ withCopies (copied (between table (c# index)) index (p .node) (p .added)) child i room₀ made)
+    (length room ≡ length room₀) × (i ≤ m)
+    × (room ≡ withCopies (copied (between table (c# index)) index (p .node) (p .added)) child i room₀ made)
 
 abbrev μ-loop : tie.MeasureT-loop
 μ-loop table index p room₀ child made m i₀ room i = m - i
@@ -25,10 +26,11 @@ centres-requires c κs = search needs
 
 loop-holds : tie.Need-loop-holds Inv-loop μ-loop
 loop-holds c =
-    let a = c .before .before .before .before .args in (
+    let a = c .before .before .before .before .args in
+    let copy = copied (between (a .table .now) (c# (a .index .now))) (a .index .now) (a .p .node) (a .p .added) in (
       search needs,
       search needs,
-      copies-start (copied (between (a .table .now) (c# (a .index .now))) (a .index .now) (a .p .node) (a .p .added)) (a .child) (a .room .now) (a .made),
+      copies-start copy (a .child) (a .room .now) (a .made),
     )
 
 add-copied-node : tie.Need-add-copied-node Inv-loop μ-loop
@@ -49,10 +51,11 @@ loop-less c = search needs
 loop-again : tie.Need-loop-again Inv-loop μ-loop
 loop-again c =
     let l = c .before .before .before .before .before in
-    let a = l .before .before .before .before .before .args in (
+    let a = l .before .before .before .before .before .args in
+    let copy = copied (between (a .table .now) (c# (a .index .now))) (a .index .now) (a .p .node) (a .p .added) in (
       search needs,
       search needs,
-      copies-step (copied (between (a .table .now) (c# (a .index .now))) (a .index .now) (a .p .node) (a .p .added)) (a .child) (a .room .now) (a .made)
+      copies-step copy (a .child) (a .room .now) (a .made)
           (l .loop .i) (omega arith) (l .loop .inv .2) (c .before .before .copied-node .ensures),
     )
 
@@ -63,7 +66,8 @@ returns : tie.Need-returns Inv-loop μ-loop
 returns c =
     let l = c .before in
     let a = l .before .before .before .before .before .args in
-    copies-done (copied (between (a .table .now) (c# (a .index .now))) (a .index .now) (a .p .node) (a .p .added)) (a .child) (a .room .now) (a .made) (l .loop .i)
+    let copy = copied (between (a .table .now) (c# (a .index .now))) (a .index .now) (a .p .node) (a .p .added) in
+    copies-done copy (a .child) (a .room .now) (a .made) (l .loop .i)
     (m# (a .index .now)) (omega (arith, l .before .centres .ensures .0)) (l .loop .inv .2)
 
 pub copy-children-spec : {M : Type 1} → statement M

@@ -1,9 +1,9 @@
 -- `regrow::holds_run` meets its contract: the two tests are those of `holds`.
 -- Assumes nothing.
-use borrow.Author.Needs.{needs}
 use Rattle.regrow.proofs.Copies.{holds-is, holds-not}
 use Rattle.regrow.proofs.holds_run.Statement.{statement}
 use Rattle.regrow.proofs.holds_run.Tie as tie
+use borrow.Author.Needs.{needs}
 
 node-start-requires : tie.Need-node-start-requires
 node-start-requires c κs = search needs
@@ -21,7 +21,11 @@ node-end-requires-2 : tie.Need-node-end-requires-2
 node-end-requires-2 c κs = search needs
 
 returns-2 : tie.Need-returns-2
-returns-2 c = holds-is _ _ _ (c .before .before .before .before .node-start .ensures .0) (c .before .before .before .node-start2 .ensures .0) (c .before .before .if1 .left) (c .before .node-end .ensures .0) (c .node-end2 .ensures .0)
+returns-2 c =
+    let i = c .before .before in
+    let k = i .before in
+    holds-is _ _ _ (k .before .node-start .ensures .0) (k .node-start2 .ensures .0) (i .if1 .left) (c .before .node-end .ensures .0)
+    (c .node-end2 .ensures .0)
 
 pub holds-run-spec : {M : Type 1} → statement M
 holds-run-spec =

@@ -1,10 +1,10 @@
 -- `regrow::levels` meets its contract: the levels above `depth` are opened (`Goes`), and behind the last the whole tree stands.
 -- Assumes nothing.
 use Prim.Native.Nat.{_-_}
+use Rattle.limits.specs.Limits.{maxDepth}
 use Rattle.regrow.proofs.Going.{Goes, goes-done, goes-level, goes-start, goes-step}
 use Rattle.regrow.proofs.levels.Statement.{statement}
 use Rattle.regrow.proofs.levels.Tie as tie
-use Rattle.limits.specs.Limits.{maxDepth}
 use borrow.Author.Needs.{needs}
 use lib.ListN.{length}
 use mathlib.Core.Path.{_≡_}

@@ -1,10 +1,10 @@
 -- `regrow::node_end` meets its contract: a run ends behind its start by its count.
 -- Assumes nothing.
-use borrow.Author.Needs.{needs}
-use native.Mathlib.Omega.{arith}
 use Rattle.regrow.proofs.Copies.{end-few}
 use Rattle.regrow.proofs.node_end.Statement.{statement}
 use Rattle.regrow.proofs.node_end.Tie as tie
+use borrow.Author.Needs.{needs}
+use native.Mathlib.Omega.{arith}
 
 node-start-requires : tie.Need-node-start-requires
 node-start-requires c κs = search needs

@@ -1,13 +1,13 @@
 -- `regrow::open_piece` meets its contract: it is opened as the build opens it, or its old children are copied.
 -- Assumes nothing.
-use borrow.Author.Needs.{needs}
-use mathlib.Core.Path.{_∙_, _≡_}
-use lib.ListN.{length, length-set, set}
-use Rattle.split.specs.Places.{nodeAt}
-use Rattle.regrow.proofs.Opens.{copies-left, copies-ready, splits-done, splits-ready}
 use Prim.Native.Nat.{_+_}
+use Rattle.regrow.proofs.Opens.{copies-left, copies-ready, splits-done, splits-ready}
 use Rattle.regrow.proofs.open_piece.Statement.{statement}
 use Rattle.regrow.proofs.open_piece.Tie as tie
+use Rattle.split.specs.Places.{nodeAt}
+use borrow.Author.Needs.{needs}
+use lib.ListN.{length, length-set, set}
+use mathlib.Core.Path.{_∙_, _≡_}
 
 mul-word : tie.Need-mul-word
 mul-word c = search needs
@@ -58,7 +58,8 @@ returns c =
     let m = i .before in
     let n = m .before in
     let s = n .before .before .before .before .before .before in
-    splits-done (s .pre) (n .word .ensures .0) (m .centres .ensures .0) (i .if1 .taken) (k .columns .ensures .0) (r .rows .ensures .0) (o .open-node .ensures)
+    splits-done (s .pre) (n .word .ensures .0) (m .centres .ensures .0) (i .if1 .taken) (k .columns .ensures .0) (r .rows .ensures .0)
+    (o .open-node .ensures)
 
 cast-room : tie.Need-cast-room
 cast-room c = search needs

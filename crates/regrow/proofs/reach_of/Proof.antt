@@ -1,11 +1,11 @@
 -- `regrow::reach_of` meets its contract: a run that holds node v's reaches to the row that has come too, any other as far as it did.
 -- Assumes nothing.
-use borrow.Author.Needs.{needs}
-use borrow.Author.Tests.{not-false, not-true}
-use native.Mathlib.Omega.{arith}
 use Rattle.regrow.proofs.Copies.{measurable, reach-apart, reach-more, reach-none}
 use Rattle.regrow.proofs.reach_of.Statement.{statement}
 use Rattle.regrow.proofs.reach_of.Tie as tie
+use borrow.Author.Needs.{needs}
+use borrow.Author.Tests.{not-false, not-true}
+use native.Mathlib.Omega.{arith}
 
 node-radius-requires : tie.Need-node-radius-requires
 node-radius-requires c κs = search needs
@@ -21,7 +21,8 @@ holds-run-requires c κs = search needs
 returns : tie.Need-returns
 returns c =
     let h = c .before in
-    reach-apart _ _ _ _ _ (h .before .before .node-radius .ensures) (h .before .node-inner .ensures) (h .holds-run .ensures) (not-true _ (c .if1 .taken))
+    reach-apart _ _ _ _ _ (h .before .before .node-radius .ensures) (h .before .node-inner .ensures) (h .holds-run .ensures)
+    (not-true _ (c .if1 .taken))
 
 returns-2 : tie.Need-returns-2
 returns-2 c =
@@ -64,9 +65,9 @@ returns-3 c =
     let i = k .before .before .before in
     let h = i .before in
     let s = h .before .before .before .before .before in
-    reach-more _ _ _ _ _ (h .before .before .node-radius .ensures) (h .before .node-inner .ensures) (h .holds-run .ensures) (not-false _ (i .if1 .left))
-    (k .before .if2 .left) (d .before .before .node-first .ensures .0) (d .before .rows .ensures .0) (k .columns .ensures .0)
-    (d .row-distance .ensures .0) (m .node-count .ensures .0) (s .pre .0 .shape .node (s .args .k) (s .pre .1) .some) (g .greater .ensures)
+    reach-more _ _ _ _ _ (h .before .before .node-radius .ensures) (h .before .node-inner .ensures) (h .holds-run .ensures)
+    (not-false _ (i .if1 .left)) (k .before .if2 .left) (d .before .before .node-first .ensures .0) (d .before .rows .ensures .0)
+    (k .columns .ensures .0) (d .row-distance .ensures .0) (m .node-count .ensures .0) (s .pre .0 .shape .node (s .args .k) (s .pre .1) .some) (g .greater .ensures)
     (c .least-of .ensures)
 
 pub reach-of-spec : {M : Type 1} → statement M

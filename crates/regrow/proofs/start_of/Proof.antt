@@ -1,10 +1,10 @@
 -- `regrow::start_of` meets its contract: a run behind node v's has moved, any other has not.
 -- Assumes nothing.
-use borrow.Author.Needs.{needs}
-use native.Mathlib.Omega.{arith}
 use Rattle.regrow.proofs.Copies.{start-moved, start-stays}
 use Rattle.regrow.proofs.start_of.Statement.{statement}
 use Rattle.regrow.proofs.start_of.Tie as tie
+use borrow.Author.Needs.{needs}
+use native.Mathlib.Omega.{arith}
 
 node-start-requires : tie.Need-node-start-requires
 node-start-requires c κs = search needs
@@ -19,13 +19,15 @@ returns : tie.Need-returns
 returns c =
     let s = c .before .before .before .before in
     let k = s .pre .0 .node (s .args .k) (s .pre .1 .1) in
-    (start-moved _ _ _ _ (c .before .before .node-start .ensures .0) (c .before .node-end .ensures .0) (omega arith), omega (arith, k .run, c .before .before .node-start .ensures .0))
+    let e = c .before .before .node-start .ensures .0 in
+    (start-moved _ _ _ _ e (c .before .node-end .ensures .0) (omega arith), omega (arith, k .run, e))
 
 returns-2 : tie.Need-returns-2
 returns-2 c =
     let s = c .before .before .before .before in
     let k = s .pre .0 .node (s .args .k) (s .pre .1 .1) in
-    (start-stays _ _ _ _ (c .before .before .node-start .ensures .0) (c .before .node-end .ensures .0) (omega arith), omega (arith, k .run, c .before .before .node-start .ensures .0))
+    let e = c .before .before .node-start .ensures .0 in
+    (start-stays _ _ _ _ e (c .before .node-end .ensures .0) (omega arith), omega (arith, k .run, e))
 
 pub start-of-spec : {M : Type 1} → statement M
 start-of-spec =
