@@ -7,6 +7,7 @@ use Rattle.appending.proofs.Appending.{append-one, share-ok}
 use Rattle.appending.proofs.Back.{tree-fits}
 use Rattle.appending.specs.Append.{appended}
 use Rattle.build.proofs.Refusals.{by-lengths, by-rooms}
+use Rattle.build.proofs.Small.{build-small}
 use Rattle.build.specs.Calls.{Builds}
 use Rattle.build.specs.Filled.{shortOf}
 use Rattle.laws.proofs.Tests.{or-none}
@@ -41,6 +42,7 @@ refused-appends {number = number} q h r =
       said = r .0 ∙ q;
       counted = (rw f (r .1), rw f (r .2));
       index = rw f;
+      small = (omega (arith, r .1), omega (arith, r .2));
       cleared = rw f;
     }
 
@@ -94,6 +96,7 @@ module _ {T : List ℕ} {c : ℕ} {w room work : List ℕ} (passed : Passed T c 
         said = B .said ∙ sym builds-none ∙ sym (passed .none);
         counted = rw one (B .counted);
         index = rw one (B .index);
+        small = build-small B;
         cleared = B .cleared;
       }
 
@@ -126,5 +129,6 @@ module _ {T : List ℕ} {c : ℕ} {w room work : List ℕ} (passed : Passed T c 
         said = sym (passed .none);
         counted = (omega (arith, j .long), j .count);
         index = j .index;
+        small = (omega (arith, j .few, rows-are .1), omega (arith, j .few, rows-are .1));
         cleared = zeros ∙ ap (λ (i : ℕ). replicate (6 * i) 0 ++ drop (6 * i) work) (e ∙ cleared .rows);
       }

@@ -1,9 +1,11 @@
 -- What the call promises: 02, R-2. Assumes nothing.
-use Prim.Native.Nat.{_*_, _+_, ℕ}
+use Prim.Native.Nat.{_*_, _+_, _≤_, ℕ}
 use Rattle.appending.specs.Append.{appended}
 use Rattle.build.specs.Filled.{shortOf}
+use Rattle.limits.specs.Limits.{maxRows}
 use Rattle.limits.specs.Said.{Said, fault, said, tableFaults}
 use Rattle.measure.specs.Table.{rowsOf}
+use Rattle.tree.specs.Calls.{roomOf}
 use Rattle.words.specs.Shape.{shapeOk}
 use Rattle.words.specs.Words.{N#, c#, n#, wordsOk}
 use lib.Dec.{eqb}
@@ -29,4 +31,6 @@ pub record Appends (T : List ℕ) (c : ℕ) (w room work room′ work′ : List 
   pub said : number ≡ saidAppend T c w (length room) (length work) .0
   pub counted : (words ≡ cond (eqb number 0) (length (appended T c w)) 0) × (nodes ≡ cond (eqb number 0) (N# (appended T c w)) 0)
   pub index : room′ ≡ cond (eqb number 0) (appended T c w ++ drop (length (appended T c w)) room) room
+  -- whatever is lent, 32 bits hold the counts
+  pub small : (words ≤ roomOf maxRows) × (nodes ≤ 2 * maxRows)
   pub cleared : work′ ≡ cond (eqb number 0) (replicate (6 * rowsOf T c) 0 ++ drop (6 * rowsOf T c) work) work

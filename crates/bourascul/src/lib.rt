@@ -1,6 +1,7 @@
 // The calls for C hosts: each calls one of the crates below, and keeps its contract. Every number that is given back has 32 bits; include/bourascul.h
 // says what is lent.
 ghost use Prim.Native.Nat.{min};
+ghost use Rattle.append.specs.Calls.{Appends};
 ghost use Rattle.audit.specs.Calls.{Checks};
 ghost use Rattle.bourascul.specs.Calls.{ReadsBlock};
 ghost use Rattle.bourascul.specs.Recorded.{Recorded};
@@ -91,6 +92,25 @@ pub extern "C" fn bourascul_build(
         room,
         work,
     );
+    Built {
+        number: built.number,
+        words: built.words as u32,
+        nodes: built.nodes as u32,
+    }
+}
+
+// The table's last row goes into the index, which has all the others.
+#[no_mangle]
+pub extern "C" fn bourascul_append(
+    table: &[u16],
+    c: u32,
+    index: &[u32],
+    room: &mut [u32],
+    work: &mut [u32],
+) -> Built
+    ensures { λ r. ⌜ Appends (now (table .entry)) c (now (index .entry)) (now (room .entry)) (now (work .entry)) (now (room .exit)) (now (work .exit)) (r .number) (r .words) (r .nodes) ⌝ }
+{
+    let built = append::append(table, c as usize, index, room, work);
     Built {
         number: built.number,
         words: built.words as u32,
