@@ -8,12 +8,12 @@ use native.Mathlib.Omega.{arith}
 append-requires : tie.Need-append-requires
 append-requires c κs = search needs
 
-cast-t17 : tie.Need-cast-t17
-cast-t17 c =
+cast-t12 : tie.Need-cast-t12
+cast-t12 c =
     omega (arith, c .before .before .before .before .before .append .ensures .small .0)
 
-cast-t18 : tie.Need-cast-t18
-cast-t18 c =
+cast-t13 : tie.Need-cast-t13
+cast-t13 c =
     omega (arith, c .before .before .before .before .before .before .append .ensures .small .1)
 
 same-length : tie.Need-same-length
@@ -27,4 +27,4 @@ returns c = search needs
 
 pub bourascul-append-spec : {M : Type 1} → statement M
 bourascul-append-spec =
-    tie.close (tie.spec append-requires cast-t17 cast-t18 same-length same-length-2 returns)
+    tie.close (tie.spec append-requires cast-t12 cast-t13 same-length same-length-2 returns)
