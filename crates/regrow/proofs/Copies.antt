@@ -14,8 +14,7 @@ use Rattle.regrow.specs.Stages.{Change, withCopies}
 use Rattle.split.specs.Places.{nodeAt}
 use Rattle.tree.proofs.Written.{each-words}
 use Rattle.tree.specs.Encode.{Node, nodeWords}
-use Rattle.words.specs.InShape.{InShape}
-use Rattle.words.specs.Words.{N#, c#, child#, count#, first#, inner#, n#, radius#, start#}
+use Rattle.words.specs.Words.{c#, child#, count#, first#, inner#, n#, radius#, start#}
 use borrow.Author.Tests.{eq-eqb, eqb-false, eqb-true, le-leb, lt-leb, lt-ltb, ne-eqb}
 use borrow.Rule.Slice.PartMut.{midOf, putMid}
 use lib.Dec.{eqb, leb, ltb}
@@ -100,11 +99,7 @@ module _ (w : List ℕ) (v k : ℕ) where
   unfolding newChild
   child-old h e = rw (ne-eqb k v h) e
 
--- ---- a run in shape
--- it ends among the n positions
-pub end-few : {w : List ℕ} → InShape w → (k : ℕ) → k < N# w → end# w k ≤ n# w
-end-few s k h = s .node k h .run
-
+-- ---- what is measured
 -- a row of the old index and the first that has come stand in the table
 pub measurable : {t w : List ℕ} {v added limit c i n : ℕ} → Change t w v added limit → c ≡ c# w → n ≡ n# w → i < n# w → (added ≡ 0 → ⊥)
     → (c ≤ maxColumns) × (c * i + c ≤ length t) × (c * n + c ≤ length t)

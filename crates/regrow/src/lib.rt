@@ -3,7 +3,7 @@
 ghost use Prim.Native.Nat.{_*_, _+_, _<_, _≤_};
 ghost use Rattle.measure.specs.Table.{between};
 ghost use Rattle.regrow.specs.Calls.{Regrowable, Regrows};
-ghost use Rattle.regrow.specs.Pieces.{Numbers, copied, end#, holds, newChild, newCount, newReach, newStart};
+ghost use Rattle.regrow.specs.Pieces.{Numbers, copied, holds, newChild, newCount, newReach, newStart};
 ghost use Rattle.regrow.specs.Stages.{Change, Level, Leveled, Openable′, Opened′, Planted, Staged, withCopies};
 ghost use Rattle.split.specs.Places.{nodeAt};
 ghost use Rattle.words.specs.InShape.{InShape};
@@ -13,6 +13,7 @@ ghost use mathlib.Core.Path.{_≡_};
 use build::Reach;
 use limits::Params;
 use measure::row_distance;
+use reach::node_end;
 use split::groups::WIDTH;
 use split::groups::greater;
 use split::groups::least_of;
@@ -37,15 +38,6 @@ pub struct Growth {
 }
 
 // ---- one old node
-
-// Where node k's run ends.
-pub fn node_end(index: &[u32], k: usize) -> usize
-    requires { ⌜ InShape (now index) ⌝ }
-    requires { ⌜ k < N# (now index) ⌝ }
-    ensures { λ r. ⌜ (r ≡ end# (now (index .entry)) k) × (r ≤ n# (now (index .entry))) ⌝ }
-{
-    node_start(index, k) + node_count(index, k)
-}
 
 // Node k's run holds node v's.
 fn holds_run(index: &[u32], v: usize, k: usize) -> bool

@@ -4,6 +4,7 @@ use Prim.Native.Nat.{_*_, _+_, _-_, _≤_, ℕ}
 use Rattle.refill.proofs.Wording.{mid-long, pairs-put, tail-fits}
 use Rattle.refill.proofs.put_pairs.Statement.{statement}
 use Rattle.refill.proofs.put_pairs.Tie as tie
+use Rattle.words.specs.Words.{n#}
 use borrow.Author.Needs.{needs}
 use borrow.Rule.Slice.PartMut.{putMid}
 use lib.ListN.{length}
@@ -34,6 +35,16 @@ lies a =
       omega (arith, run, first, count, s .pre .1 .space),
       omega (arith, run, first, count, s .pre .1 .entries),
     )
+
+-- it ends in the index
+ends : (e : tie.After-node-end)
+    → (e .before .before .before .before .before .before .before .before .before .before .before .pair-at .result + 2 * e .node-end .result ≤ length (start (e .before .before .before .before .before .before .before .before .before .before .before) .args .index .now))
+    × (e .node-end .result ≤ n# (start (e .before .before .before .before .before .before .before .before .before .before .before) .args .index .now))
+ends e =
+    let a = e .before .before .before .before .before .before .before .before .before .before .before in
+    let s = start a in
+    let run = s .pre .0 .node (s .args .v) (s .pre .1 .there) .run in
+    (omega (arith, run, e .node-end .ensures, a .pair-at .ensures, s .pre .0 .whole .words), omega (arith, run, e .node-end .ensures))
 
 node-start-requires : tie.Need-node-start-requires
 node-start-requires c κs = search needs
@@ -124,10 +135,10 @@ mul-copy-words-3 : tie.Need-mul-copy-words-3
 mul-copy-words-3 c = search needs
 
 sub-copy-words-2 : tie.Need-sub-copy-words-2
-sub-copy-words-2 c = search needs
+sub-copy-words-2 c = omega (arith, lies (c .before .before .before .before .before .before .before .before .before .before .before) .1)
 
 part-copy-words-start-2 : tie.Need-part-copy-words-start-2
-part-copy-words-start-2 c = search needs
+part-copy-words-start-2 c = omega (arith, lies (c .before .before .before .before .before .before .before .before .before .before .before) .1)
 
 part-copy-words-end-2 : tie.Need-part-copy-words-end-2
 part-copy-words-end-2 c = search needs
@@ -136,10 +147,10 @@ mul-copy-words-4 : tie.Need-mul-copy-words-4
 mul-copy-words-4 c = search needs
 
 sub-copy-words-3 : tie.Need-sub-copy-words-3
-sub-copy-words-3 c = search needs
+sub-copy-words-3 c = omega (arith, ends (c .before) .0)
 
 part-copy-words-start-3 : tie.Need-part-copy-words-start-3
-part-copy-words-start-3 c = search needs
+part-copy-words-start-3 c = omega (arith, ends (c .before) .0)
 
 part-copy-words-end-3 : tie.Need-part-copy-words-end-3
 part-copy-words-end-3 c = search needs
@@ -148,7 +159,7 @@ rows-requires : tie.Need-rows-requires
 rows-requires c κs = search needs
 
 sub-copy-words-4 : tie.Need-sub-copy-words-4
-sub-copy-words-4 c = search needs
+sub-copy-words-4 c = omega (arith, ends (c .before .before .before) .1, c .rows .ensures .0)
 
 mul-copy-words-5 : tie.Need-mul-copy-words-5
 mul-copy-words-5 c = search needs
@@ -165,7 +176,7 @@ copy-words-requires-2 c κs =
     let new = putMid (2 * from a) (length p - 2 * from a) p ys in
     let l : length new ≡ length (s .args .part .now) = search needs in
     tail-fits (s .pre .0) (s .pre .1) {s = from a} {count = many a} {base = a .pair-at .result} (a .before .before .node-start .ensures .0)
-    (omega (arith, a .before .node-count .ensures .0)) (a .pair-at .ensures) (e .node-end .ensures .0) (c .rows .ensures .0) new l
+    (omega (arith, a .before .node-count .ensures .0)) (a .pair-at .ensures) (e .node-end .ensures) (c .rows .ensures .0) new l
 
 same-length : tie.Need-same-length
 same-length c = search needs
@@ -179,7 +190,7 @@ returns c =
     let a = w .before .before .before in
     let s = start a in
     pairs-put (s .pre .0) (s .pre .1) (a .before .before .node-start .ensures .0) (omega (arith, a .before .node-count .ensures .0))
-    (a .pair-at .ensures) (e .node-end .ensures .0) (r .rows .ensures .0) (w .copy-words .ensures) (q .put-positions .ensures) refl
+    (a .pair-at .ensures) (e .node-end .ensures) (r .rows .ensures .0) (w .copy-words .ensures) (q .put-positions .ensures) refl
     (c .before .before .copy-words2 .ensures)
     (search needs) (search needs)
 

@@ -24,8 +24,8 @@ returns-2 : tie.Need-returns-2
 returns-2 c =
     let i = c .before .before in
     let k = i .before in
-    holds-is _ _ _ (k .before .node-start .ensures .0) (k .node-start2 .ensures .0) (i .if1 .left) (c .before .node-end .ensures .0)
-    (c .node-end2 .ensures .0)
+    holds-is _ _ _ (k .before .node-start .ensures .0) (k .node-start2 .ensures .0) (i .if1 .left) (c .before .node-end .ensures)
+    (c .node-end2 .ensures)
 
 pub holds-run-spec : {M : Type 1} → statement M
 holds-run-spec =

@@ -20,14 +20,14 @@ returns c =
     let s = c .before .before .before .before in
     let k = s .pre .0 .node (s .args .k) (s .pre .1 .1) in
     let e = c .before .before .node-start .ensures .0 in
-    (start-moved _ _ _ _ e (c .before .node-end .ensures .0) (omega arith), omega (arith, k .run, e))
+    (start-moved _ _ _ _ e (c .before .node-end .ensures) (omega arith), omega (arith, k .run, e))
 
 returns-2 : tie.Need-returns-2
 returns-2 c =
     let s = c .before .before .before .before in
     let k = s .pre .0 .node (s .args .k) (s .pre .1 .1) in
     let e = c .before .before .node-start .ensures .0 in
-    (start-stays _ _ _ _ e (c .before .node-end .ensures .0) (omega arith), omega (arith, k .run, e))
+    (start-stays _ _ _ _ e (c .before .node-end .ensures) (omega arith), omega (arith, k .run, e))
 
 pub start-of-spec : {M : Type 1} → statement M
 start-of-spec =
