@@ -136,7 +136,7 @@ module _ (d : ℕ → ℕ → ℕ) (w : List ℕ) where
                 (every-unmap (λ v. v ≤ greatest (map (far k) (run# w k))) (far k) (run# w k) (greatest-le (map (far k) (run# w k)))));
             farthest = p;
             member = h;
-            reached = sym q;
+            reached = omega (arith, q);
           }
 
   -- and the other way

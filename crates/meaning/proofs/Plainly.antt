@@ -129,7 +129,7 @@ module _ (w : List ℕ) where
         near = v .smaller;
         few = λ q. eqb→eq (child# w k) 0 (subst (λ (b : Bool). T (byCase k b deep)) (le-leb (count# w k) (l# w) q) c);
         deepest = λ q.
-            let e : deep ≡ true = le-leb (level w maxDepth) k (omega (arith, D .0, level-le w maxDepth (S .depth) q)) in
+            let e : deep ≡ true = le-leb (level w maxDepth) k (omega (arith, D .0, level-le w maxDepth (S .depth) (omega (arith, q)))) in
             eqb→eq (child# w k) 0 (subst (λ (b : Bool). T (cond b (eqb (child# w k) 0) (eqb (child# w k) (born w k) && tiles k)))
             (ap (λ (b : Bool). few || b) e ∙ or-true few) c);
         other = λ q r.
