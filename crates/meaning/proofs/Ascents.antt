@@ -1,5 +1,5 @@
 -- The build keeps each run's rows ascending behind its first. Assumes nothing.
-use Prim.Native.Nat.{_+_, _-_, _<_, suc, zero, ℕ}
+use Prim.Native.Nat.{_-_, _<_, suc, zero, ℕ}
 use Rattle.laws.proofs.Every.{every-all, every-keep, every-map}
 use Rattle.laws.proofs.Lists.{map-id, paired}
 use Rattle.laws.proofs.Ranges.{range-every}
@@ -13,8 +13,8 @@ use Rattle.tree.specs.Grove.{Grove, bare, fork}
 use lib.Dec.{eqb, leb}
 use lib.ListN.{length}
 use mathlib.Core.Bool.{Bool, cond, false, true}
-use mathlib.Core.List.{List, [], _++_, _∷_, foldr, map}
-use mathlib.Core.Path.{_∙_, _≡_, ap, subst, sym}
+use mathlib.Core.List.{List, [], _++_, _∷_, foldr}
+use mathlib.Core.Path.{_∙_, subst, sym}
 use native.Mathlib.Omega.{arith}
 
 -- a range ascends

@@ -2,7 +2,6 @@
 use Prim.Native.Nat.{_+_, _-_, _<_, _≤_, max, min, suc, zero, ℕ}
 use Rattle.laws.proofs.Empty.{any-false, any-none}
 use Rattle.laws.proofs.Every.{every-map, every-unmap, greatest-le, greatest-under, lowest-le, lowest-over}
-use Rattle.laws.proofs.Pigeon.{pigeon}
 use Rattle.laws.proofs.Ranges.{at-every, every-at, every-range, range-every, range-length}
 use Rattle.laws.proofs.Times.{times-every}
 use Rattle.laws.specs.Every.{Every}
@@ -10,25 +9,23 @@ use Rattle.laws.specs.Lists.{greatest, least, lowest, range, rest, times}
 use Rattle.tree.proofs.Accepted.{each-once, once-of, shape-of}
 use Rattle.tree.proofs.Alike.{inner-is-nearest, radius-is}
 use Rattle.tree.proofs.Faultless.{no-fault}
-use Rattle.tree.proofs.Fitting.{Fits}
-use Rattle.tree.proofs.NoFaults.{NoFaults, fits, no-faults}
+use Rattle.tree.proofs.NoFaults.{fits, no-faults}
 use Rattle.meaning.proofs.Plainly.{plain-shape, plain-words, shape-plain, words-plain}
 use Rattle.tree.proofs.Right.{Right}
 use Rattle.tree.proofs.Rows.{once-to, rows-tree}
 use Rattle.tree.specs.Check.{Accepted, again, nearest#}
 use Rattle.meaning.specs.Conditions.{Conditions, InnerReach, Member, Nearest, Radius, Standing}
-use Rattle.words.specs.InShape.{InShape}
 use Rattle.words.specs.Shape.{inner}
 use Rattle.words.specs.Words.{N#, at, child#, count#, dist#, edition#, first#, inner#, kept, m#, n#, nodeAt, radius#, row#, run#, start#}
-use borrow.Author.Tests.{eq-eqb, eqb-false, eqb-true, ne-eqb, not-false, not-true}
-use lib.Dec.{T, eqb, leb}
+use borrow.Author.Tests.{eqb-false, eqb-true, ne-eqb, not-false, not-true}
+use lib.Dec.{eqb}
 use lib.ListN.{length, length-map}
 use mathlib.Core.Bool.{Bool, cond, false, not, true}
 use mathlib.Core.List.{List, [], _∷_, map}
 use mathlib.Core.Logic.{_↔_, by-cases}
 use mathlib.Core.Path.{_∙_, _≡_, ap, refl, subst, sym}
 use native.Mathlib.Decide.{decLt}
-use native.Mathlib.Nat.{add-suc, add-zero, not-suc-le-zero, suc-add}
+use native.Mathlib.Nat.{not-suc-le-zero}
 use native.Mathlib.Omega.{arith}
 
 -- ---- the greatest and the lowest of some numbers are among them

@@ -5,11 +5,11 @@ use Rattle.laws.proofs.Ranges.{at-every}
 use Rattle.laws.proofs.Tests.{and-l, and-of, and-r, eq-test, holds, is-true}
 use Rattle.laws.specs.Lists.{all, range}
 use Rattle.limits.proofs.Ranges.{both-within, within-both}
-use Rattle.limits.specs.Limits.{columnsOk, editionOk, maxColumns, maxDepth, maxDistance, maxRows, shareOk, within}
+use Rattle.limits.specs.Limits.{columnsOk, editionOk, maxColumns, maxDepth, maxDistance, maxRows, shareOk}
 use Rattle.tree.proofs.Alike.{born-some}
 use Rattle.meaning.proofs.Depths.{Born, born-numbered, depth-level, numbered-born, numbered-child, stood}
 use Rattle.meaning.specs.Conditions.{Numbered, Possible, Ruled, Shaped, Tiled}
-use Rattle.words.proofs.Headers.{good-header, good-whole, nodes-none, nodes-some}
+use Rattle.words.proofs.Headers.{good-header, good-whole}
 use Rattle.words.proofs.InShape.{header-possible, whole}
 use Rattle.words.proofs.Levels.{inner-is, level-le}
 use Rattle.words.proofs.Nodes.{closed, node-at, node-ok, root-ok, root-some}
@@ -17,7 +17,7 @@ use Rattle.words.proofs.Positions.{position-is}
 use Rattle.words.proofs.Tiles.{tile-head, tile-none, tile-tail}
 use Rattle.words.specs.Shape.{born, level, nodeOk, positionOk, rootFits, rootOk, shapeOk, tile, treeFits}
 use Rattle.words.specs.Words.{N#, c#, cardOk, child#, count#, dist#, edition#, inner#, kind#, l#, last#, m#, n#, nodesOk, radius#, row#, start#, wholeOk, wordsOf}
-use borrow.Author.Tests.{eq-eqb, eqb-true, le-leb, leb-false, leb-true, lt-leb}
+use borrow.Author.Tests.{eq-eqb, le-leb, leb-false, leb-true, lt-leb}
 use lib.Dec.{T, eqb, eqb→eq, leb, le→leb, ltb, lt→ltb}
 use lib.ListN.{length}
 use mathlib.Core.Bool.{Bool, _&&_, _||_, cond, false, or-true, true}

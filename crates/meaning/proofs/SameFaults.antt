@@ -6,10 +6,10 @@ use Rattle.laws.specs.Every.{Every}
 use Rattle.laws.specs.Lists.{any, each, greatest, has, keep, range}
 use Rattle.limits.specs.Said.{Said}
 use Rattle.tree.proofs.Alike.{Alike, nearest-same}
-use Rattle.tree.specs.Check.{again, faults, inRun, kids, nearest#, strays, wrongDist, wrongInner, wrongRadius, wrongReach}
+use Rattle.tree.specs.Check.{again, faults, inRun, kids, strays, wrongDist, wrongInner, wrongRadius, wrongReach}
 use Rattle.words.specs.InShape.{InShape}
 use Rattle.words.specs.Shape.{inner}
-use Rattle.words.specs.Words.{N#, child#, count#, dist#, edition#, first#, inner#, m#, n#, radius#, row#, run#, start#}
+use Rattle.words.specs.Words.{N#, child#, count#, dist#, edition#, first#, inner#, m#, n#, row#, run#, start#}
 use lib.Dec.{eqb, leb, ltb}
 use mathlib.Core.Bool.{Bool, _&&_, _||_, cond, false, not, true}
 use mathlib.Core.List.{List, [], _++_, _∷_, map}
