@@ -1,24 +1,30 @@
 -- The three demands, as theorems on what the calls give: an index is accepted where a check of it gave 0. Assumes nothing.
-use Prim.Native.Nat.{_*_, _+_, _<_, _^_, _≤_, min, ℕ}
+use Prim.Native.Nat.{_*_, _+_, _/_, _<_, _^_, _≤_, min, ℕ}
 use Rattle.answers.specs.Records.{made}
 use Rattle.answers.specs.declared.Answer.{Answer}
 use Rattle.audit.proofs.Theorems.{check-exact, check-only, check-placeless}
 use Rattle.audit.specs.Calls.{Checks, Passed}
 use Rattle.bourascul.proofs.Numbers.{both-parts, last-is, passed, same-number}
+use Rattle.bourascul.proofs.Own.{check-own}
 use Rattle.bourascul.proofs.Promises.{answers-exact as records-exact, refused-records}
 use Rattle.bourascul.specs.Calls.{ReadsBlock}
 use Rattle.bourascul.specs.Recorded.{Recorded}
 use Rattle.build.proofs.Theorems.{build-accepted, build-headed}
 use Rattle.build.specs.Calls.{Builds}
-use Rattle.image.proofs.Small.{write-whole}
 use Rattle.card.proofs.RoundTrip.{round-trip}
+use Rattle.card.proofs.Spoilt.{spoilt-block, spoilt-word}
 use Rattle.card.proofs.Theorems.{read-accepted, read-clear, read-headed, read-placed, read-refused as call-refused, read-wide}
 use Rattle.card.specs.Cards.{cardWords}
+use Rattle.image.proofs.RoundTrip.{written-ok}
+use Rattle.image.proofs.Small.{write-small, write-whole}
 use Rattle.image.specs.Below.{Below}
 use Rattle.image.specs.Calls.{Writes}
+use Rattle.image.specs.Changed.{Moved}
 use Rattle.laws.specs.Every.{Every}
 use Rattle.laws.specs.Lists.{last, times}
-use Rattle.limits.proofs.Sized.{Sized}
+use Rattle.limits.proofs.Sized.{Sized, sized-of}
+use Rattle.meaning.proofs.Meaning.{accepted-means}
+use Rattle.meaning.specs.Conditions.{Conditions}
 use Rattle.measure.specs.Table.{between, from, row, rowsOf}
 use Rattle.nearest.proofs.Promises.{nearest-exact as call-exact, nearest-measured, nearest-measured-all, nearest-two-tables}
 use Rattle.nearest.specs.Calls.{Answered, Settled}
@@ -33,12 +39,13 @@ use Rattle.tree.specs.Nearest.{answers, isMeasured, lastDistance, measured}
 use Rattle.tree.specs.Widen.{widen}
 use Rattle.words.proofs.Listed.{list-only, node-there, part-none, part-pairs}
 use Rattle.words.specs.Calls.{Lists, listed, lists}
+use Rattle.words.specs.Image.{wordAt}
 use Rattle.words.specs.Shape.{shapeOk}
 use Rattle.words.specs.Words.{c#, edition#, n#, wordsOf}
 use borrow.Author.Tests.{le-leb, lt-leb, ne-eqb}
 use lib.Dec.{T, eqb}
 use lib.ListN.{drop, getD, length, replicate, take}
-use lib.Seq.{length-take-le, take-all, take-at}
+use lib.Seq.{length-take-le, take-at}
 use mathlib.Core.Bool.{Bool, false, or-true, true}
 use mathlib.Core.List.{List, [], _++_, map}
 use mathlib.Core.Logic.{_↔_}
@@ -158,11 +165,12 @@ module _ {t : List ℕ} {c : ℕ} {w before after room room′ : List ℕ} {bloc
       let f = take-at (take (wordsOf w) w) (drop (wordsOf w) room) (wordsOf w) (length-take-le (wordsOf w) w (write-whole s)) in
       (d .0, omega (arith, r .named, read-placed (r .reads) (λ e. omega (arith, d .0))), d .1, ap₂ take (d .1) (d .2) ∙ f)
 
-  -- so that where nothing stood behind it, a check says the same of both
-  pub image-checked : {work work₁ work₂ : List ℕ} {n₁ p₁ s₁ n₂ p₂ s₂ : ℕ} → length w ≡ wordsOf w
-      → Checks t c w work work₁ n₁ p₁ s₁ → Checks t c (take words room′) work work₂ n₂ p₂ s₂ → (n₁ ≡ n₂) × (p₁ ≡ p₂) × (s₁ ≡ s₂) × (work₁ ≡ work₂)
-  image-checked {work} {work₂ = work₂} {n₂ = n₂} {p₂} {s₂} e a b =
-      check-only a (subst (λ (v : List ℕ). Checks t c v work work₂ n₂ p₂ s₂) (image-same .3 ∙ take-all (wordsOf w) w (omega arith)) b)
+  -- so that a check says the same of both, whatever was lent behind the index
+  pub image-checked : {work work₁ work₂ : List ℕ} {n₁ p₁ s₁ n₂ p₂ s₂ : ℕ} → Checks t c w work work₁ n₁ p₁ s₁
+      → Checks t c (take words room′) work work₂ n₂ p₂ s₂ → (n₁ ≡ n₂) × (p₁ ≡ p₂) × (s₁ ≡ s₂) × (work₁ ≡ work₂)
+  image-checked {work} {work₂ = work₂} {n₂ = n₂} {p₂} {s₂} a b =
+      check-only a (check-own w (written-ok w (length before) (sym (s .said))) shape
+      (subst (λ (v : List ℕ). Checks t c v work work₂ n₂ p₂ s₂) (image-same .3) b))
 
 -- a card of either edition, read with 0 over a table: where its index is accepted, a check of what was read gives 0, in a workspace that is long enough
 pub card-passes : {t : List ℕ} {c : ℕ} {i before after : List ℕ} {place words : ℕ} → ReadsBlock t c i before after 0 place words
@@ -188,6 +196,50 @@ card-passes {t} {c} s ok enough k =
 pub card-widened : {t : List ℕ} {c : ℕ} {i before after : List ℕ} {place words : ℕ} → ReadsBlock t c i before after 0 place words
     → edition# (cardWords i) ≡ 1 → take words after ≡ widen (between t c) (cardWords i)
 card-widened s = read-wide (s .reads) refl
+
+-- 01, The image: an index was written; what is read over a right table is i, as many blocks, of which something is not as it was written
+module _ {t : List ℕ} {c : ℕ} {w before after : List ℕ} {blocks : ℕ} (fine : Sized (length t) c) (s : Writes w before after 0 blocks)
+    (low : Below (2 ^ 32) w) {i : List ℕ} (size : length i ≡ 512 * blocks) {room room′ : List ℕ} {number place words : ℕ}
+    (r : ReadsBlock t c i room room′ number place words) where
+  -- any one changed word is found: where of all words just word q differs, 15 names its block, and nothing is read
+  pub word-found : Below 256 i → (q : ℕ) → q < 128 * blocks
+      → ((j : ℕ) → j < 128 * blocks → (j ≡ q → ⊥) → wordAt (take (512 * blocks) after) (4 * j) ≡ wordAt i (4 * j))
+      → (wordAt (take (512 * blocks) after) (4 * q) ≡ wordAt i (4 * q) → ⊥) → (number ≡ 15) × (place ≡ q / 128) × (words ≡ 0) × (room′ ≡ room)
+  word-found bytes q h same differs =
+      let z = spoilt-word fine low s i size (r .reads) bytes q h same differs in
+      (z .0, omega (arith, z .1, r .named, write-small s), z .2, z .3)
+
+  -- and so is any block that stands at another's place: block b of i is block a of what was written
+  pub block-found : (a b : ℕ) → a < blocks → b < blocks → Moved (take (512 * blocks) after) i a b
+      → (number ≡ 15) × (place ≤ b) × (words ≡ 0) × (room′ ≡ room)
+  block-found a b ha hb moved =
+      let z = spoilt-block fine low s i size (r .reads) a b ha hb moved in
+      (z .0, omega (arith, z .1, r .named), z .2, z .3)
+
+-- a check gives 0 exactly where the table is right, the workspace long enough, the header the table's and edition 2, and 01's conditions hold
+pub check-means : {t : List ℕ} {c : ℕ} {w work work′ : List ℕ} {number place second : ℕ} → Checks t c w work work′ number place second
+    → (number ≡ 0) ↔ (Sized (length t) c × (6 * rowsOf t c ≤ length work) × (n# w ≡ rowsOf t c) × (c# w ≡ c) × (edition# w ≡ 2) × Conditions (between t c) w)
+check-means {t} {c} {w} s = (
+  λ z.
+      let P = check-exact s .0 z in (
+        sized-of (length t) c (P .columns) (P .multiple) (P .few),
+        P .room,
+        P .same-rows,
+        P .same-columns,
+        P .edition,
+        accepted-means (between t c) w .0 (P .accepted),
+      ),
+  λ m. check-exact s .1 (record {
+    columns = (m .0 .some, m .0 .few);
+    multiple = m .0 .whole;
+    few = m .0 .rows;
+    room = m .1;
+    same-rows = m .2;
+    same-columns = m .3;
+    edition = m .4;
+    accepted = accepted-means (between t c) w .1 (m .5);
+  }),
+)
 
 -- ---- DEMAND 3: WHICH ROWS A NEAREST SEARCH MEASURES, AND THAT ITS OUTCOME RESTS ON THESE ALONE
 module _ {t : List ℕ} {c : ℕ} {w work₀ work₁ : List ℕ} {place second : ℕ} (ok : Checks t c w work₀ work₁ 0 place second) where

@@ -9,3 +9,4 @@ pub mod Theorems
 pub mod Damage
 pub mod RoundTrip
 pub mod Cases
+pub mod Spoilt

@@ -30,7 +30,7 @@ use native.Mathlib.Omega.{arith}
 -- ---- an index at the front of w, and its own words alone
 module _ (w : List ℕ) (W : Whole w) where
   -- its own words
-  abbrev own : List ℕ
+  abbrev pub own : List ℕ
   own = take (wordsOf w) w
 
   -- each is the same
@@ -50,7 +50,7 @@ module _ (w : List ℕ) (W : Whole w) where
       ∙ word-own (pairAt w p + j) (omega arith)
 
   -- THEY READ AS w DOES
-  own-alike : Alike w own
+  pub own-alike : Alike w own
   own-alike =
       record {
         rows = word-own 1 (omega arith);
@@ -66,11 +66,11 @@ module _ (w : List ℕ) (W : Whole w) where
       }
 
   -- their inner reaches are the same in edition 2
-  inner-own : edition# w ≡ 2 → (k : ℕ) → k < N# w → inner# own k ≡ inner# w k
+  pub inner-own : edition# w ≡ 2 → (k : ℕ) → k < N# w → inner# own k ≡ inner# w k
   inner-own e k h = ap₂ kept (word-own 0 (omega arith)) (node-own k 4 h (omega arith))
 
 -- the shape of an edition 2 index is its own words'
-own-shape : (w : List ℕ) → wordsOk w ≡ true → shapeOk w ≡ true → shapeOk (take (wordsOf w) w) ≡ true
+pub own-shape : (w : List ℕ) → wordsOk w ≡ true → shapeOk w ≡ true → shapeOk (take (wordsOf w) w) ≡ true
 own-shape w ok s =
     let t = words-whole w ok in
     let S = in-shape w (t .1) s in

@@ -11,3 +11,4 @@ pub mod Standing
 pub mod RoundTrip
 pub mod Only
 pub mod Small
+pub mod WrittenBlocks

@@ -17,7 +17,7 @@ use mathlib.Core.Path.{_∙_, _≡_, ap, ap₂, refl, sym}
 use native.Mathlib.Omega.{arith}
 
 -- a block whose 128 words are the same is as good
-block-same : (i i′ : List ℕ) (b : ℕ) → ((j : ℕ) → j < 128 → blockWord i b j ≡ blockWord i′ b j)
+pub block-same : (i i′ : List ℕ) (b : ℕ) → ((j : ℕ) → j < 128 → blockWord i b j ≡ blockWord i′ b j)
     → blockGood i b ≡ blockGood i′ b
 unfolding blockGood
 block-same i i′ b f =

@@ -50,11 +50,11 @@ module _ (w : List ℕ) (ok : wordsOk w ≡ true) (small : Below (2 ^ 32) w) whe
   t = wordsOf w
 
   -- its words
-  abbrev ws : List ℕ
+  abbrev pub ws : List ℕ
   ws = take (wordsOf w) w
 
   -- how many blocks hold them
-  abbrev k : ℕ
+  abbrev pub k : ℕ
   k = blocksFor (wordsOf w)
 
   -- none of them is missing
@@ -62,7 +62,7 @@ module _ (w : List ℕ) (ok : wordsOk w ≡ true) (small : Below (2 ^ 32) w) whe
   long = length-take-le t w (whole w (words-whole w ok .1) .words)
 
   -- each of them fits 32 bits
-  low : Below (2 ^ 32) ws
+  pub low : Below (2 ^ 32) ws
   low = below-take t (2 ^ 32) w (omega arith) small
 
   -- the blocks have places for them
@@ -75,7 +75,7 @@ module _ (w : List ℕ) (ok : wordsOk w ≡ true) (small : Below (2 ^ 32) w) whe
   some = omega arith
 
   -- the image is these blocks
-  image-is : image w ≡ blocks ws k
+  pub image-is : image w ≡ blocks ws k
   unfolding image
   image-is = refl
 

@@ -145,7 +145,7 @@ module _ (ws : List ℕ) (k : ℕ) (small : Below (2 ^ 32) ws) where
   window-in b (suc n) h g = ap₂ (λ (l : List ℕ) (x : ℕ). l ++ (x ∷ [])) (window-in b n h (omega arith)) (held-in b n h g)
 
   -- every block is good
-  good-in : (b : ℕ) → b < k → blockGood (blocks ws k) b ≡ true
+  pub good-in : (b : ℕ) → b < k → blockGood (blocks ws k) b ≡ true
   unfolding blockGood
   good-in b h = eq-eqb _ _ (ap (checkWord b) (window-in b 127 h (omega arith)) ∙ sym (check-in ws k b h))
 

@@ -141,6 +141,8 @@ ours =
     ∷ check (set fiveWords 35 0) 10 1 0
     ∷ check (set fiveWords 36 2) 11 1 0
     ∷ check (set fiveWords 11 19) 12 0 0
+    ∷ check (set fiveWords 11 21) 12 0 0
+    ∷ check (set fiveWords 12 0) 12 0 0
     ∷ check (set fiveWords 12 2) 12 0 0
     ∷ buildSays 17 2 2 1 0 0 1
     ∷ buildSays 1 2 2 1 0 0 2

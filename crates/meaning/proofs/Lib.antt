@@ -1,0 +1,5 @@
+pub mod Depths
+pub mod Plainly
+pub mod Meaning
+pub mod Ascents
+pub mod SameFaults
