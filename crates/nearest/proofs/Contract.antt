@@ -9,7 +9,7 @@ use Rattle.laws.specs.Lists.{has, look, range, times}
 use Rattle.measure.proofs.Metric.{query-point}
 use Rattle.measure.specs.Table.{between, from}
 use Rattle.nearest.proofs.Refusals.{fits}
-use Rattle.nearest.specs.Calls.{Answered, Found, Lent, Serves, Settled}
+use Rattle.nearest.specs.Calls.{Answered, Found, Lent, Serves, Settled, Sound}
 use Rattle.tree.proofs.Accepted.{each-once, shape-of}
 use Rattle.tree.proofs.Answers.{near-at, passes-all}
 use Rattle.tree.proofs.Rows.{rows-tree}
@@ -71,6 +71,10 @@ module _ (x : ℕ → ℕ) (n wanted k : ℕ) (ek : k ≡ min wanted n) where
           let e : k ≡ wanted = omega arith in
           ap (λ (k : ℕ). passes x n k (look i (homes x g))) e
 
+  -- answers that are sound for k are sound for as many as are wanted
+  sound-wanted : {rs′ ds′ how′ : List ℕ} {given : ℕ} → Sound x n k rs′ ds′ how′ given → Sound x n wanted rs′ ds′ how′ given
+  sound-wanted Z = record { count = Z .count ∙ same-count; own = Z .own; order = Z .order; marks = Z .marks }
+
 -- ---- a table that serves is one that fits
 -- the how-byte of a row whose home bound passes is 1 or 3
 pub byte-measured : (x : ℕ → ℕ) (n : ℕ) (g : Grove) (k i : ℕ) → i < n → passes x n k (look i (homes x g)) ≡ true
@@ -124,7 +128,7 @@ module _ (t : List ℕ) (c : ℕ) (w q : List ℕ) (wanted : ℕ) (rs ds how wor
     refused = λ k. (refl, refl, refl, refl, refl, refl);
     cleared = λ z. absurd (h z);
     beyond = λ z. absurd (h z);
-    few = λ z. absurd (h z);
+    sound = λ z. absurd (h z);
     counted = λ z. absurd (h z);
     found = λ z. absurd (h z);
   }
@@ -145,7 +149,7 @@ module _ (t : List ℕ) (c : ℕ) (w q : List ℕ) (wanted : ℕ) (rs ds how wor
         refused = λ f. absurd (f refl);
         cleared = λ e. D .cleared;
         beyond = λ e. subst (λ (k : ℕ). (drop k rs′ ≡ drop k rs) × (drop k ds′ ≡ drop k ds) × (drop (n# w) how′ ≡ drop (n# w) how)) ek (D .beyond);
-        few = λ e. omega (arith, D .few, ek);
+        sound = λ e. sound-wanted (from t c q) (n# w) wanted k ek (D .sound);
         counted = λ e. em ∙ ap (λ (n : ℕ). measured (take n how′)) en;
         found = λ e t′ A.
             settled-wanted t t′ c w q wanted k ek A rs rs′ ds ds′ how how′ given (D .found (from t′ c q) (serves-fits t t′ c w q wanted k ek A));
