@@ -139,11 +139,12 @@ module _ (t : List ℕ) (c : ℕ) (w q : List ℕ) (wanted : ℕ) (rs ds how wor
       fits t c w q wanted room rs ds how work fit k (ek ∙ ap (λ (n : ℕ). min wanted n) en) (sym said-is ∙ z)
 
   -- A SEARCH MEETS THE CONTRACT
-  pub done-is : (n k given met : ℕ) (rs′ ds′ how′ work′ : List ℕ) → number ≡ 0 → n ≡ n# w → k ≡ min wanted n
-      → Found t c w q k rs rs′ ds ds′ how how′ work work′ given → met ≡ measured (take n how′)
+  pub done-is : (n k given given₀ met : ℕ) (rs′ ds′ how′ work′ : List ℕ) → number ≡ 0 → n ≡ n# w → k ≡ min wanted n
+      → Found t c w q k rs rs′ ds ds′ how how′ work work′ given₀ → given ≡ given₀ → met ≡ measured (take n how′)
       → Answered t c w q wanted room rs rs′ ds ds′ how how′ work work′ 0 given met
-  done-is n k given met rs′ ds′ how′ work′ z en ek₀ D em =
+  done-is n k given given₀ met rs′ ds′ how′ work′ z en ek₀ D₀ eg em =
       let ek : k ≡ min wanted (n# w) = ek₀ ∙ ap (λ (n : ℕ). min wanted n) en in
+      let D = subst (λ (g : ℕ). Found t c w q k rs rs′ ds ds′ how how′ work work′ g) (sym eg) D₀ in
       record {
         said = sym z ∙ said-is;
         refused = λ f. absurd (f refl);
