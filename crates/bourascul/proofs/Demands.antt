@@ -266,7 +266,8 @@ module _ {t : List ℕ} {c : ℕ} {w work₀ work₁ : List ℕ} {place second :
 
     -- and where it is as long and its call is lent the same, all is the same: the number and every how-byte
     pub radius-outcome : {t₂ after₂ : List ℕ} {number₂ in₂ met₂ : ℕ} → Searched t₂ c w q r before after₂ number₂ in₂ met₂ → length t ≡ length t₂
-        → ((i : ℕ) → i < n# w → T (isMeasured (getD after i 0)) → row t c i ≡ row t₂ c i) → (0 ≡ number₂) × (in# ≡ in₂) × (met ≡ met₂) × (after ≡ after₂)
+        → ((i : ℕ) → i < n# w → T (isMeasured (getD after i 0)) → row t c i ≡ row t₂ c i)
+        → (0 ≡ number₂) × (in# ≡ in₂) × (met ≡ met₂) × (after ≡ after₂)
     radius-outcome {after₂ = after₂} s₂ e agree =
         let z = same-radius-number s s₂ e in
         let E = radius-call-two-tables s refl (passed ok .accepted) s₂ (sym z) agree in

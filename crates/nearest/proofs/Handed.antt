@@ -58,7 +58,8 @@ three false v v′ h e = ((λ z. absurd (omega arith), λ t. absurd t), λ n. om
 -- ---- the entries l are handed out, each that of a row, none less than those after it
 module _ (x : ℕ → ℕ) (n k : ℕ) (l : List ℕ) (long : length l ≡ k) (own : total (stray x n) l ≡ 0) (fall : Falling l) where
   -- WHAT IS HANDED OUT IS SOUND: rows with their distances, in order, and their how-bytes 3
-  pub sound-of : (wanted : ℕ) (rs rs′ ds ds′ how how′ : List ℕ) → k ≡ min wanted n → rs′ ≡ map rowOf l ++ drop k rs → ds′ ≡ map distanceOf l ++ drop k ds
+  pub sound-of : (wanted : ℕ) (rs rs′ ds ds′ how how′ : List ℕ) → k ≡ min wanted n
+      → rs′ ≡ map rowOf l ++ drop k rs → ds′ ≡ map distanceOf l ++ drop k ds
       → ((i : ℕ) → i < n → at how i ≤ 1) → ((i : ℕ) → at how′ i ≡ cond (has i (map rowOf l)) 3 (at how i)) → Sound x n wanted rs′ ds′ how′ k
   sound-of wanted rs rs′ ds ds′ how how′ count er ed bits marked = record {
     count = count;
@@ -67,7 +68,8 @@ module _ (x : ℕ → ℕ) (n k : ℕ) (l : List ℕ) (long : length l ≡ k) (o
         (subst (λ (r : ℕ). r < n) (sym (row-at j h)) (o .0), distance-at j h ∙ o .1 ∙ ap x (sym (row-at j h)));
     order = λ i j h p.
         let before : i < k = omega arith in
-        order-is (distance-at i before) (distance-at j p) (row-at i before) (row-at j p) (order-at l (falling-sorted x n l own fall) i j h (omega arith));
+        order-is (distance-at i before) (distance-at j p) (row-at i before) (row-at j p)
+        (order-at l (falling-sorted x n l own fall) i j h (omega arith));
     marks = λ i h.
         subst (λ (b : Bool). ((at how′ i ≡ 3) ↔ T b) × ((at how′ i ≡ 3 → ⊥) → at how′ i ≤ 1)) (sym (ap (has i) given-rows))
         (three (has i (map rowOf l)) (at how i) (at how′ i) (bits i h) (marked i));

@@ -222,7 +222,8 @@ module _ {t : List ℕ} {c : ℕ} {w q : List ℕ} {wanted room : ℕ} {rs ds ho
   one-number : number₁ ≡ number₂
   one-number = s₁ .said ∙ sym (s₂ .said)
 
-  -- WHAT IS SETTLED ON ANY INDEX: ALL OF A REFUSAL; ELSE THE NUMBER, THE WORKSPACE, WHAT LIES BEYOND, THE COUNT BY THE HOW-BYTES, AND HOW MANY ARE GIVEN
+  -- WHAT IS SETTLED ON ANY INDEX: ALL OF A REFUSAL; ELSE THE NUMBER, THE WORKSPACE, WHAT LIES BEYOND, THE COUNT BY THE HOW-BYTES, AND HOW MANY
+  -- ARE GIVEN
   pub nearest-open : (number₁ ≡ number₂) × ((number₁ ≡ 0 → ⊥) → Same)
       × (number₁ ≡ 0 → (work₁ ≡ work₂) × (drop (min wanted (n# w)) rs₁ ≡ drop (min wanted (n# w)) rs₂)
       × (drop (min wanted (n# w)) ds₁ ≡ drop (min wanted (n# w)) ds₂) × (drop (n# w) how₁ ≡ drop (n# w) how₂)

@@ -83,8 +83,10 @@ ranked i d (b ∷ s) o e p (suc k) = go (ℕ-discrete (b .0) i) (λ p. ranked i 
     go (yes q) ih =
         let at : b .1 ≡ d = e .0 q in
         let here = not-earlier i d b (omega arith, λ h. omega arith) in
-        let behind = none-earlier i d s (every-of (Le b) (Le (i, d)) (λ c l. (omega (arith, l .0), λ h. omega (arith, l .1 (omega arith)))) s (o .0)) in
-        (λ t. omega (arith, here, behind), λ h. holds (eqb i (b .0) || has i (map (λ a. a .0) (take k s))) (or-l (eqb i (b .0)) (has i (map (λ a. a .0) (take k s))) (eq-eqb i (b .0) (sym q))))
+        let behind =
+        none-earlier i d s (every-of (Le b) (Le (i, d)) (λ c l. (omega (arith, l .0), λ h. omega (arith, l .1 (omega arith)))) s (o .0)) in
+        let others : Bool = has i (map (λ a. a .0) (take k s)) in
+        (λ t. omega (arith, here, behind), λ h. holds (eqb i (b .0) || others) (or-l (eqb i (b .0)) others (eq-eqb i (b .0) (sym q))))
     go (no q) ih =
         let ne : i ≡ b .0 → ⊥ = λ z. q (sym z) in
         let there : 0 < total (λ (b : ℕ × ℕ). is i (b .0)) s = omega (arith, is-not i (b .0) ne) in

@@ -32,13 +32,14 @@ module _ {t : List ℕ} {c : ℕ} {w q : List ℕ} {r : ℕ} {before after : Lis
   -- THE HOW-BYTES BEYOND n STAY
   pub radius-call-beyond : drop (n# w) after ≡ drop (n# w) before
   radius-call-beyond =
-      ap (drop (n# w)) (s .written done)
-      ∙ drop-at (write (marks (from t c q) r (treeOf w)) (replicate (n# w) 0)) (drop (n# w) before) (n# w) (written-length (marks (from t c q) r (treeOf w)) (n# w))
+      let ms = marks (from t c q) r (treeOf w) in
+      ap (drop (n# w)) (s .written done) ∙ drop-at (write ms (replicate (n# w) 0)) (drop (n# w) before) (n# w) (written-length ms (n# w))
 
   -- WHERE EACH ROW STANDS ONCE, THE HOW-BYTES ARE THOSE OF THE DESCENT OF THE INDEX'S TREE, BY ROW NUMBER
   pub radius-call-marks : Once w → after ≡ radiusHow (from t c q) r (n# w) (treeOf w) ++ drop (n# w) before
   radius-call-marks once =
-      s .written done ∙ ap (λ (l : List ℕ). l ++ drop (n# w) before) (bytes-are (from t c q) r w (fits t c w q before (sym (s .said) ∙ done) .shape) once)
+      s .written done
+      ∙ ap (λ (l : List ℕ). l ++ drop (n# w) before) (bytes-are (from t c q) r w (fits t c w q before (sym (s .said) ∙ done) .shape) once)
 
 -- ---- the same, on an index in which each row stands once
 module _ {t : List ℕ} {c : ℕ} {w q : List ℕ} {r : ℕ} {before after : List ℕ} {number in# met : ℕ}
@@ -46,7 +47,8 @@ module _ {t : List ℕ} {c : ℕ} {w q : List ℕ} {r : ℕ} {before after : Lis
   -- the how-bytes that are the rows'
   pub first-bytes : take (n# w) after ≡ radiusHow (from t c q) r (n# w) (treeOf w)
   first-bytes =
-      ap (take (n# w)) (radius-call-marks s done once) ∙ take-at (radiusHow (from t c q) r (n# w) (treeOf w)) (drop (n# w) before) (n# w) (how-length (from t c q) r w)
+      ap (take (n# w)) (radius-call-marks s done once)
+      ∙ take-at (radiusHow (from t c q) r (n# w) (treeOf w)) (drop (n# w) before) (n# w) (how-length (from t c q) r w)
 
   -- each of them is the definition's
   byte-at : (i : ℕ) → i < n# w → getD after i 0 ≡ getD (radiusHow (from t c q) r (n# w) (treeOf w)) i 0

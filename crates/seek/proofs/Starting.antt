@@ -121,6 +121,13 @@ module _ (t : List ℕ) (c : ℕ) (q w : List ℕ) (wanted : ℕ) where
         queue = P .queue;
         sound = root-sound;
         room = omega (arith, ap (total (weight w)) one, S .root filled .count);
-        short = λ l. omega (arith, K .grew .more l, sum-one (n# w) (first# w 0) (root-row w S filled), ap (total (still w)) one, still-root w S filled x);
+        short = λ l.
+            omega (
+              arith,
+              K .grew .more l,
+              sum-one (n# w) (first# w 0) (root-row w S filled),
+              ap (total (still w)) one,
+              still-root w S filled x,
+            );
         run = λ x′ F. runs;
       }

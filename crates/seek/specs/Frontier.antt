@@ -94,8 +94,8 @@ pub record Taken (w : List ℕ) (x : ℕ → ℕ) (wanted : ℕ) (how how′ wor
 abbrev pub still : List ℕ → Item → ℕ
 still w i = sumTo (waitsOf w i) (n# w)
 
--- Between two rounds. Where fewer are held than are wanted, nothing was left out: all n positions are held or wait. The last promise is for lent rows that
--- are, where it counts, those of a table that the index fits.
+-- Between two rounds. Where fewer are held than are wanted, nothing was left out: all n positions are held or wait. The last promise is for
+-- lent rows that are, where it counts, those of a table that the index fits.
 pub record State (t : List ℕ) (c : ℕ) (q w : List ℕ) (wanted : ℕ) (how work : List ℕ) (len held : ℕ) : Type 0 where
   pub ready : Ready t c q (n# w) wanted how work held
   pub queue : Queue work 0 len

@@ -40,8 +40,8 @@ pub record Since (n : ℕ) (how how′ work work′ : List ℕ) : Type 0 where
   pub past : (i : ℕ) → n ≤ i → at how′ i ≡ at how i
   pub over : (i : ℕ) → 6 * n ≤ i → getD work′ i 0 ≡ getD work i 0
 
--- The rows of g are measured besides; where fewer than w are held even then, each of them was entered. The last promise is for indexes in which no row
--- stands twice: where the best were held and the rows of g are new, the best are held again.
+-- The rows of g are measured besides; where fewer than w are held even then, each of them was entered. The last promise is for indexes in
+-- which no row stands twice: where the best were held and the rows of g are new, the best are held again.
 pub record Grew (x : ℕ → ℕ) (n w : ℕ) (how how′ work work′ : List ℕ) (held held′ : ℕ) (g : ℕ → ℕ) : Type 0 where
   pub stands : Stands x n w how′ work′ held′
   pub grown : (r : ℕ) → 0 < at how r → 0 < at how′ r
