@@ -4,7 +4,6 @@ use Rattle.items.proofs.Ranks.{all-pass}
 use Rattle.items.specs.Fits.{Fits, homeBound}
 use Rattle.laws.proofs.Maps.{map-same}
 use Rattle.laws.proofs.Ranges.{at-every}
-use Rattle.laws.specs.Every.{Every}
 use Rattle.laws.specs.Lists.{has, look, range, times}
 use Rattle.measure.proofs.Metric.{query-point}
 use Rattle.measure.specs.Table.{between, from}
@@ -22,12 +21,11 @@ use Rattle.words.specs.Words.{n#}
 use lib.Dec.{T}
 use lib.ListN.{drop, getD, length, take}
 use mathlib.Core.Bool.{Bool, cond, false, true}
-use mathlib.Core.List.{List, [], _++_, _∷_, map}
+use mathlib.Core.List.{List, _++_, map}
 use mathlib.Core.Path.{_∙_, _≡_, ap, ap₂, refl, subst, sym}
 use native.Mathlib.Decide.{decLt}
 use native.Mathlib.Omega.{arith}
 
--- two functions that agree at every element of a list map it to the same list
 -- ---- more wanted than there are rows is all of them
 module _ (x : ℕ → ℕ) (n wanted k : ℕ) (ek : k ≡ min wanted n) where
   -- as many are given where k are wanted

@@ -10,7 +10,6 @@ use Rattle.laws.proofs.Tests.{holds, or-l}
 use Rattle.laws.specs.Bags.{is, total}
 use Rattle.laws.specs.Every.{Every}
 use Rattle.laws.specs.Lists.{has, range, tally}
-use Rattle.laws.specs.Upto.{sumTo}
 use Rattle.nearest.specs.Ranked.{ahead}
 use Rattle.tree.proofs.Sorted.{Le, Sorted, sort-every, sort-sorted}
 use Rattle.tree.specs.Nearest.{answers, candidates, sort}
