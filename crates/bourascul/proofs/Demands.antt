@@ -4,7 +4,7 @@ use Rattle.answers.specs.Records.{made}
 use Rattle.answers.specs.declared.Answer.{Answer}
 use Rattle.audit.proofs.Theorems.{check-exact, check-only, check-placeless}
 use Rattle.audit.specs.Calls.{Checks, Passed}
-use Rattle.bourascul.proofs.Numbers.{both-parts, last-is, passed, same-number}
+use Rattle.bourascul.proofs.Numbers.{both-parts, last-is, passed, same-number, same-radius-number}
 use Rattle.bourascul.proofs.Own.{check-own}
 use Rattle.bourascul.proofs.Promises.{answers-exact as records-exact, refused-records}
 use Rattle.bourascul.specs.Calls.{ReadsBlock}
@@ -21,15 +21,16 @@ use Rattle.image.specs.Below.{Below}
 use Rattle.image.specs.Calls.{Writes}
 use Rattle.image.specs.Changed.{Moved}
 use Rattle.laws.specs.Every.{Every}
-use Rattle.laws.specs.Lists.{last, times}
+use Rattle.laws.specs.Lists.{has, last, range, tally, times}
 use Rattle.limits.proofs.Sized.{Sized, sized-of}
 use Rattle.meaning.proofs.Meaning.{accepted-means}
 use Rattle.meaning.specs.Conditions.{Conditions}
 use Rattle.measure.specs.Table.{between, from, row, rowsOf}
-use Rattle.nearest.proofs.Promises.{nearest-exact as call-exact, nearest-measured, nearest-measured-all, nearest-two-tables}
+use Rattle.nearest.proofs.Promises.{nearest-counted, nearest-counted-all, nearest-exact as call-exact, nearest-measured, nearest-measured-all, nearest-ranked, nearest-two-tables}
 use Rattle.nearest.specs.Calls.{Answered, Settled}
+use Rattle.nearest.specs.Ranked.{ahead}
 use Rattle.items.specs.Fits.{homeBound}
-use Rattle.radius.proofs.Promises.{radius-call-exact}
+use Rattle.radius.proofs.Promises.{radius-call-beyond, radius-call-exact, radius-call-two-tables}
 use Rattle.radius.specs.Calls.{Searched}
 use Rattle.tree.proofs.Theorems.{one-home}
 use Rattle.tree.specs.Check.{Accepted}
@@ -43,7 +44,7 @@ use Rattle.words.specs.Image.{wordAt}
 use Rattle.words.specs.Shape.{shapeOk}
 use Rattle.words.specs.Words.{c#, edition#, n#, wordsOf}
 use borrow.Author.Tests.{le-leb, lt-leb, ne-eqb}
-use lib.Dec.{T, eqb}
+use lib.Dec.{T, eqb, leb}
 use lib.ListN.{drop, getD, length, replicate, take}
 use lib.Seq.{length-take-le, take-at}
 use mathlib.Core.Bool.{Bool, false, or-true, true}
@@ -288,3 +289,38 @@ module _ {t : List ℕ} {c : ℕ} {w work₀ work₁ : List ℕ} {place second :
 pub measured-counted : {t : List ℕ} {c : ℕ} {w q : List ℕ} {wanted room : ℕ} {rs rs′ ds ds′ how how′ work work′ : List ℕ} {given met : ℕ}
     → Answered t c w q wanted room rs rs′ ds ds′ how how′ work work′ 0 given met → met ≡ measured (take (n# w) how′)
 measured-counted s = s .counted refl
+
+-- ---- DEMANDS 2 AND 3 OF A NEAREST SEARCH IN HER WORDS, AND DEMAND 3 OF A RADIUS SEARCH
+module _ {t : List ℕ} {c : ℕ} {w work₀ work₁ : List ℕ} {place second : ℕ} (ok : Checks t c w work₀ work₁ 0 place second) where
+  module _ {q : List ℕ} {wanted room : ℕ} {rs rs′ ds ds′ how how′ work work′ : List ℕ} {given met : ℕ}
+      (s : Answered t c w q wanted room rs rs′ ds ds′ how how′ work work′ 0 given met) where
+    -- a row is among the answers exactly if fewer rows come before it, by distance and then row number, than are wanted
+    pub answer-exactly : (i : ℕ) → i < n# w → T (has i (take given rs′)) ↔ (ahead (from t c q) (n# w) i < wanted)
+    answer-exactly = nearest-ranked s refl (passed ok .accepted)
+
+    -- the count is the number of rows whose home bound is at most the last distance given
+    pub measured-number : wanted ≤ n# w → met ≡ tally (λ i. leb (homeBound w (from t c q) i) (last (take given ds′))) (range 0 (n# w))
+    measured-number few =
+        nearest-counted s refl (passed ok .accepted) few
+        ∙ ap (λ (D : ℕ). tally (λ i. leb (homeBound w (from t c q) i) D) (range 0 (n# w))) (sym (last-given ok s))
+
+    -- and the number of all rows, if there are fewer than wanted
+    pub measured-every : n# w < wanted → met ≡ n# w
+    measured-every = nearest-counted-all s refl (passed ok .accepted)
+
+  module _ {q : List ℕ} {r : ℕ} {before after : List ℕ} {in# met : ℕ} (s : Searched t c w q r before after 0 in# met) where
+    -- another table that differs only in rows not measured gets the same how-bytes and counts from a radius search, whether or not the index fits it,
+    -- from a call that is not refused
+    pub radius-elsewhere : {t₂ before₂ after₂ : List ℕ} {in₂ met₂ : ℕ} → Searched t₂ c w q r before₂ after₂ 0 in₂ met₂
+        → ((i : ℕ) → i < n# w → T (isMeasured (getD after i 0)) → row t c i ≡ row t₂ c i)
+        → (take (n# w) after ≡ take (n# w) after₂) × (in# ≡ in₂) × (met ≡ met₂)
+    radius-elsewhere s₂ agree = radius-call-two-tables s refl (passed ok .accepted) s₂ refl agree
+
+    -- and where it is as long and its call is lent the same, all is the same: the number and every how-byte
+    pub radius-outcome : {t₂ after₂ : List ℕ} {number₂ in₂ met₂ : ℕ} → Searched t₂ c w q r before after₂ number₂ in₂ met₂ → length t ≡ length t₂
+        → ((i : ℕ) → i < n# w → T (isMeasured (getD after i 0)) → row t c i ≡ row t₂ c i)
+        → (0 ≡ number₂) × (in# ≡ in₂) × (met ≡ met₂) × (after ≡ after₂)
+    radius-outcome {after₂ = after₂} s₂ e agree =
+        let z = same-radius-number s s₂ e in
+        let E = radius-call-two-tables s refl (passed ok .accepted) s₂ (sym z) agree in
+        (z, E .1, E .2, both-parts (n# w) after after₂ (E .0) (radius-call-beyond s refl ∙ sym (radius-call-beyond s₂ (sym z))))

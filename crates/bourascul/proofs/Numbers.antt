@@ -13,7 +13,7 @@ use Rattle.nearest.specs.Calls.{Answered, Settled}
 use Rattle.radius.proofs.Refusals as within-radius
 use Rattle.radius.specs.Calls.{Searched}
 use Rattle.tree.proofs.Answers.{answers-length}
-use Rattle.tree.specs.Calls.{saidNearest}
+use Rattle.tree.specs.Calls.{saidNearest, saidRadius}
 use Rattle.tree.specs.Nearest.{answers, lastDistance}
 use Rattle.words.proofs.Headers.{whole-words}
 use Rattle.words.proofs.Index.{none-wrong}
@@ -77,3 +77,9 @@ pub same-number : {t t₂ : List ℕ} {c : ℕ} {w q : List ℕ} {wanted room : 
     → Answered t₂ c w q wanted room rs₂ rs₂′ ds₂ ds₂′ how how₂′ work work₂′ number₂ given₂ met₂ → length t ≡ length t₂ → number ≡ number₂
 unfolding saidNearest
 same-number s s₂ e = s .said ∙ rw e (sym (s₂ .said))
+
+-- AND SO DO TWO RADIUS SEARCHES
+pub same-radius-number : {t t₂ : List ℕ} {c : ℕ} {w q : List ℕ} {r : ℕ} {before after after₂ : List ℕ} {number in# met number₂ in₂ met₂ : ℕ}
+    → Searched t c w q r before after number in# met → Searched t₂ c w q r before after₂ number₂ in₂ met₂ → length t ≡ length t₂ → number ≡ number₂
+unfolding saidRadius
+same-radius-number s s₂ e = s .said ∙ rw e (sym (s₂ .said))

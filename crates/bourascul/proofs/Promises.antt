@@ -31,7 +31,9 @@ module _ {t : List ℕ} {c : ℕ} {w q : List ℕ} {wanted : ℕ} {as₀ as₁ :
 
   -- RECORDS BEYOND WHAT IS WRITTEN STAY
   pub records-stay : number ≡ 0 → drop (min wanted (n# w)) as₁ ≡ drop (min wanted (n# w)) as₀
-  records-stay z = ap (drop (min wanted (n# w))) (s .recorded) ∙ records-beyond rs′ ds′ as₀ given (min wanted (n# w)) (s .plain .few z)
+  records-stay z =
+      ap (drop (min wanted (n# w))) (s .recorded)
+      ∙ records-beyond rs′ ds′ as₀ given (min wanted (n# w)) (omega (arith, s .plain .sound z .count))
 
   -- the first of them are made of the numbers and distances that were handed out
   first-records : take given as₁ ≡ records (take given rs′) (take given ds′) given

@@ -97,7 +97,7 @@ module _ {t : List ℕ} {c : ℕ} {w : List ℕ} (a : Accepted (between t c) w) 
   nearest-given {q} {q′} {rs} {rs′} {ds} {ds′} {wanted = wanted} {number} {given} x e lr ld =
       subst (λ (q : List ℕ). Closest t c q wanted rs′ ds′ number given) e
       (record {
-        few = λ y. (omega (arith, x .few y, lent x y .rows), omega (arith, x .few y, lent x y .distances));
+        few = λ y. (omega (arith, x .sound y .count, lent x y .rows), omega (arith, x .sound y .count, lent x y .distances));
         count = λ y. settled x y .count ∙ ap (min wanted) (rows-are x y);
         rows# = λ y. first-part x y (λ a. a .0) rs rs′ (settled x y .rows);
         distances# = λ y. first-part x y (λ a. a .1) ds ds′ (settled x y .distances);

@@ -4,12 +4,11 @@ use Rattle.items.proofs.Ranks.{all-pass}
 use Rattle.items.specs.Fits.{Fits, homeBound}
 use Rattle.laws.proofs.Maps.{map-same}
 use Rattle.laws.proofs.Ranges.{at-every}
-use Rattle.laws.specs.Every.{Every}
 use Rattle.laws.specs.Lists.{has, look, range, times}
 use Rattle.measure.proofs.Metric.{query-point}
 use Rattle.measure.specs.Table.{between, from}
 use Rattle.nearest.proofs.Refusals.{fits}
-use Rattle.nearest.specs.Calls.{Answered, Found, Lent, Serves, Settled}
+use Rattle.nearest.specs.Calls.{Answered, Found, Lent, Serves, Settled, Sound}
 use Rattle.tree.proofs.Accepted.{each-once, shape-of}
 use Rattle.tree.proofs.Answers.{near-at, passes-all}
 use Rattle.tree.proofs.Rows.{rows-tree}
@@ -22,12 +21,11 @@ use Rattle.words.specs.Words.{n#}
 use lib.Dec.{T}
 use lib.ListN.{drop, getD, length, take}
 use mathlib.Core.Bool.{Bool, cond, false, true}
-use mathlib.Core.List.{List, [], _++_, _∷_, map}
+use mathlib.Core.List.{List, _++_, map}
 use mathlib.Core.Path.{_∙_, _≡_, ap, ap₂, refl, subst, sym}
 use native.Mathlib.Decide.{decLt}
 use native.Mathlib.Omega.{arith}
 
--- two functions that agree at every element of a list map it to the same list
 -- ---- more wanted than there are rows is all of them
 module _ (x : ℕ → ℕ) (n wanted k : ℕ) (ek : k ≡ min wanted n) where
   -- as many are given where k are wanted
@@ -70,6 +68,10 @@ module _ (x : ℕ → ℕ) (n wanted k : ℕ) (ek : k ≡ min wanted n) where
       one i h (no l) =
           let e : k ≡ wanted = omega arith in
           ap (λ (k : ℕ). passes x n k (look i (homes x g))) e
+
+  -- answers that are sound for k are sound for as many as are wanted
+  sound-wanted : {rs′ ds′ how′ : List ℕ} {given : ℕ} → Sound x n k rs′ ds′ how′ given → Sound x n wanted rs′ ds′ how′ given
+  sound-wanted Z = record { count = Z .count ∙ same-count; own = Z .own; order = Z .order; marks = Z .marks }
 
 -- ---- a table that serves is one that fits
 -- the how-byte of a row whose home bound passes is 1 or 3
@@ -124,7 +126,7 @@ module _ (t : List ℕ) (c : ℕ) (w q : List ℕ) (wanted : ℕ) (rs ds how wor
     refused = λ k. (refl, refl, refl, refl, refl, refl);
     cleared = λ z. absurd (h z);
     beyond = λ z. absurd (h z);
-    few = λ z. absurd (h z);
+    sound = λ z. absurd (h z);
     counted = λ z. absurd (h z);
     found = λ z. absurd (h z);
   }
@@ -135,17 +137,18 @@ module _ (t : List ℕ) (c : ℕ) (w q : List ℕ) (wanted : ℕ) (rs ds how wor
       fits t c w q wanted room rs ds how work fit k (ek ∙ ap (λ (n : ℕ). min wanted n) en) (sym said-is ∙ z)
 
   -- A SEARCH MEETS THE CONTRACT
-  pub done-is : (n k given met : ℕ) (rs′ ds′ how′ work′ : List ℕ) → number ≡ 0 → n ≡ n# w → k ≡ min wanted n
-      → Found t c w q k rs rs′ ds ds′ how how′ work work′ given → met ≡ measured (take n how′)
+  pub done-is : (n k given given₀ met : ℕ) (rs′ ds′ how′ work′ : List ℕ) → number ≡ 0 → n ≡ n# w → k ≡ min wanted n
+      → Found t c w q k rs rs′ ds ds′ how how′ work work′ given₀ → given ≡ given₀ → met ≡ measured (take n how′)
       → Answered t c w q wanted room rs rs′ ds ds′ how how′ work work′ 0 given met
-  done-is n k given met rs′ ds′ how′ work′ z en ek₀ D em =
+  done-is n k given given₀ met rs′ ds′ how′ work′ z en ek₀ D₀ eg em =
       let ek : k ≡ min wanted (n# w) = ek₀ ∙ ap (λ (n : ℕ). min wanted n) en in
+      let D = subst (λ (g : ℕ). Found t c w q k rs rs′ ds ds′ how how′ work work′ g) (sym eg) D₀ in
       record {
         said = sym z ∙ said-is;
         refused = λ f. absurd (f refl);
         cleared = λ e. D .cleared;
         beyond = λ e. subst (λ (k : ℕ). (drop k rs′ ≡ drop k rs) × (drop k ds′ ≡ drop k ds) × (drop (n# w) how′ ≡ drop (n# w) how)) ek (D .beyond);
-        few = λ e. omega (arith, D .few, ek);
+        sound = λ e. sound-wanted (from t c q) (n# w) wanted k ek (D .sound);
         counted = λ e. em ∙ ap (λ (n : ℕ). measured (take n how′)) en;
         found = λ e t′ A.
             settled-wanted t t′ c w q wanted k ek A rs rs′ ds ds′ how how′ given (D .found (from t′ c q) (serves-fits t t′ c w q wanted k ek A));

@@ -1,18 +1,21 @@
 -- What the contract of the nearest call says, in 01's words: it is exact on an accepted index, it measures the rows whose home bound is at most D,
 -- it rests on the rows that it measures, and no second outcome fits. Assumes nothing.
-use Prim.Native.Nat.{_<_, _≤_, min, ℕ}
+use Prim.Native.Nat.{_+_, _<_, _≤_, min, suc, ℕ}
 use Rattle.items.specs.Fits.{homeBound}
 use Rattle.laws.proofs.Every.{every-both, every-map, every-take, has-every}
-use Rattle.laws.proofs.Lists.{tally-take}
-use Rattle.laws.proofs.Ranges.{at-every}
-use Rattle.laws.specs.Lists.{has, range}
+use Rattle.laws.proofs.Lists.{tally-length, tally-take}
+use Rattle.laws.proofs.Ranges.{at-every, range-length}
+use Rattle.laws.proofs.Tests.{is-true}
+use Rattle.laws.specs.Lists.{has, range, tally}
 use Rattle.limits.specs.Limits.{maxRows}
 use Rattle.measure.proofs.Metric.{query-point}
 use Rattle.measure.specs.Table.{between, from, row, rowsOf}
 use Rattle.nearest.proofs.Contract.{byte-measured, same-answers}
 use Rattle.nearest.proofs.HowBytes.{near-length}
+use Rattle.nearest.proofs.Ranking.{answers-ranked}
 use Rattle.nearest.proofs.Refusals.{clear}
 use Rattle.nearest.specs.Calls.{Answered, Serves, Settled}
+use Rattle.nearest.specs.Ranked.{ahead}
 use Rattle.tree.proofs.Answers.{answers-length, near-at, passes-all, passes-near}
 use Rattle.tree.proofs.Sorted.{sort-every, sort-sorted, sorted-take, under-last}
 use Rattle.tree.proofs.Theorems.{home-below}
@@ -20,14 +23,14 @@ use Rattle.tree.specs.Check.{Accepted}
 use Rattle.tree.specs.Grove.{treeOf}
 use Rattle.tree.specs.Nearest.{answers, candidates, isMeasured, lastDistance, measured, nearHow, passes, sort}
 use Rattle.words.specs.Words.{n#}
-use borrow.Author.Tests.{le-ltb, leb-true}
+use borrow.Author.Tests.{le-leb, le-ltb, leb-true}
 use lib.Dec.{T, leb}
 use lib.ListN.{List·getD-append, drop, getD, length, length-map, take}
 use lib.Seq.{take-at}
 use mathlib.Core.Bool.{Bool, _||_, cond, false, true}
-use mathlib.Core.List.{List, map}
+use mathlib.Core.List.{List, [], _∷_, map}
 use mathlib.Core.Logic.{_↔_}
-use mathlib.Core.Path.{_∙_, _≡_, ap, refl, subst, sym}
+use mathlib.Core.Path.{_∙_, _≡_, ap, ap₂, refl, subst, sym}
 use native.Mathlib.Decide.{ℕ-discrete}
 use native.Mathlib.Omega.{arith}
 
@@ -54,6 +57,25 @@ passes-only : (x : ℕ → ℕ) (n wanted b : ℕ) → wanted ≤ n → passes x
 unfolding passes
 passes-only x n wanted b h e =
     leb-true b (lastDistance (answers x n wanted)) (sym (ap (λ (a : Bool). a || leb b (lastDistance (answers x n wanted))) (le-ltb n wanted h)) ∙ e)
+
+-- ---- counts
+-- a test that passes exactly where one number is at most another
+test-is : (a : Bool) (m k : ℕ) → T a ↔ (m ≤ k) → a ≡ leb m k
+test-is true m k e = sym (le-leb m k (e .0 tt))
+test-is false m k e = go (leb m k) refl
+  where
+    go : (b : Bool) → leb m k ≡ b → false ≡ b
+    go true q = absurd (e .1 (leb-true m k q))
+    go false q = refl
+
+-- how many of a list pass, by their places a, a + 1, ..
+tally-rows : (f g : ℕ → Bool) (l : List ℕ) (a : ℕ) → ((i : ℕ) → i < length l → f (getD l i 0) ≡ g (a + i)) → tally f l ≡ tally g (range a (length l))
+tally-rows f g [] a h = refl
+tally-rows f g (v ∷ l) a h =
+    let first : a + 0 ≡ a = omega arith in
+    let next : (i : ℕ) → a + suc i ≡ suc a + i = λ i. omega arith in
+    ap₂ (λ (b : Bool) (k : ℕ). cond {A = ℕ} b 1 0 + k) (h 0 (omega arith) ∙ ap g first)
+    (tally-rows f g l (suc a) (λ i p. h (suc i) (omega arith) ∙ ap g (next i)))
 
 -- ---- a call that is not refused, where a table serves
 module _ {t : List ℕ} {c : ℕ} {w q : List ℕ} {wanted room : ℕ} {rs rs′ ds ds′ how how′ work work′ : List ℕ} {number given met : ℕ}
@@ -134,6 +156,37 @@ module _ {t : List ℕ} {c : ℕ} {w q : List ℕ} {wanted room : ℕ} {rs rs′
       subst (λ (v : ℕ). T (isMeasured v)) (sym (byte-at s done x nearest-exact i h))
       (byte-measured x (n# w) (treeOf w) wanted i h (passes-all x (n# w) wanted (hb i) more))
 
+  -- IN HER WORDS: A ROW IS AMONG THE ANSWERS EXACTLY IF FEWER THAN w ROWS COME BEFORE IT BY DISTANCE, THEN ROW NUMBER
+  pub nearest-ranked : (i : ℕ) → i < n# w → T (has i (take given rs′)) ↔ (ahead (from t c q) (n# w) i < wanted)
+  nearest-ranked i h =
+      let Z = nearest-exact in
+      subst (λ (l : List ℕ). T (has i l) ↔ (ahead x (n# w) i < wanted)) (sym (ap (λ (k : ℕ). take k rs′) (Z .count) ∙ first-rows s done x Z))
+      (answers-ranked x (n# w) i h wanted)
+
+  -- the how-bytes of the definition, counted by a test that is theirs
+  counted-by : (f : ℕ → Bool) → ((i : ℕ) → i < n# w → isMeasured (getD how′ i 0) ≡ f i) → met ≡ tally f (range 0 (n# w))
+  counted-by f same =
+      let Z = nearest-exact in
+      let e = near-length x (n# w) (treeOf w) wanted in
+      let shift : (i : ℕ) → 0 + i ≡ i = λ i. omega arith in
+      count-is s done x Z
+      ∙ tally-rows isMeasured f (nearHow x (n# w) (treeOf w) wanted) 0
+      (λ i l. let h : i < n# w = subst (λ (n : ℕ). i < n) e l in ap isMeasured (sym (byte-at s done x Z i h)) ∙ same i h ∙ ap f (sym (shift i)))
+      ∙ ap (λ (n : ℕ). tally f (range 0 n)) e
+
+  -- THE COUNT IS THE NUMBER OF ROWS WHOSE HOME BOUND IS AT MOST D
+  pub nearest-counted : wanted ≤ n# w
+      → met ≡ tally (λ i. leb (homeBound w (from t c q) i) (lastDistance (answers (from t c q) (n# w) wanted))) (range 0 (n# w))
+  nearest-counted few =
+      counted-by (λ i. leb (hb i) (lastDistance (answers x (n# w) wanted)))
+      (λ i h. test-is (isMeasured (getD how′ i 0)) (hb i) (lastDistance (answers x (n# w) wanted)) (nearest-measured few i h))
+
+  -- THE NUMBER OF ALL ROWS, IF MORE ARE WANTED THAN THERE ARE
+  pub nearest-counted-all : n# w < wanted → met ≡ n# w
+  nearest-counted-all more =
+      counted-by (λ i. true) (λ i h. is-true (isMeasured (getD how′ i 0)) (nearest-measured-all more i h))
+      ∙ tally-length (range 0 (n# w)) ∙ range-length 0 (n# w)
+
   -- TWO TABLES: WHERE A SECOND TABLE AGREES WITH THIS ONE IN EVERY ROW THAT WAS MEASURED, A SEARCH ON IT THAT IS NOT REFUSED GIVES THE SAME ANSWERS,
   -- HOW-BYTES AND COUNTS. Nothing else is asked of the second table, and its call may be lent other rooms
   pub nearest-two-tables : {t₂ rs₂ rs₂′ ds₂ ds₂′ how₂ how₂′ work₂ work₂′ : List ℕ} {room₂ number₂ given₂ met₂ : ℕ}
@@ -169,11 +222,12 @@ module _ {t : List ℕ} {c : ℕ} {w q : List ℕ} {wanted room : ℕ} {rs ds ho
   one-number : number₁ ≡ number₂
   one-number = s₁ .said ∙ sym (s₂ .said)
 
-  -- WHAT IS SETTLED ON ANY INDEX: ALL OF A REFUSAL; ELSE THE NUMBER, THE WORKSPACE, WHAT LIES BEYOND, AND THE COUNT BY THE HOW-BYTES
+  -- WHAT IS SETTLED ON ANY INDEX: ALL OF A REFUSAL; ELSE THE NUMBER, THE WORKSPACE, WHAT LIES BEYOND, THE COUNT BY THE HOW-BYTES, AND HOW MANY
+  -- ARE GIVEN
   pub nearest-open : (number₁ ≡ number₂) × ((number₁ ≡ 0 → ⊥) → Same)
       × (number₁ ≡ 0 → (work₁ ≡ work₂) × (drop (min wanted (n# w)) rs₁ ≡ drop (min wanted (n# w)) rs₂)
       × (drop (min wanted (n# w)) ds₁ ≡ drop (min wanted (n# w)) ds₂) × (drop (n# w) how₁ ≡ drop (n# w) how₂)
-      × (take (n# w) how₁ ≡ take (n# w) how₂ → met₁ ≡ met₂))
+      × (take (n# w) how₁ ≡ take (n# w) how₂ → met₁ ≡ met₂) × (given₁ ≡ given₂))
   nearest-open = (
     one-number,
     λ k.
@@ -189,6 +243,7 @@ module _ {t : List ℕ} {c : ℕ} {w q : List ℕ} {wanted room : ℕ} {rs ds ho
           b .1 ∙ sym (d .1),
           b .2 ∙ sym (d .2),
           λ e. s₁ .counted z ∙ ap measured e ∙ sym (s₂ .counted y),
+          s₁ .sound z .count ∙ sym (s₂ .sound y .count),
         ),
   )
 
@@ -205,7 +260,7 @@ module _ {t : List ℕ} {c : ℕ} {w q : List ℕ} {wanted room : ℕ} {rs ds ho
           let e = Z₁ .bytes ∙ sym (Z₂ .bytes) in (
             one-number,
             (
-              Z₁ .count ∙ sym (Z₂ .count),
+              nearest-open .2 z .5,
               nearest-open .2 z .4 (ap (take (n# w)) e),
               Z₁ .rows ∙ sym (Z₂ .rows),
               Z₁ .distances ∙ sym (Z₂ .distances),
@@ -225,7 +280,7 @@ nearest-small {t} {c} {w} {q} {wanted} {room} {how = how} {how′ = how′} {wor
     go (yes z) =
         let C = clear t c w q wanted room (length how) (length work) (sym (s .said) ∙ z) in
         let n = C .index .shape .whole .rows in (
-          omega (arith, s .few z, n),
+          omega (arith, s .sound z .count, n),
           omega (arith, s .counted z, tally-take isMeasured (n# w) how′, n),
-          omega (arith, s .few z, C .answers, C .index .rows),
+          omega (arith, s .sound z .count, C .answers, C .index .rows),
         )

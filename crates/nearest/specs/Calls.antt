@@ -1,6 +1,7 @@
 -- What the nearest calls promise. Assumes nothing.
 use Prim.Native.Nat.{_*_, _<_, _≤_, min, ℕ}
 use Rattle.items.specs.Fits.{Fits}
+use Rattle.laws.specs.Lists.{has}
 use Rattle.limits.specs.Limits.{maxColumns}
 use Rattle.measure.specs.Table.{between, from, row, rowsOf}
 use Rattle.tree.specs.Calls.{saidNearest}
@@ -8,10 +9,11 @@ use Rattle.tree.specs.Check.{Accepted}
 use Rattle.tree.specs.Grove.{treeOf}
 use Rattle.tree.specs.Nearest.{answers, isMeasured, measured, nearHow}
 use Rattle.words.specs.InShape.{InShape}
-use Rattle.words.specs.Words.{edition#, n#}
+use Rattle.words.specs.Words.{at, edition#, n#}
 use lib.Dec.{T}
 use lib.ListN.{drop, getD, length, replicate, take}
 use mathlib.Core.List.{List, _++_, map}
+use mathlib.Core.Logic.{_↔_}
 use mathlib.Core.Path.{_≡_}
 
 -- ---- the search on an index that is known to be in shape and of edition 2, with what is lent known to fit it
@@ -35,13 +37,24 @@ pub record Settled (x : ℕ → ℕ) (w : List ℕ) (wanted : ℕ) (rs rs′ ds 
   pub distances : ds′ ≡ map (λ a. a .1) (answers x (n# w) wanted) ++ drop (min wanted (n# w)) ds
   pub bytes : how′ ≡ nearHow x (n# w) (treeOf w) wanted ++ drop (n# w) how
 
+-- the answers on every index in shape, whether or not it fits a table: the lent rows are n, at x
+pub record Sound (x : ℕ → ℕ) (n wanted : ℕ) (rs′ ds′ how′ : List ℕ) (given : ℕ) : Type 0 where
+  -- as many are given as are wanted, or as there are rows
+  pub count : given ≡ min wanted n
+  -- each is a row, with its distance
+  pub own : (j : ℕ) → j < given → (at rs′ j < n) × (at ds′ j ≡ x (at rs′ j))
+  -- the nearer comes first, of equals the lower row
+  pub order : (i j : ℕ) → i < j → j < given → (at ds′ i ≤ at ds′ j) × (at ds′ i ≡ at ds′ j → at rs′ i ≤ at rs′ j)
+  -- a how-byte is 3 exactly where its row is an answer, and else 0 or 1
+  pub marks : (i : ℕ) → i < n → ((at how′ i ≡ 3) ↔ T (has i (take given rs′))) × ((at how′ i ≡ 3 → ⊥) → at how′ i ≤ 1)
+
 -- what such a search leaves, and gives: how many answers there are
 pub record Found (t : List ℕ) (c : ℕ) (w q : List ℕ) (wanted : ℕ) (rs rs′ ds ds′ how how′ work work′ : List ℕ) (given : ℕ) : Type 0 where
   -- the workspace is cleared, and what lies beyond stays
   pub cleared : work′ ≡ replicate (6 * n# w) 0 ++ drop (6 * n# w) work
   pub beyond : (drop wanted rs′ ≡ drop wanted rs) × (drop wanted ds′ ≡ drop wanted ds) × (drop (n# w) how′ ≡ drop (n# w) how)
   pub bytes : length how′ ≡ length how
-  pub few : given ≤ wanted
+  pub sound : Sound (from t c q) (n# w) wanted rs′ ds′ how′ given
   -- for rows that the index fits, with which the lent ones agree where it counts, the answers and how-bytes are those of the definition
   pub found : (x′ : ℕ → ℕ) → Fits w wanted (from t c q) x′ → Settled x′ w wanted rs rs′ ds ds′ how how′ given
 
@@ -64,8 +77,8 @@ pub record Answered (t : List ℕ) (c : ℕ) (w q : List ℕ) (wanted room : ℕ
   -- and entries beyond what is written stay
   pub beyond : number ≡ 0 → (drop (min wanted (n# w)) rs′ ≡ drop (min wanted (n# w)) rs) × (drop (min wanted (n# w)) ds′ ≡ drop (min wanted (n# w)) ds)
       × (drop (n# w) how′ ≡ drop (n# w) how)
-  -- there are no more answers than are wanted, nor than rows
-  pub few : number ≡ 0 → given ≤ min wanted (n# w)
+  -- on every index in shape there are min(w, n) answers, rows with their distances, in order, and the how-bytes tell them
+  pub sound : number ≡ 0 → Sound (from t c q) (n# w) wanted rs′ ds′ how′ given
   -- the count is that of the how-bytes 1 and 3 that stand there afterwards
   pub counted : number ≡ 0 → met ≡ measured (take (n# w) how′)
   -- 01, Which rows are measured, Nearest: answers and how-bytes are those of any table that fits the index and with which the lent one agrees

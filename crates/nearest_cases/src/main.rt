@@ -268,7 +268,8 @@ fn wrong_index() {
     changed(33, 5);
 }
 
-// 0: row 1 stands twice and row 4 not at all, which no table fits. The number and the zero workspace are settled, and what lies beyond.
+// 0: row 1 stands twice and row 4 not at all, which no table fits. Shown is what is settled even so: the number, that two are given, what lies beyond,
+// and the zero workspace.
 fn row_twice() {
     let mut index = five_index();
     let table = FIVE_ROWS;
@@ -290,6 +291,8 @@ fn row_twice() {
     );
     let text = [
         digit(found.number),
+        b' ',
+        count(found.given),
         b' ',
         digit(rows[2]),
         byte(how[5]),

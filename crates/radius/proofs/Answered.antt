@@ -1,7 +1,7 @@
 -- What the code did is what the contract says: a refusal, and a search. Assumes nothing.
 use Prim.Native.Nat.{ℕ}
 use Rattle.measure.specs.Table.{from}
-use Rattle.radius.proofs.How.{bytes, bytes-are, bytes-length, written-is}
+use Rattle.radius.proofs.How.{written-is}
 use Rattle.radius.specs.Calls.{Searched}
 use Rattle.buffers.specs.Wiped.{wiped}
 use Rattle.radius.specs.Written.{write}
@@ -11,28 +11,24 @@ use Rattle.tree.specs.Nearest.{measured}
 use Rattle.tree.specs.Radius.{inside, marks}
 use Rattle.words.specs.InShape.{InShape}
 use Rattle.words.specs.Words.{n#}
-use lib.ListN.{drop, length, take}
-use lib.Seq.{drop-at}
-use mathlib.Core.List.{List, _++_}
+use lib.ListN.{length, take}
+use mathlib.Core.List.{List}
 use mathlib.Core.Path.{_∙_, _≡_, ap, refl, sym}
 
 module _ (T : List ℕ) (c : ℕ) (w q : List ℕ) (r : ℕ) (h : List ℕ) {number : ℕ} (said-is : number ≡ saidRadius T c w q (length h) .0) where
   -- a refusal that changed nothing
   pub refused-is : (number ≡ 0 → ⊥) → Searched T c w q r h h number 0 0
   refused-is n =
-      record { said = said-is; refused = λ k. (refl, refl, refl); beyond = λ z. absurd (n z); counts = λ z. absurd (n z); marks = λ z. absurd (n z) }
+      record { said = said-is; refused = λ k. (refl, refl, refl); written = λ z. absurd (n z); counts = λ z. absurd (n z) }
 
   -- a search that wrote the tree's marks on cleared how-bytes, and counted them
   pub done-is : {k i m : ℕ} (h′ : List ℕ) → number ≡ 0 → InShape w → k ≡ n# w
       → h′ ≡ write (marks (from T c q) r (treeOf w)) (wiped (n# w) h)
       → i ≡ inside (take k h′) → m ≡ measured (take k h′) → Searched T c w q r h h′ 0 i m
   done-is h′ z S k d i m =
-      let x : ℕ → ℕ = from T c q in
-      let is : h′ ≡ bytes x r w S ++ drop (n# w) h = d ∙ written-is x r w S h in
       record {
         said = sym z ∙ said-is;
         refused = λ f. absurd (f refl);
-        beyond = λ e. ap (drop (n# w)) is ∙ drop-at (bytes x r w S) (drop (n# w) h) (n# w) (bytes-length x r w S);
+        written = λ e. d ∙ written-is (from T c q) r w S h;
         counts = λ e. (i ∙ ap (λ n. inside (take n h′)) k, m ∙ ap (λ n. measured (take n h′)) k);
-        marks = λ e o. is ∙ ap (λ l. l ++ drop (n# w) h) (bytes-are x r w S o);
       }

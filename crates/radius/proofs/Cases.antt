@@ -8,10 +8,10 @@ use Rattle.laws.specs.Upto.{sumTo}
 use Rattle.limits.specs.Said.{said, tableFaults}
 use Rattle.measure.specs.Distance.{l1}
 use Rattle.measure.specs.Table.{between, from, rowsOf}
-use Rattle.radius.proofs.Promises.{first-bytes}
+use Rattle.radius.proofs.Promises.{first-bytes, radius-call-marks}
 use Rattle.radius.proofs.Refusals.{by-index}
-use Rattle.radius.specs.Calls.{Once}
 use Rattle.radius.specs.Cases.{Gives}
+use Rattle.radius.specs.Once.{Once}
 use Rattle.tree.specs.Build.{build, choose, grow, split}
 use Rattle.tree.specs.Cases.{five, radius, right}
 use Rattle.tree.specs.Check.{again}
@@ -98,7 +98,7 @@ module _ (t : List ℕ) (f : T (fit t)) where
         let same-bytes : radiusHow x r (n# w) (treeOf w) ≡ bytes = ap (λ (n : ℕ). radiusHow x r n (treeOf w)) (ts .1) in
         let first = first-bytes s z once ∙ same-bytes in (
           z,
-          s .marks z once ∙ ap₂ (λ l n. l ++ drop n before) (same-bytes ∙ same-is bytes how (and-l a b ab)) (ts .1),
+          radius-call-marks s z once ∙ ap₂ (λ l n. l ++ drop n before) (same-bytes ∙ same-is bytes how (and-l a b ab)) (ts .1),
           (s .counts z) .0 ∙ ap inside first ∙ eqb→eq (inside bytes) i (and-r a b ab),
           (s .counts z) .1 ∙ ap measured first ∙ eqb→eq (measured bytes) k (and-r (a && b) d f),
         )

@@ -5,7 +5,7 @@ use Rattle.laws.proofs.Ranges.{range-length}
 use Rattle.laws.proofs.Times.{lefts, times-every}
 use Rattle.laws.specs.Lists.{look, times}
 use Rattle.radius.proofs.Written.{byte-length, write-length}
-use Rattle.radius.specs.Calls.{Once}
+use Rattle.radius.specs.Once.{Once}
 use Rattle.buffers.specs.Wiped.{wiped}
 use Rattle.radius.specs.Written.{byte, write}
 use Rattle.tree.proofs.Marks.{how-at, marks-rows}
@@ -88,6 +88,10 @@ every-times P (m ∷ ms) f = (f (m .0) (here (eqb (m .0) (m .0)) refl), every-ti
     here true e = omega arith
     here false e = absurd (eqb-false (m .0) (m .0) e refl)
 
+-- marks written over n zeros are n bytes
+pub written-length : (ms : List (ℕ × ℕ)) (n : ℕ) → length (write ms (replicate n 0)) ≡ n
+written-length ms n = write-length ms (replicate n 0) ∙ length-replicate n 0
+
 -- there is a how-byte for each row
 pub how-length : (x : ℕ → ℕ) (r : ℕ) (w : List ℕ) → length (radiusHow x r (n# w) (treeOf w)) ≡ n# w
 unfolding radiusHow
@@ -101,12 +105,8 @@ module _ (x : ℕ → ℕ) (r : ℕ) (w : List ℕ) (S : InShape w) where
       (λ i k. times-every (λ i. i < n# w) (rowsIn (treeOf w)) (rows-low w S) i (subst (λ (n : ℕ). 1 ≤ n) (marks-rows x r i (treeOf w) (full-tree w S)) k))
 
   -- the first n bytes
-  abbrev pub bytes : List ℕ
+  abbrev bytes : List ℕ
   bytes = write (marks x r (treeOf w)) (replicate (n# w) 0)
-
-  -- they are n
-  pub bytes-length : length bytes ≡ n# w
-  bytes-length = write-length (marks x r (treeOf w)) (replicate (n# w) 0) ∙ length-replicate (n# w) 0
 
   -- NO BYTE BEYOND n IS WRITTEN, WHATEVER ROWS THE INDEX NAMES
   pub written-is : (h : List ℕ) → write (marks x r (treeOf w)) (wiped (n# w) h) ≡ bytes ++ drop (n# w) h
@@ -117,9 +117,9 @@ module _ (x : ℕ → ℕ) (r : ℕ) (w : List ℕ) (S : InShape w) where
   -- WHERE EACH ROW STANDS ONCE THE HOW-BYTES ARE THOSE OF THE DEFINITION
   pub bytes-are : Once w → bytes ≡ radiusHow x r (n# w) (treeOf w)
   bytes-are o =
-      ext-getD 0 bytes (radiusHow x r (n# w) (treeOf w)) (bytes-length ∙ sym (how-length x r w))
+      ext-getD 0 bytes (radiusHow x r (n# w) (treeOf w)) (written-length (marks x r (treeOf w)) (n# w) ∙ sym (how-length x r w))
       (λ i l.
-      let low : i < n# w = subst (λ (n : ℕ). i < n) bytes-length l in
+      let low : i < n# w = subst (λ (n : ℕ). i < n) (written-length (marks x r (treeOf w)) (n# w)) l in
       write-look (marks x r (treeOf w)) (replicate (n# w) 0) i (omega (arith, marks-rows x r i (treeOf w) (full-tree w S), rows-once w S o i))
       (subst (λ (n : ℕ). i < n) (sym (length-replicate (n# w) 0)) low) (getD-replicate (n# w) i 0 0 low)
       ∙ sym (how-at x r (n# w) (treeOf w) i low))

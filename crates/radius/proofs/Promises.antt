@@ -5,37 +5,55 @@ use Rattle.laws.proofs.Lists.{tally-take}
 use Rattle.limits.specs.Limits.{maxRows}
 use Rattle.measure.proofs.Metric.{query-point}
 use Rattle.measure.specs.Table.{between, from, row}
-use Rattle.radius.proofs.How.{how-length}
+use Rattle.radius.proofs.How.{bytes-are, how-length, written-length}
 use Rattle.radius.proofs.Refusals.{fits}
-use Rattle.radius.specs.Calls.{Once, Searched}
+use Rattle.radius.specs.Calls.{Searched}
+use Rattle.radius.specs.Once.{Once}
+use Rattle.radius.specs.Written.{write}
 use Rattle.tree.proofs.Accepted.{once-of}
 use Rattle.tree.proofs.Theorems.{radius-exact, radius-two-tables, same-row}
 use Rattle.tree.specs.Check.{Accepted}
 use Rattle.tree.specs.Grove.{treeOf}
 use Rattle.tree.specs.Nearest.{isMeasured, measured}
-use Rattle.tree.specs.Radius.{inside, radiusHow}
+use Rattle.tree.specs.Radius.{inside, marks, radiusHow}
 use Rattle.words.specs.Words.{n#}
 use lib.Dec.{T, leb}
-use lib.ListN.{List·getD-append, drop, getD, take, take-append-drop}
-use lib.Seq.{take-at}
+use lib.ListN.{List·getD-append, drop, getD, replicate, take}
+use lib.Seq.{drop-at, take-at}
 use mathlib.Core.List.{List, _++_}
-use mathlib.Core.Logic.{_↔_, by-cases}
-use mathlib.Core.Path.{_∙_, _≡_, ap, ap₂, subst, sym}
-use native.Mathlib.Decide.{decLt, ℕ-discrete}
+use mathlib.Core.Logic.{_↔_}
+use mathlib.Core.Path.{_∙_, _≡_, ap, subst, sym}
+use native.Mathlib.Decide.{ℕ-discrete}
 use native.Mathlib.Omega.{arith}
 
--- ---- a call that is not refused, on an index in which each row stands once
+-- ---- a call that is not refused
+module _ {t : List ℕ} {c : ℕ} {w q : List ℕ} {r : ℕ} {before after : List ℕ} {number in# met : ℕ}
+    (s : Searched t c w q r before after number in# met) (done : number ≡ 0) where
+  -- THE HOW-BYTES BEYOND n STAY
+  pub radius-call-beyond : drop (n# w) after ≡ drop (n# w) before
+  radius-call-beyond =
+      let ms = marks (from t c q) r (treeOf w) in
+      ap (drop (n# w)) (s .written done) ∙ drop-at (write ms (replicate (n# w) 0)) (drop (n# w) before) (n# w) (written-length ms (n# w))
+
+  -- WHERE EACH ROW STANDS ONCE, THE HOW-BYTES ARE THOSE OF THE DESCENT OF THE INDEX'S TREE, BY ROW NUMBER
+  pub radius-call-marks : Once w → after ≡ radiusHow (from t c q) r (n# w) (treeOf w) ++ drop (n# w) before
+  radius-call-marks once =
+      s .written done
+      ∙ ap (λ (l : List ℕ). l ++ drop (n# w) before) (bytes-are (from t c q) r w (fits t c w q before (sym (s .said) ∙ done) .shape) once)
+
+-- ---- the same, on an index in which each row stands once
 module _ {t : List ℕ} {c : ℕ} {w q : List ℕ} {r : ℕ} {before after : List ℕ} {number in# met : ℕ}
     (s : Searched t c w q r before after number in# met) (done : number ≡ 0) (once : Once w) where
   -- the how-bytes that are the rows'
   pub first-bytes : take (n# w) after ≡ radiusHow (from t c q) r (n# w) (treeOf w)
   first-bytes =
-      ap (take (n# w)) (s .marks done once) ∙ take-at (radiusHow (from t c q) r (n# w) (treeOf w)) (drop (n# w) before) (n# w) (how-length (from t c q) r w)
+      ap (take (n# w)) (radius-call-marks s done once)
+      ∙ take-at (radiusHow (from t c q) r (n# w) (treeOf w)) (drop (n# w) before) (n# w) (how-length (from t c q) r w)
 
   -- each of them is the definition's
   byte-at : (i : ℕ) → i < n# w → getD after i 0 ≡ getD (radiusHow (from t c q) r (n# w) (treeOf w)) i 0
   byte-at i h =
-      ap (λ l. getD l i 0) (s .marks done once)
+      ap (λ l. getD l i 0) (radius-call-marks s done once)
       ∙ List·getD-append (radiusHow (from t c q) r (n# w) (treeOf w)) (drop (n# w) before) 0 i (subst (λ n. i < n) (sym (how-length (from t c q) r w)) h)
 
 -- ---- a call that is not refused, on an accepted index
@@ -74,34 +92,22 @@ module _ {t : List ℕ} {c : ℕ} {w q : List ℕ} {r : ℕ} {before a a′ : Li
   one-number : n ≡ n′
   one-number = s .said ∙ sym (s′ .said)
 
-  -- WHAT IS OPEN, ON ANY INDEX: NOTHING OF A REFUSAL; ELSE THE FIRST n HOW-BYTES, AND NOTHING WHERE THESE ARE THE SAME
-  pub radius-open : (n ≡ n′) × ((n ≡ 0 → ⊥) → Same i m a i′ m′ a′)
-      × (n ≡ 0 → (drop (n# w) a ≡ drop (n# w) a′) × (take (n# w) a ≡ take (n# w) a′ → Same i m a i′ m′ a′))
-  radius-open = (
-    one-number,
-    λ k.
-        let f = s .refused k in
-        let f′ = s′ .refused (λ z. k (one-number ∙ z)) in
-        (f .0 ∙ sym (f′ .0), f .1 ∙ sym (f′ .1), f .2 ∙ sym (f′ .2)),
-    λ z.
-        let z′ : n′ ≡ 0 = sym one-number ∙ z in
-        let d = s .beyond z ∙ sym (s′ .beyond z′) in (
-          d,
-          λ e. (
-            (s .counts z) .0 ∙ ap inside e ∙ sym ((s′ .counts z′) .0),
-            (s .counts z) .1 ∙ ap measured e ∙ sym ((s′ .counts z′) .1),
-            sym (take-append-drop (n# w) a) ∙ ap₂ (λ x y. x ++ y) e d ∙ take-append-drop (n# w) a′,
-          ),
-        ),
-  )
-
-  -- NO SECOND OUTCOME FITS, where the call is refused or each row stands once
-  pub radius-only : (n ≡ 0 → Once w) → (n ≡ n′) × Same i m a i′ m′ a′
-  radius-only once =
-      by-cases (decLt 0 n) (λ h. (one-number, radius-open .1 (λ z. omega arith)))
-      (λ h.
-      let z : n ≡ 0 = omega arith in
-      (one-number, (radius-open .2 z) .1 (first-bytes s z (once z) ∙ sym (first-bytes s′ (sym one-number ∙ z) (once z)))))
+  -- NO SECOND OUTCOME FITS, on any index
+  pub radius-only : (n ≡ n′) × Same i m a i′ m′ a′
+  radius-only = (one-number, go (ℕ-discrete n 0))
+    where
+      go : Dec (n ≡ 0) → Same i m a i′ m′ a′
+      go (no k) =
+          let f = s .refused k in
+          let f′ = s′ .refused (λ z. k (one-number ∙ z)) in
+          (f .0 ∙ sym (f′ .0), f .1 ∙ sym (f′ .1), f .2 ∙ sym (f′ .2))
+      go (yes z) =
+          let z′ : n′ ≡ 0 = sym one-number ∙ z in
+          let e = s .written z ∙ sym (s′ .written z′) in (
+            (s .counts z) .0 ∙ ap (λ (l : List ℕ). inside (take (n# w) l)) e ∙ sym ((s′ .counts z′) .0),
+            (s .counts z) .1 ∙ ap (λ (l : List ℕ). measured (take (n# w) l)) e ∙ sym ((s′ .counts z′) .1),
+            e,
+          )
 
 -- THE COUNTS ARE NO MORE THAN THE ROWS, so that 32 bits hold them
 pub radius-small : {t : List ℕ} {c : ℕ} {w q : List ℕ} {r : ℕ} {before after : List ℕ} {number in# met : ℕ}

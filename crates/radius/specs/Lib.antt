@@ -1,4 +1,5 @@
 pub mod Written
+pub mod Once
 pub mod Lent
 pub mod Descent
 pub mod Calls

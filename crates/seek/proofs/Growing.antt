@@ -1,6 +1,6 @@
 -- Rows measured one after the other: what a search knows grows. Assumes nothing.
 use Prim.Native.Nat.{_*_, _+_, _-_, _<_, _≤_, suc, ℕ}
-use Rattle.laws.proofs.Sums.{sum-next, sum-none}
+use Rattle.laws.proofs.Sums.{sum-add, sum-below-same, sum-below-zero, sum-next, sum-none}
 use Rattle.laws.specs.Bags.{is}
 use Rattle.laws.specs.Outside.{Outside}
 use Rattle.laws.specs.Upto.{sumTo}
@@ -22,6 +22,7 @@ module _ (x : ℕ → ℕ) (n w : ℕ) where
     grown = λ r p. p;
     seen = λ r p. absurd (omega (arith, z r));
     since = since-none n how work;
+    more = λ l. omega (arith, sum-below-zero g n (λ r q. z r));
     best = λ H new. (H, λ r. omega (arith, z r));
   }
 
@@ -34,6 +35,9 @@ module _ (x : ℕ → ℕ) (n w : ℕ) where
     grown = λ r p. B .grown r (A .grown r p);
     seen = λ r p. seen r p (decLt 0 (h r));
     since = since-then n how how₁ how₂ work work₁ work₂ (A .since) (B .since);
+    more = λ l.
+        let b = B .more l in
+        omega (arith, b, A .more (omega arith), sum-below-same k (λ (r : ℕ). g r + h r) n (λ r q. e r), sum-add g h n);
     best = λ H new.
         let a = A .best H (λ r l. omega (arith, new r l, e r)) in
         let b = B .best (a .0) (λ r l. omega (arith, new r l, e r, a .1 r)) in
@@ -52,6 +56,7 @@ module _ (x : ℕ → ℕ) (n w : ℕ) where
     grown = G .grown;
     seen = λ r p. G .seen r (omega (arith, e r));
     since = G .since;
+    more = λ l. omega (arith, G .more l, sum-below-same g h n (λ r q. e r));
     best = λ H new.
         let b = G .best H (λ r l. omega (arith, new r l, e r)) in
         (b .0, λ r. omega (arith, b .1 r, e r));
@@ -65,6 +70,7 @@ module _ (x : ℕ → ℕ) (n w : ℕ) where
     grown = G .grown;
     seen = G .seen;
     since = since-then n how how′ how′ work work₁ work₂ (G .since) (since-work n how′ work₁ work₂ 0 (2 * n) (omega arith) O);
+    more = G .more;
     best = λ H new.
         let b = G .best H new in
         (held-stay n work₁ work₂ (λ i l. O .over i (omega arith)) x (at how′) w held′ (b .0), b .1);

@@ -4,6 +4,7 @@ pub mod RowEntries
 pub mod Holding
 pub mod Stopping
 pub mod Entering
+pub mod Filling
 pub mod Staying
 pub mod OneRow
 pub mod Growing

@@ -5,7 +5,8 @@ use Rattle.laws.specs.Bags.{is, total}
 use Rattle.limits.specs.Limits.{maxDistance}
 use Rattle.queue.proofs.Queued.{queue-stays}
 use Rattle.queue.specs.Queue.{Queue}
-use Rattle.seek.proofs.Entering.{enter-most, enter-none}
+use Rattle.seek.proofs.Entering.{enter-most, enter-none, enter-one}
+use Rattle.seek.proofs.Filling.{sum-one}
 use Rattle.seek.proofs.Holding.{enter-held}
 use Rattle.seek.proofs.RowEntries.{own-entry}
 use Rattle.seek.proofs.Staying.{answers-stay, held-stay}
@@ -78,15 +79,21 @@ module _ (x : ℕ → ℕ) (n w : ℕ) (how work : List ℕ) (held : ℕ) (St : 
           let k = St .far s h (omega (arith, byte-other s f)) in
           (E .outside .under (2 * n + s) (omega arith) ∙ other (2 * n + s) (omega arith) ∙ k .0, k .1)
 
+      -- every how-byte is 0 or 1, its own 1
+      bit : (s : ℕ) → s < n → Dec (s ≡ r) → at how′ s ≤ 1
+      bit s h (yes f) = omega (arith, ap (at how′) f, byte)
+      bit s h (no f) = omega (arith, byte-other s f, St .bits s h)
+
       -- what the search then knows
       after : Stands x n w how′ work′ held′
       after = record {
         queue = E .queue;
         most = enter-most work₁ work′ (3 * n) w held (turned r d) held′ E (St .most);
         own = enter-none work₁ work′ (3 * n) w held (turned r d) held′ E (stray x n)
-            (ap (λ (z : ℕ). stray x n (turned r z)) e ∙ own-entry x n r (St .small) row)
+            (ap (λ (z : ℕ). stray x n (turned r z)) e ∙ own-entry x n r (St .small) row (omega arith))
             (ap (total (stray x n)) (answers-stay n work work₁ beyond held) ∙ St .own);
         far = λ s h p. far s h p (ℕ-discrete s r);
+        bits = λ s h. bit s h (ℕ-discrete s r);
         bytes = omega (arith, ap length eh, length-set how r 1, St .bytes);
         room = omega (arith, St .room, E .outside .same, long);
         wanted = St .wanted;
@@ -119,6 +126,7 @@ module _ (x : ℕ → ℕ) (n w : ℕ) (how work : List ℕ) (held : ℕ) (St : 
             past = λ i h. byte-other i (omega arith);
             over = λ i h. E .outside .over i (omega (arith, St .wanted .1)) ∙ other i (omega arith);
           };
+          more = λ l. omega (arith, enter-one work₁ work′ (3 * n) w held (turned r d) held′ E (St .most) l, sum-one n r row);
           best = best;
         };
         front = λ i h. E .outside .under i (omega arith) ∙ other i (omega arith);

@@ -13,12 +13,13 @@ use Rattle.queue.proofs.Queued.{entries-count}
 use Rattle.queue.specs.Entry.{keyOf}
 use Rattle.queue.specs.Queue.{Popped, entries}
 use Rattle.seek.proofs.Beyond.{above, above-last, parts-above}
+use Rattle.seek.proofs.Filling.{last-short, still-split}
 use Rattle.seek.proofs.Reading.{item-bound}
 use Rattle.seek.proofs.Staying.{held-stay, ready-on, since-then, since-work, stands-stay}
 use Rattle.seek.proofs.Stopping.{goes-on}
 use Rattle.seek.proofs.Weights.{amiss-on, cost, opened-amiss, opened-cost, opened-weight, some-weight}
 use Rattle.seek.specs.Answers.{Held, greatestWord, lastOf}
-use Rattle.seek.specs.Frontier.{Searched, State, Taken, Takes, amiss, atMost, itemOf, items}
+use Rattle.seek.specs.Frontier.{Searched, State, Taken, Takes, amiss, atMost, itemOf, items, still}
 use Rattle.seek.specs.Standing.{Since, Stands}
 use Rattle.words.specs.InShape.{InShape}
 use Rattle.words.specs.Words.{at, edition#, n#}
@@ -54,6 +55,14 @@ module _ (t : List ℕ) (c : ℕ) (q w : List ℕ) (wanted : ℕ) (S : InShape w
           total-le (λ (i : Item). 1) (weight w) (amiss w how) (items w x work len) (some-weight w S how) (St .sound),
           St .room,
         )
+
+    -- as many are held as are wanted, where not fewer are
+    held-all : (held < wanted → ⊥) → held ≡ wanted
+    held-all none = go (decLt held wanted)
+      where
+        go : Dec (held < wanted) → held ≡ wanted
+        go (yes l) = absurd (none l)
+        go (no l) = omega (arith, St .ready .stands .most)
 
     -- ---- an entry is taken out of the frontier
     module _ (work₁ : List ℕ) (v : ℕ) (P : Popped work work₁ 0 len v) (some : 0 < len) where
@@ -154,14 +163,33 @@ module _ (t : List ℕ) (c : ℕ) (q w : List ℕ) (wanted : ℕ) (S : InShape w
         queued : (f : Item → ℕ) → total f (items w x work₂ len′) + total f out ≡ total f opened + total f others
         queued f = omega (arith, D .queued f, total-append f (atMost boundOf last′ opened) others, parts-above boundOf last′ f opened)
 
+        -- what is left out lies beyond that distance, under bounds of 32 bits
+        out-far : total (λ (j : Item). (suc last′ - boundOf j) + (boundOf j - greatestWord)) out ≡ 0
+        out-far =
+            total-neither (λ (j : Item). suc last′ - boundOf j) (λ (j : Item). boundOf j - greatestWord) out (above-last boundOf last′ opened)
+            (omega (arith, D .small, parts-above boundOf last′ (λ (j : Item). boundOf j - greatestWord) opened))
+
         -- w measured rows are closer than the bound of what is left out
         out-beyond : Held x (at how′) (n# w) work₂ (3 * n# w) wanted held′ → Ended (spaceOf w) wanted x out (at how′)
         out-beyond H =
             total-none (λ (j : Item). wanted - found (spaceOf w) x (at how′) (boundOf j))
             (λ (j : Item). (suc last′ - boundOf j) + (boundOf j - greatestWord)) out
-            (λ j z p. omega (arith, due-at how′ work₂ held′ (boundOf j) (D .grew .stands) H (omega arith) .1 (omega arith)))
-            (total-neither (λ (j : Item). suc last′ - boundOf j) (λ (j : Item). boundOf j - greatestWord) out (above-last boundOf last′ opened)
-            (omega (arith, D .small, parts-above boundOf last′ (λ (j : Item). boundOf j - greatestWord) opened)))
+            (λ j z p. omega (arith, due-at how′ work₂ held′ (boundOf j) (D .grew .stands) H (omega arith) .1 (omega arith))) out-far
+
+        -- where fewer are held than are wanted, nothing is left out, and all n positions are held or wait
+        short : held′ < wanted → n# w ≤ held′ + total (still w) (items w x work₂ len′)
+        short l =
+            let e = D .grew .more l in
+            omega (
+              arith,
+              e,
+              St .short (omega arith),
+              bag (still w),
+              still-split w S x how item item-sound,
+              queued (still w),
+              total-none (still w) (λ (j : Item). (suc last′ - boundOf j) + (boundOf j - greatestWord)) out
+                  (λ j z p. omega (arith, last-short work₂ (3 * n# w) wanted held′ l)) out-far,
+            )
 
         -- A ROUND: the state is kept
         pub round : 1 ≤ n# w → (n d key : ℕ) → n ≡ n# w → d ≡ lastOf work₁ (3 * n) wanted held → key ≡ keyOf v → key ≤ greatestWord → key ≤ d
@@ -176,6 +204,7 @@ module _ (t : List ℕ) (c : ℕ) (q w : List ℕ) (wanted : ℕ) (S : InShape w
             total-none (amiss w how′) (amiss w how) others (λ i z p. omega (arith, amiss-on w how how′ (D .grew .grown) i z)) others-sound,
           );
           room = omega (arith, queued (weight w), opened-weight w S x how item item-sound, bag (weight w), St .room);
+          short = short;
           run = λ x′ F. run x′ F (St .run x′ F .0) (St .run x′ F .1);
         }
           where
@@ -205,6 +234,7 @@ module _ (t : List ℕ) (c : ℕ) (q w : List ℕ) (wanted : ℕ) (S : InShape w
           → (how₀ work₀ : List ℕ) → Since (n# w) how₀ how work₀ work → Searched t c q w wanted how₀ how work₀ work₁ held
       stops n d key en ed ek word far how₀ work₀ since = record {
         stands = popped-stands;
+        full = held-all (λ l. omega (arith, ed, last-short work₁ (3 * n) wanted held l));
         since = popped-since how₀ work₀ since;
         ran = λ x′ F.
             let z = St .run x′ F in
@@ -222,6 +252,7 @@ module _ (t : List ℕ) (c : ℕ) (q w : List ℕ) (wanted : ℕ) (S : InShape w
     pub ends : (how₀ work₀ : List ℕ) → Since (n# w) how₀ how work₀ work → len ≡ 0 → Searched t c q w wanted how₀ how work₀ work held
     ends how₀ work₀ since z = record {
       stands = St .ready .stands;
+      full = held-all (λ l. omega (arith, St .short l, ap (λ (k : ℕ). total (still w) (items w x work k)) z, St .ready .stands .wanted .1));
       since = since;
       ran = λ x′ F.
           let r = St .run x′ F in (

@@ -10,11 +10,12 @@ use Rattle.limits.specs.Limits.{maxRows}
 use Rattle.measure.specs.Table.{from}
 use Rattle.queue.proofs.Queued.{empty-queue}
 use Rattle.queue.specs.Queue.{Pushed, entry}
+use Rattle.seek.proofs.Filling.{root-row, still-root, sum-one}
 use Rattle.seek.proofs.Holding.{over-not}
 use Rattle.seek.proofs.Reading.{item-node}
 use Rattle.seek.proofs.Staying.{held-stay, ready-on, since-then, since-work, stands-stay}
 use Rattle.seek.specs.Answers.{Held, code, over}
-use Rattle.seek.specs.Frontier.{State, amiss, itemOf, items}
+use Rattle.seek.specs.Frontier.{State, amiss, itemOf, items, still}
 use Rattle.seek.specs.Standing.{Ready, Since, Stands, Took}
 use Rattle.words.specs.InShape.{InShape}
 use Rattle.words.specs.Words.{N#, at, first#, n#}
@@ -36,6 +37,7 @@ module _ (t : List ℕ) (c : ℕ) (q w : List ℕ) (wanted : ℕ) where
     most = omega arith;
     own = refl;
     far = λ r h p. absurd (omega (arith, z r h));
+    bits = λ r h. omega (arith, z r h);
     bytes = hb;
     room = wb;
     wanted = ws;
@@ -119,5 +121,13 @@ module _ (t : List ℕ) (c : ℕ) (q w : List ℕ) (wanted : ℕ) where
         queue = P .queue;
         sound = root-sound;
         room = omega (arith, ap (total (weight w)) one, S .root filled .count);
+        short = λ l.
+            omega (
+              arith,
+              K .grew .more l,
+              sum-one (n# w) (first# w 0) (root-row w S filled),
+              ap (total (still w)) one,
+              still-root w S filled x,
+            );
         run = λ x′ F. runs;
       }

@@ -44,6 +44,7 @@ module _ (n : ℕ) (work work′ : List ℕ) where
     most = St .most;
     own = ap (total (stray x n)) (answers-stay (λ i l. same i (omega arith)) held) ∙ St .own;
     far = λ r h p. (same (2 * n + r) (omega arith) ∙ St .far r h p .0, St .far r h p .1);
+    bits = St .bits;
     bytes = St .bytes;
     room = omega (arith, St .room);
     wanted = St .wanted;

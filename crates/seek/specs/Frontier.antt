@@ -1,11 +1,12 @@
 -- The frontier in the workspace, as a queue of items, and what taking one does to it. Assumes nothing.
 use Prim.Native.Nat.{_*_, _+_, _-_, _<_, _≤_, suc, ℕ}
 use Rattle.items.specs.Fits.{Fits}
-use Rattle.items.specs.Items.{Item, boundOf, leastTo, measuredBy, node, openedBy, place, placeBound, weight}
+use Rattle.items.specs.Items.{Item, boundOf, leastTo, measuredBy, node, openedBy, place, placeBound, waitsOf, weight}
 use Rattle.items.specs.Run.{Ran, Running}
 use Rattle.laws.specs.Bags.{SameBag, total, upto}
 use Rattle.laws.specs.Lists.{keep}
 use Rattle.laws.specs.Outside.{Outside}
+use Rattle.laws.specs.Upto.{sumTo}
 use Rattle.measure.specs.Table.{from}
 use Rattle.queue.specs.Entry.{idOf, keyOf, packed}
 use Rattle.queue.specs.Queue.{Queue, entries}
@@ -89,12 +90,18 @@ pub record Taken (w : List ℕ) (x : ℕ → ℕ) (wanted : ℕ) (how how′ wor
   pub queued : SameBag (items w x work′ len′) (atMost boundOf (lastOf work′ (3 * n# w) wanted held′) (openedBy w x i) ++ items w x work len)
 
 -- ---- the whole search
--- Between two rounds. The last promise is for lent rows that are, where it counts, those of a table that the index fits.
+-- how often rows are still to be measured under an item
+abbrev pub still : List ℕ → Item → ℕ
+still w i = sumTo (waitsOf w i) (n# w)
+
+-- Between two rounds. Where fewer are held than are wanted, nothing was left out: all n positions are held or wait. The last promise is for
+-- lent rows that are, where it counts, those of a table that the index fits.
 pub record State (t : List ℕ) (c : ℕ) (q w : List ℕ) (wanted : ℕ) (how work : List ℕ) (len held : ℕ) : Type 0 where
   pub ready : Ready t c q (n# w) wanted how work held
   pub queue : Queue work 0 len
   pub sound : total (amiss w how) (items w (from t c q) work len) ≡ 0
   pub room : total (weight w) (items w (from t c q) work len) ≤ n# w
+  pub short : held < wanted → n# w ≤ held + total (still w) (items w (from t c q) work len)
   pub run : (x′ : ℕ → ℕ) → Fits w wanted (from t c q) x′
       → Held (from t c q) (at how) (n# w) work (3 * n# w) wanted held × Running w wanted (from t c q) (items w (from t c q) work len) (at how)
 
@@ -106,9 +113,10 @@ pub record Blank (t : List ℕ) (c : ℕ) (q w : List ℕ) (wanted : ℕ) (how w
   pub filled : 1 ≤ n# w
   pub blank : (r : ℕ) → r < n# w → at how r ≡ 0
 
--- At its end.
+-- At its end: as many are held as are wanted, on every index in shape.
 pub record Searched (t : List ℕ) (c : ℕ) (q w : List ℕ) (wanted : ℕ) (how how′ work work′ : List ℕ) (held : ℕ) : Type 0 where
   pub stands : Stands (from t c q) (n# w) wanted how′ work′ held
+  pub full : held ≡ wanted
   pub since : Since (n# w) how how′ work work′
   pub ran : (x′ : ℕ → ℕ) → Fits w wanted (from t c q) x′
       → Held (from t c q) (at how′) (n# w) work′ (3 * n# w) wanted held × Ran w wanted (from t c q) (at how′)

@@ -3,6 +3,7 @@
 use Prim.Native.Nat.{_*_, _+_, _-_, _<_, _≤_, suc, ℕ}
 use Rattle.laws.specs.Bags.{total}
 use Rattle.laws.specs.Lists.{gap}
+use Rattle.laws.specs.Upto.{sumTo}
 use Rattle.limits.specs.Limits.{maxColumns, maxDistance, maxRows}
 use Rattle.measure.specs.Table.{from}
 use Rattle.queue.specs.Queue.{Queue, entries}
@@ -16,9 +17,9 @@ use mathlib.Core.Path.{_≡_}
 abbrev pub kept : List ℕ → ℕ → ℕ → ℕ
 kept work n r = getD work (2 * n + r) 0
 
--- 0 where e is the entry of one of n rows at x
+-- 0 where e is the entry of one of n rows at x, at a distance that there can be
 abbrev pub stray : (ℕ → ℕ) → ℕ → ℕ → ℕ
-stray x n e = gap e (turned (rowOf e) (x (rowOf e))) + (suc (rowOf e) - n)
+stray x n e = gap e (turned (rowOf e) (x (rowOf e))) + (suc (rowOf e) - n) + (x (rowOf e) - maxDistance)
 
 -- Of n rows at x, at most w are held. This holds on every index in shape, whether or not a row stands there twice.
 pub record Stands (x : ℕ → ℕ) (n w : ℕ) (how work : List ℕ) (held : ℕ) : Type 0 where
@@ -26,6 +27,7 @@ pub record Stands (x : ℕ → ℕ) (n w : ℕ) (how work : List ℕ) (held : �
   pub most : held ≤ w
   pub own : total (stray x n) (entries work (3 * n) held) ≡ 0
   pub far : (r : ℕ) → r < n → 0 < at how r → (kept work n r ≡ x r) × (x r ≤ maxDistance)
+  pub bits : (r : ℕ) → r < n → at how r ≤ 1
   pub bytes : n ≤ length how
   pub room : 6 * n ≤ length work
   pub wanted : (1 ≤ w) × (w ≤ n)
@@ -38,13 +40,14 @@ pub record Since (n : ℕ) (how how′ work work′ : List ℕ) : Type 0 where
   pub past : (i : ℕ) → n ≤ i → at how′ i ≡ at how i
   pub over : (i : ℕ) → 6 * n ≤ i → getD work′ i 0 ≡ getD work i 0
 
--- The rows of g are measured besides. The last promise is for indexes in which no row stands twice: where the best were held and the rows
--- of g are new, the best are held again.
+-- The rows of g are measured besides; where fewer than w are held even then, each of them was entered. The last promise is for indexes in
+-- which no row stands twice: where the best were held and the rows of g are new, the best are held again.
 pub record Grew (x : ℕ → ℕ) (n w : ℕ) (how how′ work work′ : List ℕ) (held held′ : ℕ) (g : ℕ → ℕ) : Type 0 where
   pub stands : Stands x n w how′ work′ held′
   pub grown : (r : ℕ) → 0 < at how r → 0 < at how′ r
   pub seen : (r : ℕ) → 0 < g r → 0 < at how′ r
   pub since : Since n how how′ work work′
+  pub more : held′ < w → held′ ≡ held + sumTo g n
   pub best : Held x (at how) n work (3 * n) w held → ((r : ℕ) → r < n → at how r + g r ≤ 1)
       → Held x (at how′) n work′ (3 * n) w held′ × ((r : ℕ) → at how′ r ≡ at how r + g r)
 

@@ -76,8 +76,8 @@ returns-2 c =
     let l = asked f in
     let e = going l in
     let a = start e .args in
-    done-is _ _ _ _ _ (a .rows .now) (a .distances .now) (a .how .now) (a .work .now) (start e .pre) (e .before .refusal .ensures) _ _ _ _ _ _ _ _
-    (e .if1 .left) (l .before .rows .ensures .0) (l .least .ensures) (f .find .ensures) (c .tally .ensures .1)
+    done-is _ _ _ _ _ (a .rows .now) (a .distances .now) (a .how .now) (a .work .now) (start e .pre) (e .before .refusal .ensures) _ _ _ _ _ _ _ _ _
+    (e .if1 .left) (l .before .rows .ensures .0) (l .least .ensures) (f .find .ensures) (omega arith) (c .tally .ensures .1)
 
 pub answer-spec : {M : Type 1} → statement M
 answer-spec =
