@@ -42,4 +42,5 @@ nearest-low T c w q wanted room how work =
     let early : Every Early five = more (tableFaults (length T) c) 5 short (table-early (length T) c) (omega arith) (omega arith) in
     early-low (seven ++ indexFaults w n c)
     (every-append Early seven (indexFaults w n c)
-    (more six 7 (eqb wanted 0) (more five 6 (not (eqb (length q) c)) early (omega arith) (omega arith)) (omega arith) (omega arith)) (index-early w n c))
+    (more six 7 (eqb wanted 0) (more five 6 (not (eqb (length q) c)) early (omega arith) (omega arith)) (omega arith) (omega arith))
+    (index-early w n c))

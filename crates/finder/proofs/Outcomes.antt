@@ -95,6 +95,7 @@ module _ {t : List ℕ} {c i w : ℕ} {room work how rs ds : List ℕ} {number g
             refused = λ n. absurd (n z);
             answered = λ y.
                 subst
-                (λ (q : List ℕ). Answered t c (take words room′) q w (min (length rs) (length ds)) rs rs′ ds ds′ how how′ cleared work′ number given met)
+                (λ (q : List ℕ).
+                Answered t c (take words room′) q w (min (length rs) (length ds)) rs rs′ ds ds′ how how′ cleared work′ number given met)
                 e s;
           })

@@ -58,36 +58,37 @@ module _ {t : List ℕ} {c i r : ℕ} {room room′ work work′ how how′ : Li
             marked-exact i (b .built .accepted y) (b .searched y) z
         go (no l) = absurd (omega (arith, m .missing (omega arith) .0))
 
--- two outcomes of one call are the same
-abbrev pub SameMarks : ℕ → ℕ → ℕ → List ℕ → List ℕ → List ℕ → ℕ → ℕ → ℕ → List ℕ → List ℕ → List ℕ → Type 0
-SameMarks number in# met room work how number′ in#′ met′ room′ work′ how′ =
-    (number ≡ number′) × (in# ≡ in#′) × (met ≡ met′) × (room ≡ room′) × (work ≡ work′) × (how ≡ how′)
+-- two outcomes of one call
+module _ {t : List ℕ} {c i r : ℕ} {room work how room₁ work₁ how₁ room₂ work₂ how₂ : List ℕ} {number₁ in₁ met₁ number₂ in₂ met₂ : ℕ}
+    (a : Marks t c i r room room₁ work work₁ how how₁ number₁ in₁ met₁)
+    (b : Marks t c i r room room₂ work work₂ how how₂ number₂ in₂ met₂) where
+  -- they are the same
+  abbrev pub SameMarks : Type 0
+  SameMarks = (number₁ ≡ number₂) × (in₁ ≡ in₂) × (met₁ ≡ met₂) × (room₁ ≡ room₂) × (work₁ ≡ work₂) × (how₁ ≡ how₂)
 
-module _ {t : List ℕ} {c i r : ℕ} {room work how room₁ work₁ how₁ room₂ work₂ how₂ : List ℕ} {number₁ in₁ met₁ number₂ in₂ met₂ : ℕ} where
   -- the build leaves no choice, and over what it built the search leaves none
   built-marks-only : MarksBuilt t c i r room room₁ work work₁ how how₁ number₁ in₁ met₁
-      → MarksBuilt t c i r room room₂ work work₂ how how₂ number₂ in₂ met₂ → SameMarks number₁ in₁ met₁ room₁ work₁ how₁ number₂ in₂ met₂ room₂ work₂ how₂
-  built-marks-only a b =
-      let o = build-only t c 2 16 32 room work room₁ work₁ room₂ work₂ (a .made) (a .words) (a .nodes) (b .made) (b .words) (b .nodes)
-      (a .built) (b .built) in
-      go (ℕ-discrete (a .made) 0) (o .0) (ap₂ take (o .1) (o .3)) (o .3) (o .4)
+      → MarksBuilt t c i r room room₂ work work₂ how how₂ number₂ in₂ met₂ → SameMarks
+  built-marks-only x y =
+      let o = build-only t c 2 16 32 room work room₁ work₁ room₂ work₂ (x .made) (x .words) (x .nodes) (y .made) (y .words) (y .nodes)
+      (x .built) (y .built) in
+      go (ℕ-discrete (x .made) 0) (o .0) (ap₂ take (o .1) (o .3)) (o .3) (o .4)
     where
-      go : Dec (a .made ≡ 0) → a .made ≡ b .made → take (a .words) room₁ ≡ take (b .words) room₂ → room₁ ≡ room₂ → work₁ ≡ work₂ → SameMarks number₁ in₁ met₁ room₁ work₁ how₁ number₂ in₂ met₂ room₂ work₂ how₂
+      go : Dec (x .made ≡ 0) → x .made ≡ y .made → take (x .words) room₁ ≡ take (y .words) room₂ → room₁ ≡ room₂ → work₁ ≡ work₂ → SameMarks
       go (no k) e w p q =
-          let f = a .refused k in
-          let g = b .refused (λ z. k (e ∙ z)) in
+          let f = x .refused k in
+          let g = y .refused (λ z. k (e ∙ z)) in
           (f .0 ∙ e ∙ sym (g .0), f .1 ∙ sym (g .1), f .2 ∙ sym (g .2), p, q, f .3 ∙ sym (g .3))
       go (yes z) e w p q =
-          let s = subst (λ (x : List ℕ). Searched t c x (row t c i) r how how₂ number₂ in₂ met₂) (sym w) (b .searched (sym e ∙ z)) in
-          let n = radius-only (a .searched z) s (λ y. once-of (between t c) (take (a .words) room₁) (a .built .accepted z)) in
+          let s = subst (λ (v : List ℕ). Searched t c v (row t c i) r how how₂ number₂ in₂ met₂) (sym w) (y .searched (sym e ∙ z)) in
+          let n = radius-only (x .searched z) s (λ k. once-of (between t c) (take (x .words) room₁) (x .built .accepted z)) in
           (n .0, n .1 .0, n .1 .1, p, q, n .1 .2)
 
   -- NO SECOND OUTCOME FITS
-  pub marks-only : Marks t c i r room room₁ work work₁ how how₁ number₁ in₁ met₁
-      → Marks t c i r room room₂ work work₂ how how₂ number₂ in₂ met₂ → SameMarks number₁ in₁ met₁ room₁ work₁ how₁ number₂ in₂ met₂ room₂ work₂ how₂
-  marks-only a b = go (decLe (c * i + c) (length t))
+  pub marks-only : SameMarks
+  marks-only = go (decLe (c * i + c) (length t))
     where
-      go : Dec (There t c i) → SameMarks number₁ in₁ met₁ room₁ work₁ how₁ number₂ in₂ met₂ room₂ work₂ how₂
+      go : Dec (There t c i) → SameMarks
       go (yes l) = built-marks-only (a .there l) (b .there l)
       go (no l) =
           let f = a .missing (omega arith) in
@@ -137,25 +138,28 @@ module _ {t : List ℕ} {c i w : ℕ} {room room′ work work′ how how′ rs r
             nearest-given i (b .built .accepted y) (b .answered y) z
         go (no l) = absurd (omega (arith, m .missing (omega arith) .0))
 
--- two outcomes of one call are the same
-abbrev pub SameFinds : ℕ → ℕ → ℕ → List ℕ → List ℕ → List ℕ → List ℕ → List ℕ → ℕ → ℕ → ℕ → List ℕ → List ℕ → List ℕ → List ℕ → List ℕ → Type 0
-SameFinds number given met room work how rs ds number′ given′ met′ room′ work′ how′ rs′ ds′ =
-    (number ≡ number′) × (given ≡ given′) × (met ≡ met′) × (room ≡ room′) × (work ≡ work′) × (how ≡ how′) × (rs ≡ rs′) × (ds ≡ ds′)
-
+-- two outcomes of one call
 module _ {t : List ℕ} {c i w : ℕ} {room work how rs ds room₁ work₁ how₁ rs₁ ds₁ room₂ work₂ how₂ rs₂ ds₂ : List ℕ}
-    {number₁ given₁ met₁ number₂ given₂ met₂ : ℕ} where
+    {number₁ given₁ met₁ number₂ given₂ met₂ : ℕ} (a : Finds t c i w room room₁ work work₁ how how₁ rs rs₁ ds ds₁ number₁ given₁ met₁)
+    (b : Finds t c i w room room₂ work work₂ how how₂ rs rs₂ ds ds₂ number₂ given₂ met₂) where
+  -- they are the same
+  abbrev pub SameFinds : Type 0
+  SameFinds =
+      (number₁ ≡ number₂) × (given₁ ≡ given₂) × (met₁ ≡ met₂) × (room₁ ≡ room₂) × (work₁ ≡ work₂) × (how₁ ≡ how₂) × (rs₁ ≡ rs₂) × (ds₁ ≡ ds₂)
+
   -- the build leaves no choice, and over what it built the search leaves none
   built-finds-only : FindsBuilt t c i w room room₁ work work₁ how how₁ rs rs₁ ds ds₁ number₁ given₁ met₁
-      → FindsBuilt t c i w room room₂ work work₂ how how₂ rs rs₂ ds ds₂ number₂ given₂ met₂ → SameFinds number₁ given₁ met₁ room₁ work₁ how₁ rs₁ ds₁ number₂ given₂ met₂ room₂ work₂ how₂ rs₂ ds₂
-  built-finds-only a b =
-      let o = build-only t c 2 16 32 room work room₁ (a .cleared) room₂ (b .cleared) (a .made) (a .words) (a .nodes) (b .made) (b .words) (b .nodes)
-      (a .built) (b .built) in
-      go (ℕ-discrete (a .made) 0) (o .0) (ap₂ take (o .1) (o .3)) (o .3) (o .4)
+      → FindsBuilt t c i w room room₂ work work₂ how how₂ rs rs₂ ds ds₂ number₂ given₂ met₂ → SameFinds
+  built-finds-only x y =
+      let o = build-only t c 2 16 32 room work room₁ (x .cleared) room₂ (y .cleared) (x .made) (x .words) (x .nodes) (y .made) (y .words) (y .nodes)
+      (x .built) (y .built) in
+      go (ℕ-discrete (x .made) 0) (o .0) (ap₂ take (o .1) (o .3)) (o .3) (o .4)
     where
-      go : Dec (a .made ≡ 0) → a .made ≡ b .made → take (a .words) room₁ ≡ take (b .words) room₂ → room₁ ≡ room₂ → a .cleared ≡ b .cleared → SameFinds number₁ given₁ met₁ room₁ work₁ how₁ rs₁ ds₁ number₂ given₂ met₂ room₂ work₂ how₂ rs₂ ds₂
-      go (no k) e x p q =
-          let f = a .refused k in
-          let g = b .refused (λ z. k (e ∙ z)) in (
+      go : Dec (x .made ≡ 0) → x .made ≡ y .made → take (x .words) room₁ ≡ take (y .words) room₂ → room₁ ≡ room₂ → x .cleared ≡ y .cleared
+          → SameFinds
+      go (no k) e v p q =
+          let f = x .refused k in
+          let g = y .refused (λ z. k (e ∙ z)) in (
             f .0 ∙ e ∙ sym (g .0),
             f .1 ∙ sym (g .1),
             f .2 ∙ sym (g .2),
@@ -165,33 +169,32 @@ module _ {t : List ℕ} {c i w : ℕ} {room work how rs ds room₁ work₁ how�
             f .5 ∙ sym (g .5),
             f .6 ∙ sym (g .6),
           )
-      go (yes z) e x p q =
+      go (yes z) e v p q =
           let s₀ = subst
-          (λ (v : List ℕ). Answered t c v (row t c i) w (min (length rs) (length ds)) rs rs₂ ds ds₂ how how₂ (b .cleared) work₂ number₂ given₂ met₂)
-          (sym x) (b .answered (sym e ∙ z)) in
+          (λ (u : List ℕ). Answered t c u (row t c i) w (min (length rs) (length ds)) rs rs₂ ds ds₂ how how₂ (y .cleared) work₂ number₂ given₂ met₂)
+          (sym v) (y .answered (sym e ∙ z)) in
           let s = subst
-          (λ (v : List ℕ).
-          Answered t c (take (a .words) room₁) (row t c i) w (min (length rs) (length ds)) rs rs₂ ds ds₂ how how₂ v work₂ number₂ given₂ met₂)
+          (λ (u : List ℕ).
+          Answered t c (take (x .words) room₁) (row t c i) w (min (length rs) (length ds)) rs rs₂ ds ds₂ how how₂ u work₂ number₂ given₂ met₂)
           (sym q) s₀ in
-          let n = nearest-only (a .answered z) s t
-          (λ y.
+          let n = nearest-only (x .answered z) s t
+          (λ k.
           record {
             rows =
                 sym
-                (clear t c (take (a .words) room₁) (row t c i) w (min (length rs) (length ds)) (length how) (length (a .cleared))
-                (sym (a .answered z .said) ∙ y)
+                (clear t c (take (x .words) room₁) (row t c i) w (min (length rs) (length ds)) (length how) (length (x .cleared))
+                (sym (x .answered z .said) ∙ k)
                 .index .rows);
-            accepted = a .built .accepted z;
+            accepted = x .built .accepted z;
             agree = λ j h m. refl;
           }) in
           (n .0, n .1 .0, n .1 .1, p, n .1 .5, n .1 .4, n .1 .2, n .1 .3)
 
   -- NO SECOND OUTCOME FITS
-  pub finds-only : Finds t c i w room room₁ work work₁ how how₁ rs rs₁ ds ds₁ number₁ given₁ met₁
-      → Finds t c i w room room₂ work work₂ how how₂ rs rs₂ ds ds₂ number₂ given₂ met₂ → SameFinds number₁ given₁ met₁ room₁ work₁ how₁ rs₁ ds₁ number₂ given₂ met₂ room₂ work₂ how₂ rs₂ ds₂
-  finds-only a b = go (decLe (c * i + c) (length t))
+  pub finds-only : SameFinds
+  finds-only = go (decLe (c * i + c) (length t))
     where
-      go : Dec (There t c i) → SameFinds number₁ given₁ met₁ room₁ work₁ how₁ rs₁ ds₁ number₂ given₂ met₂ room₂ work₂ how₂ rs₂ ds₂
+      go : Dec (There t c i) → SameFinds
       go (yes l) = built-finds-only (a .there l) (b .there l)
       go (no l) =
           let f = a .missing (omega arith) in

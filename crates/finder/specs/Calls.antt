@@ -48,7 +48,7 @@ pub record FindsBuilt (t : List ℕ) (c i w : ℕ) (room room′ work work′ ho
   pub answered : made ≡ 0
       → Answered t c (take words room′) (row t c i) w (min (length rs) (length ds)) rs rs′ ds ds′ how how′ cleared work′ number given met
 
--- the row i that is asked about and how many are wanted; room, workspace, how-bytes, rows and distances before and after; the number and the two counts
+-- the row i that is asked about and how many are wanted; room, workspace, how-bytes, rows and distances before and after; the number and the counts
 pub record Finds (t : List ℕ) (c i w : ℕ) (room room′ work work′ how how′ rs rs′ ds ds′ : List ℕ) (number given met : ℕ) : Type 0 where
   -- 27 where there is no such row, with zero counts and nothing changed
   pub missing : Missing t c i

@@ -52,7 +52,8 @@ module _ {text numbers numbers′ room work : List ℕ} {kept reading count : �
       }
 
 -- NO NUMBER IS ABOVE 18
-pub runs-low : {text numbers numbers′ room room′ work work′ : List ℕ} {number : ℕ} → Runs text numbers numbers′ room room′ work work′ number → number ≤ 18
+pub runs-low : {text numbers numbers′ room room′ work work′ : List ℕ} {number : ℕ} → Runs text numbers numbers′ room room′ work work′ number
+    → number ≤ 18
 runs-low {text} {numbers} {number = number} r = go (ℕ-discrete (r .reading) 0)
   where
     go : Dec (r .reading ≡ 0) → number ≤ 18

@@ -51,7 +51,9 @@ slice-reshare-prefix-nearest : tie.Need-slice-reshare-prefix-nearest
 slice-reshare-prefix-nearest c = words-there (c .before .before .before .before .before .build .ensures) (c .if2 .left)
 
 slice-aggregate-nearest : tie.Need-slice-aggregate-nearest
-slice-aggregate-nearest c = sym (length-take-le _ _ (words-there (c .before .before .before .before .before .before .build .ensures) (c .before .if2 .left)))
+slice-aggregate-nearest c =
+    let made = c .before .before .before .before .before .before in
+    sym (length-take-le _ _ (words-there (made .build .ensures) (c .before .if2 .left)))
 
 nearest-requires : tie.Need-nearest-requires
 nearest-requires c κs = search needs
@@ -75,8 +77,8 @@ returns-3 : tie.Need-returns-3
 returns-3 c =
     let going = c .before .before .before .before .before .before .before .before .before .before .before .before .before .before in
     let made = going .before .before .before .before .before in
-    finds-answered (there (made .before .before .before .before)) (made .build .ensures) (going .if2 .left) (made .before .before .before .row-of .ensures .0)
-    (c .before .before .before .before .before .before .before .before .nearest .ensures)
+    finds-answered (there (made .before .before .before .before)) (made .build .ensures) (going .if2 .left)
+    (made .before .before .before .row-of .ensures .0) (c .before .before .before .before .before .before .before .before .nearest .ensures)
 
 pub find-nearest-spec : {M : Type 1} → statement M
 find-nearest-spec =

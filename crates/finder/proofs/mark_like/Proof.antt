@@ -51,7 +51,9 @@ slice-reshare-prefix-radius : tie.Need-slice-reshare-prefix-radius
 slice-reshare-prefix-radius c = words-there (c .before .before .before .before .before .build .ensures) (c .if2 .left)
 
 slice-aggregate-radius : tie.Need-slice-aggregate-radius
-slice-aggregate-radius c = sym (length-take-le _ _ (words-there (c .before .before .before .before .before .before .build .ensures) (c .before .if2 .left)))
+slice-aggregate-radius c =
+    let made = c .before .before .before .before .before .before in
+    sym (length-take-le _ _ (words-there (made .build .ensures) (c .before .if2 .left)))
 
 radius-requires : tie.Need-radius-requires
 radius-requires c κs = search needs
@@ -69,8 +71,8 @@ returns-3 : tie.Need-returns-3
 returns-3 c =
     let going = c .before .before .before .before .before in
     let made = going .before .before .before .before .before in
-    marks-searched (there (made .before .before .before .before)) (made .build .ensures) (going .if2 .left) (made .before .before .before .row-of .ensures .0)
-    (c .before .before .radius .ensures)
+    marks-searched (there (made .before .before .before .before)) (made .build .ensures) (going .if2 .left)
+    (made .before .before .before .row-of .ensures .0) (c .before .before .radius .ensures)
 
 pub mark-like-spec : {M : Type 1} → statement M
 mark-like-spec =

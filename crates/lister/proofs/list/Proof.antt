@@ -13,7 +13,8 @@ use native.Mathlib.Omega.{arith}
 abbrev start : tie.After-build → tie.Start
 start c = c .before .before .before .before .before .before .before .before .before .before .before .before .before
 
-first : (c : tie.After-build) → c .before .before .before .before .before .before .before .before .wide .result ≡ getD (start c .args .numbers .now) 0 0
+first : (c : tie.After-build)
+    → c .before .before .before .before .before .before .before .before .wide .result ≡ getD (start c .args .numbers .now) 0 0
 first c = c .before .before .before .before .before .before .before .before .wide .ensures
 
 second : (c : tie.After-build) → c .before .before .before .before .before .before .wide2 .result ≡ getD (start c .args .numbers .now) 1 0

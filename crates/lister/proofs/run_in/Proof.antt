@@ -30,7 +30,9 @@ same-length-2 : tie.Need-same-length-2
 same-length-2 c = search needs
 
 returns : tie.Need-returns
-returns c = runs-unread (c .before .before .before .before .before .before .before .before .before .read-text .ensures) (c .before .before .before .before .read-numbers .ensures) (c .before .if1 .taken) refl
+returns c =
+    let read = c .before .before .before .before in
+    runs-unread (read .before .before .before .before .before .read-text .ensures) (read .read-numbers .ensures) (c .before .if1 .taken) refl
 
 slice-reshare-prefix-list : tie.Need-slice-reshare-prefix-list
 slice-reshare-prefix-list c = zero-reads _ _ _ _ _ (c .before .before .before .read-numbers .ensures) (c .if1 .left) .1
@@ -61,7 +63,8 @@ returns-2 : tie.Need-returns-2
 returns-2 c =
     let going = c .before .before .before .before .before .before .before .before in
     let read = going .before .before .before in
-    runs-listed (read .before .before .before .before .before .read-text .ensures) (read .read-numbers .ensures) (going .if1 .left) (c .before .before .before .before .list .ensures)
+    runs-listed (read .before .before .before .before .before .read-text .ensures) (read .read-numbers .ensures) (going .if1 .left)
+    (c .before .before .before .before .list .ensures)
 
 pub run-in-spec : {M : Type 1} → statement M
 run-in-spec =
