@@ -20,7 +20,6 @@ use Rattle.image.proofs.Small.{write-small, write-whole}
 use Rattle.image.specs.Below.{Below}
 use Rattle.image.specs.Calls.{Writes}
 use Rattle.image.specs.Changed.{Moved}
-use Rattle.laws.specs.Every.{Every}
 use Rattle.laws.specs.Lists.{has, last, range, tally, times}
 use Rattle.limits.proofs.Sized.{Sized, sized-of}
 use Rattle.meaning.proofs.Meaning.{accepted-means}
@@ -117,13 +116,13 @@ pub check-accepts : {t : List ℕ} {c : ℕ} {w work work′ : List ℕ} {number
     → (number ≡ 0) ↔ Passed t c w work
 check-accepts s = check-exact s
 
--- what a build wrote over a table of 16-bit numbers passes, in a workspace that is long enough
+-- what a build wrote passes, in a workspace that is long enough
 pub build-passes : {t : List ℕ} {c e m l : ℕ} {room work room′ work′ work₂ work₃ : List ℕ} {words nodes number place second : ℕ}
-    → Builds t c e m l room work room′ work′ 0 words nodes → Every (λ v. v ≤ 65535) t → 6 * rowsOf t c ≤ length work₂
+    → Builds t c e m l room work room′ work′ 0 words nodes → 6 * rowsOf t c ≤ length work₂
     → Checks t c (take words room′) work₂ work₃ number place second → (number ≡ 0) × (place ≡ 0) × (second ≡ 0)
-build-passes {t} {c} {e} {m} {l} {room} {work} {room′} {work′} {words = words} {nodes} b small enough s =
+build-passes {t} {c} {e} {m} {l} {room} {work} b enough s =
     let h = build-headed t c e m l room work b refl in
-    let a = build-accepted t c e m l room work room′ work′ 0 words nodes b refl small in
+    let a = build-accepted t c e m l room work b refl in
     let z = check-exact s .1 (record {
       columns = (h .0 .some, h .0 .few);
       multiple = h .0 .whole;

@@ -1,30 +1,34 @@
 -- The call's outcomes: a refusal, and the index. Assumes nothing.
-use Prim.Native.Nat.{_*_, _+_, _≤_, ℕ}
+use Prim.Native.Nat.{_*_, _+_, _≤_, suc, ℕ}
 use Rattle.build.proofs.Refusals.{Clear, clear}
 use Rattle.build.proofs.Whole.{encode-long}
 use Rattle.build.specs.Calls.{Builds}
 use Rattle.build.specs.Filled.{Filled, Room}
 use Rattle.build.specs.Stages.{Fit}
+use Rattle.laws.specs.Every.{Every}
 use Rattle.limits.proofs.Ranges.{shared}
+use Rattle.limits.proofs.Sized.{sized-columns}
 use Rattle.limits.proofs.Told.{refused-is, taken-is}
 use Rattle.limits.specs.Chosen.{chosen, told}
 use Rattle.limits.specs.Limits.{maxRows, shareOk}
 use Rattle.limits.specs.declared.Chosen.the-variants.{Refused, Taken}
 use Rattle.limits.specs.declared.Chosen.{Chosen}
 use Rattle.limits.specs.declared.Params.{Params}
-use Rattle.measure.specs.Table.{rowsOf}
+use Rattle.measure.specs.Table.{between, rowsOf}
 use Rattle.split.specs.Places.{nodeAt}
+use Rattle.tree.proofs.Built.{build-accepted}
 use Rattle.tree.specs.Build.{build}
 use Rattle.tree.specs.Calls.{saidBuild}
+use Rattle.tree.specs.Check.{Accepted}
 use Rattle.tree.specs.Encode.{encode}
 use borrow.Author.Tests.{ne-eqb}
 use lib.Dec.{eqb}
-use lib.ListN.{drop, length, take}
-use lib.Seq.{length-take-le}
+use lib.ListN.{drop, getD, length, take}
+use lib.Seq.{length-take-le, take-at}
 use mathlib.Core.Bool.{_&&_, false, true}
-use mathlib.Core.List.{List, _++_}
+use mathlib.Core.List.{List, [], _++_, _∷_}
 use mathlib.Core.Logic.{_≢_}
-use mathlib.Core.Path.{_∙_, _≡_, ap, sym}
+use mathlib.Core.Path.{_∙_, _≡_, ap, ap₂, refl, subst, sym}
 
 -- ---- the constructor's answer, taken apart
 -- it took m and l: they are in range, the parameters hold them, and the edition is 2
@@ -48,9 +52,15 @@ refused-builds {number = number} q h r =
       counted = (rw f (r .1), rw f (r .2));
       index = rw f;
       cleared = rw f;
+      accepted = λ z. absurd (h (sym (r .0) ∙ z));
     }
 
 -- ---- the index
+-- numbers of 16 bits, by place and as a fact of the list
+small : (T : List ℕ) → ((i : ℕ) → getD T i 0 ≤ 65535) → Every (λ v. v ≤ 65535) T
+small [] h = tt
+small (x ∷ T) h = (h 0, small T (λ i. h (suc i)))
+
 -- nothing is refused, and p holds what was asked for
 pub record Passed (T : List ℕ) (c e m l : ℕ) (room work : List ℕ) (p : Params) : Type 0 where
   pub none : saidBuild T c e m l (length room) (length work) .0 ≡ 0
@@ -85,16 +95,28 @@ module _ {T : List ℕ} {c e m l : ℕ} {room work : List ℕ} {p : Params} (pas
   pub built-room : Room T c (p .centres) (p .leaf) (rowsOf T c) room (take (6 * rowsOf T c) work)
   built-room = rw (passed .m-is, passed .l-is) record { fit = built-fit; space = cleared .space; halves = part-long }
 
+  -- the full check accepts the words of a table of 16-bit numbers
+  words-accepted : ((i : ℕ) → getD T i 0 ≤ 65535) → {room′ : List ℕ} {words : ℕ} → words ≡ length (build T c 2 m l)
+      → room′ ≡ build T c 2 m l ++ drop (length (build T c 2 m l)) room → Accepted (between T c) (take words room′)
+  words-accepted narrow long index =
+      let B : List ℕ = build T c 2 m l in
+      let t = cleared .table in
+      subst (Accepted (between T c)) (sym (ap₂ take long index ∙ take-at B (drop (length B) room) (length B) refl))
+      (build-accepted T c 2 m l refl (sized-columns (length T) c t) (cleared .share) (t .rows) (small T narrow))
+
   -- the index is filled in: the contract is met
-  pub built-builds : {room′ part′ work′ : List ℕ} {nodes words : ℕ} → Filled T c (p .centres) (p .leaf) (rowsOf T c) room room′ part′ nodes
+  pub built-builds : {room′ part′ work′ : List ℕ} {nodes words : ℕ} → ((i : ℕ) → getD T i 0 ≤ 65535)
+      → Filled T c (p .centres) (p .leaf) (rowsOf T c) room room′ part′ nodes
       → work′ ≡ part′ ++ drop (6 * rowsOf T c) work → words ≡ nodeAt nodes + 2 * rowsOf T c
       → Builds T c e m l room work room′ work′ 0 words nodes
   unfolding build encode
-  built-builds {room′} {part′} {work′} {nodes} filled h w =
+  built-builds {room′} {part′} {work′} {nodes} {words} narrow filled h w =
       let got : Filled T c m l (rowsOf T c) room room′ part′ nodes = rw (passed .m-is, passed .l-is) at filled in
+      let long : words ≡ length (build T c 2 m l) = w ∙ sym (encode-long built-fit (got .count)) in
       record {
         said = sym (passed .none);
-        counted = (w ∙ sym (encode-long built-fit (got .count)), got .count);
+        counted = (long, got .count);
         index = got .index;
         cleared = h ∙ ap (λ (x : List ℕ). x ++ drop (6 * rowsOf T c) work) (got .cleared);
+        accepted = λ z. words-accepted narrow long (got .index);
       }

@@ -1,14 +1,12 @@
 -- The theorems on the call: what it wrote is the table's and accepted, and no second outcome fits. Assumes nothing.
-use Prim.Native.Nat.{_*_, _≤_, ℕ}
+use Prim.Native.Nat.{_*_, ℕ}
 use Rattle.build.proofs.Refusals.{clear}
 use Rattle.build.proofs.Whole.{encode-words, positions}
 use Rattle.build.specs.Calls.{Builds}
-use Rattle.laws.specs.Every.{Every}
 use Rattle.limits.proofs.Ranges.{shared}
-use Rattle.limits.proofs.Sized.{Sized, sized-columns}
+use Rattle.limits.proofs.Sized.{Sized}
 use Rattle.limits.specs.Limits.{shareOk}
 use Rattle.measure.specs.Table.{between, rowsOf}
-use Rattle.tree.proofs.Built.{build-accepted as words-accepted}
 use Rattle.tree.specs.Build.{build, plant}
 use Rattle.tree.specs.Check.{Accepted}
 use Rattle.tree.specs.Encode.{encode}
@@ -19,7 +17,7 @@ use lib.ListN.{drop, length, replicate, take}
 use lib.Seq.{take-at}
 use mathlib.Core.Bool.{cond, true}
 use mathlib.Core.List.{List, _++_}
-use mathlib.Core.Path.{_∙_, _≡_, ap, ap₂, refl, subst, sym}
+use mathlib.Core.Path.{_∙_, _≡_, ap, ap₂, refl, sym}
 use native.Mathlib.Omega.{arith}
 
 -- ---- the definition's words
@@ -47,13 +45,9 @@ module _ (T : List ℕ) (c e m l : ℕ) (room work : List ℕ) where
       ∙ take-at (build T c 2 m l) (drop (length (build T c 2 m l)) room) (length (build T c 2 m l)) refl
 
   -- WHAT THE CALL WROTE IS ACCEPTED BY THE FULL CHECK
-  pub build-accepted : (room′ work′ : List ℕ) (number words nodes : ℕ) → Builds T c e m l room work room′ work′ number words nodes → number ≡ 0
-      → Every (λ v. v ≤ 65535) T
+  pub build-accepted : {room′ work′ : List ℕ} {number words nodes : ℕ} → Builds T c e m l room work room′ work′ number words nodes → number ≡ 0
       → Accepted (between T c) (take words room′)
-  build-accepted room′ work′ number words nodes b z small =
-      let C = clear T c e m l (length room) (length work) (sym (b .said) ∙ z) in
-      subst (Accepted (between T c)) (sym (index-there b z))
-      (words-accepted T c 2 m l refl (sized-columns (length T) c (C .table)) (C .share) (C .table .rows) small)
+  build-accepted b z = b .accepted z
 
   -- WHAT THE CALL WROTE IS THE TABLE'S INDEX: NO CALL REFUSES SUCH A TABLE, THE HEADER HAS ITS ROWS AND COLUMNS, ASKS FOR JUST THESE WORDS, AND IS
   -- EDITION 2

@@ -1,1 +1,5 @@
+pub mod Asked
 pub mod Indexed
+pub mod Outcomes
+pub mod Low
+pub mod Theorems

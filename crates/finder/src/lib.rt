@@ -1,8 +1,8 @@
 // The two questions about a row of a table, answered exactly: the index is built over the table, and searched for the row.
-ghost use Prim.Native.Nat.{_*_, _+_, _≤_};
-ghost use Rattle.finder.specs.Answers.{Alike, Closest};
-ghost use Rattle.measure.specs.Table.{row as row·};
-ghost use lib.ListN.{length};
+ghost use Prim.Native.Nat.{_*_, _+_};
+ghost use Rattle.finder.specs.Calls.{Finds, Marks};
+ghost use lib.Dec.{leb};
+ghost use mathlib.Core.Path.{_≡_};
 use limits::Params;
 use measure::row_of;
 use nearest::Given;
@@ -12,6 +12,41 @@ use radius::Found;
 const CENTRES: usize = 16;
 
 const LEAF: usize = 32;
+
+// The table does not have the row asked about. No call of the library gives this number: theirs go up to 26.
+pub const NO_ROW: u32 = 27;
+
+// A table of this length has row `row` of c columns. (Of no columns it has every row; the build refuses it.)
+fn has_row(length: usize, c: usize, row: usize) -> bool
+    ensures { λ r. ⌜ r ≡ leb (c * row + c) length ⌝ }
+{
+    if c == 0 {
+        return true;
+    }
+    row < length / c
+}
+
+// Nothing was marked: the number, and zero counts.
+fn none_marked(number: u32) -> Found
+    ensures { λ f. ⌜ (f .number ≡ number) × (f .inside ≡ 0) × (f .measured ≡ 0) ⌝ }
+{
+    Found {
+        number,
+        inside: 0,
+        measured: 0,
+    }
+}
+
+// Nothing was found: the number, and zero counts.
+fn none_given(number: u32) -> Given
+    ensures { λ g. ⌜ (g .number ≡ number) × (g .given ≡ 0) × (g .measured ≡ 0) ⌝ }
+{
+    Given {
+        number,
+        given: 0,
+        measured: 0,
+    }
+}
 
 // Marks every row within r of the row asked about.
 pub fn mark_like(
@@ -23,18 +58,17 @@ pub fn mark_like(
     work: &mut [u32],
     how: &mut [u8],
 ) -> Found
-    requires { ⌜ c * row + c ≤ length (now table) ⌝ }
-    ensures { λ f. ⌜ Alike (now (table .entry)) c (row· (now (table .entry)) c row) r (now (how .exit)) (f .number) ⌝ }
+    ensures { λ f. ⌜ Marks (now (table .entry)) c row r (now (room .entry)) (now (room .exit)) (now (work .entry)) (now (work .exit))
+        (now (how .entry)) (now (how .exit)) (f .number) (f .inside) (f .measured) ⌝ }
 {
+    if !has_row(table.len(), c, row) {
+        return none_marked(NO_ROW);
+    }
     let query = row_of(table, c, row);
     let built = build::build(table, c, CENTRES, LEAF, Params::LAST_EDITION, room, work);
     let number = built.number;
     if number != 0 {
-        return Found {
-            number,
-            inside: 0,
-            measured: 0,
-        };
+        return none_marked(number);
     }
     let words = built.words;
     radius::radius(table, c, &room[..words], query, r, how)
@@ -52,18 +86,18 @@ pub fn find_nearest(
     rows: &mut [u32],
     distances: &mut [u32],
 ) -> Given
-    requires { ⌜ c * row + c ≤ length (now table) ⌝ }
-    ensures { λ g. ⌜ Closest (now (table .entry)) c (row· (now (table .entry)) c row) w (now (rows .exit)) (now (distances .exit)) (g .number) (g .given) ⌝ }
+    ensures { λ g. ⌜ Finds (now (table .entry)) c row w (now (room .entry)) (now (room .exit)) (now (work .entry)) (now (work .exit))
+        (now (how .entry)) (now (how .exit)) (now (rows .entry)) (now (rows .exit)) (now (distances .entry)) (now (distances .exit))
+        (g .number) (g .given) (g .measured) ⌝ }
 {
+    if !has_row(table.len(), c, row) {
+        return none_given(NO_ROW);
+    }
     let query = row_of(table, c, row);
     let built = build::build(table, c, CENTRES, LEAF, Params::LAST_EDITION, room, work);
     let number = built.number;
     if number != 0 {
-        return Given {
-            number,
-            given: 0,
-            measured: 0,
-        };
+        return none_given(number);
     }
     let words = built.words;
     nearest::nearest(

@@ -1,3 +1,4 @@
 pub mod Keeping
 pub mod Index
 pub mod Low
+pub mod Listed

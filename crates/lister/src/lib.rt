@@ -1,6 +1,7 @@
 // The listing program: the text of standard input, read as c, m, l and a table; the table's index; its nodes and positions as lines of numbers.
 ghost use Prim.Native.Nat.{_*_, _+_, _≤_, min};
 ghost use Rattle.lister.specs.Keeps.{Keeps};
+ghost use Rattle.lister.specs.Listing.{Lists, Runs};
 ghost use Rattle.words.specs.Words.{width};
 ghost use lib.ListN.{length};
 ghost use mathlib.Core.Path.{_≡_};
@@ -82,14 +83,16 @@ fn print_refused(number: u32) {
     io::write_all(STDOUT_FILENO, b"\n");
 }
 
-fn wide(x: u16) -> usize {
+fn wide(x: u16) -> usize
+    ensures { λ r. ⌜ r ≡ x ⌝ }
+{
     x as usize
 }
 
 // Builds the index of the numbers behind the first three, and prints it. Gives the number of the build.
 fn list(numbers: &[u16], room: &mut [u32], work: &mut [u32]) -> u32
     requires { ⌜ 3 ≤ length (now numbers) ⌝ }
-    ensures { λ r. ⌜ r ≤ 18 ⌝ }
+    ensures { λ r. ⌜ Lists (now (numbers .entry)) (now (room .entry)) (now (room .exit)) (now (work .entry)) (now (work .exit)) r ⌝ }
 {
     let c = wide(numbers[0]);
     let m = wide(numbers[1]);
@@ -106,7 +109,8 @@ fn list(numbers: &[u16], room: &mut [u32], work: &mut [u32]) -> u32
 
 // Reads the text as numbers, and lists them. Gives the number of what refused, or 0.
 fn run_in(text: &mut [u8], numbers: &mut [u16], room: &mut [u32], work: &mut [u32]) -> u32
-    ensures { λ r. ⌜ r ≤ 18 ⌝ }
+    ensures { λ r. ⌜ Runs (now (text .exit)) (now (numbers .entry)) (now (numbers .exit)) (now (room .entry)) (now (room .exit))
+        (now (work .entry)) (now (work .exit)) r ⌝ }
 {
     let n = read_text(text);
     let read = text::read_numbers(&text[..n], numbers);

@@ -1,7 +1,8 @@
 -- Which texts the listing program reads, and as what: 01, The five-row table. A text is a list of bytes. Assumes nothing.
 use Prim.Native.Nat.{_*_, _+_, _<_, _≤_, ℕ}
-use lib.ListN.{length}
+use lib.ListN.{drop, length}
 use mathlib.Core.List.{List, [], _++_, _∷_}
+use mathlib.Core.Path.{_≡_}
 
 -- the decimal text of a number, a digit d being the byte 48 + d; a digit behind a number makes it ten times as much and the digit, and none goes
 -- behind 0, so there is no leading zero
@@ -25,3 +26,17 @@ pub record Readable (t ns : List ℕ) : Type 0 where
   pub says : Says t ns
   pub enough : 3 ≤ length ns
   pub few : length ns ≤ 1_027
+
+-- it is readable, but as more numbers than a room has places
+pub record TooMany (t : List ℕ) (room : ℕ) : Type 0 where
+  pub ns : List ℕ
+  pub readable : Readable t ns
+  pub more : room < length ns
+
+-- it is readable, and its numbers were put at the front of the room and counted
+pub record ReadInto (t room room′ : List ℕ) (count : ℕ) : Type 0 where
+  pub ns : List ℕ
+  pub readable : Readable t ns
+  pub fit : length ns ≤ length room
+  pub counted : count ≡ length ns
+  pub filled : room′ ≡ ns ++ drop (length ns) room

@@ -12,7 +12,7 @@ use Rattle.measure.specs.Table.{rowsOf}
 use Rattle.tree.specs.Calls.{saidBuild}
 use borrow.Author.Needs.{needs}
 use lib.Dec.{eqb}
-use lib.ListN.{length}
+use lib.ListN.{getD, length}
 use mathlib.Core.Bool.{_&&_, true}
 use mathlib.Core.Path.{_∙_, _≡_, sym}
 use native.Mathlib.Omega.{arith}
@@ -108,6 +108,12 @@ passed c =
     let r = answer (held c) in
     record { none = sym (said-is (c .before)) ∙ c .if2 .left; m-is = r .1; l-is = r .2 }
 
+-- the table's numbers have 16 bits
+narrow : (c : tie.After-p) (i : ℕ) → getD (begun c .args .table .now) i 0 ≤ 65535
+narrow c i =
+    let lent = tested c .before .before .before .before in
+    omega (arith, lent .shared-slice-known .given i)
+
 -- few rows and few nodes
 few : (c : tie.After-fill)
     → (rowsOf (begun (held (past c)) .args .table .now) (begun (held (past c)) .args .c) ≤ maxRows)
@@ -156,7 +162,7 @@ same-length-2 c = search needs
 returns-4 : tie.Need-returns-4
 returns-4 c =
     let f = c .before .before .before .before in
-    built-builds (passed (past f)) (f .fill .ensures) (search needs) (omega arith)
+    built-builds (passed (past f)) (narrow (held (past f))) (f .fill .ensures) (search needs) (omega arith)
 
 pub build-spec : {M : Type 1} → statement M
 build-spec =

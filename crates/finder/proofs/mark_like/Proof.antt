@@ -1,19 +1,40 @@
--- `finder::mark_like` meets its contract: the index is the one just built, so the search on it is exact.
+-- `finder::mark_like` meets its contract: a row that is not there, a build that is refused, and a search over what was built.
 -- Assumes nothing.
-use Prim.Native.Nat.{ℕ}
-use Rattle.finder.proofs.Indexed.{built-accepted, marked-exact, words-there}
+use Rattle.finder.proofs.Indexed.{words-there}
+use Rattle.finder.proofs.Outcomes.{marks-searched, marks-missing, marks-unbuilt}
 use Rattle.finder.proofs.mark_like.Statement.{statement}
 use Rattle.finder.proofs.mark_like.Tie as tie
+use Rattle.finder.specs.Calls.{There}
+use Rattle.laws.proofs.Tests.{no, yes}
 use borrow.Author.Needs.{needs}
+use borrow.Author.Tests.{leb-false, leb-true}
 use lib.Seq.{length-take-le}
 use mathlib.Core.Path.{sym}
-use native.Mathlib.Omega.{arith}
+
+-- the start, and that the table has the row
+abbrev start : tie.Else1 → tie.Start
+start c = c .before .before .before .before .before .before
+
+there : (c : tie.Else1) → There (start c .args .table .now) (start c .args .c) (start c .args .row)
+there c = leb-true _ _ (yes (c .before .has-row .ensures) (c .if1 .left))
+
+has-row-requires : tie.Need-has-row-requires
+has-row-requires c κs = search needs
+
+none-marked-requires : tie.Need-none-marked-requires
+none-marked-requires c κs = search needs
+
+returns : tie.Need-returns
+returns c = marks-missing (leb-false _ _ (no (c .before .before .has-row .ensures) (c .before .if1 .taken))) (c .none-marked .ensures)
 
 row-of-requires : tie.Need-row-of-requires
-row-of-requires c κs = search needs
+row-of-requires c κs = there c
 
 build-requires : tie.Need-build-requires
 build-requires c κs = search needs
+
+none-marked-requires-2 : tie.Need-none-marked-requires-2
+none-marked-requires-2 c κs = search needs
 
 same-length : tie.Need-same-length
 same-length c = search needs
@@ -21,16 +42,18 @@ same-length c = search needs
 same-length-2 : tie.Need-same-length-2
 same-length-2 c = search needs
 
-returns : tie.Need-returns
-returns c = record { exact = λ z. absurd (c .if1 .taken z) }
+returns-2 : tie.Need-returns-2
+returns-2 c =
+    let made = c .before .before .before .before .before .before in
+    marks-unbuilt (there (made .before .before .before .before)) (made .build .ensures) (c .before .if2 .taken) (c .none-marked2 .ensures)
 
 slice-reshare-prefix-radius : tie.Need-slice-reshare-prefix-radius
-slice-reshare-prefix-radius c = words-there (c .before .before .before .before .before .build .ensures) (c .if1 .left)
+slice-reshare-prefix-radius c = words-there (c .before .before .before .before .before .build .ensures) (c .if2 .left)
 
 slice-aggregate-radius : tie.Need-slice-aggregate-radius
 slice-aggregate-radius c =
     let made = c .before .before .before .before .before .before in
-    sym (length-take-le _ _ (words-there (made .build .ensures) (c .before .if1 .left)))
+    sym (length-take-le _ _ (words-there (made .build .ensures) (c .before .if2 .left)))
 
 radius-requires : tie.Need-radius-requires
 radius-requires c κs = search needs
@@ -44,29 +67,30 @@ same-length-4 c = search needs
 same-length-5 : tie.Need-same-length-5
 same-length-5 c = search needs
 
-returns-2 : tie.Need-returns-2
-returns-2 c =
+returns-3 : tie.Need-returns-3
+returns-3 c =
     let going = c .before .before .before .before .before in
     let made = going .before .before .before .before .before in
-    let asked = made .before .before .before in
-    let lent = asked .before .before .before .before in
-    marked-exact (built-accepted (made .build .ensures) (going .if1 .left) (λ (i : ℕ). omega (arith, lent .shared-slice-known .given i)))
-    (c .before .before .radius .ensures)
-    (asked .row-of .ensures .0)
+    marks-searched (there (made .before .before .before .before)) (made .build .ensures) (going .if2 .left)
+    (made .before .before .before .row-of .ensures .0) (c .before .before .radius .ensures)
 
 pub mark-like-spec : {M : Type 1} → statement M
 mark-like-spec =
     tie.close
     (tie.spec
+    has-row-requires
+    none-marked-requires
+    returns
     row-of-requires
     build-requires
+    none-marked-requires-2
     same-length
     same-length-2
-    returns
+    returns-2
     slice-reshare-prefix-radius
     slice-aggregate-radius
     radius-requires
     same-length-3
     same-length-4
     same-length-5
-    returns-2)
+    returns-3)

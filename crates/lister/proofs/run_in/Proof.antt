@@ -1,12 +1,12 @@
--- `lister::run_in` meets its contract: a text that is read says three numbers or more.
+-- `lister::run_in` meets its contract: a text that is read says three numbers or more, and these are listed.
 -- Assumes nothing.
-use Rattle.lister.proofs.Low.{text-low}
+use Rattle.lister.proofs.Listed.{runs-listed, runs-unread}
 use Rattle.lister.proofs.run_in.Statement.{statement}
 use Rattle.lister.proofs.run_in.Tie as tie
 use Rattle.text.proofs.Outcome.{zero-reads}
 use borrow.Author.Needs.{needs}
 use lib.Seq.{length-take-le}
-use mathlib.Core.Path.{sym}
+use mathlib.Core.Path.{refl, sym}
 
 read-text-requires : tie.Need-read-text-requires
 read-text-requires c κs = search needs
@@ -30,7 +30,9 @@ same-length-2 : tie.Need-same-length-2
 same-length-2 c = search needs
 
 returns : tie.Need-returns
-returns c = text-low _ _ _ (c .before .before .before .before .read-numbers .ensures .said)
+returns c =
+    let read = c .before .before .before .before in
+    runs-unread (read .before .before .before .before .before .read-text .ensures) (read .read-numbers .ensures) (c .before .if1 .taken) refl
 
 slice-reshare-prefix-list : tie.Need-slice-reshare-prefix-list
 slice-reshare-prefix-list c = zero-reads _ _ _ _ _ (c .before .before .before .read-numbers .ensures) (c .if1 .left) .1
@@ -58,7 +60,11 @@ same-length-6 : tie.Need-same-length-6
 same-length-6 c = search needs
 
 returns-2 : tie.Need-returns-2
-returns-2 c = search needs
+returns-2 c =
+    let going = c .before .before .before .before .before .before .before .before in
+    let read = going .before .before .before in
+    runs-listed (read .before .before .before .before .before .read-text .ensures) (read .read-numbers .ensures) (going .if1 .left)
+    (c .before .before .before .before .list .ensures)
 
 pub run-in-spec : {M : Type 1} → statement M
 run-in-spec =

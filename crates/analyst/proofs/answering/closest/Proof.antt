@@ -1,10 +1,9 @@
--- `analyst::answering::closest` meets its contract: the row asked about is one of the table, and the answers fit their rooms.
+-- `analyst::answering::closest` meets its contract: the answers fit their rooms.
 -- Assumes nothing.
 use Rattle.analyst.proofs.answering.closest.Statement.{statement}
 use Rattle.analyst.proofs.answering.closest.Tie as tie
-use Rattle.measure.proofs.Rows.{row-ends}
+use Rattle.finder.proofs.Theorems.{finds-exact}
 use borrow.Author.Needs.{needs}
-use native.Mathlib.Omega.{arith}
 
 index-room-requires : tie.Need-index-room-requires
 index-room-requires c κs = search needs
@@ -37,9 +36,7 @@ slice-aggregate-find-nearest-5 : tie.Need-slice-aggregate-find-nearest-5
 slice-aggregate-find-nearest-5 c = search needs
 
 find-nearest-requires : tie.Need-find-nearest-requires
-find-nearest-requires c κs =
-    let start = c .before .before .before .before .before .before .before .before .before .before .before in
-    omega (arith, start .pre .0, row-ends (start .args .c) (start .args .n) (start .args .row) (start .pre .1))
+find-nearest-requires c κs = search needs
 
 say-refused-requires : tie.Need-say-refused-requires
 say-refused-requires c κs = search needs
@@ -56,7 +53,7 @@ slice-aggregate-say-answers-2 c = search needs
 say-answers-requires : tie.Need-say-answers-requires
 say-answers-requires c κs =
     let going = c .before .before in
-    going .before .before .before .before .before .before .find-nearest .ensures .few (going .if1 .left)
+    finds-exact (going .before .before .before .before .before .before .find-nearest .ensures) (going .if1 .left) .few
 
 say-found-requires : tie.Need-say-found-requires
 say-found-requires c κs = search needs

@@ -25,9 +25,7 @@ slice-aggregate-mark-like-3 : tie.Need-slice-aggregate-mark-like-3
 slice-aggregate-mark-like-3 c = search needs
 
 mark-like-requires : tie.Need-mark-like-requires
-mark-like-requires c κs =
-    let start = c .before .before .before .before .before .before .before in
-    omega (arith, start .pre .1, row-ends (start .args .c) (start .args .n) (start .args .row) (start .pre .2))
+mark-like-requires c κs = search needs
 
 say-refused-requires : tie.Need-say-refused-requires
 say-refused-requires c κs = search needs
