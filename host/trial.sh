@@ -14,6 +14,9 @@ emulator=$(cat target/host/emulator)
 # The first program (examples/first.c) writes what it should.
 # shellcheck disable=SC2086
 $emulator target/host/first | diff examples/first.out -
+# Nothing is read or written through a pointer where the length is 0.
+# shellcheck disable=SC2086
+$emulator target/host/none
 # shellcheck disable=SC2086
 $emulator target/host/trial --self
 # shellcheck disable=SC2086

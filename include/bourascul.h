@@ -6,7 +6,8 @@
 
    LENDING. Every buffer is yours: nothing is allocated, nothing is kept, and when a call returns, the library holds no
    pointer of yours. A buffer is a pointer and its length in ELEMENTS (not bytes). For the time of a call:
-     - the pointer is not null, also where the length is 0, and is aligned for its element;
+     - the pointer is aligned for its element. It may be NULL where the length is 0, and only there: nothing is read or written
+       through it then, since every access is proved to be inside the length, and the compiled code takes no pointer for non-null;
      - a buffer that a call may change overlaps no other buffer of that call;
      - no other thread changes what is lent, nor reads what the call may change.
    Any CONTENT may be lent: words and bytes from a stranger are tested, never trusted. More room than asked for may be lent, and
@@ -15,8 +16,8 @@
    THREADS. There is no state between calls and no lock. Threads may share a table, an index, a query and an image and search at
    the same time; what a call may change (room, work, how, rows, distances, answers, image) each thread lends of its own.
 
-   STACK. Nothing else is taken. Bytes of stack that a call takes at most, measured on x86-64 (target/host/stack): write 40, list
-   128, read 240, build 392, nearest 592, nearest_answers 608, check 5,000, radius 19,816 (25 levels).
+   STACK. Nothing else is taken. Bytes of stack that a call takes at most, measured on x86-64 code (target/host/stack): write 40, list
+   128, read 240, build 392, nearest 592, nearest_answers 608, check 5,320, radius 19,816 (25 levels).
 
    NUMBERS. Each call but bourascul_list gives a number first. 0 is done; any other is a refusal, and of several the lowest
    is given (bourascul_read gives 8, 9 and 5 last, in this order; bourascul_write gives 16 before 5):
