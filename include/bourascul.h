@@ -14,7 +14,7 @@
    is left as it was.
 
    THREADS. There is no state between calls and no lock. Threads may share a table, an index, a query and an image and search at
-   the same time; what a call may change (room, work, how, rows, distances, answers, image) each thread lends of its own.
+   the same time; what a call may change (room, work, how, rows, distances, answers, an image that is written) each thread lends of its own.
 
    STACK. Nothing else is taken. Bytes of stack that a call takes at most, measured on x86-64 code (target/host/stack): write 40, list
    128, read 240, build 392, nearest 592, nearest_answers 608, check 5,320, radius 19,816 (25 levels).
@@ -53,9 +53,9 @@
    Edition 1, which is written no longer, had no inner reach: 8 + 4N + 2n words. A card of edition 1 is read as edition 2, with
    each node's inner reach worked out from the table (bourascul_read); in memory no call takes an index of edition 1.
 
-   A search tests an index's header, words and shape, and no more: where bourascul_check says 8 or 9, a search says the same
-   number. On an index that the check refuses with 10 to 13 a search stays within what is lent and gives number 0, but its answer
-   is not to be relied on: check an index from elsewhere once, before the first search.
+   A search tests an index's header, words and shape, and no more: where bourascul_check says 8 or 9, a search says the same, if
+   5, 6 or 7 does not come before. On an index that the check refuses with 10 to 13 a search stays within what is lent and gives 0
+   where nothing else is wrong, but its answer is not to be relied on: check an index from elsewhere once, before the first search.
 
    VERSION. This page and the archive belong together: take both from one commit. Major is raised where a call or a structure
    changes, minor where one is added. The index's edition, its first word, is another number: that of the words' layout. */
