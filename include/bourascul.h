@@ -78,18 +78,18 @@
 extern "C" {
 #endif
 
-/* The fixed limits of the index kind. */
-#define BOURASCUL_MOST_COLUMNS 16u
-#define BOURASCUL_MOST_ROWS 1048576u
-#define BOURASCUL_MOST_DISTANCE 1048560u
-#define BOURASCUL_BLOCK_BYTES 512u
-
 /* What a build is told where there is no reason for another choice. The edition is the only one that is built. Sixteen centres and
    leaves of 128 rows: a search tests every node's words, so that small leaves, which have many nodes, cost more than the rows that
    they spare; more centres gain nothing, and fewer build faster (docs/FIGURES.md has both by m and l). */
 #define BOURASCUL_EDITION 2u
 #define BOURASCUL_CENTRES 16u
 #define BOURASCUL_LEAF 128u
+
+/* The fixed limits of the index kind. */
+#define BOURASCUL_MOST_COLUMNS 16u
+#define BOURASCUL_MOST_ROWS 1048576u
+#define BOURASCUL_MOST_DISTANCE 1048560u
+#define BOURASCUL_BLOCK_BYTES 512u
 
 /* Words of room that a build over n rows asks for, enough for reading too, and words of workspace for build, check and
    nearest. */

@@ -1,7 +1,7 @@
 // The listing program: the text of standard input, read as c, m, l and a table; the table's index; its nodes and positions as lines of numbers.
 ghost use Prim.Native.Nat.{_*_, _+_, _≤_, min};
 ghost use Rattle.lister.specs.Keeps.{Keeps};
-ghost use Rattle.words.specs.Words.{headerWords, width};
+ghost use Rattle.words.specs.Words.{width};
 ghost use lib.ListN.{length};
 ghost use mathlib.Core.Path.{_≡_};
 use libc::STDIN_FILENO;
@@ -69,7 +69,7 @@ fn read_text(text: &mut [u8]) -> usize
 
 // Prints an index: a line for each node, and then one for each position.
 fn print_index(index: &[u32], nodes: usize, words: usize)
-    requires { ⌜ (headerWords + width 2 * nodes ≤ words) × (words ≤ length (now index)) ⌝ }
+    requires { ⌜ (8 + width 2 * nodes ≤ words) × (words ≤ length (now index)) ⌝ }
 {
     let at = HEADER + WIDTH * nodes;
     print_lines(&index[HEADER..at], WIDTH, LISTED);
