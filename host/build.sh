@@ -97,6 +97,8 @@ with=''
 compile trial -O2 trial kinds samples spoil calls lend self naive naive_tree naive_search
 compile season -O2 season minutes
 compile stack -O2 stack
+compile first -O2 ../examples/first
+compile none -O2 none
 
 yardstick "$cc" plain_first
 with="$out/plain_first.o"

@@ -11,6 +11,12 @@ rm -f target/host/trial
 host/build.sh --if-possible
 [ -x target/host/trial ] || exit 0
 emulator=$(cat target/host/emulator)
+# The first program (examples/first.c) writes what it should.
+# shellcheck disable=SC2086
+$emulator target/host/first | diff examples/first.out -
+# Nothing is read or written through a pointer where the length is 0.
+# shellcheck disable=SC2086
+$emulator target/host/none
 # shellcheck disable=SC2086
 $emulator target/host/trial --self
 # shellcheck disable=SC2086

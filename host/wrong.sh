@@ -19,7 +19,7 @@ stop() {
 }
 
 compile() {
-    "$cc" -std=c99 -O2 -Wall -Wextra -Wpedantic -Iinclude -Ihost -c -o "$2" "$1" || stop "$1 does not compile"
+    "$cc" -std=c99 -O2 -DBOURASCUL_ANY_PROCESSOR -Wall -Wextra -Wpedantic -Iinclude -Ihost -c -o "$2" "$1" || stop "$1 does not compile"
 }
 
 # ---- One library ----

@@ -1,4 +1,4 @@
-/* Bourascul: an exact similarity index over rows of 16-bit numbers, for C and C++ hosts on x86-64.
+/* Bourascul: an exact similarity index over rows of 16-bit numbers, for C and C++ hosts on x86-64. examples/first.c is a first program.
 
    A table is n rows of c columns, row after row. The distance of two rows is the sum over the columns of the absolute
    differences. An index over the table answers two questions without a guess: every row within r of a query (radius),
@@ -6,11 +6,15 @@
 
    LENDING. Every buffer is yours: nothing is allocated, nothing is kept, and when a call returns, the library holds no
    pointer of yours. A buffer is a pointer and its length in ELEMENTS (not bytes). For the time of a call:
-     - the pointer is not null, also where the length is 0, and is aligned for its element;
+     - the pointer is aligned for its element. It may be NULL where the length is 0, and only there: nothing is read or written
+       through it then, since every access is proved to be inside the length, and the compiled code takes no pointer for non-null;
      - a buffer that a call may change overlaps no other buffer of that call;
      - no other thread changes what is lent, nor reads what the call may change.
-   Calls on different buffers may run at the same time; there is no state between calls. Any CONTENT may be lent: words
-   and bytes from a stranger are tested, never trusted. More room than asked for may be lent, and is left as it was.
+   Any CONTENT may be lent: words and bytes from a stranger are tested, never trusted. More room than asked for may be lent, and
+   is left as it was.
+
+   THREADS. There is no state between calls and no lock. Threads may share a table, an index, a query and an image and search at
+   the same time; what a call may change (room, work, how, rows, distances, answers, an image that is written) each thread lends of its own.
 
    STACK. Nothing else is taken. Bytes of stack that a call takes at most, measured on x86-64 (target/host/stack): write 40, list
    128, read 240, build 392, nearest 592, nearest_answers 608, check 5,000, radius 19,816 (25 levels).
@@ -49,17 +53,37 @@
    Edition 1, which is written no longer, had no inner reach: 8 + 4N + 2n words. A card of edition 1 is read as edition 2, with
    each node's inner reach worked out from the table (bourascul_read); in memory no call takes an index of edition 1.
 
-   A search tests an index's shape, not all of it: on an index that bourascul_check would refuse it stays within what is
-   lent and gives number 0, but what it answers is open. */
+   A search tests an index's header, words and shape, and no more: where bourascul_check says 8 or 9, a search says the same, if
+   5, 6 or 7 does not come before. On an index that the check refuses with 10 to 13 a search stays within what is lent and gives 0
+   where nothing else is wrong, but its answer is not to be relied on: check an index from elsewhere once, before the first search.
+
+   VERSION. This page and the archive belong together: take both from one commit. Major is raised where a call or a structure
+   changes, minor where one is added. The index's edition, its first word, is another number: that of the words' layout. */
 #ifndef BOURASCUL_H
 #define BOURASCUL_H
+
+/* The archive of `rt staticlib` is x86-64 code for Linux, called as the System V ABI says. Who compiles the library's code himself
+   for another processor defines BOURASCUL_ANY_PROCESSOR; the calls and structures are the same there, with 64-bit lengths. */
+#if !(defined(__x86_64__) && defined(__LP64__)) && !defined(BOURASCUL_ANY_PROCESSOR)
+#error "libbourascul.a is x86-64 code for Linux: define BOURASCUL_ANY_PROCESSOR only where the library was compiled for this processor"
+#endif
 
 #include <stddef.h>
 #include <stdint.h>
 
+#define BOURASCUL_VERSION_MAJOR 2
+#define BOURASCUL_VERSION_MINOR 0
+
 #ifdef __cplusplus
 extern "C" {
 #endif
+
+/* What a build is told where there is no reason for another choice. The edition is the only one that is built. Sixteen centres and
+   leaves of 128 rows: a search tests every node's words, so that small leaves, which have many nodes, cost more than the rows that
+   they spare; more centres gain nothing, and fewer build faster (docs/FIGURES.md has both by m and l). */
+#define BOURASCUL_EDITION 2u
+#define BOURASCUL_CENTRES 16u
+#define BOURASCUL_LEAF 128u
 
 /* The fixed limits of the index kind. */
 #define BOURASCUL_MOST_COLUMNS 16u
@@ -74,6 +98,54 @@ extern "C" {
 
 /* Blocks that an index of so many words takes in an image. */
 #define BOURASCUL_BLOCKS(words) (((size_t)(words) + 126u) / 127u)
+
+/* The numbers, as above. */
+enum {
+    BOURASCUL_DONE = 0,
+    BOURASCUL_BAD_COLUMNS = 1,
+    BOURASCUL_BAD_PARAMETERS = 2,
+    BOURASCUL_BAD_LENGTH = 3,
+    BOURASCUL_TOO_MANY_ROWS = 4,
+    BOURASCUL_ROOM_TOO_SHORT = 5,
+    BOURASCUL_BAD_QUERY = 6,
+    BOURASCUL_NONE_WANTED = 7,
+    BOURASCUL_BAD_INDEX = 8,
+    BOURASCUL_BAD_SHAPE = 9,
+    BOURASCUL_ROW_AGAIN = 10,
+    BOURASCUL_WRONG_DISTANCE = 11,
+    BOURASCUL_WRONG_REACH = 12,
+    BOURASCUL_CLOSER_CENTRE = 13,
+    BOURASCUL_BAD_IMAGE_LENGTH = 14,
+    BOURASCUL_WRONG_CHECK_WORD = 15,
+    BOURASCUL_BAD_IMAGE_HEADER = 16,
+    BOURASCUL_REST_NOT_ZERO = 17
+};
+
+/* A number in words, for a line to a user or a log. */
+static inline const char *bourascul_message(uint32_t number)
+{
+    static const char *const messages[] = {
+        "done",
+        "the columns are not 1 to 16",
+        "m is not 2 to 64, or l is not m to 1,024, or the edition is not 2",
+        "the table's length is no multiple of the columns",
+        "the table has more than 1,048,576 rows",
+        "a lent buffer is too short",
+        "the query's length is not the columns",
+        "no row is wanted",
+        "the index is no index of this table",
+        "the index's shape is wrong",
+        "a row stands in the index a second time",
+        "a stored distance is wrong",
+        "a node's radius or inner reach is wrong",
+        "a row is closer to another centre",
+        "the image is empty or no multiple of 512 bytes",
+        "a block's check word is wrong",
+        "the header is impossible, or the words or blocks are not as many as it asks for",
+        "a word after the image's last is not zero"
+    };
+    return number < sizeof messages / sizeof messages[0] ? messages[number] : "no number of this library";
+}
 
 /* What a search knows of a row. After radius: 0 out, 1 out and measured, 2 in, 3 in and measured. After nearest: 0 not
    measured, 1 measured, 3 an answer. */
@@ -134,7 +206,7 @@ typedef struct bourascul_part {
    Numbers: 0, 1, 2, 3, 4, 5.
    Done: the first `words` words of room are the index, which bourascul_check accepts, and the rest stays; the first 6n
    words of work are 0, and the rest stays. The same table, m and l always give the same index.
-   For single searches m = 16 and l = 128 are a good choice: a search tests every node, and larger leaves have fewer. */
+   BOURASCUL_CENTRES, BOURASCUL_LEAF and BOURASCUL_EDITION are a good choice of m, l and edition. */
 bourascul_built bourascul_build(const uint16_t *table, size_t table_length, uint32_t c, uint32_t m, uint32_t l, uint32_t edition,
                                 uint32_t *room, size_t room_length, uint32_t *work, size_t work_length);
 
@@ -200,7 +272,10 @@ bourascul_taken bourascul_read(const uint8_t *image, size_t image_length, const 
 
 /* Where a node's members stand in the index: (row number, distance from its leaf's first) pairs, in run order.
    Lent: the index.
-   Both fields are 0 exactly when words are missing, the header is impossible, the shape is wrong or there is no such node. */
+   Both fields are 0 exactly when words are missing, the header is impossible, the shape is wrong or there is no such node.
+   Every call tests the whole shape, all nodes and positions: a host that lists every node pays for that N times. After one listing
+   of node 0 that is not empty such a host may read the other runs from the words itself: node k's start and count are words
+   8 + 5k and 9 + 5k, and its pairs stand from word 8 + 5N + 2 * start on. */
 bourascul_part bourascul_list(const uint32_t *index, size_t index_length, uint32_t node);
 
 #ifdef __cplusplus

@@ -33,8 +33,8 @@ fn put_answer(text: &mut [u8], at: usize, row: usize, distance: u32) -> usize
     put_number(text, middle, distance as u64, b'\n')
 }
 
-// Puts a row that is marked in, with its distance. A row that is in without having been measured has no distance yet, so it is measured here for
-// the line alone: the count of measured rows is the search's own.
+// Puts a row that is marked in, with its distance. The search hands out marks and no distances, so every such row is measured here for the line
+// alone: the count of measured rows is the search's own.
 fn put_marked(
     table: &[u16],
     c: usize,

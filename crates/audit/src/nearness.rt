@@ -14,6 +14,7 @@ ghost use mathlib.Core.Bool.{true};
 ghost use mathlib.Core.Path.{_≡_};
 use crate::Checked;
 use crate::lesser;
+use limits::Params;
 use reach::apart;
 use reach::node_end;
 use words::places::centres;
@@ -23,13 +24,13 @@ use words::places::node_start;
 use words::places::nodes;
 
 // The firsts of the m nodes from number `child` on.
-fn firsts(index: &[u32], child: usize) -> [usize; 64]
+fn firsts(index: &[u32], child: usize) -> [usize; Params::MOST_CENTRES]
     requires { ⌜ InShape (now index) ⌝ }
     requires { ⌜ child + m# (now index) ≤ N# (now index) ⌝ }
     ensures { λ fs. ⌜ Firsts (now (index .entry)) child fs ⌝ }
 {
     let m = centres(index);
-    let mut fs = [0usize; 64];
+    let mut fs = [0usize; Params::MOST_CENTRES];
     let mut i = 0;
     while i < m {
         let f = node_first(index, child + i);
@@ -57,7 +58,7 @@ fn closer_to_other(
     c: usize,
     index: &[u32],
     child: usize,
-    fs: &[usize; 64],
+    fs: &[usize; Params::MOST_CENTRES],
     g: usize,
     x: u32,
     p: usize,
@@ -83,7 +84,7 @@ fn child_stray(
     table: &[u16],
     c: usize,
     index: &[u32],
-    fs: &[usize; 64],
+    fs: &[usize; Params::MOST_CENTRES],
     k: usize,
     a: usize,
 ) -> usize

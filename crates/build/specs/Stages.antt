@@ -3,12 +3,13 @@ use Prim.Native.Nat.{_*_, _+_, _<_, _≤_, ℕ}
 use Rattle.build.specs.Levels.{Item, leafNode, levelOut, nextLevel, opened, placed, waits}
 use Rattle.laws.specs.Every.{Every}
 use Rattle.laws.specs.Lists.{each, joined, keep}
-use Rattle.limits.specs.Limits.{maxColumns, maxRows}
+use Rattle.limits.specs.Limits.{maxCentres, maxColumns, maxLeaf, maxRows}
 use Rattle.measure.specs.Table.{between}
 use Rattle.split.specs.Runs.{Splittable, Splitted, laid}
 use Rattle.tree.specs.Build.{Run}
 use Rattle.tree.specs.Encode.{Node, nodeWords}
 use Rattle.split.specs.Places.{count#, nodeAt, start#}
+use Rattle.words.specs.Words.{headerWords}
 use lib.ListN.{drop, length, set, take}
 use mathlib.Core.List.{List, _++_, map}
 use mathlib.Core.Path.{_≡_}
@@ -19,13 +20,13 @@ pub record Fit (t : List ℕ) (c m l n : ℕ) : Type 0 where
   pub rows : n ≤ maxRows
   pub table : c * n ≤ length t
   pub two : 2 ≤ m
-  pub most : m ≤ 64
+  pub most : m ≤ maxCentres
   pub leafy : m ≤ l
-  pub leaf : l ≤ 1024
+  pub leaf : l ≤ maxLeaf
 
 -- a room in which these nodes' words were written behind the header
 abbrev pub withNodes : List ℕ → List Node → List ℕ
-withNodes room ns = take 8 room ++ (each (nodeWords 2) ns ++ drop (nodeAt (length ns)) room)
+withNodes room ns = take headerWords room ++ (each (nodeWords 2) ns ++ drop (nodeAt (length ns)) room)
 
 -- the first half of the workspace is runs that follow each other: none empty, no row in one twice, rows below n, n of them
 pub record Tiled (d : ℕ → ℕ → ℕ) (n : ℕ) (work : List ℕ) (tiles : List (List ℕ)) : Type 0 where
@@ -40,7 +41,7 @@ pub record Tiled (d : ℕ → ℕ → ℕ) (n : ℕ) (work : List ℕ) (tiles : 
 pub record Stage (d : ℕ → ℕ → ℕ) (m l n : ℕ) (origin : List ℕ) (before : List Node) (items : List Item) (tiles : List (List ℕ))
     (room work : List ℕ) (lo hi : ℕ) : Type 0 where
   pub nodes : room ≡ withNodes origin (before ++ map (leafNode d m l) items)
-  pub space : 10 * n + 8 ≤ length origin
+  pub space : 10 * n + headerWords ≤ length origin
   pub first : lo ≡ length before
   pub last : hi ≡ length before + length items
   pub few : hi + 1 ≤ 2 * length tiles
@@ -68,7 +69,7 @@ Staged t c m l n room work lo hi room′ work′ r =
 pub record Openable (t : List ℕ) (c m l n : ℕ) (room work : List ℕ) (k made : ℕ) : Type 0 where
   pub old : k < made
   pub small : made ≤ 2097152
-  pub centres : m ≤ 64
+  pub centres : m ≤ maxCentres
   pub there : nodeAt made ≤ length room
   pub ready : l < count# room k → Splittable t c m n room work (start# room k) (count# room k) made
 

@@ -204,14 +204,7 @@ pub fn put_positions(part: &mut [u32], n: usize, work: &[u32])
 }
 
 // The index over n rows, in a room that is long enough and with a workspace of 6n words. Gives the number of nodes.
-pub fn fill(
-    table: &[u16],
-    c: usize,
-    p: Params,
-    n: usize,
-    room: &mut [u32],
-    work: &mut [u32],
-) -> usize
+fn fill(table: &[u16], c: usize, p: Params, n: usize, room: &mut [u32], work: &mut [u32]) -> usize
     requires { ⌜ Room (now table) c (p .centres) (p .leaf) n (now room) (now work) ⌝ }
     ensures { λ r. ⌜ Filled (now (table .entry)) c (p .centres) (p .leaf) n (now (room .entry)) (now (room .exit)) (now (work .exit)) r ⌝ }
 {
@@ -230,7 +223,7 @@ pub fn too_short(n: usize, room: usize, work: usize) -> bool
     requires { ⌜ n ≤ maxRows ⌝ }
     ensures { λ r. ⌜ r ≡ shortOf n room work ⌝ }
 {
-    if room < 12 * n + 8 {
+    if room < 12 * n + HEADER {
         return true;
     }
     work < 6 * n

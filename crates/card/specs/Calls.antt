@@ -6,7 +6,7 @@ use Rattle.measure.specs.Table.{between, rowsOf}
 use Rattle.tree.specs.Widen.{widen}
 use Rattle.words.specs.Image.{imageFaults}
 use Rattle.words.specs.Shape.{shapeOk}
-use Rattle.words.specs.Words.{N#, c#, edition#, n#, width}
+use Rattle.words.specs.Words.{N#, c#, edition#, headerWords, n#, width}
 use lib.Dec.{eqb, ltb}
 use lib.ListN.{drop, length}
 use mathlib.Core.Bool.{_&&_, cond, not}
@@ -23,7 +23,7 @@ readWords T c i =
 unfoldable pub readTotal : List ℕ → ℕ
 readTotal i =
     let v = cardWords i in
-    8 + width 2 * N# v + 2 * n# v
+    headerWords + width 2 * N# v + 2 * n# v
 
 -- 8 and 9: the card and the table
 unfoldable pub cardFaults : List ℕ → ℕ → List ℕ → List Said

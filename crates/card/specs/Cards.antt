@@ -3,7 +3,7 @@ use Prim.Native.Nat.{_*_, _+_, _/_, _≤_, ℕ}
 use Rattle.laws.specs.Upto.{mostTo}
 use Rattle.words.specs.Image.{blocksFor, imageTotal, imageWords}
 use Rattle.words.specs.InShape.{Whole}
-use Rattle.words.specs.Words.{dist#, cardOk, n#, pairAt, row#}
+use Rattle.words.specs.Words.{cardOk, dist#, headerWords, n#, pairAt, row#}
 use lib.ListN.{length}
 use mathlib.Core.Bool.{true}
 use mathlib.Core.List.{List}
@@ -15,7 +15,7 @@ cardWords i = imageWords i (imageTotal i)
 
 -- past 14 to 17: the card's header is possible, and it has the blocks that the header asks for
 pub record Carded (i : List ℕ) : Type 0 where
-  pub header : cardOk (imageWords i 8) ≡ true
+  pub header : cardOk (imageWords i headerWords) ≡ true
   pub blocks : length i / 512 ≡ blocksFor (imageTotal i)
 
 -- its index words are whole, and stand in its blocks

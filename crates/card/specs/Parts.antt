@@ -3,7 +3,7 @@ use Prim.Native.Nat.{_*_, _+_, ℕ}
 use Rattle.laws.specs.Lists.{each, range}
 use Rattle.tree.specs.Encode.{nodeWords, pairWords}
 use Rattle.tree.specs.Widen.{widen, widened}
-use Rattle.words.specs.Words.{N#, c#, dist#, kind#, l#, last#, m#, n#, row#}
+use Rattle.words.specs.Words.{N#, c#, dist#, headerWords, kind#, l#, last#, m#, n#, row#}
 use lib.ListN.{drop}
 use mathlib.Core.List.{List, [], _++_, _∷_, map}
 
@@ -29,7 +29,7 @@ withPairs w part = pairsTo w (n# w) ++ drop (2 * n# w) part
 
 -- how many words the widened index has
 abbrev pub wideLong : List ℕ → ℕ
-wideLong w = 8 + 5 * N# w + 2 * n# w
+wideLong w = headerWords + 5 * N# w + 2 * n# w
 
 -- a room with the widened index at its front
 abbrev pub withWide : (ℕ → ℕ → ℕ) → List ℕ → List ℕ → List ℕ

@@ -6,7 +6,7 @@ ghost use Rattle.card.specs.Parts.{topOf, wideLong, withNodes, withPairs
 ghost use Rattle.card.specs.Tabled.{Tabled};
 ghost use Rattle.limits.specs.Said.{said};
 ghost use Rattle.measure.specs.Table.{between};
-ghost use Rattle.words.specs.Words.{N#, n#};
+ghost use Rattle.words.specs.Words.{N#, headerWords, n#};
 ghost use lib.ListN.{drop, length};
 ghost use mathlib.Core.List.{_++_};
 ghost use mathlib.Core.Path.{_≡_};
@@ -37,8 +37,8 @@ const WIDE: usize = 5;
 // The header: edition 2, and all else as it was.
 fn put_top(image: &[u8], room: &mut [u32])
     requires { ⌜ Held (now image) ⌝ }
-    requires { ⌜ 8 ≤ length (now room) ⌝ }
-    ensures { λ _. ⌜ now (room .exit) ≡ topOf (cardWords (now (image .entry))) ++ drop 8 (now (room .entry)) ⌝ }
+    requires { ⌜ headerWords ≤ length (now room) ⌝ }
+    ensures { λ _. ⌜ now (room .exit) ≡ topOf (cardWords (now (image .entry))) ++ drop headerWords (now (room .entry)) ⌝ }
 {
     get_words(image, HEADER, room);
     room[0] = 2;

@@ -2,6 +2,7 @@
 ghost use Prim.Native.Nat.{_*_, _+_, _<_, _≤_};
 ghost use Rattle.card.specs.Cards.{Carded, GreatestTo, Held, InBlock, cardWords};
 ghost use Rattle.laws.specs.Lists.{all, range};
+ghost use Rattle.limits.specs.Limits.{maxCentres};
 ghost use Rattle.words.specs.Pass.{fits, roomy};
 ghost use Rattle.words.specs.Shape.{brood, positionOk, rootFits, shapeOk, tile, treeFits};
 ghost use Rattle.words.specs.Words.{N#, n#};
@@ -25,7 +26,7 @@ use words::shape::greater;
 // The runs of m nodes from number j on tile the positions s up to e, in order.
 fn tiles(image: &[u8], j: usize, m: usize, s: usize, e: usize) -> bool
     requires { ⌜ Held (now image) ⌝ }
-    requires { ⌜ (m ≤ 64) × (s < 4294967296) × (j + m ≤ N# (cardWords (now image))) ⌝ }
+    requires { ⌜ (m ≤ maxCentres) × (s < 4294967296) × (j + m ≤ N# (cardWords (now image))) ⌝ }
     ensures { λ r. ⌜ r ≡ tile (cardWords (now (image .entry))) j m s e ⌝ }
 {
     let mut at = s;
@@ -43,7 +44,7 @@ fn tiles(image: &[u8], j: usize, m: usize, s: usize, e: usize) -> bool
 // The children of node k, if it has any, have numbers below the node count.
 fn has_room(image: &[u8], k: usize, next: usize) -> bool
     requires { ⌜ Held (now image) ⌝ }
-    requires { ⌜ (k < N# (cardWords (now image))) × (next ≤ 64 * k + 1) ⌝ }
+    requires { ⌜ (k < N# (cardWords (now image))) × (next ≤ maxCentres * k + 1) ⌝ }
     ensures { λ r. ⌜ r ≡ roomy (cardWords (now (image .entry))) k next ⌝ }
 {
     if card_child(image, k) == 0 {
@@ -55,7 +56,7 @@ fn has_room(image: &[u8], k: usize, next: usize) -> bool
 // Node k fits, at the given depth, if `next` is the number that its first child must have.
 fn node_fits(image: &[u8], k: usize, next: usize, depth: usize) -> bool
     requires { ⌜ Held (now image) ⌝ }
-    requires { ⌜ (k < N# (cardWords (now image))) × (k < next) × (next ≤ 64 * k + 1) ⌝ }
+    requires { ⌜ (k < N# (cardWords (now image))) × (k < next) × (next ≤ maxCentres * k + 1) ⌝ }
     ensures { λ r. ⌜ r ≡ fits (cardWords (now (image .entry))) k next depth ⌝ }
 {
     if !has_room(image, k, next) {

@@ -2,6 +2,7 @@
 ghost use Prim.Native.Nat.{_*_, _+_, _/_, _<_, _≤_, min};
 ghost use Rattle.image.specs.Sound.{Sound, heldFaults, restZero};
 ghost use Rattle.words.specs.Image.{imageFaults, imageWords};
+ghost use Rattle.words.specs.Words.{headerWords};
 ghost use lib.ListN.{drop, length, take};
 ghost use mathlib.Core.List.{_++_};
 ghost use mathlib.Core.Path.{_≡_};
@@ -13,6 +14,7 @@ use crate::word::get_word;
 use crate::word::image_word;
 use crate::word::words_of;
 use words::header::card_ok;
+use words::places::HEADER;
 
 // What is wrong with an image: a number, the block that it names, and with 0 how many words its index has.
 pub struct Checked {
@@ -63,12 +65,12 @@ pub fn get_words(image: &[u8], t: usize, room: &mut [u32])
 }
 
 // The eight header words.
-fn header_of(image: &[u8]) -> [u32; 8]
+fn header_of(image: &[u8]) -> [u32; HEADER]
     requires { ⌜ 512 ≤ length (now image) ⌝ }
-    ensures { λ r. ⌜ r ≡ imageWords (now (image .entry)) 8 ⌝ }
+    ensures { λ r. ⌜ r ≡ imageWords (now (image .entry)) headerWords ⌝ }
 {
-    let mut header = [0u32; 8];
-    get_words(image, 8, &mut header);
+    let mut header = [0u32; HEADER];
+    get_words(image, HEADER, &mut header);
     header
 }
 

@@ -1,7 +1,7 @@
 // A word and its four bytes, the lowest first, and where the index words stand in the blocks.
 ghost use Prim.Native.Nat.{_*_, _+_, _/_, _<_, _≤_};
 ghost use Rattle.words.specs.Image.{blocksFor, bytes, imageWord, wordAt};
-ghost use Rattle.words.specs.Words.{at, cardOk, wordsOf};
+ghost use Rattle.words.specs.Words.{at, cardOk, headerWords, wordsOf};
 ghost use lib.ListN.{drop, length};
 ghost use mathlib.Core.Bool.{true};
 ghost use mathlib.Core.List.{_++_};
@@ -19,7 +19,7 @@ pub const HELD: usize = 127;
 
 // How many words the header at the front of these asks for: below 2^35.
 pub fn words_of(header: &[u32]) -> usize
-    requires { ⌜ (8 ≤ length (now header)) × (cardOk (now header) ≡ true) ⌝ }
+    requires { ⌜ (headerWords ≤ length (now header)) × (cardOk (now header) ≡ true) ⌝ }
     ensures { λ r. ⌜ (r ≡ wordsOf (now (header .entry))) × (r < 34359738368) ⌝ }
 {
     HEADER + width(header) * nodes(header) + 2 * rows(header)

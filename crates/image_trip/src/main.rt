@@ -1,4 +1,5 @@
-// The image of the five-row index, written to a file and read back over its table, and what reading says of images that are wrong.
+// The image of the five-row index, written to a file and read back over its table, two nodes of it listed, and what reading says of images that are
+// wrong.
 ghost use Prim.Native.Nat.{_<_, _≤_};
 ghost use Rattle.io.specs.Counts.{Counts};
 ghost use lib.ListN.{length};
@@ -7,6 +8,7 @@ use libc::STDOUT_FILENO;
 use lines::print_lines;
 use samples::FIVE_ROWS;
 use samples::five_index;
+use words::listing::list_node;
 
 // Two numbers on a line.
 fn print_pair(a: u32, b: usize) {
@@ -74,7 +76,15 @@ fn print_index(room: &[u32])
     print_lines(&room[33..], 2, 2);
 }
 
-// The five-row index through a file: what writing and reading say, then its nodes and positions.
+// A node's number and how many words its members have, then the members, a line each.
+fn print_members(index: &[u32], k: u32) {
+    let part = list_node(index, k as usize);
+    print_pair(k, part.len());
+    print_lines(part, 2, 2);
+}
+
+// The five-row index through a file: what writing and reading say, then its nodes and positions, the members of node 2, and those of node 5, which
+// is not there.
 fn trip(image: &mut [u8], table: &[u16]) {
     let index = five_index();
     let written = image::write_image(&index, image);
@@ -86,6 +96,8 @@ fn trip(image: &mut [u8], table: &[u16]) {
     let read = read_image(&back[..n], table, 1, &mut room);
     print_pair(read.number, read.words);
     print_index(&room);
+    print_members(&room, 2);
+    print_members(&room, 5);
 }
 
 // The image of 150 rows in one leaf, in three blocks.

@@ -19,6 +19,17 @@ maxDepth = 24
 abbrev pub maxDistance : ℕ
 maxDistance = 1_048_560
 
+-- 01, What the library holds: an inner node has at least and at most this many centres
+abbrev pub minCentres : ℕ
+minCentres = 2
+
+abbrev pub maxCentres : ℕ
+maxCentres = 64
+
+-- 01, the same: the greatest leaf size
+abbrev pub maxLeaf : ℕ
+maxLeaf = 1_024
+
 -- x is one of low .. high
 abbrev pub within : ℕ → ℕ → ℕ → Bool
 within low high x = leb low x && leb x high
@@ -29,7 +40,7 @@ columnsOk c = within 1 maxColumns c
 
 -- 01, What the library holds: an inner node may have m centres and a leaf l rows
 abbrev pub shareOk : ℕ → ℕ → Bool
-shareOk m l = within 2 64 m && within m 1_024 l
+shareOk m l = within minCentres maxCentres m && within m maxLeaf l
 
 -- the two editions that a card may be of; edition 2 has the inner reach (02, R-4)
 abbrev pub editionOk : ℕ → Bool

@@ -12,6 +12,7 @@ ghost use mathlib.Core.Path.{_≡_};
 use crate::centres::least_of;
 use crate::leaf::open_leaf;
 use crate::marking::measure_row;
+use limits::Params;
 use tree::bounds::kid_bound;
 use words::places::centres;
 use words::places::node_child;
@@ -49,7 +50,7 @@ fn open_inner(
     x: u32,
     r: u32,
     how: &mut [u8],
-) -> [u32; 64]
+) -> [u32; Params::MOST_CENTRES]
     requires { ⌜ Lent (now index) (now table) c (now query) (now how) ⌝ }
     requires { ⌜ (ch + m# (now index) ≤ N# (now index)) × (x ≤ maxDistance) × (x ≡ firstAt (from (now table) c (now query)) (now index) ch) ⌝ }
     ensures marks { λ _. ⌜ now (how .exit) ≡ marked (λ (j : ℕ). centreAt (from (now (table .entry)) c (now (query .entry))) r (now (index .entry)) (ch + j)) 1 (m# (now (index .entry))) (now (how .entry)) ⌝ }
@@ -57,7 +58,7 @@ fn open_inner(
 {
     let m = centres(index);
     let base = pair_at(index, 0);
-    let mut ds = [x; 64];
+    let mut ds = [x; Params::MOST_CENTRES];
     let mut j = 1;
     while j < m {
         let row = word(index, base + 2 * node_start(index, ch + j));

@@ -1,11 +1,11 @@
 -- Where a build grows the nodes: at the width of edition 2, whatever stood in the room before. Assumes nothing.
 use Prim.Native.Nat.{_*_, _+_, ℕ}
-use Rattle.words.specs.Words.{at, width}
+use Rattle.words.specs.Words.{at, headerWords, width}
 use mathlib.Core.List.{List}
 
 -- where node k's words stand
 abbrev pub nodeAt : ℕ → ℕ
-nodeAt k = 8 + width 2 * k
+nodeAt k = headerWords + width 2 * k
 
 -- where its run starts
 abbrev pub start# : List ℕ → ℕ → ℕ

@@ -106,7 +106,7 @@ fn round(table: &[u16], c: usize, part: &mut [u32])
 }
 
 // The rounds that leave m centres at the front of a run whose first is at the front.
-pub fn choose(table: &[u16], c: usize, m: usize, run: &mut [u32])
+pub(crate) fn choose(table: &[u16], c: usize, m: usize, run: &mut [u32])
     requires { ⌜ (c ≤ maxColumns) × (1 ≤ m) × (3 * m ≤ length (now run)) × Entries (InTable (now table) c) (now run) ⌝ }
     ensures { λ _. ⌜ now (run .exit) ≡ take 3 (now (run .entry)) ++ roundsOf (between (now (table .entry)) c) (m - 1) (drop 3 (now (run .entry))) ⌝ }
 {

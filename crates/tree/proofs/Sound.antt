@@ -67,8 +67,7 @@ module _ (d : ℕ → ℕ → ℕ) (x : ℕ → ℕ) (M : Point d x) where
       under-least x (x f) (2 * x i) (x c) (c ∷ cs)
       (omega (arith, M .down f i, M .across c i, hc .0))
       (every-of (λ e. d f i ≤ d e i) (λ e. x f ≤ 2 * x i + x e) (λ e h. omega (arith, M .down f i, M .across e i)) (c ∷ cs) hc) in
-      four b (x f - R .outer) (R .inner - x f) ((x f - least (x c) (map x (c ∷ cs)) + 1) / 2) (x i) hb (omega (arith, M .down f i))
-      (omega (arith, M .across f i)) (omega arith)
+      four _ _ _ _ (x i) (omega arith) (omega (arith, M .down f i)) (omega (arith, M .across f i)) (omega arith)
 
   -- the rows of one child but its first f, with its reach R
   kid : (b : ℕ) (R : Reach) (f c : ℕ) (cs is : List ℕ) → Every (λ i. b ≤ x i) is → Every (λ i. d f i ≤ R .outer) is → Every (λ i. R .inner ≤ d f i) is

@@ -5,6 +5,7 @@ use Rattle.limits.specs.Said.{Said, columnsFault, fault, lengthFaults, said, ta
 use Rattle.measure.specs.Table.{between, rowsOf}
 use Rattle.tree.specs.Check.{faults}
 use Rattle.words.specs.Calls.{indexFaults}
+use Rattle.words.specs.Words.{headerWords}
 use lib.Dec.{eqb, ltb}
 use lib.ListN.{length}
 use mathlib.Core.Bool.{_&&_, _||_, not}
@@ -12,7 +13,7 @@ use mathlib.Core.List.{List, _++_}
 
 -- how many words of room a build over n rows asks for
 abbrev pub roomOf : ℕ → ℕ
-roomOf n = 12 * n + 8
+roomOf n = 12 * n + headerWords
 
 -- build: 1, 2, 3, 4, 5. `room` and `work` are the lengths of what is lent
 unfoldable pub saidBuild : List ℕ → ℕ → ℕ → ℕ → ℕ → ℕ → ℕ → Said

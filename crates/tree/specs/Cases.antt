@@ -60,6 +60,18 @@ strayWords =
     ∷ 2 ∷ 1 ∷ 0 ∷ 0 ∷ 0
     ∷ 0 ∷ 0 ∷ 1 ∷ 1 ∷ 3 ∷ 0 ∷ 4 ∷ 0 ∷ 2 ∷ 10 ∷ []
 
+-- the five-row index with a sixth node, a leaf of the first position that is nobody's child
+abbrev pub orphanWords : List ℕ
+orphanWords =
+    2 ∷ 5 ∷ 1 ∷ 2 ∷ 2 ∷ 6 ∷ 1 ∷ 0
+    ∷ 0 ∷ 5 ∷ 1 ∷ 20 ∷ 1
+    ∷ 0 ∷ 3 ∷ 3 ∷ 10 ∷ 1
+    ∷ 3 ∷ 2 ∷ 0 ∷ 9 ∷ 9
+    ∷ 0 ∷ 2 ∷ 0 ∷ 1 ∷ 1
+    ∷ 2 ∷ 1 ∷ 0 ∷ 0 ∷ 0
+    ∷ 0 ∷ 1 ∷ 0 ∷ 0 ∷ 0
+    ∷ 0 ∷ 0 ∷ 1 ∷ 1 ∷ 2 ∷ 0 ∷ 4 ∷ 0 ∷ 3 ∷ 9 ∷ []
+
 pub data Case : Type 0 where
   -- the table is built to these words, and the check accepts them
   words : List ℕ → List ℕ → Case
@@ -138,6 +150,7 @@ ours =
     ∷ check (set fiveWords 12 1_048_561) 9 0 0
     ∷ check (set fiveWords 14 2) 9 0 0
     ∷ check (set fiveWords 33 5) 9 0 0
+    ∷ check orphanWords 9 0 0
     ∷ check (set fiveWords 35 0) 10 1 0
     ∷ check (set fiveWords 36 2) 11 1 0
     ∷ check (set fiveWords 11 19) 12 0 0

@@ -1,4 +1,12 @@
 -- A tree, numbered and written as index words: 01, The tree, the numbering and Index words. Assumes nothing.
+--
+-- The five-row tree (rows 0 1 10 11 20, m = 2, l = 2), with R for how far a node reaches:
+--     fork R0 (fork R1 (leaf R3 ((0, 0) ∷ (1, 1) ∷ []) (leaf R4 ((2, 0) ∷ []) bare)) (leaf R2 ((4, 0) ∷ (3, 9) ∷ []) bare)) bare
+-- Level 0 is one family, the root alone at position 0: node 0 is (0, 5, 1, R0), since span is 1 and so its first child is node 1.
+-- Its brood is one family of two at position 0: node 1 is (0, 3, 3, R1), an inner node whose children are numbered from 3 on, and
+-- node 2 is (3, 2, 0, R2), a leaf behind the three positions of node 1.
+-- The brood of level 1 is that of node 1: node 3 is (0, 2, 0, R3), and node 4 is (2, 1, 0, R4). They have no children.
+-- So N is 5, and the positions are the entries in order: 0 0, 1 1, 2 0, 4 0, 3 9.
 use Prim.Native.Nat.{_+_, suc, zero, ℕ}
 use Rattle.laws.specs.Lists.{each}
 use Rattle.limits.specs.Limits.{maxDepth}

@@ -20,6 +20,9 @@ module _ (x : ℕ → ℕ) where
 
   -- Every row but the nodes' firsts, with its home bound. β gives a node's bound from its first's distance and how far it reaches. A centre but
   -- the first is at home in the inner node whose centre it is, at the topmost such; any other row in its leaf.
+  -- β is 0 for the root, whatever its reach. For the children of a node with the bound b whose centres are at y at least it is `childBound b y`.
+  -- In the five-row table with query 9 the root's centres, rows 0 and 4, are at 9 and 11, so y is 9 and β is `childBound 0 9`: node 1, whose first
+  -- is at 9 and which reaches from 1 to 10, has the bound 0, and node 2, at 11 and from 9 to 9, has max (11 - 9) ((11 - 9 + 1) / 2) = 2.
   unfoldable pub homesIn : (ℕ → Reach → ℕ) → Grove → List (ℕ × ℕ)
   homesIn β bare = []
   homesIn β (leaf R es g) =

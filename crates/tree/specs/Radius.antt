@@ -21,6 +21,8 @@ module _ (x : ℕ → ℕ) (r : ℕ) where
   visit x R b others opened = cond (leb (x + R .outer) r) (map (λ i. (i, 2)) others) (cond (ltb r b) (map (λ i. (i, 0)) others) opened)
 
   -- every row but the nodes' firsts, with its how-byte; β gives a node's bound. An opened inner node measures every centre.
+  -- As in Homes, β is 0 for the root and `childBound b y` for the children of a node with the bound b. In the five-row table with query 9 and r 1
+  -- it is `childBound 0 9` for nodes 1 and 2: node 2 has the bound 2, which is above r, so it is closed and row 3 gets 0.
   unfoldable pub marksIn : (ℕ → Reach → ℕ) → Grove → List (ℕ × ℕ)
   marksIn β bare = []
   marksIn β (leaf R es g) =

@@ -38,7 +38,7 @@ pub fn smaller(a: u32, b: u32) -> u32
 }
 
 // Half of a, rounded up. (a + 1 could wrap.)
-pub fn half_up(a: u32) -> u32
+fn half_up(a: u32) -> u32
     ensures { λ r. ⌜ r ≡ (a + 1) / 2 ⌝ }
 {
     a - a / 2

@@ -2,7 +2,7 @@
 use Prim.Native.Nat.{_%_, _*_, _+_, _-_, _/_, _^_, suc, zero, ℕ}
 use Rattle.laws.specs.Lists.{all, each, keep, range}
 use Rattle.limits.specs.Said.{Said, fault, said}
-use Rattle.words.specs.Words.{at, cardOk, wordsOf, wordsOk}
+use Rattle.words.specs.Words.{at, cardOk, headerWords, wordsOf, wordsOk}
 use lib.Dec.{eqb, ltb}
 use lib.ListN.{length, take}
 use mathlib.Core.Bool.{Bool, _||_, not}
@@ -82,12 +82,12 @@ imageWords i (suc k) = imageWords i k ++ (imageWord i k ∷ [])
 
 -- how many words its header asks for
 unfoldable pub imageTotal : List ℕ → ℕ
-imageTotal i = wordsOf (imageWords i 8)
+imageTotal i = wordsOf (imageWords i headerWords)
 
 -- 14, 15 with the lowest block, 16, 17
 unfoldable pub imageFaults : List ℕ → List Said
 imageFaults i =
     let n = length i / 512 in
     fault 14 (eqb (length i) 0 || not (eqb (length i % 512) 0)) ++ map (λ b. (15, b, 0)) (keep (λ b. not (blockGood i b)) (range 0 n))
-    ++ fault 16 (not (cardOk (imageWords i 8)) || not (eqb n (blocksFor (imageTotal i))))
+    ++ fault 16 (not (cardOk (imageWords i headerWords)) || not (eqb n (blocksFor (imageTotal i))))
     ++ fault 17 (not (all (λ j. eqb (imageWord i j) 0) (range (imageTotal i) (127 * n - imageTotal i))))

@@ -1,6 +1,6 @@
 -- What the layers above use of an index in shape: the words' and the shape's tests, read node by node. Assumes nothing.
 use Prim.Native.Nat.{_*_, _+_, _-_, _<_, _≤_, ℕ}
-use Rattle.limits.specs.Limits.{maxColumns, maxDepth, maxDistance, maxRows}
+use Rattle.limits.specs.Limits.{maxCentres, maxColumns, maxDepth, maxDistance, maxLeaf, maxRows, minCentres}
 use Rattle.words.specs.Shape.{inner, level, tile}
 use Rattle.words.specs.Words.{N#, c#, child#, count#, dist#, edition#, inner#, l#, m#, n#, radius#, row#, start#, wordsOf}
 use lib.Dec.{T}
@@ -15,8 +15,8 @@ pub record Whole (w : List ℕ) : Type 0 where
   pub edition : (1 ≤ edition# w) × (edition# w ≤ 2)
   pub rows : n# w ≤ maxRows
   pub columns : (1 ≤ c# w) × (c# w ≤ maxColumns)
-  pub fan : (2 ≤ m# w) × (m# w ≤ 64)
-  pub leaf : (m# w ≤ l# w) × (l# w ≤ 1024)
+  pub fan : (minCentres ≤ m# w) × (m# w ≤ maxCentres)
+  pub leaf : (m# w ≤ l# w) × (l# w ≤ maxLeaf)
   pub nodes : N# w ≤ 2 * n# w
   pub rooted : 1 ≤ n# w → 1 ≤ N# w
 

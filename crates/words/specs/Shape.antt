@@ -50,7 +50,9 @@ positionOk w p = ltb (row# w p) (n# w) && leb (dist# w p) maxDistance
 abbrev pub rootFits : List ℕ → Bool
 rootFits w = eqb (start# w 0) 0 && eqb (count# w 0) (n# w)
 
--- and each of the N nodes but the root is a child of one other
+-- and each of the N nodes but the root is a child of one other. The children of nodes 0 .. k - 1 have the numbers 1 .. born w k - 1, each once
+-- and in order, since a node's first child has the number `born` at its own place. So born w N ≡ N says that the children of all nodes are
+-- exactly the numbers 1 .. N - 1: a node more would be nobody's child, and a child more would have no words.
 abbrev pub rootOk : List ℕ → ℕ → Bool
 rootOk w zero = true
 rootOk w (suc N) = rootFits w && eqb (born w (suc N)) (suc N)

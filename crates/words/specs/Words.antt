@@ -12,6 +12,10 @@ abbrev pub at : List ℕ → ℕ → ℕ
 at w i = getD w i 0
 
 -- ---- the header's eight words: edition, n, c, m, l, node count N, distance kind, and a last one
+-- how many they are
+abbrev pub headerWords : ℕ
+headerWords = 8
+
 -- the edition, 1 or 2
 abbrev pub edition# : List ℕ → ℕ
 edition# w = at w 0
@@ -66,7 +70,7 @@ width e = 3 + e
 
 -- where node k's words stand
 abbrev pub nodeAt : List ℕ → ℕ → ℕ
-nodeAt w k = 8 + width (edition# w) * k
+nodeAt w k = headerWords + width (edition# w) * k
 
 -- where node k's run starts
 abbrev pub start# : List ℕ → ℕ → ℕ
@@ -111,11 +115,11 @@ wordsOf w = pairAt w (n# w)
 
 -- a header is there and possible, and no word is missing
 unfoldable pub wordsOk : List ℕ → Bool
-wordsOk w = leb 8 (length w) && headerOk w && leb (wordsOf w) (length w)
+wordsOk w = leb headerWords (length w) && headerOk w && leb (wordsOf w) (length w)
 
 -- the same of words that may be of either edition, as a card's
 unfoldable pub wholeOk : List ℕ → Bool
-wholeOk w = leb 8 (length w) && cardOk w && leb (wordsOf w) (length w)
+wholeOk w = leb headerWords (length w) && cardOk w && leb (wordsOf w) (length w)
 
 -- ---- a node's positions, and its first
 -- the positions of node k's run

@@ -1,7 +1,7 @@
 // The header's test, and that no word is missing.
 ghost use Prim.Native.Nat.{_≤_};
 ghost use Rattle.limits.specs.Limits.{maxRows};
-ghost use Rattle.words.specs.Words.{cardOk, headerOk, nodesOk, wordsOk};
+ghost use Rattle.words.specs.Words.{cardOk, headerOk, headerWords, nodesOk, wordsOk};
 ghost use lib.ListN.{length};
 ghost use mathlib.Core.Path.{_≡_};
 use crate::places::HEADER;
@@ -25,7 +25,7 @@ fn nodes_ok(n: usize, nodes: usize) -> bool
 
 // The eight header words are possible on a card, which may be of either edition.
 pub fn card_ok(header: &[u32]) -> bool
-    requires { ⌜ 8 ≤ length (now header) ⌝ }
+    requires { ⌜ headerWords ≤ length (now header) ⌝ }
     ensures { λ r. ⌜ r ≡ cardOk (now (header .entry)) ⌝ }
 {
     if !edition_ok(word(header, 0)) {
@@ -52,7 +52,7 @@ pub fn card_ok(header: &[u32]) -> bool
 
 // The eight header words are possible.
 pub fn header_ok(index: &[u32]) -> bool
-    requires { ⌜ 8 ≤ length (now index) ⌝ }
+    requires { ⌜ headerWords ≤ length (now index) ⌝ }
     ensures { λ r. ⌜ r ≡ headerOk (now (index .entry)) ⌝ }
 {
     if word(index, 0) != Params::LAST_EDITION {

@@ -1,7 +1,7 @@
 // The index words by place.
 ghost use Prim.Native.Nat.{_*_, _+_, _<_, _≤_};
 ghost use Rattle.words.specs.InShape.{InShape, Whole};
-ghost use Rattle.words.specs.Words.{N#, at, c#, child#, count#, dist#, edition#, first#, inner#, l#, m#, n#, nodeAt, pairAt, radius#, row#, start#, width};
+ghost use Rattle.words.specs.Words.{N#, at, c#, child#, count#, dist#, edition#, first#, headerWords, inner#, l#, m#, n#, nodeAt, pairAt, radius#, row#, start#, width};
 ghost use lib.ListN.{length};
 ghost use mathlib.Core.Path.{_≡_};
 
@@ -10,7 +10,7 @@ pub const HEADER: usize = 8;
 
 // How many words each node has: 4 in edition 1, 5 in edition 2.
 pub fn width(index: &[u32]) -> usize
-    requires { ⌜ 8 ≤ length (now index) ⌝ }
+    requires { ⌜ headerWords ≤ length (now index) ⌝ }
     ensures { λ r. ⌜ (r ≡ width (edition# (now (index .entry)))) × (r < 4294967300) ⌝ }
 {
     3 + word(index, 0)
@@ -26,7 +26,7 @@ pub fn word(index: &[u32], i: usize) -> usize
 
 // How many rows the index is over.
 pub fn rows(index: &[u32]) -> usize
-    requires { ⌜ 8 ≤ length (now index) ⌝ }
+    requires { ⌜ headerWords ≤ length (now index) ⌝ }
     ensures { λ r. ⌜ (r ≡ n# (now (index .entry))) × (r < 4294967296) ⌝ }
 {
     word(index, 1)
@@ -34,7 +34,7 @@ pub fn rows(index: &[u32]) -> usize
 
 // How many columns its rows have.
 pub fn columns(index: &[u32]) -> usize
-    requires { ⌜ 8 ≤ length (now index) ⌝ }
+    requires { ⌜ headerWords ≤ length (now index) ⌝ }
     ensures { λ r. ⌜ (r ≡ c# (now (index .entry))) × (r < 4294967296) ⌝ }
 {
     word(index, 2)
@@ -42,7 +42,7 @@ pub fn columns(index: &[u32]) -> usize
 
 // How many centres an inner node has.
 pub fn centres(index: &[u32]) -> usize
-    requires { ⌜ 8 ≤ length (now index) ⌝ }
+    requires { ⌜ headerWords ≤ length (now index) ⌝ }
     ensures { λ r. ⌜ (r ≡ m# (now (index .entry))) × (r < 4294967296) ⌝ }
 {
     word(index, 3)
@@ -50,7 +50,7 @@ pub fn centres(index: &[u32]) -> usize
 
 // How many rows a leaf above depth 24 may have.
 pub fn leaf_size(index: &[u32]) -> usize
-    requires { ⌜ 8 ≤ length (now index) ⌝ }
+    requires { ⌜ headerWords ≤ length (now index) ⌝ }
     ensures { λ r. ⌜ (r ≡ l# (now (index .entry))) × (r < 4294967296) ⌝ }
 {
     word(index, 4)
@@ -58,7 +58,7 @@ pub fn leaf_size(index: &[u32]) -> usize
 
 // How many nodes there are.
 pub fn nodes(index: &[u32]) -> usize
-    requires { ⌜ 8 ≤ length (now index) ⌝ }
+    requires { ⌜ headerWords ≤ length (now index) ⌝ }
     ensures { λ r. ⌜ (r ≡ N# (now (index .entry))) × (r < 4294967296) ⌝ }
 {
     word(index, 5)

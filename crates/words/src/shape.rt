@@ -1,6 +1,7 @@
 // The shape test: one pass over the nodes, one over the positions, with no workspace.
 ghost use Prim.Native.Nat.{_*_, _+_, _<_, _≤_, max};
 ghost use Rattle.laws.specs.Lists.{all, range};
+ghost use Rattle.limits.specs.Limits.{maxCentres};
 ghost use Rattle.words.specs.InShape.{Whole};
 ghost use Rattle.words.specs.Pass.{fits, roomy};
 ghost use Rattle.words.specs.Shape.{brood, positionOk, rootFits, shapeOk, tile, treeFits};
@@ -24,7 +25,7 @@ use limits::Params;
 // The runs of m nodes from number j on tile the positions s up to e, in order.
 fn tiles(index: &[u32], j: usize, m: usize, s: usize, e: usize) -> bool
     requires { ⌜ Whole (now index) ⌝ }
-    requires { ⌜ (m ≤ 64) × (s < 4294967296) × (j + m ≤ N# (now index)) ⌝ }
+    requires { ⌜ (m ≤ maxCentres) × (s < 4294967296) × (j + m ≤ N# (now index)) ⌝ }
     ensures { λ r. ⌜ r ≡ tile (now (index .entry)) j m s e ⌝ }
 {
     let mut at = s;
@@ -42,7 +43,7 @@ fn tiles(index: &[u32], j: usize, m: usize, s: usize, e: usize) -> bool
 // The children of node k, if it has any, have numbers below the node count.
 fn has_room(index: &[u32], k: usize, next: usize) -> bool
     requires { ⌜ Whole (now index) ⌝ }
-    requires { ⌜ (k < N# (now index)) × (next ≤ 64 * k + 1) ⌝ }
+    requires { ⌜ (k < N# (now index)) × (next ≤ maxCentres * k + 1) ⌝ }
     ensures { λ r. ⌜ r ≡ roomy (now (index .entry)) k next ⌝ }
 {
     if node_child(index, k) == 0 {
@@ -54,7 +55,7 @@ fn has_room(index: &[u32], k: usize, next: usize) -> bool
 // Node k, whose words stand from `here` on, fits, at the given depth, if `next` is the number that its first child must have.
 fn node_fits(index: &[u32], k: usize, here: usize, next: usize, depth: usize) -> bool
     requires { ⌜ Whole (now index) ⌝ }
-    requires { ⌜ (k < N# (now index)) × (here ≡ nodeAt (now index) k) × (k < next) × (next ≤ 64 * k + 1) × (edition# (now index) ≡ 2) ⌝ }
+    requires { ⌜ (k < N# (now index)) × (here ≡ nodeAt (now index) k) × (k < next) × (next ≤ maxCentres * k + 1) × (edition# (now index) ≡ 2) ⌝ }
     ensures { λ r. ⌜ r ≡ fits (now (index .entry)) k next depth ⌝ }
 {
     let count = word(index, here + 1);

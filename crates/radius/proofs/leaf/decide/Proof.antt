@@ -1,6 +1,6 @@
 -- `radius::leaf::decide` meets its contract: its two tests are those of the decision, in its order.
 -- Assumes nothing.
-use Prim.Native.Nat.{_<_, _≤_}
+use Prim.Native.Nat.{_+_, _<_, _≤_}
 use Rattle.laws.specs.Lists.{gap}
 use Rattle.radius.proofs.leaf.decide.Statement.{statement}
 use Rattle.radius.proofs.leaf.decide.Tie as tie
@@ -27,14 +27,16 @@ unfolding decision
 returns-2 c =
     let a = c .before .before .before .args in
     let h : gap (a .x) (a .s) ≤ a .r = omega arith in
-    simp (le-ltb _ _ h, le-leb _ _ (c .if2 .taken))
+    let k : a .x + a .s ≤ a .r = omega arith in
+    simp (le-ltb _ _ h, le-leb _ _ k)
 
 returns-3 : tie.Need-returns-3
 unfolding decision
 returns-3 c =
     let a = c .before .before .before .args in
     let h : gap (a .x) (a .s) ≤ a .r = omega arith in
-    simp (le-ltb _ _ h, lt-leb _ _ (c .if2 .left))
+    let k : a .r < a .x + a .s = omega arith in
+    simp (le-ltb _ _ h, lt-leb _ _ k)
 
 pub decide-spec : {M : Type 1} → statement M
 decide-spec = tie.close (tie.spec apart-requires returns add-if2 returns-2 returns-3)
