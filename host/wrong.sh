@@ -10,7 +10,7 @@ rounds=${1:-480}
 seed=${2:-20}
 cc=${CC:-cc}
 out=target/host/wrong
-mocked='mock naive naive_tree naive_search plain plain_search'
+mocked='mock naive naive_tree naive_append naive_search plain plain_search'
 wrong=0 found=0 sound=0 differing=0
 
 stop() {
@@ -25,7 +25,7 @@ compile() {
 # ---- One library ----
 
 # The trial links the naive implementation too. So that it is never compared with an edited copy of itself, the mock's parts
-# are joined into one object, and every name in it but the eight calls is made local.
+# are joined into one object, and every name in it but the calls is made local.
 join_mock() {
     parts=''
     for name in $mocked; do
@@ -91,7 +91,7 @@ finish() {
 
 rm -rf "$out"
 mkdir -p "$out/tried" "$out/mock" "$out/edited"
-for name in trial kinds samples spoil calls lend self naive naive_tree naive_search; do compile "host/$name.c" "$out/tried/$name.o"; done
+for name in trial kinds appends samples spoil calls lend self naive naive_tree naive_append naive_search; do compile "host/$name.c" "$out/tried/$name.o"; done
 for name in $mocked; do compile "host/$name.c" "$out/mock/$name.o"; done
 
 kind=sound title='the mock as it is'
