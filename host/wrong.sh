@@ -1,11 +1,17 @@
 #!/bin/sh
 # A trial of the trial: the mock (host/mock.c) must show no difference, and each wrong library of host/wrong.txt must show one.
 #   host/wrong.sh [ROUNDS [SEED]]
+#   host/wrong.sh --only PART [ROUNDS [SEED]]    those alone in whose names this stands
 # One line a library. Exit status 1 where a wrong one is missed or a sound one differs, 2 where one can't be tried.
 # CC: another compiler. Mock and trial are both plain C here, so no proved library is needed, nor an x86-64 processor.
 set -eu
 cd "$(dirname "$0")/.."
 
+only=''
+if [ "${1:-}" = --only ]; then
+    only=${2:?usage: host/wrong.sh --only PART [ROUNDS [SEED]]}
+    shift 2
+fi
 rounds=${1:-480}
 seed=${2:-20}
 cc=${CC:-cc}
@@ -101,10 +107,14 @@ title=''
 while IFS= read -r text <&3; do
     case $text in
     '' | '#'*) ;;
-    'wrong: '* | 'sound: '*) finish; kind=${text%%:*} title=${text#*: } ;;
+    'wrong: '* | 'sound: '*)
+        finish
+        kind=${text%%:*} title=${text#*: }
+        case $title in *"$only"*) ;; *) title='' ;; esac
+        ;;
     'file: '*) file=${text#file: } ;;
     'old: '*) old=${text#old: } ;;
-    'new:'*) new=${text#new:} new=${new# }; replace ;;
+    'new:'*) new=${text#new:} new=${new# }; [ -z "$title" ] || replace ;;
     *) stop "host/wrong.txt: can't read: $text" ;;
     esac
 done 3<host/wrong.txt
