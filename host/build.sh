@@ -103,4 +103,4 @@ if [ -n "${BOURASCUL_OTHER:-}" ]; then
 fi
 libraries=-lm
 rm -f "$out/bench"
-compile bench -O3 bench bench_tell plot minutes || missing "the bench, which does not link"
+compile bench -O3 bench bench_tell bench_append plot minutes || missing "the bench, which does not link"
