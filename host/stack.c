@@ -80,7 +80,8 @@ static void list(void)
     number = bourascul_list(room, words, 0).length == 0;
 }
 
-/* How many bytes from the stack's top on the call painted over. */
+/* How many bytes from the stack's top on the call painted over. The first time, the loader may do so too: it looks for what the call needs
+   of the C library. */
 static size_t taken(void (*call)(void))
 {
     static unsigned char stack[STACK];
@@ -125,6 +126,7 @@ int main(void)
     bourascul_build(table, 2 * COLUMNS, COLUMNS, CENTRES, LEAF, 2, two_rows, WORDS, work, 6 * ROWS);
     puts("| call | bytes of stack |\n|---|---|");
     for (size_t i = 0; i < sizeof calls / sizeof *calls; i++) {
+        taken(calls[i].call);
         size_t bytes = taken(calls[i].call);
         printf("| %s | %zu |\n", calls[i].name, bytes - none);
         if (number != 0) {
