@@ -149,7 +149,7 @@ bourascul_built bourascul_build(const uint16_t *table, size_t table_length, uint
    a build splits it, its first and then the others ascending, unless a row stands in it twice. The leaf's distances are measured
    anew; all other rows keep their order and their stored distances, and nodes are numbered anew. The first row of all gives the
    build of one row. If bourascul_check accepts the old index, it accepts the new one; a fresh build may give another.
-   Each call tests the index's shape and copies it: some hundred rows one by one cost about what a build costs. */
+   Each call tests and copies the whole index, so for some hundred rows a build may be cheaper. */
 bourascul_built bourascul_append(const uint16_t *table, size_t table_length, uint32_t c, const uint32_t *index, size_t index_length,
                                  uint32_t *room, size_t room_length, uint32_t *work, size_t work_length);
 
