@@ -6,6 +6,7 @@ use Rattle.append.specs.Joining.{Joinable, Joins}
 use Rattle.appending.proofs.Appending.{append-one, share-ok}
 use Rattle.appending.proofs.Back.{tree-fits}
 use Rattle.appending.specs.Append.{appended}
+use Rattle.build.proofs.Outcomes.{small as sixteen}
 use Rattle.build.proofs.Refusals.{by-lengths, by-rooms}
 use Rattle.build.proofs.Small.{build-small}
 use Rattle.build.specs.Calls.{Builds}
@@ -23,7 +24,7 @@ use Rattle.words.specs.InShape.{InShape}
 use Rattle.words.specs.Words.{N#, l#, m#, n#}
 use borrow.Author.Tests.{le-ltb, ne-eqb}
 use lib.Dec.{eqb, ltb}
-use lib.ListN.{drop, length, replicate, take}
+use lib.ListN.{drop, getD, length, replicate, take}
 use lib.Seq.{length-take-le}
 use mathlib.Core.Bool.{false}
 use mathlib.Core.List.{List, _++_}
@@ -33,21 +34,23 @@ use native.Mathlib.Omega.{arith}
 
 -- ---- a refusal
 -- both rooms are as they were, and the counts are 0: the contract is met
-pub refused-appends : {T : List ℕ} {c : ℕ} {w room work : List ℕ} {k number words nodes : ℕ}
+pub refused-appends : {T : List ℕ} {c : ℕ} {w room work : List ℕ} {k number words nodes : ℕ} → ((i : ℕ) → getD T i 0 ≤ 65535)
     → k ≡ saidAppend T c w (length room) (length work) .0 → k ≢ 0 → (number ≡ k) × (words ≡ 0) × (nodes ≡ 0)
     → Appends T c w room work room work number words nodes
-refused-appends {number = number} q h r =
+refused-appends {T} {number = number} narrow q h r =
     let f : eqb number 0 ≡ false = ne-eqb number 0 (λ z. h (sym (r .0) ∙ z)) in
     record {
       said = r .0 ∙ q;
       counted = (rw f (r .1), rw f (r .2));
       index = rw f;
+      narrow = sixteen T narrow;
       small = (omega (arith, r .1), omega (arith, r .2));
       cleared = rw f;
     }
 
 -- ---- nothing is refused
 pub record Passed (T : List ℕ) (c : ℕ) (w room work : List ℕ) : Type 0 where
+  pub narrow : (i : ℕ) → getD T i 0 ≤ 65535
   pub none : saidAppend T c w (length room) (length work) .0 ≡ 0
 
 module _ {T : List ℕ} {c : ℕ} {w room work : List ℕ} (passed : Passed T c w room work) where
@@ -96,6 +99,7 @@ module _ {T : List ℕ} {c : ℕ} {w room work : List ℕ} (passed : Passed T c 
         said = B .said ∙ sym builds-none ∙ sym (passed .none);
         counted = rw one (B .counted);
         index = rw one (B .index);
+        narrow = sixteen T (passed .narrow);
         small = build-small B;
         cleared = B .cleared;
       }
@@ -129,6 +133,7 @@ module _ {T : List ℕ} {c : ℕ} {w room work : List ℕ} (passed : Passed T c 
         said = sym (passed .none);
         counted = (omega (arith, j .long), j .count);
         index = j .index;
+        narrow = sixteen T (passed .narrow);
         small = (omega (arith, j .few, rows-are .1), omega (arith, j .few, rows-are .1));
         cleared = zeros ∙ ap (λ (i : ℕ). replicate (6 * i) 0 ++ drop (6 * i) work) (e ∙ cleared .rows);
       }

@@ -44,7 +44,7 @@ module _ {T : List ℕ} {c : ℕ} {w room work room′ work′ : List ℕ} {numb
   abbrev pub older : List ℕ
   older = take (c * n# w) T
 
-  module _ (small : Every (λ v. v ≤ 65535) T) (accepted : Accepted (between older c) w) where
+  module _ (accepted : Accepted (between older c) w) where
     -- the table has the old one's rows and one more
     longer : Longer (between older c) T c w
     longer =
@@ -54,7 +54,7 @@ module _ {T : List ℕ} {c : ℕ} {w room work room′ work′ : List ℕ} {numb
         let parts : older ++ drop k T ≡ T = take-append-drop k T in
         subst (λ (t : List ℕ). Longer (between older c) t c w) parts
         (longer-of older (drop k T) c w accepted (words-whole w (C .whole) .0) (C .columns) (length-take-le k T (omega arith))
-        (omega (arith, length-drop k T)) (omega (arith, C .rows, C .table .rows)) (subst (Every (λ v. v ≤ 65535)) (sym parts) small))
+        (omega (arith, length-drop k T)) (omega (arith, C .rows, C .table .rows)) (subst (Every (λ v. v ≤ 65535)) (sym parts) (b .narrow)))
 
     -- WHERE THE OLD INDEX PASSED THE FULL CHECK WITH THE OLD TABLE, THE NEW ONE PASSES IT WITH THE NEW
     pub append-accepted : Accepted (between T c) (take words room′)

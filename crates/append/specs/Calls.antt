@@ -2,6 +2,7 @@
 use Prim.Native.Nat.{_*_, _+_, _≤_, ℕ}
 use Rattle.appending.specs.Append.{appended}
 use Rattle.build.specs.Filled.{shortOf}
+use Rattle.laws.specs.Every.{Every}
 use Rattle.limits.specs.Limits.{maxRows}
 use Rattle.limits.specs.Said.{Said, fault, said, tableFaults}
 use Rattle.measure.specs.Table.{rowsOf}
@@ -31,6 +32,8 @@ pub record Appends (T : List ℕ) (c : ℕ) (w room work room′ work′ : List 
   pub said : number ≡ saidAppend T c w (length room) (length work) .0
   pub counted : (words ≡ cond (eqb number 0) (length (appended T c w)) 0) × (nodes ≡ cond (eqb number 0) (N# (appended T c w)) 0)
   pub index : room′ ≡ cond (eqb number 0) (appended T c w ++ drop (length (appended T c w)) room) room
+  -- the table's numbers have 16 bits, as every lent table's have: `append-accepted` rests on it
+  pub narrow : Every (λ v. v ≤ 65535) T
   -- whatever is lent, 32 bits hold the counts
   pub small : (words ≤ roomOf maxRows) × (nodes ≤ 2 * maxRows)
   pub cleared : work′ ≡ cond (eqb number 0) (replicate (6 * rowsOf T c) 0 ++ drop (6 * rowsOf T c) work) work

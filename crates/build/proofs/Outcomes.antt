@@ -57,7 +57,7 @@ refused-builds {number = number} q h r =
 
 -- ---- the index
 -- numbers of 16 bits, by place and as a fact of the list
-small : (T : List ℕ) → ((i : ℕ) → getD T i 0 ≤ 65535) → Every (λ v. v ≤ 65535) T
+pub small : (T : List ℕ) → ((i : ℕ) → getD T i 0 ≤ 65535) → Every (λ v. v ≤ 65535) T
 small [] h = tt
 small (x ∷ T) h = (h 0, small T (λ i. h (suc i)))
 

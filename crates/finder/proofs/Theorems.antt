@@ -81,7 +81,7 @@ module _ {t : List ℕ} {c i r : ℕ} {room work how room₁ work₁ how₁ room
           (f .0 ∙ e ∙ sym (g .0), f .1 ∙ sym (g .1), f .2 ∙ sym (g .2), p, q, f .3 ∙ sym (g .3))
       go (yes z) e w p q =
           let s = subst (λ (v : List ℕ). Searched t c v (row t c i) r how how₂ number₂ in₂ met₂) (sym w) (y .searched (sym e ∙ z)) in
-          let n = radius-only (x .searched z) s (λ k. once-of (between t c) (take (x .words) room₁) (x .built .accepted z)) in
+          let n = radius-only (x .searched z) s in
           (n .0, n .1 .0, n .1 .1, p, q, n .1 .2)
 
   -- NO SECOND OUTCOME FITS

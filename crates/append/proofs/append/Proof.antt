@@ -7,6 +7,7 @@ use Rattle.append.proofs.append.Tie as tie
 use Rattle.limits.specs.Limits.{maxRows}
 use Rattle.words.specs.Words.{n#}
 use borrow.Author.Needs.{needs}
+use lib.ListN.{getD}
 use mathlib.Core.Path.{_∙_, ap, sym}
 use native.Mathlib.Omega.{arith}
 
@@ -14,10 +15,14 @@ use native.Mathlib.Omega.{arith}
 abbrev start : tie.Else1 → tie.Start
 start c = c .before .before .before .before .before .before
 
+-- the table's numbers have 16 bits
+narrow : (c : tie.After-shared-slice-known) (i : ℕ) → getD (c .before .args .table .now) i 0 ≤ 65535
+narrow c i = omega (arith, c .shared-slice-known .given i)
+
 -- there is no refusal
 none : (c : tie.Else1)
     → Passed (start c .args .table .now) (start c .args .c) (start c .args .index .now) (start c .args .room .now) (start c .args .work .now)
-none c = record { none = sym (c .before .refusal-of .ensures) ∙ c .if1 .left }
+none c = record { narrow = narrow (c .before .before .before .before .before); none = sym (c .before .refusal-of .ensures) ∙ c .if1 .left }
 
 -- few rows
 few : (c : tie.Else1) → n# (start c .args .index .now) + 1 ≤ maxRows
@@ -35,7 +40,7 @@ refused-requires : tie.Need-refused-requires
 refused-requires c κs = search needs
 
 returns : tie.Need-returns
-returns c = refused-appends (c .before .before .refusal-of .ensures) (c .before .if1 .taken) (c .refused .ensures)
+returns c = refused-appends (narrow (c .before .before .before .before .before .before)) (c .before .before .refusal-of .ensures) (c .before .if1 .taken) (c .refused .ensures)
 
 rows-requires : tie.Need-rows-requires
 rows-requires c κs = header-there (none c)
