@@ -7,6 +7,7 @@ use Rattle.appending.proofs.Appending.{Longer, append-accepted as words-accepte
 use Rattle.appending.proofs.Order.{Order}
 use Rattle.appending.specs.Append.{appended}
 use Rattle.laws.specs.Every.{Every}
+use Rattle.limits.proofs.Sized.{Sized}
 use Rattle.measure.specs.Table.{between, rowsOf}
 use Rattle.tree.specs.Build.{build}
 use Rattle.tree.specs.Check.{Accepted}
@@ -28,6 +29,10 @@ module _ {T : List ℕ} {c : ℕ} {w room work room′ work′ : List ℕ} {numb
   -- nothing is refused
   cleared : Clear T c w (length room) (length work)
   cleared = clear T c w (length room) (length work) (sym (b .said) ∙ z)
+
+  -- no call refuses such a table
+  pub append-sized : Sized (length T) c
+  append-sized = cleared .table
 
   -- the index stands at the front of the room
   pub append-there : take words room′ ≡ appended T c w

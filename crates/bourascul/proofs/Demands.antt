@@ -2,6 +2,8 @@
 use Prim.Native.Nat.{_*_, _+_, _/_, _<_, _^_, _≤_, min, ℕ}
 use Rattle.answers.specs.Records.{made}
 use Rattle.answers.specs.declared.Answer.{Answer}
+use Rattle.append.proofs.Theorems.{append-accepted, append-headed, append-sized}
+use Rattle.append.specs.Calls.{Appends}
 use Rattle.audit.proofs.Theorems.{check-exact, check-only, check-placeless}
 use Rattle.audit.specs.Calls.{Checks, Passed}
 use Rattle.bourascul.proofs.Numbers.{both-parts, last-is, passed, same-number, same-radius-number}
@@ -132,6 +134,27 @@ build-passes {t} {c} {e} {m} {l} {room} {work} b enough s =
       same-columns = h .2;
       edition = h .4;
       accepted = a;
+    }) in
+    let p = check-placeless s (omega arith) in
+    (z, p .0, p .1)
+
+-- where a check gave 0 of an index with the table before a row came, what an append wrote passes with the table that has it
+pub append-passes : {t : List ℕ} {c : ℕ} {w room work room′ work′ work₀ work₁ work₂ work₃ : List ℕ} {words nodes place₀ second₀ number place second : ℕ}
+    → Checks (take (c * n# w) t) c w work₀ work₁ 0 place₀ second₀ → Appends t c w room work room′ work′ 0 words nodes → 6 * rowsOf t c ≤ length work₂
+    → Checks t c (take words room′) work₂ work₃ number place second → (number ≡ 0) × (place ≡ 0) × (second ≡ 0)
+append-passes ok b enough s =
+    let a = passed ok .accepted in
+    let h = append-headed b refl a in
+    let t = append-sized b refl in
+    let z = check-exact s .1 (record {
+      columns = (t .some, t .few);
+      multiple = t .whole;
+      few = t .rows;
+      room = enough;
+      same-rows = h .0;
+      same-columns = h .1;
+      edition = h .4;
+      accepted = append-accepted b refl a;
     }) in
     let p = check-placeless s (omega arith) in
     (z, p .0, p .1)
