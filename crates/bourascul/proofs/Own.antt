@@ -1,5 +1,5 @@
 -- An index and its own words alone, without what is lent behind them: a check says the same of both. Assumes nothing.
-use Prim.Native.Nat.{_*_, _<_, ℕ}
+use Prim.Native.Nat.{_*_, _<_, _^_, ℕ}
 use Rattle.audit.specs.Calls.{Checks}
 use Rattle.card.proofs.RoundTrip.{inner-own, own-alike, own-shape}
 use Rattle.limits.specs.Said.{Said, fault, said, tableFaults}
@@ -12,7 +12,7 @@ use Rattle.words.proofs.InShape.{header-possible, in-shape, whole}
 use Rattle.words.specs.Calls.{indexFaults}
 use Rattle.words.specs.InShape.{InShape}
 use Rattle.words.specs.Shape.{shapeOk}
-use Rattle.words.specs.Words.{at, cardOk, edition#, wordsOf, wordsOk}
+use Rattle.words.specs.Words.{at, c#, cardOk, edition#, headerOk, n#, wordsOf, wordsOk}
 use borrow.Author.Tests.{le-leb}
 use lib.Dec.{eqb, lit<, ltb}
 use lib.ListN.{length, take}

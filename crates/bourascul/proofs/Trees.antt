@@ -18,7 +18,7 @@ use Rattle.tree.proofs.Built.{planted}
 use Rattle.tree.specs.Build.{build, plant}
 use Rattle.tree.specs.Encode.{broods, encode, family, levelNodes, nodes, numbered}
 use Rattle.tree.specs.Grove.{bare, treeOf}
-use Rattle.words.specs.Words.{l#, m#, wordsOf}
+use Rattle.words.specs.Words.{c#, l#, m#, wordsOf}
 use lib.ListN.{drop, length, take}
 use lib.Seq.{take-at}
 use mathlib.Core.Bool.{true}

@@ -5,7 +5,7 @@ use Rattle.laws.proofs.Ranges.{at-every, range-every}
 use Rattle.laws.specs.Every.{Every}
 use Rattle.laws.specs.Lists.{any, each, greatest, has, keep, range}
 use Rattle.limits.specs.Said.{Said}
-use Rattle.tree.proofs.Alike.{Alike, nearest-same}
+use Rattle.tree.proofs.Alike.{Alike, distances-same, first-same, inner-same, nearest-same, run-same}
 use Rattle.tree.specs.Check.{again, faults, inRun, kids, strays, wrongDist, wrongInner, wrongRadius, wrongReach}
 use Rattle.words.specs.InShape.{InShape}
 use Rattle.words.specs.Shape.{inner}
@@ -35,22 +35,12 @@ each-same f g (x ∷ xs) h = ap₂ (λ (a b : List Said). a ++ b) (h .0) (each-s
 
 module _ {w v : List ℕ} (A : Alike w v) (S : InShape w) (d : ℕ → ℕ → ℕ) (edition : edition# v ≡ edition# w)
     (inners : (k : ℕ) → k < N# w → inner# v k ≡ inner# w k) where
-  -- inner nodes are the same
-  inner-same : (k : ℕ) → k < N# w → inner v k ≡ inner w k
-  inner-same k h = ap (λ (c : ℕ). not (eqb c 0)) (A .child k h)
-
-  -- so are a node's run and its first
-  run-same : (k : ℕ) → k < N# w → run# v k ≡ run# w k
-  run-same k h = ap₂ range (A .start k h) (A .count k h)
-
-  first-same : (k : ℕ) → k < N# w → first# v k ≡ first# w k
-  first-same k h = ap (row# v) (A .start k h) ∙ A .row (start# w k) (omega (arith, S .node k h .run, S .node k h .some))
-
   -- how far the row at position p is from node k's first
   far-same : (p k : ℕ) → p < n# w → k < N# w → d (first# v k) (row# v p) ≡ d (first# w k) (row# w p)
-  far-same p k q h = ap₂ d (first-same k h) (A .row p q)
+  far-same p k q h = ap₂ d (first-same A S d k h) (A .row p q)
 
   -- ---- 10
+  -- a row number that stands again does so in both
   again-same : (p : ℕ) → p < n# w → again v p ≡ again w p
   unfolding again
   again-same p h =
@@ -61,24 +51,23 @@ module _ {w v : List ℕ} (A : Alike w v) (S : InShape w) (d : ℕ → ℕ → �
   in-run-same : (p k : ℕ) → k < N# w → inRun v p k ≡ inRun w p k
   in-run-same p k h = ap₂ (λ (s c : ℕ). leb s p && ltb p (s + c)) (A .start k h) (A .count k h)
 
+  -- a stored distance that is wrong is wrong in both
   dist-same : (p : ℕ) → p < n# w → wrongDist d v p ≡ wrongDist d w p
   unfolding wrongDist
   dist-same p q =
       let f : List ℕ → ℕ → Bool = λ u k. not (inner u k) && inRun u p k && not (eqb (dist# u p) (d (first# u k) (row# u p))) in
       ap (λ (N : ℕ). any (f v) (range 0 N)) (A .nodes)
       ∙ any-same (f v) (f w) (range 0 (N# w)) (at-every (λ k. f v k ≡ f w k) (N# w)
-      (λ k h. ap₂ (λ (a b : Bool). a && b) (ap₂ (λ (a b : Bool). not a && b) (inner-same k h) (in-run-same p k h))
+      (λ k h. ap₂ (λ (a b : Bool). a && b) (ap₂ (λ (a b : Bool). not a && b) (inner-same A k h) (in-run-same p k h))
       (ap₂ (λ (a b : ℕ). not (eqb a b)) (A .dist p q) (far-same p k q h))))
 
   -- ---- 12
+  -- so is a radius
   radius-same : (k : ℕ) → k < N# w → wrongRadius d v k ≡ wrongRadius d w k
   unfolding wrongRadius
-  radius-same k h =
-      let f : List ℕ → ℕ → ℕ = λ u p. d (first# u k) (row# u p) in
-      ap₂ (λ (a b : ℕ). not (eqb a b)) (A .radius k h)
-      (ap greatest (ap (map (f v)) (run-same k h) ∙ map-same (f v) (f w) (run# w k) (range-every (λ p. f v p ≡ f w p) (start# w k) (count# w k)
-      (λ i q. far-same (start# w k + i) k (omega (arith, S .node k h .run)) h))))
+  radius-same k h = ap₂ (λ (a b : ℕ). not (eqb a b)) (A .radius k h) (ap greatest (distances-same A S d k h))
 
+  -- and a reach, outer or inner
   reach-same : (k : ℕ) → k < N# w → wrongReach d v k ≡ wrongReach d w k
   unfolding wrongInner
   reach-same k h =
@@ -89,7 +78,7 @@ module _ {w v : List ℕ} (A : Alike w v) (S : InShape w) (d : ℕ → ℕ → �
   -- a node's children have the same numbers
   kids-same : (k : ℕ) → k < N# w → kids v k ≡ kids w k
   kids-same k h =
-      ap₂ (λ (b : Bool) (l : List ℕ). cond b l []) (inner-same k h) (ap₂ range (A .child k h) (A .fan))
+      ap₂ (λ (b : Bool) (l : List ℕ). cond b l []) (inner-same A k h) (ap₂ range (A .child k h) (A .fan))
 
   -- a fact of all nodes is one of its children
   kids-have : (P : ℕ → Type 0) → ((j : ℕ) → j < N# w → P j) → (k : ℕ) → k < N# w → Every P (kids w k)
@@ -100,6 +89,7 @@ module _ {w v : List ℕ} (A : Alike w v) (S : InShape w) (d : ℕ → ℕ → �
           range-every P (child# w k) (m# w) (λ i q. f (child# w k + i) (omega (arith, S .node k h .kids e .inside)))
       go false e = tt
 
+  -- and a member that is closer to another centre
   stray-same : (k p : ℕ) → k < N# w → p < n# w → strays d v k p ≡ strays d w k p
   unfolding strays
   stray-same k p h q =
@@ -128,7 +118,7 @@ module _ {w v : List ℕ} (A : Alike w v) (S : InShape w) (d : ℕ → ℕ → �
       let e : each (F v) (range 0 (N# v)) ≡ each (F w) (range 0 (N# w)) =
       ap (λ (n : ℕ). each (F v) (range 0 n)) (A .nodes)
       ∙ each-same (F v) (F w) (range 0 (N# w)) (at-every (λ k. F v k ≡ F w k) (N# w)
-      (λ k h. ap (map (λ p. (13, k, p))) (ap (keep (strays d v k)) (run-same k h)
+      (λ k h. ap (map (λ p. (13, k, p))) (ap (keep (strays d v k)) (run-same A S d k h)
       ∙ keep-same (strays d v k) (strays d w k) (run# w k) (range-every (λ p. strays d v k p ≡ strays d w k p) (start# w k) (count# w k)
       (λ i q. stray-same k (start# w k + i) h (omega (arith, S .node k h .run))))))) in
       let G : List ℕ → List ℕ → List ℕ → List Said → List Said =

@@ -55,7 +55,7 @@ born-some w (suc k) = omega (arith, born-some w k)
 -- ---- the shape
 module _ {w v : List ℕ} (A : Alike w v) where
   -- inner nodes are the same
-  inner-same : (k : ℕ) → k < N# w → inner v k ≡ inner w k
+  pub inner-same : (k : ℕ) → k < N# w → inner v k ≡ inner w k
   inner-same k h = ap (λ c. not (eqb c 0)) (A .child k h)
 
   -- so are the numbers that children get
@@ -140,7 +140,7 @@ module _ {w v : List ℕ} (A : Alike w v) where
   -- ---- the nodes, over the distance d between rows
   module _ (S : InShape w) (d : ℕ → ℕ → ℕ) where
     -- a node's run
-    run-same : (k : ℕ) → k < N# w → run# v k ≡ run# w k
+    pub run-same : (k : ℕ) → k < N# w → run# v k ≡ run# w k
     run-same k h = ap₂ range (A .start k h) (A .count k h)
 
     -- the rows of its run
@@ -148,11 +148,11 @@ module _ {w v : List ℕ} (A : Alike w v) where
     row-in k i h q = A .row (start# w k + i) (omega (arith, S .node k h .run))
 
     -- its first
-    first-same : (k : ℕ) → k < N# w → first# v k ≡ first# w k
+    pub first-same : (k : ℕ) → k < N# w → first# v k ≡ first# w k
     first-same k h = ap (row# v) (A .start k h) ∙ A .row (start# w k) (omega (arith, S .node k h .run, S .node k h .some))
 
     -- the distances of its rows from its first
-    distances-same : (k : ℕ) → k < N# w
+    pub distances-same : (k : ℕ) → k < N# w
         → map (λ p. d (first# v k) (row# v p)) (run# v k) ≡ map (λ p. d (first# w k) (row# w p)) (run# w k)
     distances-same k h =
         ap (map (λ p. d (first# v k) (row# v p))) (run-same k h)
