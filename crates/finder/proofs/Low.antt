@@ -1,4 +1,4 @@
--- No refusal of a search has a number above 9, so that 27 is only a row that is not there. Assumes nothing.
+-- No refusal of a search has a number above 9, so that `noRow` is only a row that is not there. Assumes nothing.
 use Prim.Native.Nat.{_*_, _≤_, min, ℕ}
 use Rattle.laws.proofs.Every.{every-append}
 use Rattle.laws.specs.Every.{Every}

@@ -1,7 +1,7 @@
 -- The calls' outcomes: a row that is not there, a build that is refused, and a search. Assumes nothing.
 use Prim.Native.Nat.{_≤_, min, ℕ}
 use Rattle.build.specs.Calls.{Builds}
-use Rattle.finder.specs.Calls.{Finds, FindsBuilt, Marks, MarksBuilt, Missing, There}
+use Rattle.finder.specs.Calls.{Finds, FindsBuilt, Marks, MarksBuilt, Missing, There, centres, leafRows, noRow}
 use Rattle.measure.specs.Table.{row}
 use Rattle.nearest.specs.Calls.{Answered}
 use Rattle.radius.specs.Calls.{Searched}
@@ -16,7 +16,7 @@ use native.Mathlib.Omega.{arith}
 -- ---- marking
 module _ {t : List ℕ} {c i r : ℕ} {room work how : List ℕ} {number in# met : ℕ} where
   -- there is no such row
-  pub marks-missing : Missing t c i → (number ≡ 27) × (in# ≡ 0) × (met ≡ 0) → Marks t c i r room room work work how how number in# met
+  pub marks-missing : Missing t c i → (number ≡ noRow) × (in# ≡ 0) × (met ≡ 0) → Marks t c i r room room work work how how number in# met
   marks-missing h e =
       record { missing = λ m. (e .0, e .1, e .2, refl, refl, refl); there = λ l. absurd (omega arith) }
 
@@ -26,7 +26,7 @@ module _ {t : List ℕ} {c i r : ℕ} {room work how : List ℕ} {number in# met
         → Marks t c i r room room′ work work′ how how′ number in# met
     marks-there b = record { missing = λ m. absurd (omega arith); there = λ k. b }
 
-    module _ {room′ work′ : List ℕ} {made words nodes : ℕ} (b : Builds t c 2 16 32 room work room′ work′ made words nodes) where
+    module _ {room′ work′ : List ℕ} {made words nodes : ℕ} (b : Builds t c 2 centres leafRows room work room′ work′ made words nodes) where
       -- the build was refused
       pub marks-unbuilt : (made ≡ 0 → ⊥) → (number ≡ made) × (in# ≡ 0) × (met ≡ 0) → Marks t c i r room room′ work work′ how how number in# met
       marks-unbuilt k e =
@@ -55,7 +55,7 @@ module _ {t : List ℕ} {c i r : ℕ} {room work how : List ℕ} {number in# met
 -- ---- finding
 module _ {t : List ℕ} {c i w : ℕ} {room work how rs ds : List ℕ} {number given met : ℕ} where
   -- there is no such row
-  pub finds-missing : Missing t c i → (number ≡ 27) × (given ≡ 0) × (met ≡ 0)
+  pub finds-missing : Missing t c i → (number ≡ noRow) × (given ≡ 0) × (met ≡ 0)
       → Finds t c i w room room work work how how rs rs ds ds number given met
   finds-missing h e =
       record { missing = λ m. (e .0, e .1, e .2, refl, refl, refl, refl, refl); there = λ l. absurd (omega arith) }
@@ -66,7 +66,7 @@ module _ {t : List ℕ} {c i w : ℕ} {room work how rs ds : List ℕ} {number g
         → Finds t c i w room room′ work work′ how how′ rs rs′ ds ds′ number given met
     finds-there b = record { missing = λ m. absurd (omega arith); there = λ k. b }
 
-    module _ {room′ cleared : List ℕ} {made words nodes : ℕ} (b : Builds t c 2 16 32 room work room′ cleared made words nodes) where
+    module _ {room′ cleared : List ℕ} {made words nodes : ℕ} (b : Builds t c 2 centres leafRows room work room′ cleared made words nodes) where
       -- the build was refused
       pub finds-unbuilt : (made ≡ 0 → ⊥) → (number ≡ made) × (given ≡ 0) × (met ≡ 0)
           → Finds t c i w room room′ work cleared how how rs rs ds ds number given met

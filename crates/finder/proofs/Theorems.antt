@@ -1,11 +1,11 @@
--- The theorems on the two calls: no second outcome fits, 27 is given exactly where there is no such row, and 0 is exact. Assumes nothing.
+-- The theorems on the two calls: no second outcome fits, `noRow` is given exactly where there is no such row, and 0 is exact. Assumes nothing.
 use Prim.Native.Nat.{_*_, _+_, _<_, _≤_, min, ℕ}
 use Rattle.build.proofs.Small.{build-low}
 use Rattle.build.proofs.Theorems.{build-only}
 use Rattle.finder.proofs.Indexed.{marked-exact, nearest-given}
 use Rattle.finder.proofs.Low.{nearest-low, radius-low}
 use Rattle.finder.specs.Answers.{Alike, Closest}
-use Rattle.finder.specs.Calls.{Finds, FindsBuilt, Marks, MarksBuilt, Missing, There}
+use Rattle.finder.specs.Calls.{Finds, FindsBuilt, Marks, MarksBuilt, Missing, There, centres, leafRows, noRow}
 use Rattle.measure.specs.Table.{between, row}
 use Rattle.nearest.proofs.Promises.{nearest-only}
 use Rattle.nearest.proofs.Refusals.{clear}
@@ -39,11 +39,11 @@ module _ {t : List ℕ} {c i r : ℕ} {room room′ work work′ how how′ : Li
       go (no k) = sym (b .refused k .0) ∙ z
 
   module _ (m : Marks t c i r room room′ work work′ how how′ number in# met) where
-    -- 27 IS GIVEN EXACTLY WHERE THE TABLE DOES NOT HAVE THE ROW
-    pub marks-no-row : (number ≡ 27) ↔ Missing t c i
+    -- ITS OWN NUMBER IS GIVEN EXACTLY WHERE THE TABLE DOES NOT HAVE THE ROW
+    pub marks-no-row : (number ≡ noRow) ↔ Missing t c i
     marks-no-row = (go (decLe (c * i + c) (length t)), λ h. m .missing h .0)
       where
-        go : Dec (There t c i) → number ≡ 27 → Missing t c i
+        go : Dec (There t c i) → number ≡ noRow → Missing t c i
         go (yes l) e = absurd (omega (arith, marks-low (m .there l)))
         go (no l) e = omega arith
 
@@ -70,7 +70,7 @@ module _ {t : List ℕ} {c i r : ℕ} {room work how room₁ work₁ how₁ room
   built-marks-only : MarksBuilt t c i r room room₁ work work₁ how how₁ number₁ in₁ met₁
       → MarksBuilt t c i r room room₂ work work₂ how how₂ number₂ in₂ met₂ → SameMarks
   built-marks-only x y =
-      let o = build-only t c 2 16 32 room work room₁ work₁ room₂ work₂ (x .made) (x .words) (x .nodes) (y .made) (y .words) (y .nodes)
+      let o = build-only t c 2 centres leafRows room work room₁ work₁ room₂ work₂ (x .made) (x .words) (x .nodes) (y .made) (y .words) (y .nodes)
       (x .built) (y .built) in
       go (ℕ-discrete (x .made) 0) (o .0) (ap₂ take (o .1) (o .3)) (o .3) (o .4)
     where
@@ -119,11 +119,11 @@ module _ {t : List ℕ} {c i w : ℕ} {room room′ work work′ how how′ rs r
       go (no k) = sym (b .refused k .0) ∙ z
 
   module _ (m : Finds t c i w room room′ work work′ how how′ rs rs′ ds ds′ number given met) where
-    -- 27 IS GIVEN EXACTLY WHERE THE TABLE DOES NOT HAVE THE ROW
-    pub finds-no-row : (number ≡ 27) ↔ Missing t c i
+    -- ITS OWN NUMBER IS GIVEN EXACTLY WHERE THE TABLE DOES NOT HAVE THE ROW
+    pub finds-no-row : (number ≡ noRow) ↔ Missing t c i
     finds-no-row = (go (decLe (c * i + c) (length t)), λ h. m .missing h .0)
       where
-        go : Dec (There t c i) → number ≡ 27 → Missing t c i
+        go : Dec (There t c i) → number ≡ noRow → Missing t c i
         go (yes l) e = absurd (omega (arith, finds-low (m .there l)))
         go (no l) e = omega arith
 
@@ -151,8 +151,8 @@ module _ {t : List ℕ} {c i w : ℕ} {room work how rs ds room₁ work₁ how�
   built-finds-only : FindsBuilt t c i w room room₁ work work₁ how how₁ rs rs₁ ds ds₁ number₁ given₁ met₁
       → FindsBuilt t c i w room room₂ work work₂ how how₂ rs rs₂ ds ds₂ number₂ given₂ met₂ → SameFinds
   built-finds-only x y =
-      let o = build-only t c 2 16 32 room work room₁ (x .cleared) room₂ (y .cleared) (x .made) (x .words) (x .nodes) (y .made) (y .words) (y .nodes)
-      (x .built) (y .built) in
+      let o = build-only t c 2 centres leafRows room work room₁ (x .cleared) room₂ (y .cleared) (x .made) (x .words) (x .nodes)
+      (y .made) (y .words) (y .nodes) (x .built) (y .built) in
       go (ℕ-discrete (x .made) 0) (o .0) (ap₂ take (o .1) (o .3)) (o .3) (o .4)
     where
       go : Dec (x .made ≡ 0) → x .made ≡ y .made → take (x .words) room₁ ≡ take (y .words) room₂ → room₁ ≡ room₂ → x .cleared ≡ y .cleared

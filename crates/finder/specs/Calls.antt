@@ -8,6 +8,18 @@ use lib.ListN.{length, take}
 use mathlib.Core.List.{List}
 use mathlib.Core.Path.{_≡_}
 
+-- the number of a refusal that is finder's own: the table does not have the row. Those of 01 and 02 go up to 26
+abbrev pub noRow : ℕ
+noRow = 27
+
+-- what the index is built with: the centres of an inner node
+abbrev pub centres : ℕ
+centres = 16
+
+-- and the rows of a leaf
+abbrev pub leafRows : ℕ
+leafRows = 32
+
 -- the table t of c columns does not have row i
 abbrev pub Missing : List ℕ → ℕ → ℕ → Type 0
 Missing t c i = length t < c * i + c
@@ -17,12 +29,12 @@ abbrev pub There : List ℕ → ℕ → ℕ → Type 0
 There t c i = c * i + c ≤ length t
 
 -- ---- marking
--- a row i that is there: the index of the table is built into the room, with 16 centres and 32 rows to a leaf. The number of the build is `made`
+-- a row i that is there: the index of the table is built into the room. The number of the build is `made`
 pub record MarksBuilt (t : List ℕ) (c i r : ℕ) (room room′ work work′ how how′ : List ℕ) (number in# met : ℕ) : Type 0 where
   pub made : ℕ
   pub words : ℕ
   pub nodes : ℕ
-  pub built : Builds t c 2 16 32 room work room′ work′ made words nodes
+  pub built : Builds t c 2 centres leafRows room work room′ work′ made words nodes
   -- a build that is refused is the answer
   pub refused : (made ≡ 0 → ⊥) → (number ≡ made) × (in# ≡ 0) × (met ≡ 0) × (how′ ≡ how)
   -- else the built words are searched for row i, within r
@@ -30,8 +42,8 @@ pub record MarksBuilt (t : List ℕ) (c i r : ℕ) (room room′ work work′ ho
 
 -- the row i and r that are asked about; room, workspace and how-bytes before and after; the number and the two counts
 pub record Marks (t : List ℕ) (c i r : ℕ) (room room′ work work′ how how′ : List ℕ) (number in# met : ℕ) : Type 0 where
-  -- 27 where there is no such row, with zero counts and nothing changed
-  pub missing : Missing t c i → (number ≡ 27) × (in# ≡ 0) × (met ≡ 0) × (room′ ≡ room) × (work′ ≡ work) × (how′ ≡ how)
+  -- where there is no such row: a number of its own, zero counts, and nothing changed
+  pub missing : Missing t c i → (number ≡ noRow) × (in# ≡ 0) × (met ≡ 0) × (room′ ≡ room) × (work′ ≡ work) × (how′ ≡ how)
   pub there : There t c i → MarksBuilt t c i r room room′ work work′ how how′ number in# met
 
 -- ---- finding
@@ -41,7 +53,7 @@ pub record FindsBuilt (t : List ℕ) (c i w : ℕ) (room room′ work work′ ho
   pub words : ℕ
   pub nodes : ℕ
   pub cleared : List ℕ
-  pub built : Builds t c 2 16 32 room work room′ cleared made words nodes
+  pub built : Builds t c 2 centres leafRows room work room′ cleared made words nodes
   -- a build that is refused is the answer
   pub refused : (made ≡ 0 → ⊥) → (number ≡ made) × (given ≡ 0) × (met ≡ 0) × (work′ ≡ cleared) × (how′ ≡ how) × (rs′ ≡ rs) × (ds′ ≡ ds)
   -- else the built words are searched for the w nearest to row i
@@ -50,7 +62,7 @@ pub record FindsBuilt (t : List ℕ) (c i w : ℕ) (room room′ work work′ ho
 
 -- the row i that is asked about and how many are wanted; room, workspace, how-bytes, rows and distances before and after; the number and the counts
 pub record Finds (t : List ℕ) (c i w : ℕ) (room room′ work work′ how how′ rs rs′ ds ds′ : List ℕ) (number given met : ℕ) : Type 0 where
-  -- 27 where there is no such row, with zero counts and nothing changed
+  -- where there is no such row: a number of its own, zero counts, and nothing changed
   pub missing : Missing t c i
-      → (number ≡ 27) × (given ≡ 0) × (met ≡ 0) × (room′ ≡ room) × (work′ ≡ work) × (how′ ≡ how) × (rs′ ≡ rs) × (ds′ ≡ ds)
+      → (number ≡ noRow) × (given ≡ 0) × (met ≡ 0) × (room′ ≡ room) × (work′ ≡ work) × (how′ ≡ how) × (rs′ ≡ rs) × (ds′ ≡ ds)
   pub there : There t c i → FindsBuilt t c i w room room′ work work′ how how′ rs rs′ ds ds′ number given met
