@@ -1,4 +1,4 @@
--- The row that joins an index: what the call has seen to before, and what it leaves. Assumes nothing.
+-- The row that joins an index: what the call has seen to before, and what it leaves. A working notion, on which no promise rests. Assumes nothing.
 use Prim.Native.Nat.{_*_, _+_, _≤_, ℕ}
 use Rattle.appending.specs.Append.{appended}
 use Rattle.limits.specs.Limits.{maxRows}

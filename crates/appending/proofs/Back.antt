@@ -6,11 +6,11 @@ use Rattle.laws.proofs.Ranges.{range-append, range-length}
 use Rattle.laws.proofs.Tests.{and-l, and-r, holds}
 use Rattle.laws.specs.Lists.{all, each, range}
 use Rattle.limits.specs.Limits.{columnsOk, editionOk, maxDepth, maxRows, shareOk}
-use Rattle.tree.proofs.Encode.{members-append}
+use Rattle.tree.proofs.Encode.{spans-append}
 use Rattle.tree.proofs.Forks.{as-fork, as-leaf, kidsAt}
 use Rattle.tree.proofs.Members.{entries-at, held, kids-entries, kids-firsts}
 use Rattle.tree.proofs.Rows.{by-root}
-use Rattle.tree.specs.Encode.{Node, below, broods, encode, family, levelNodes, members, nodeWords, nodes, numbered, pairWords, span}
+use Rattle.tree.specs.Encode.{Node, below, broods, encode, family, levelNodes, nodeWords, nodes, numbered, pairWords, span, spans}
 use Rattle.tree.proofs.Written.{Edition}
 use Rattle.tree.specs.Grove.{Grove, Reach, bare, entries, members#, reach#, treeAt, treeOf}
 use Rattle.words.proofs.InShape.{in-shape}
@@ -161,14 +161,14 @@ module _ (w : List ℕ) (S : InShape w) (t : T (treeFits w)) where
       )
 
   -- two lists of families, one after the other
-  cover-append : (deep a : ℕ) (fs hs : List (ℕ × Grove)) → Cover deep a fs → Cover deep (a + members fs) hs → Cover deep a (fs ++ hs)
+  cover-append : (deep a : ℕ) (fs hs : List (ℕ × Grove)) → Cover deep a fs → Cover deep (a + spans fs) hs → Cover deep a (fs ++ hs)
   cover-append deep a [] hs c d = rw (add-zero a) at d
   cover-append deep a (f ∷ fs) hs c d =
-      (c .0, c .1, c .2, cover-append deep (a + span (f .1)) fs hs (c .3) (rw (← add-assoc a (span (f .1)) (members fs)) at d))
+      (c .0, c .1, c .2, cover-append deep (a + span (f .1)) fs hs (c .3) (rw (← add-assoc a (span (f .1)) (spans fs)) at d))
 
   -- the children of k nodes side by side: their numbers follow those born before
   kids-cover : (deep k a s e nx : ℕ) → a + k ≤ N# w → T (tile w a k s e) → born w a ≡ nx → Left w (suc deep) a
-      → Cover deep nx (broods s (forest w (suc deep) a k)) × (nx + members (broods s (forest w (suc deep) a k)) ≡ born w (a + k))
+      → Cover deep nx (broods s (forest w (suc deep) a k)) × (nx + spans (broods s (forest w (suc deep) a k)) ≡ born w (a + k))
   unfolding broods
   kids-cover deep zero a s e nx h u b l = (tt, add-zero nx ∙ sym b ∙ ap (born w) (sym (add-zero a)))
   kids-cover deep (suc k) a s e nx h u b l = go (inner w a) refl (kids-cover deep k (suc a) (s + count# w a) e)
@@ -182,13 +182,13 @@ module _ (w : List ℕ) (S : InShape w) (t : T (treeFits w)) where
       go : (x : Bool) → inner w a ≡ x
           → ((nx : ℕ) → suc a + k ≤ N# w → T (tile w (suc a) k (s + count# w a) e) → born w (suc a) ≡ nx → Left w (suc deep) (suc a)
           → Cover deep nx (broods (s + count# w a) (forest w (suc deep) (suc a) k))
-          × (nx + members (broods (s + count# w a) (forest w (suc deep) (suc a) k)) ≡ born w (suc a + k)))
-          → Cover deep nx (broods s (forest w (suc deep) a (suc k))) × (nx + members (broods s (forest w (suc deep) a (suc k))) ≡ born w (a + suc k))
+          × (nx + spans (broods (s + count# w a) (forest w (suc deep) (suc a) k)) ≡ born w (suc a + k)))
+          → Cover deep nx (broods s (forest w (suc deep) a (suc k))) × (nx + spans (broods s (forest w (suc deep) a (suc k))) ≡ born w (a + suc k))
       go false q ih =
           let r = ih nx (omega arith) (tile-tail w a k s e u) (born-leaf w a (leaf-child a q) ∙ b) (left-later (suc deep) a l) in
           let z = leaf-broods (suc deep) a s G q in (
             subst (Cover deep nx) (sym z) (r .0),
-            ap (λ (fs : List (ℕ × Grove)). nx + members fs) z ∙ r .1 ∙ ap (born w) next,
+            ap (λ (fs : List (ℕ × Grove)). nx + spans fs) z ∙ r .1 ∙ ap (born w) next,
           )
       go true q ih =
           let K = S .node a (omega arith) .kids q in
@@ -203,15 +203,15 @@ module _ (w : List ℕ) (S : InShape w) (t : T (treeFits w)) where
             subst (Cover deep nx) (sym z)
                 (cover-one deep nx (m# w) s (start# w a + count# w a) (kidsAt w deep a) bs (ap (λ (i : ℕ). forest w deep i (m# w)) ch) tl
                 (omega (arith, K .inside)) (r .0)),
-            ap (λ (fs : List (ℕ × Grove)). nx + members fs) z ∙ ap (λ (i : ℕ). nx + (i + members bs)) sp
-                ∙ sym (add-assoc nx (m# w) (members bs)) ∙ r .1 ∙ ap (born w) next,
+            ap (λ (fs : List (ℕ × Grove)). nx + spans fs) z ∙ ap (λ (i : ℕ). nx + (i + spans bs)) sp
+                ∙ sym (add-assoc nx (m# w) (spans bs)) ∙ r .1 ∙ ap (born w) next,
           )
 
   -- ---- a level
   -- its nodes' words are those of the index, where the children's numbers come right
   level-is : (deep a nx : ℕ) (fs : List (ℕ × Grove)) → Cover deep a fs → Left w deep a → born w a ≡ nx
-      → ((i k s : ℕ) → a ≤ i → i + k ≤ N# w → (e : ℕ) → T (tile w i k s e) → born w i + members (broods s (forest w deep i k)) ≡ born w (i + k))
-      → (levelNodes nx fs ≡ map (node# w) (range a (members fs))) × (nx + members (below fs) ≡ born w (a + members fs))
+      → ((i k s : ℕ) → a ≤ i → i + k ≤ N# w → (e : ℕ) → T (tile w i k s e) → born w i + spans (broods s (forest w deep i k)) ≡ born w (i + k))
+      → (levelNodes nx fs ≡ map (node# w) (range a (spans fs))) × (nx + spans (below fs) ≡ born w (a + spans fs))
   unfolding levelNodes
   level-is deep a nx [] c l b f = (refl, add-zero nx ∙ sym b ∙ ap (born w) (sym (add-zero a)))
   level-is deep a nx (f ∷ fs) c l b grows =
@@ -220,14 +220,14 @@ module _ (w : List ℕ) (S : InShape w) (t : T (treeFits w)) where
       let bs : List (ℕ × Grove) = broods s (f .1) in
       let one : family nx s (f .1) ≡ map (node# w) (range a k) =
       ap (family nx s) (c .0) ∙ family-is deep k a s (c .1 .0) nx (c .2) (c .1 .1) b l in
-      let e : nx + members bs ≡ born w (a + k) =
-      ap₂ (λ (i : ℕ) (g : Grove). i + members (broods s g)) (sym b) (c .0) ∙ grows a k s (omega arith) (c .2) (c .1 .0) (c .1 .1) in
-      let r = level-is deep (a + k) (nx + members bs) fs (c .3) (l .0, omega (arith, l .1)) (sym e)
+      let e : nx + spans bs ≡ born w (a + k) =
+      ap₂ (λ (i : ℕ) (g : Grove). i + spans (broods s g)) (sym b) (c .0) ∙ grows a k s (omega arith) (c .2) (c .1 .0) (c .1 .1) in
+      let r = level-is deep (a + k) (nx + spans bs) fs (c .3) (l .0, omega (arith, l .1)) (sym e)
       (λ i k s h p e u. grows i k s (omega arith) p e u) in (
-        ap₂ (λ (x y : List Node). x ++ y) one (r .0) ∙ sym (map-append (node# w) (range a k) (range (a + k) (members fs)))
-            ∙ ap (map (node# w)) (sym (range-append a k (members fs))),
-        ap (λ (i : ℕ). nx + i) (members-append bs (below fs)) ∙ sym (add-assoc nx (members bs) (members (below fs))) ∙ r .1
-            ∙ ap (born w) (add-assoc a k (members fs)),
+        ap₂ (λ (x y : List Node). x ++ y) one (r .0) ∙ sym (map-append (node# w) (range a k) (range (a + k) (spans fs)))
+            ∙ ap (map (node# w)) (sym (range-append a k (spans fs))),
+        ap (λ (i : ℕ). nx + i) (spans-append bs (below fs)) ∙ sym (add-assoc nx (spans bs) (spans (below fs))) ∙ r .1
+            ∙ ap (born w) (add-assoc a k (spans fs)),
       )
 
   -- the next level
@@ -238,9 +238,9 @@ module _ (w : List ℕ) (S : InShape w) (t : T (treeFits w)) where
       let s : ℕ = f .0 in
       let q = kids-cover deep k a s (c .1 .0) nx (c .2) (c .1 .1) b l in
       let z : forest w (suc deep) a k ≡ f .1 = sym (c .0) in
-      let e : nx + members (broods s (f .1)) ≡ born w (a + k) = subst (λ (g : Grove). nx + members (broods s g) ≡ born w (a + k)) z (q .1) in
+      let e : nx + spans (broods s (f .1)) ≡ born w (a + k) = subst (λ (g : Grove). nx + spans (broods s g) ≡ born w (a + k)) z (q .1) in
       cover-append deep nx (broods s (f .1)) (below fs) (subst (λ (g : Grove). Cover deep nx (broods s g)) z (q .0))
-      (below-cover deep (a + k) (nx + members (broods s (f .1))) fs (c .3) (l .0, omega (arith, l .1)) (sym e))
+      (below-cover deep (a + k) (nx + spans (broods s (f .1))) fs (c .3) (l .0, omega (arith, l .1)) (sym e))
 
   -- ---- all levels
   -- the node after which none is born is the last
@@ -248,21 +248,21 @@ module _ (w : List ℕ) (S : InShape w) (t : T (treeFits w)) where
   last-node k h e = by-cases (decLt k (N# w)) (λ q. absurd (omega (arith, not-orphan w t k q))) (λ q. omega arith)
 
   -- the levels from number a on have all nodes from there
-  nodes-are : (deep dep a nx : ℕ) (fs : List (ℕ × Grove)) → Cover deep a fs → nx ≡ a + members fs → born w a ≡ nx → level w dep ≤ a
+  nodes-are : (deep dep a nx : ℕ) (fs : List (ℕ × Grove)) → Cover deep a fs → nx ≡ a + spans fs → born w a ≡ nx → level w dep ≤ a
       → dep + deep ≡ maxDepth → a ≤ N# w → 1 ≤ N# w → nodes deep nx fs ≡ map (node# w) (range a (N# w - a))
   unfolding nodes level
   nodes-are zero dep a nx fs c e b p q h some =
       let z : maxDepth - 0 ≡ dep = omega arith in
       let l : Left w 0 a = (omega arith, subst (λ (i : ℕ). level w i ≤ a) (sym z) p) in
       let r = level-is 0 a nx fs c l b
-      (λ i k s g u e v. ap (λ (fs : List (ℕ × Grove)). born w i + members fs) (family-none k i s u (omega arith, omega (arith, l .1)))
+      (λ i k s g u e v. ap (λ (fs : List (ℕ × Grove)). born w i + spans fs) (family-none k i s u (omega arith, omega (arith, l .1)))
       ∙ add-zero (born w i) ∙ none k i u (l .0, omega (arith, l .1))) in
       let less = born-le w a (N# w) h in
       let end = closed w t some in
       let stop : below fs ≡ [] = no-below fs a c l in
       let fin : nx ≡ N# w =
-      last-node nx (omega arith) (ap (born w) e ∙ sym (r .1) ∙ ap (λ (hs : List (ℕ × Grove)). nx + members hs) stop ∙ add-zero nx) in
-      let sum : members fs ≡ N# w - a = omega arith in
+      last-node nx (omega arith) (ap (born w) e ∙ sym (r .1) ∙ ap (λ (hs : List (ℕ × Grove)). nx + spans hs) stop ∙ add-zero nx) in
+      let sum : spans fs ≡ N# w - a = omega arith in
       r .0 ∙ ap (λ (k : ℕ). map (node# w) (range a k)) sum
     where
       none : (k i : ℕ) → i + k ≤ N# w → Left w 0 i → born w i ≡ born w (i + k)
@@ -285,12 +285,12 @@ module _ (w : List ℕ) (S : InShape w) (t : T (treeFits w)) where
       let less = born-le w a (N# w) h in
       let end = closed w t some in
       let lower = born-le w (level w dep) a p in
-      let ih = nodes-are deep (suc dep) nx (nx + members (below fs)) (below fs) (below-cover deep a nx fs c l b) refl
+      let ih = nodes-are deep (suc dep) nx (nx + spans (below fs)) (below fs) (below-cover deep a nx fs c l b) refl
       (ap (born w) e ∙ sym (r .1)) (omega arith) (omega arith) (omega arith) some in
-      let sum : N# w - a ≡ members fs + (N# w - nx) = omega arith in
+      let sum : N# w - a ≡ spans fs + (N# w - nx) = omega arith in
       ap₂ (λ (x y : List Node). x ++ y) (r .0) (ih ∙ ap (λ (i : ℕ). map (node# w) (range i (N# w - nx))) e)
-      ∙ sym (map-append (node# w) (range a (members fs)) (range (a + members fs) (N# w - nx)))
-      ∙ ap (map (node# w)) (sym (range-append a (members fs) (N# w - nx))) ∙ ap (λ (k : ℕ). map (node# w) (range a k)) (sym sum)
+      ∙ sym (map-append (node# w) (range a (spans fs)) (range (a + spans fs) (N# w - nx)))
+      ∙ ap (map (node# w)) (sym (range-append a (spans fs) (N# w - nx))) ∙ ap (λ (k : ℕ). map (node# w) (range a k)) (sym sum)
 
   -- those of the root's tree, numbered, are the index's
   root-numbered : 1 ≤ N# w → numbered (treeAt w maxDepth 0 bare) ≡ map (node# w) (range 0 (N# w))

@@ -12,7 +12,7 @@ use Rattle.tree.proofs.Members.{held}
 use Rattle.tree.proofs.Shaped.{Fine, below-fine}
 use Rattle.tree.proofs.WidenedBuild.{encode-nodes, encode-pairs, pairs-back}
 use Rattle.tree.proofs.Written.{Edition, each-words}
-use Rattle.tree.specs.Encode.{Node, below, broods, encode, family, levelNodes, members, nodeWords, nodes, numbered, pairWords, span}
+use Rattle.tree.specs.Encode.{Node, below, broods, encode, family, levelNodes, nodeWords, nodes, numbered, pairWords, span, spans}
 use Rattle.tree.specs.Grove.{Grove, Reach, bare, entries, fork, leaf, members#, reach#, reaching, treeAt, treeOf}
 use Rattle.words.specs.Shape.{inner}
 use Rattle.words.specs.Words.{child#, count#, edition#, kept, m#, start#, wordsOf}
@@ -61,9 +61,9 @@ module _ (w : List ℕ) (two : edition# w ≡ 2) where
   read-left deep j (f ∷ fs) hs u = (u .0, read-left deep (j + span (f .1)) fs hs (u .1))
 
   -- and behind it the second
-  read-right : (deep j : ℕ) (fs hs : List (ℕ × Grove)) → Read deep j (fs ++ hs) → Read deep (j + members fs) hs
+  read-right : (deep j : ℕ) (fs hs : List (ℕ × Grove)) → Read deep j (fs ++ hs) → Read deep (j + spans fs) hs
   read-right deep j [] hs u = rw (add-zero j) u
-  read-right deep j (f ∷ fs) hs u = rw (← add-assoc j (span (f .1)) (members fs)) (read-right deep (j + span (f .1)) fs hs (u .1))
+  read-right deep j (f ∷ fs) hs u = rw (← add-assoc j (span (f .1)) (spans fs)) (read-right deep (j + span (f .1)) fs hs (u .1))
 
   -- a family with no level below it is read back
   family-flat : (l j nx s : ℕ) (g : Grove) → Holds w j (family nx s g) → At w s (entries g) → Fine l 0 g → forest w 0 j (span g) ≡ g
@@ -110,7 +110,7 @@ module _ (w : List ℕ) (two : edition# w ≡ 2) where
   level-flat l j nx [] h a fi = tt
   level-flat l j nx (f ∷ fs) h a fi = (
     family-flat l j nx (f .0) (f .1) (level-first w j nx f fs h) (a .0) (fi .0),
-    level-flat l (j + span (f .1)) (nx + members (broods (f .0) (f .1))) fs (level-others w j nx f fs h) (a .1) (fi .1),
+    level-flat l (j + span (f .1)) (nx + spans (broods (f .0) (f .1))) fs (level-others w j nx f fs h) (a .1) (fi .1),
   )
 
   -- the families of a level
@@ -120,23 +120,23 @@ module _ (w : List ℕ) (two : edition# w ≡ 2) where
   level-read l deep j nx (f ∷ fs) h a ev fi n u =
       let bs = broods (f .0) (f .1) in (
         family-read l deep j nx (f .0) (f .1) (level-first w j nx f fs h) (a .0) (ev .0) (fi .0) n (read-left deep nx bs (below fs) u),
-        level-read l deep (j + span (f .1)) (nx + members bs) fs (level-others w j nx f fs h) (a .1) (ev .1) (fi .1) (omega arith)
+        level-read l deep (j + span (f .1)) (nx + spans bs) fs (level-others w j nx f fs h) (a .1) (ev .1) (fi .1) (omega arith)
             (read-right deep nx bs (below fs) u),
       )
 
   -- ALL FAMILIES ARE READ BACK
   nodes-read : (l deep a nx : ℕ) (fs : List (ℕ × Grove)) → Holds w a (nodes deep nx fs) → Stand fs → Every (λ f. Even (m# w) (f .1)) fs
-      → Every (λ f. Fine l deep (f .1)) fs → nx ≡ a + members fs → 1 ≤ nx → Read deep a fs
+      → Every (λ f. Fine l deep (f .1)) fs → nx ≡ a + spans fs → 1 ≤ nx → Read deep a fs
   nodes-read l zero a nx fs h st ev fi e n = level-flat l a nx fs (nodes-head w 0 a nx fs h) st fi
   nodes-read l (suc deep) a nx fs h st ev fi e n =
-      let k : ℕ = nx + members (below fs) in
+      let k : ℕ = nx + spans (below fs) in
       let L : List Node = nodes deep k (below fs) in
       let rs : Holds w nx L = subst (λ (i : ℕ). Holds w i L) (sym e) (nodes-rest w deep a nx fs h) in
       level-read l deep a nx fs (nodes-head w (suc deep) a nx fs h) st ev fi n
       (nodes-read l deep nx k (below fs) rs (below-stand fs st) (below-even (m# w) fs ev) (below-fine l deep fs fi) refl (omega arith))
 
 -- a level's nodes are among all
-nodes-some : (deep nx : ℕ) (fs : List (ℕ × Grove)) → members fs ≤ length (nodes deep nx fs)
+nodes-some : (deep nx : ℕ) (fs : List (ℕ × Grove)) → spans fs ≤ length (nodes deep nx fs)
 unfolding nodes
 nodes-some zero nx fs = omega (arith, level-length nx fs)
 nodes-some (suc deep) nx fs = omega (arith, nodes-length deep nx fs)

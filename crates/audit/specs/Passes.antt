@@ -1,4 +1,5 @@
--- The tests of the full check by node and by child, as the passes make them. Over the distance d between rows. Assumes nothing.
+-- The tests of the full check by node and by child, as the passes make them. Over the distance d between rows. A working notion, on which no promise
+-- rests. Assumes nothing.
 use Prim.Native.Nat.{_+_, _<_, ℕ}
 use Rattle.audit.specs.declared.Checked.{Checked}
 use Rattle.laws.specs.First.{First}

@@ -1,4 +1,4 @@
--- What comes before the passes: the refusals 1 to 9. Assumes nothing.
+-- What comes before the passes: the refusals 1 to 9. A working notion, on which no promise rests. Assumes nothing.
 use Prim.Native.Nat.{_*_, ℕ}
 use Rattle.limits.specs.Said.{Said, fault, tableFaults}
 use Rattle.measure.specs.Table.{rowsOf}

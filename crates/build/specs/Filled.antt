@@ -1,4 +1,4 @@
--- The pieces that a build writes, and the whole of them: 01, The tree, Index words. Assumes nothing.
+-- The pieces that a build writes, and the whole of them: 01, The tree, Index words. A working notion, on which no promise rests. Assumes nothing.
 use Prim.Native.Nat.{_*_, _≤_, ℕ}
 use Rattle.build.specs.Levels.{Item, allNodes, leaves}
 use Rattle.build.specs.Stages.{Fit, Stage, withNodes}

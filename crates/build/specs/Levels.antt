@@ -1,4 +1,4 @@
--- The tree level by level, as the code makes it: rows of runs, each where it stands. Assumes nothing.
+-- The tree level by level, as the code makes it: rows of runs, each where it stands. A working notion, on which no promise rests. Assumes nothing.
 use Prim.Native.Nat.{_+_, _<_, _≤_, suc, zero, ℕ}
 use Rattle.laws.specs.Lists.{each, times}
 use Rattle.tree.specs.Build.{reach, split}

@@ -1,4 +1,4 @@
--- What stands in the room and in the workspace while the tree grows. Assumes nothing.
+-- What stands in the room and in the workspace while the tree grows. A working notion, on which no promise rests. Assumes nothing.
 use Prim.Native.Nat.{_*_, _+_, _<_, _≤_, ℕ}
 use Rattle.build.specs.Levels.{Item, leafNode, levelOut, nextLevel, opened, placed, waits}
 use Rattle.laws.specs.Every.{Every}

@@ -1,4 +1,5 @@
--- The widened words, part by part, as far as they are written. Over the distance d between rows. Assumes nothing.
+-- The widened words, part by part, as far as they are written. Over the distance d between rows. A working notion, on which no promise rests. Assumes
+-- nothing.
 use Prim.Native.Nat.{_*_, _+_, ℕ}
 use Rattle.laws.specs.Lists.{each, range}
 use Rattle.tree.specs.Encode.{nodeWords, pairWords}

@@ -1,4 +1,4 @@
--- A card with the table that its index is over. Assumes nothing.
+-- A card with the table that its index is over. A working notion, on which no promise rests. Assumes nothing.
 use Prim.Native.Nat.{ℕ}
 use Rattle.card.specs.Cards.{Held, cardWords}
 use Rattle.measure.specs.Table.{rowsOf}

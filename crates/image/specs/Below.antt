@@ -1,4 +1,4 @@
--- What a list of words and a list of bytes is. Assumes nothing.
+-- What a list of words and a list of bytes is. A working notion, on which no promise rests. Assumes nothing.
 use Prim.Native.Nat.{_<_, ℕ}
 use Rattle.words.specs.Words.{at}
 use mathlib.Core.List.{List}

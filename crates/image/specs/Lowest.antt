@@ -1,4 +1,5 @@
--- The blocks whose check word is wrong, and the lowest of them: 01, Numbers given back, 15. Assumes nothing.
+-- The blocks whose check word is wrong, and the lowest of them: 01, Numbers given back, 15. A working notion, on which no promise rests. Assumes
+-- nothing.
 use Prim.Native.Nat.{ℕ}
 use Rattle.laws.specs.Lists.{keep, range}
 use Rattle.words.specs.Image.{blockGood}

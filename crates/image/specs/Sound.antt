@@ -1,4 +1,4 @@
--- What reading finds before it looks at the room: 01, Numbers given back, 14 to 17. Assumes nothing.
+-- What reading finds before it looks at the room: 01, Numbers given back, 14 to 17. A working notion, on which no promise rests. Assumes nothing.
 use Prim.Native.Nat.{_*_, _-_, _/_, ℕ}
 use Rattle.laws.specs.Lists.{all, range}
 use Rattle.limits.specs.Said.{Said, fault, said}

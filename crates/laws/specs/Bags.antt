@@ -1,5 +1,5 @@
--- Bags: lists taken without their order, known by weights. A weight gives each element a number; two lists are the same bag where every
--- weight has the same total over both. "No element has f" is `total f xs ≡ 0`. Assumes nothing.
+-- Bags: lists taken without their order, known by weights. A weight gives each element a number; two lists are the same bag where every weight has
+-- the same total over both. "No element has f" is `total f xs ≡ 0`. A working notion, on which no promise rests. Assumes nothing.
 use Prim.Native.Nat.{_+_, _-_, suc, zero, ℕ}
 use Rattle.laws.specs.Lists.{gap}
 use mathlib.Core.List.{List, [], _∷_}

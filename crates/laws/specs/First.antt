@@ -1,4 +1,4 @@
--- The first number that passes a test, as a search in ascending order finds it. Assumes nothing.
+-- The first number that passes a test, as a search in ascending order finds it. A working notion, on which no promise rests. Assumes nothing.
 use Prim.Native.Nat.{_<_, _≤_, ℕ}
 use mathlib.Core.Bool.{Bool, false, true}
 use mathlib.Core.Path.{_≡_}

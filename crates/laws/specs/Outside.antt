@@ -1,4 +1,4 @@
--- What a call that writes to a part of a list leaves as it was. Assumes nothing.
+-- What a call that writes to a part of a list leaves as it was. A working notion, on which no promise rests. Assumes nothing.
 use Prim.Native.Nat.{_<_, _≤_, ℕ}
 use lib.ListN.{getD, length}
 use mathlib.Core.List.{List}

@@ -1,4 +1,5 @@
--- The tree of an index in which one node is another, and nodes may reach farther: what a row that joins a leaf makes of it. Assumes nothing.
+-- The tree of an index in which one node is another, and nodes may reach farther: what a row that joins a leaf makes of it. A working notion, on
+-- which no promise rests. Assumes nothing.
 use Prim.Native.Nat.{_+_, _<_, _≤_, suc, zero, ℕ}
 use Rattle.appending.specs.Append.{reachWith}
 use Rattle.laws.specs.Lists.{range}

@@ -1,4 +1,4 @@
--- A leaf's run with the new row, laid in the workspace: 02, R-2. Assumes nothing.
+-- A leaf's run with the new row, laid in the workspace: 02, R-2. A working notion, on which no promise rests. Assumes nothing.
 use Prim.Native.Nat.{_%_, _*_, _+_, _<_, _≤_, ℕ}
 use Rattle.appending.specs.Append.{Ascends, orderly, twice}
 use Rattle.laws.specs.Bags.{SameBag}

@@ -4,7 +4,7 @@ use Rattle.laws.proofs.Joins.{each-append}
 use Rattle.laws.specs.Lists.{each}
 use Rattle.levels.specs.Singles.{Single, kidsOf, levelOf, levelsOf, lower, singles, wordsAt}
 use Rattle.limits.specs.Limits.{maxDepth}
-use Rattle.tree.specs.Encode.{Node, below, broods, family, levelNodes, members, nodes, numbered, span}
+use Rattle.tree.specs.Encode.{Node, below, broods, family, levelNodes, nodes, numbered, span, spans}
 use Rattle.tree.specs.Grove.{Grove, bare, entries, fork, leaf}
 use lib.ListN.{length, length-append}
 use mathlib.Core.List.{List, [], _++_, _∷_, append-nil}
@@ -23,7 +23,7 @@ singles-length s bare = refl
 singles-length s (leaf R es g) = ap suc (singles-length (s + length es) g)
 singles-length s (fork R ks g) = ap suc (singles-length (s + length (entries ks)) g)
 
-flat-length : (fs : List Single) → length (flat fs) ≡ members fs
+flat-length : (fs : List Single) → length (flat fs) ≡ spans fs
 flat-length [] = refl
 flat-length (f ∷ fs) = omega (arith, length-append (singles (f .0) (f .1)) (flat fs), singles-length (f .0) (f .1), flat-length fs)
 
@@ -62,9 +62,9 @@ unfolding levelNodes levelOf
 level-out next [] = refl
 level-out next (f ∷ fs) =
     let g : List Single = singles (f .0) (f .1) in
-    let e : length (lower g) ≡ members (broods (f .0) (f .1)) = ap length (kids-broods (f .0) (f .1)) ∙ flat-length (broods (f .0) (f .1)) in
+    let e : length (lower g) ≡ spans (broods (f .0) (f .1)) = ap length (kids-broods (f .0) (f .1)) ∙ flat-length (broods (f .0) (f .1)) in
     ap₂ (λ (a b : List Node). a ++ b) (family-out next (f .0) (f .1))
-    (level-out (next + members (broods (f .0) (f .1))) fs ∙ ap (λ (k : ℕ). levelOf (next + k) (flat fs)) (sym e))
+    (level-out (next + spans (broods (f .0) (f .1))) fs ∙ ap (λ (k : ℕ). levelOf (next + k) (flat fs)) (sym e))
     ∙ sym (out-append next g (flat fs))
 
 -- the level below
@@ -80,9 +80,9 @@ nodes-out : (deep next : ℕ) (fs : List Single) → nodes deep next fs ≡ leve
 unfolding nodes levelsOf
 nodes-out zero next fs = level-out next fs
 nodes-out (suc deep) next fs =
-    let e : length (lower (flat fs)) ≡ members (below fs) = ap length (below-flat fs) ∙ flat-length (below fs) in
+    let e : length (lower (flat fs)) ≡ spans (below fs) = ap length (below-flat fs) ∙ flat-length (below fs) in
     ap₂ (λ (a b : List Node). a ++ b) (level-out next fs)
-    (nodes-out deep (next + members (below fs)) (below fs)
+    (nodes-out deep (next + spans (below fs)) (below fs)
     ∙ ap₂ (λ (k : ℕ) (l : List Single). levelsOf deep (next + k) l) (sym e) (sym (below-flat fs)))
 
 -- A TREE'S NODES IN NUMBER ORDER ARE THOSE OF ITS LEVELS

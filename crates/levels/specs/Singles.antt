@@ -1,4 +1,4 @@
--- A tree level by level: the nodes of a level as single ones, each where it stands. Assumes nothing.
+-- A tree level by level: the nodes of a level as single ones, each where it stands. A working notion, on which no promise rests. Assumes nothing.
 use Prim.Native.Nat.{_+_, suc, zero, ℕ}
 use Rattle.laws.specs.Lists.{each}
 use Rattle.tree.specs.Encode.{Node}

@@ -1,4 +1,4 @@
--- A number in a text. Assumes nothing.
+-- A number in a text. A working notion, on which no promise rests. Assumes nothing.
 use Prim.Native.Nat.{_+_, _≤_, ℕ}
 use Rattle.io.specs.Digits.{Fewest, digits}
 use lib.ListN.{set}

@@ -1,4 +1,4 @@
--- What is kept of standard input: its front, as far as the text's buffer goes. Assumes nothing.
+-- What is kept of standard input: its front, as far as the text's buffer goes. A working notion, on which no promise rests. Assumes nothing.
 use Prim.Native.Nat.{_+_, _-_, min, ℕ}
 use lib.ListN.{length}
 use lib.Seq.{paste}

@@ -1,4 +1,5 @@
--- The descent by the words of the index: what is marked at a node, at its centres and in its leaf. Assumes nothing.
+-- The descent by the words of the index: what is marked at a node, at its centres and in its leaf. A working notion, on which no promise rests.
+-- Assumes nothing.
 use Prim.Native.Nat.{_+_, _<_, _≤_, ℕ}
 use Rattle.laws.specs.Lists.{gap, least, range}
 use Rattle.limits.specs.Limits.{maxDistance}

@@ -1,4 +1,4 @@
--- What a search on words known to be right leans on. Assumes nothing.
+-- What a search on words known to be right leans on. A working notion, on which no promise rests. Assumes nothing.
 use Prim.Native.Nat.{_*_, _≤_, ℕ}
 use Rattle.limits.specs.Limits.{maxColumns}
 use Rattle.words.specs.InShape.{InShape}

@@ -1,4 +1,4 @@
--- A table with its index, and how far a node's run reaches. Assumes nothing.
+-- A table with its index, and how far a node's run reaches. A working notion, on which no promise rests. Assumes nothing.
 use Prim.Native.Nat.{ℕ}
 use Rattle.laws.specs.Lists.{greatest}
 use Rattle.measure.specs.Table.{rowsOf}

@@ -1,4 +1,4 @@
--- The index whose tree is grown anew below one node, written into the room. Assumes nothing.
+-- The index whose tree is grown anew below one node, written into the room. A working notion, on which no promise rests. Assumes nothing.
 use Prim.Native.Nat.{_*_, _+_, _-_, _<_, _≤_, ℕ}
 use Rattle.build.specs.Filled.{pairsIn}
 use Rattle.limits.specs.Limits.{maxRows}

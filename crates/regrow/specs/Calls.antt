@@ -1,4 +1,5 @@
--- The whole of it: the tree of an index with one node grown anew from a run of the workspace. Assumes nothing.
+-- The whole of it: the tree of an index with one node grown anew from a run of the workspace. A working notion, on which no promise rests. Assumes
+-- nothing.
 use Prim.Native.Nat.{_*_, _+_, _<_, _≤_, ℕ}
 use Rattle.appending.specs.Append.{keepOwn}
 use Rattle.build.specs.Levels.{leaves}

@@ -1,5 +1,5 @@
--- A tree of which most nodes are those of an old index, and one is grown anew from a run: level by level, as the code makes it.
--- Assumes nothing.
+-- A tree of which most nodes are those of an old index, and one is grown anew from a run: level by level, as the code makes it. A working notion, on
+-- which no promise rests. Assumes nothing.
 use Prim.Native.Nat.{_+_, _≤_, suc, zero, ℕ}
 use Rattle.appending.specs.Append.{reachWith}
 use Rattle.build.specs.Levels.{Able, Item, placed}

@@ -1,4 +1,5 @@
--- What stands in the room and in the workspace while a tree is grown anew below one node. Assumes nothing.
+-- What stands in the room and in the workspace while a tree is grown anew below one node. A working notion, on which no promise rests. Assumes
+-- nothing.
 use Prim.Native.Nat.{_*_, _+_, _<_, _≤_, suc, ℕ}
 use Rattle.build.specs.Levels.{Able, leaves, opened, placed, waits}
 use Rattle.build.specs.Stages.{Openable, Opened, withNodes}

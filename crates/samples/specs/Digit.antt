@@ -1,4 +1,4 @@
--- A digit as a byte. Assumes nothing.
+-- A digit as a byte. A working notion, on which no promise rests. Assumes nothing.
 use Prim.Native.Nat.{_+_, ℕ}
 use lib.Dec.{ltb}
 use mathlib.Core.Bool.{cond}

@@ -1,4 +1,4 @@
--- The frontier in the workspace, as a queue of items, and what taking one does to it. Assumes nothing.
+-- The frontier in the workspace, as a queue of items, and what taking one does to it. A working notion, on which no promise rests. Assumes nothing.
 use Prim.Native.Nat.{_*_, _+_, _-_, _<_, _≤_, suc, ℕ}
 use Rattle.items.specs.Fits.{Fits}
 use Rattle.items.specs.Items.{Item, boundOf, leastTo, measuredBy, node, openedBy, place, placeBound, waitsOf, weight}

@@ -1,5 +1,5 @@
--- What a search knows between two steps: which rows are measured, how far they are, and the best of them. The workspace has 6n words: 2n
--- for the frontier, n for the distances by row, 2n for the answers, and n to spare. Assumes nothing.
+-- What a search knows between two steps: which rows are measured, how far they are, and the best of them. The workspace has 6n words: 2n for the
+-- frontier, n for the distances by row, 2n for the answers, and n to spare. A working notion, on which no promise rests. Assumes nothing.
 use Prim.Native.Nat.{_*_, _+_, _-_, _<_, _≤_, suc, ℕ}
 use Rattle.laws.specs.Bags.{total}
 use Rattle.laws.specs.Lists.{gap}

@@ -1,4 +1,4 @@
--- What the reader leaves of a text that says rows. Assumes nothing.
+-- What the reader leaves of a text that says rows. A working notion, on which no promise rests. Assumes nothing.
 use Prim.Native.Nat.{ℕ}
 use Rattle.laws.specs.Lists.{joined}
 use Rattle.sheet.specs.Says.{Says}

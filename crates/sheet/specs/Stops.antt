@@ -1,4 +1,4 @@
--- Where a reader stops: at the end of the first line with a fault. Assumes nothing.
+-- Where a reader stops: at the end of the first line with a fault. A working notion, on which no promise rests. Assumes nothing.
 use Prim.Native.Nat.{_+_, suc, ℕ}
 use Rattle.laws.specs.Lists.{times}
 use Rattle.sheet.specs.Reading.{begun, run}

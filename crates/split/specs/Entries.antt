@@ -1,4 +1,5 @@
--- A run in the workspace, an entry of three words for each member, and what the rounds do to the words: 01, The tree, centres. Assumes nothing.
+-- A run in the workspace, an entry of three words for each member, and what the rounds do to the words: 01, The tree, centres. A working notion, on
+-- which no promise rests. Assumes nothing.
 use Prim.Native.Nat.{_*_, _+_, _≤_, suc, zero, ℕ}
 use lib.Dec.{leb, ltb}
 use lib.ListN.{drop, getD, length, take}

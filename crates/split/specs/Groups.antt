@@ -1,4 +1,5 @@
--- A run's entries shared out among its centres: 01, The tree, groups and the children's runs. Assumes nothing.
+-- A run's entries shared out among its centres: 01, The tree, groups and the children's runs. A working notion, on which no promise rests. Assumes
+-- nothing.
 use Prim.Native.Nat.{_%_, _*_, _+_, _-_, _≤_, max, suc, zero, ℕ}
 use Rattle.laws.specs.Lists.{each, lowest}
 use Rattle.limits.specs.Limits.{maxRows}

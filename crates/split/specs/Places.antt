@@ -1,4 +1,5 @@
--- Where a build grows the nodes: at the width of edition 2, whatever stood in the room before. Assumes nothing.
+-- Where a build grows the nodes: at the width of edition 2, whatever stood in the room before. A working notion, on which no promise rests. Assumes
+-- nothing.
 use Prim.Native.Nat.{_*_, _+_, ℕ}
 use Rattle.words.specs.Words.{at, headerWords, width}
 use mathlib.Core.List.{List}

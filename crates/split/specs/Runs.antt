@@ -1,4 +1,4 @@
--- Runs in the workspace, and the split of one of them where it stands: 01, The tree. Assumes nothing.
+-- Runs in the workspace, and the split of one of them where it stands: 01, The tree. A working notion, on which no promise rests. Assumes nothing.
 use Prim.Native.Nat.{_*_, _+_, _<_, _≤_, ℕ}
 use Rattle.laws.specs.Every.{Every}
 use Rattle.laws.specs.Lists.{each, head, times}

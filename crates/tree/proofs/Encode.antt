@@ -2,7 +2,7 @@
 use Prim.Native.Nat.{_+_, _≤_, suc, zero, ℕ}
 use Rattle.laws.proofs.Every.{every-append}
 use Rattle.laws.specs.Every.{Every}
-use Rattle.tree.specs.Encode.{Node, below, broods, family, levelNodes, members, nodes, span}
+use Rattle.tree.specs.Encode.{Node, below, broods, family, levelNodes, nodes, span, spans}
 use Rattle.tree.specs.Grove.{Grove, Reach, bare, entries, fork, leaf}
 use Rattle.words.proofs.Levels.{born-inner, born-leaf, inner-is}
 use Rattle.words.specs.Shape.{born, inner, tile}
@@ -74,7 +74,7 @@ fork-inner w j nx e h = inner-is w j (λ q. omega arith)
 
 -- after a family, the next number is behind its children's
 pub family-born : (w : List ℕ) (j nx s : ℕ) (g : Grove) → Holds w j (family nx s g) → Even (m# w) g → 1 ≤ nx → born w j ≡ nx
-    → born w (j + span g) ≡ nx + members (broods s g)
+    → born w (j + span g) ≡ nx + spans (broods s g)
 unfolding family broods
 family-born w j nx s bare h ev n b = rw (add-zero j) (omega arith)
 family-born w j nx s (leaf R es g) h ev n b =
@@ -83,51 +83,51 @@ family-born w j nx s (fork R ks g) h ev n b =
     rw (add-suc j (span g), ← suc-add j (span g))
     (family-born w (suc j) (nx + span ks) (s + length (entries ks)) g (h .4) (ev .2) (omega arith)
     (omega (arith, born-inner w j (fork-inner w j nx (h .2) n), ev .0))
-    ∙ add-assoc nx (span ks) (members (broods (s + length (entries ks)) g)))
+    ∙ add-assoc nx (span ks) (spans (broods (s + length (entries ks)) g)))
 
 -- ---- a level
 -- how many nodes two lists of families have
-pub members-append : (xs ys : List (ℕ × Grove)) → members (xs ++ ys) ≡ members xs + members ys
-members-append [] ys = omega arith
-members-append (x ∷ xs) ys = omega (arith, members-append xs ys)
+pub spans-append : (xs ys : List (ℕ × Grove)) → spans (xs ++ ys) ≡ spans xs + spans ys
+spans-append [] ys = omega arith
+spans-append (x ∷ xs) ys = omega (arith, spans-append xs ys)
 
 -- a level has as many nodes as its families
-pub level-length : (nx : ℕ) (fs : List (ℕ × Grove)) → length (levelNodes nx fs) ≡ members fs
+pub level-length : (nx : ℕ) (fs : List (ℕ × Grove)) → length (levelNodes nx fs) ≡ spans fs
 unfolding levelNodes
 level-length nx [] = refl
 level-length nx (f ∷ fs) =
     omega (
       arith,
-      length-append (family nx (f .0) (f .1)) (levelNodes (nx + members (broods (f .0) (f .1))) fs),
+      length-append (family nx (f .0) (f .1)) (levelNodes (nx + spans (broods (f .0) (f .1))) fs),
       family-length nx (f .0) (f .1),
-      level-length (nx + members (broods (f .0) (f .1))) fs,
+      level-length (nx + spans (broods (f .0) (f .1))) fs,
     )
 
 -- the first family and the others
 pub level-first : (w : List ℕ) (j nx : ℕ) (f : ℕ × Grove) (fs : List (ℕ × Grove)) → Holds w j (levelNodes nx (f ∷ fs))
     → Holds w j (family nx (f .0) (f .1))
 unfolding levelNodes
-level-first w j nx f fs h = holds-left w j (family nx (f .0) (f .1)) (levelNodes (nx + members (broods (f .0) (f .1))) fs) h
+level-first w j nx f fs h = holds-left w j (family nx (f .0) (f .1)) (levelNodes (nx + spans (broods (f .0) (f .1))) fs) h
 
 -- and the others behind it
 pub level-others : (w : List ℕ) (j nx : ℕ) (f : ℕ × Grove) (fs : List (ℕ × Grove)) → Holds w j (levelNodes nx (f ∷ fs))
-    → Holds w (j + span (f .1)) (levelNodes (nx + members (broods (f .0) (f .1))) fs)
+    → Holds w (j + span (f .1)) (levelNodes (nx + spans (broods (f .0) (f .1))) fs)
 unfolding levelNodes
 level-others w j nx f fs h =
-    subst (λ k. Holds w (j + k) (levelNodes (nx + members (broods (f .0) (f .1))) fs)) (family-length nx (f .0) (f .1))
-    (holds-right w j (family nx (f .0) (f .1)) (levelNodes (nx + members (broods (f .0) (f .1))) fs) h)
+    subst (λ k. Holds w (j + k) (levelNodes (nx + spans (broods (f .0) (f .1))) fs)) (family-length nx (f .0) (f .1))
+    (holds-right w j (family nx (f .0) (f .1)) (levelNodes (nx + spans (broods (f .0) (f .1))) fs) h)
 
 -- after a level, the next number is behind all its children's
 pub level-born : (w : List ℕ) (j nx : ℕ) (fs : List (ℕ × Grove)) → Holds w j (levelNodes nx fs) → Every (λ f. Even (m# w) (f .1)) fs → 1 ≤ nx
     → born w j ≡ nx
-    → born w (j + members fs) ≡ nx + members (below fs)
+    → born w (j + spans fs) ≡ nx + spans (below fs)
 level-born w j nx [] h ev n b = rw (add-zero j) (omega arith)
 level-born w j nx (f ∷ fs) h ev n b =
-    let k : ℕ = members (broods (f .0) (f .1)) in
+    let k : ℕ = spans (broods (f .0) (f .1)) in
     let b′ = family-born w j nx (f .0) (f .1) (level-first w j nx f fs h) (ev .0) n b in
-    ap (born w) (sym (add-assoc j (span (f .1)) (members fs)))
+    ap (born w) (sym (add-assoc j (span (f .1)) (spans fs)))
     ∙ level-born w (j + span (f .1)) (nx + k) fs (level-others w j nx f fs h) (ev .1) (omega arith) b′
-    ∙ add-assoc nx k (members (below fs)) ∙ ap (λ i. nx + i) (sym (members-append (broods (f .0) (f .1)) (below fs)))
+    ∙ add-assoc nx k (spans (below fs)) ∙ ap (λ i. nx + i) (sym (spans-append (broods (f .0) (f .1)) (below fs)))
 
 -- families that stand from number j on, each tiling its part
 abbrev pub Fams : List ℕ → ℕ → List (ℕ × Grove) → Type 0
@@ -139,7 +139,7 @@ pub level-fams : (w : List ℕ) (j nx : ℕ) (fs : List (ℕ × Grove)) → Hold
 level-fams w j nx [] h = tt
 level-fams w j nx (f ∷ fs) h = (
   family-tile w j nx (f .0) (f .1) (level-first w j nx f fs h),
-  level-fams w (j + span (f .1)) (nx + members (broods (f .0) (f .1))) fs (level-others w j nx f fs h),
+  level-fams w (j + span (f .1)) (nx + spans (broods (f .0) (f .1))) fs (level-others w j nx f fs h),
 )
 
 -- of two lists of families the first
@@ -148,9 +148,9 @@ fams-left w j [] hs u = tt
 fams-left w j (f ∷ fs) hs u = (u .0, fams-left w (j + span (f .1)) fs hs (u .1))
 
 -- and behind it the second
-pub fams-right : (w : List ℕ) (j : ℕ) (fs hs : List (ℕ × Grove)) → Fams w j (fs ++ hs) → Fams w (j + members fs) hs
+pub fams-right : (w : List ℕ) (j : ℕ) (fs hs : List (ℕ × Grove)) → Fams w j (fs ++ hs) → Fams w (j + spans fs) hs
 fams-right w j [] hs u = rw (add-zero j) u
-fams-right w j (f ∷ fs) hs u = rw (← add-assoc j (span (f .1)) (members fs)) (fams-right w (j + span (f .1)) fs hs (u .1))
+fams-right w j (f ∷ fs) hs u = rw (← add-assoc j (span (f .1)) (spans fs)) (fams-right w (j + span (f .1)) fs hs (u .1))
 
 -- ---- the next level
 -- its families have m children below each inner node too
@@ -171,18 +171,18 @@ below-even m (f ∷ fs) h =
 pub nodes-head : (w : List ℕ) (deep j nx : ℕ) (fs : List (ℕ × Grove)) → Holds w j (nodes deep nx fs) → Holds w j (levelNodes nx fs)
 unfolding nodes
 nodes-head w zero j nx fs h = h
-nodes-head w (suc deep) j nx fs h = holds-left w j (levelNodes nx fs) (nodes deep (nx + members (below fs)) (below fs)) h
+nodes-head w (suc deep) j nx fs h = holds-left w j (levelNodes nx fs) (nodes deep (nx + spans (below fs)) (below fs)) h
 
 -- and the others behind them
 pub nodes-rest : (w : List ℕ) (deep j nx : ℕ) (fs : List (ℕ × Grove)) → Holds w j (nodes (suc deep) nx fs)
-    → Holds w (j + members fs) (nodes deep (nx + members (below fs)) (below fs))
+    → Holds w (j + spans fs) (nodes deep (nx + spans (below fs)) (below fs))
 unfolding nodes
 nodes-rest w deep j nx fs h =
-    subst (λ k. Holds w (j + k) (nodes deep (nx + members (below fs)) (below fs))) (level-length nx fs)
-    (holds-right w j (levelNodes nx fs) (nodes deep (nx + members (below fs)) (below fs)) h)
+    subst (λ k. Holds w (j + k) (nodes deep (nx + spans (below fs)) (below fs))) (level-length nx fs)
+    (holds-right w j (levelNodes nx fs) (nodes deep (nx + spans (below fs)) (below fs)) h)
 
 -- how many nodes a level and those below it have
 pub nodes-length : (deep nx : ℕ) (fs : List (ℕ × Grove))
-    → length (nodes (suc deep) nx fs) ≡ members fs + length (nodes deep (nx + members (below fs)) (below fs))
+    → length (nodes (suc deep) nx fs) ≡ spans fs + length (nodes deep (nx + spans (below fs)) (below fs))
 unfolding nodes
-nodes-length deep nx fs = omega (arith, length-append (levelNodes nx fs) (nodes deep (nx + members (below fs)) (below fs)), level-length nx fs)
+nodes-length deep nx fs = omega (arith, length-append (levelNodes nx fs) (nodes deep (nx + spans (below fs)) (below fs)), level-length nx fs)

@@ -17,7 +17,7 @@ use Rattle.tree.proofs.Sound.{Sound}
 use Rattle.tree.proofs.Written.{Edition, each-words, encode-shape, read-nodes}
 use Rattle.tree.specs.Cases.{words}
 use Rattle.tree.specs.Check.{Accepted, faults}
-use Rattle.tree.specs.Encode.{below, broods, encode, family, levelNodes, members, nodeWords, nodes, numbered, pairWords, span}
+use Rattle.tree.specs.Encode.{below, broods, encode, family, levelNodes, nodeWords, nodes, numbered, pairWords, span, spans}
 use Rattle.tree.specs.Grove.{Grove, bare, entries, fork, leaf, rowsIn}
 use Rattle.words.specs.Shape.{shapeOk}
 use Rattle.words.specs.Words.{cardOk, nodesOk, row#, width, wordsOf, wholeOk}
@@ -54,7 +54,7 @@ broods-sizes s (leaf R es g) = omega (arith, broods-sizes (s + length es) g)
 broods-sizes s (fork R ks g) = omega (arith, broods-sizes (s + length (entries ks)) g)
 
 -- a level's nodes, and those below it
-below-sizes : (fs : List (ℕ × Grove)) → sizes fs ≡ members fs + sizes (below fs)
+below-sizes : (fs : List (ℕ × Grove)) → sizes fs ≡ spans fs + sizes (below fs)
 below-sizes [] = refl
 below-sizes (f ∷ fs) = omega (arith, below-sizes fs, broods-sizes (f .0) (f .1), sizes-append (broods (f .0) (f .1)) (below fs))
 
@@ -63,7 +63,7 @@ pub nodes-size : (l deep nx : ℕ) (fs : List (ℕ × Grove)) → Every (λ f. F
 unfolding nodes
 nodes-size l zero nx fs h = let e = ap sizes (below-none l fs h) in omega (arith, level-length nx fs, below-sizes fs, e)
 nodes-size l (suc deep) nx fs h =
-    omega (arith, nodes-length deep nx fs, nodes-size l deep (nx + members (below fs)) (below fs) (below-fine l deep fs h), below-sizes fs)
+    omega (arith, nodes-length deep nx fs, nodes-size l deep (nx + spans (below fs)) (below fs) (below-fine l deep fs h), below-sizes fs)
 
 -- with two children or more below each inner node there are fewer nodes than twice the rows
 size-bound : (m : ℕ) (g : Grove) → 2 ≤ m → Full g → Even m g → size g + span g ≤ 2 * length (entries g)

@@ -13,7 +13,7 @@ use Rattle.tree.proofs.Held.{At, at-dists, at-left, at-right, at-rows}
 use Rattle.tree.proofs.Shaped.{Fine, below-fine, below-none}
 use Rattle.tree.proofs.Sound.{Close, Sound}
 use Rattle.tree.specs.Check.{nearest#}
-use Rattle.tree.specs.Encode.{Node, below, broods, family, levelNodes, members, nodes, span}
+use Rattle.tree.specs.Encode.{Node, below, broods, family, levelNodes, nodes, span, spans}
 use Rattle.tree.specs.Grove.{Grove, Reach, bare, entries, first, firsts, fork, leaf, rowsIn}
 use Rattle.words.specs.Shape.{inner}
 use Rattle.words.specs.Words.{child#, count#, dist#, edition#, first#, inner#, kept, m#, radius#, row#, run#, start#}
@@ -119,15 +119,15 @@ module _ (d : ℕ → ℕ → ℕ) (w : List ℕ) where
   brood-left j (f ∷ fs) hs u = (u .0, brood-left (j + span (f .1)) fs hs (u .1))
 
   -- and behind it the second
-  brood-right : (j : ℕ) (fs hs : List (ℕ × Grove)) → Brood j (fs ++ hs) → Brood (j + members fs) hs
+  brood-right : (j : ℕ) (fs hs : List (ℕ × Grove)) → Brood j (fs ++ hs) → Brood (j + spans fs) hs
   brood-right j [] hs u = rw (add-zero j) u
-  brood-right j (f ∷ fs) hs u = rw (← add-assoc j (span (f .1)) (members fs)) (brood-right (j + span (f .1)) fs hs (u .1))
+  brood-right j (f ∷ fs) hs u = rw (← add-assoc j (span (f .1)) (spans fs)) (brood-right (j + span (f .1)) fs hs (u .1))
 
   -- a level's families stand one after the other
   level-brood : (j nx : ℕ) (fs : List (ℕ × Grove)) → Holds w j (levelNodes nx fs) → Brood j fs
   level-brood j nx [] h = tt
   level-brood j nx (f ∷ fs) h =
-      ((nx, level-first w j nx f fs h), level-brood (j + span (f .1)) (nx + members (broods (f .0) (f .1))) fs (level-others w j nx f fs h))
+      ((nx, level-first w j nx f fs h), level-brood (j + span (f .1)) (nx + spans (broods (f .0) (f .1))) fs (level-others w j nx f fs h))
 
   -- a family that is well made and whose pairs stand where it says
   pub record Made (s : ℕ) (g : Grove) : Type 0 where
@@ -236,27 +236,27 @@ module _ (d : ℕ → ℕ → ℕ) (w : List ℕ) where
 
   -- the nodes of a level are right
   level-right : (j nx : ℕ) (fs : List (ℕ × Grove)) → Holds w j (levelNodes nx fs) → Every (λ f. Made (f .0) (f .1)) fs → 1 ≤ nx → Brood nx (below fs)
-      → Every Right (range j (members fs))
+      → Every Right (range j (spans fs))
   level-right j nx [] h M n u = tt
   level-right j nx (f ∷ fs) h M n u =
       let bs = broods (f .0) (f .1) in
-      every-range-append Right j (span (f .1)) (members fs)
+      every-range-append Right j (span (f .1)) (spans fs)
       (family-right j nx (f .0) (f .1) (level-first w j nx f fs h) (M .0) n (brood-left nx bs (below fs) u))
-      (level-right (j + span (f .1)) (nx + members bs) fs (level-others w j nx f fs h) (M .1) (omega arith) (brood-right nx bs (below fs) u))
+      (level-right (j + span (f .1)) (nx + spans bs) fs (level-others w j nx f fs h) (M .1) (omega arith) (brood-right nx bs (below fs) u))
 
   -- EVERY NODE IS RIGHT
   pub nodes-right : (l deep a nx : ℕ) (fs : List (ℕ × Grove)) → Holds w a (nodes deep nx fs) → Every (λ f. Made (f .0) (f .1)) fs
       → Every (λ f. Fine l deep (f .1)) fs
-      → nx ≡ a + members fs → 1 ≤ nx → Every Right (range a (length (nodes deep nx fs)))
+      → nx ≡ a + spans fs → 1 ≤ nx → Every Right (range a (length (nodes deep nx fs)))
   unfolding nodes
   nodes-right l zero a nx fs h M fi e n =
       subst (λ k. Every Right (range a k)) (sym (level-length nx fs)) (level-right a nx fs h M n (subst (Brood nx) (sym (below-none l fs fi)) tt))
   nodes-right l (suc deep) a nx fs h M fi e n =
-      let k : ℕ = nx + members (below fs) in
+      let k : ℕ = nx + spans (below fs) in
       let L : List Node = nodes deep k (below fs) in
       let rs : Holds w nx L = subst (λ i. Holds w i L) (sym e) (nodes-rest w deep a nx fs h) in
       subst (λ k. Every Right (range a k)) (sym (nodes-length deep nx fs))
-      (every-range-append Right a (members fs) (length L)
+      (every-range-append Right a (spans fs) (length L)
       (level-right a nx fs (nodes-head w (suc deep) a nx fs h) M n (level-brood nx k (below fs) (nodes-head w deep nx k (below fs) rs)))
       (subst (λ i. Every Right (range i (length L))) e (nodes-right l deep nx k (below fs) rs (below-made fs M) (below-fine l deep fs fi) refl
       (omega arith))))

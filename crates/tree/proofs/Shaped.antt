@@ -6,7 +6,7 @@ use Rattle.laws.proofs.Ranges.{every-range-append, range-append, range-every}
 use Rattle.laws.specs.Lists.{range}
 use Rattle.limits.specs.Limits.{maxDepth, maxDistance}
 use Rattle.tree.proofs.Encode.{Even, Fams, Holds, Reached, below-even, family-born, fams-left, fams-right, fork-inner, level-born, level-fams, level-first, level-length, level-others, nodes-head, nodes-length, nodes-rest}
-use Rattle.tree.specs.Encode.{Node, below, broods, family, levelNodes, members, nodes, span}
+use Rattle.tree.specs.Encode.{Node, below, broods, family, levelNodes, nodes, span, spans}
 use Rattle.tree.specs.Grove.{Grove, Reach, bare, entries, fork, leaf}
 use Rattle.words.proofs.Levels.{born-inner, born-leaf}
 use Rattle.words.specs.Shape.{born, level, nodeOk, tile}
@@ -92,19 +92,19 @@ family-ok w (suc deep) j nx s (fork R ks g) h ev fi n b u d =
 
 -- the nodes of a level pass
 level-ok : (w : List ℕ) (deep j nx : ℕ) (fs : List (ℕ × Grove)) → Holds w j (levelNodes nx fs) → Every (λ f. Even (m# w) (f .1)) fs
-    → Every (λ f. Fine (l# w) deep (f .1)) fs → 1 ≤ nx → born w j ≡ nx → Fams w nx (below fs) → Depth w deep j (members fs) → Ok w j (members fs)
+    → Every (λ f. Fine (l# w) deep (f .1)) fs → 1 ≤ nx → born w j ≡ nx → Fams w nx (below fs) → Depth w deep j (spans fs) → Ok w j (spans fs)
 level-ok w deep j nx [] h ev fi n b u d = tt
 level-ok w deep j nx (f ∷ fs) h ev fi n b u d =
     let P : ℕ → Type 0 = λ i. leb (level w maxDepth) i ≡ eqb deep 0 in
     let k : ℕ = span (f .1) in
-    let d′ : Every P (range j k ++ range (j + k) (members fs)) = rw (range-append j k (members fs)) at d in
+    let d′ : Every P (range j k ++ range (j + k) (spans fs)) = rw (range-append j k (spans fs)) at d in
     let bs = broods (f .0) (f .1) in
-    every-range-append (λ i. T (nodeOk w i)) j k (members fs)
+    every-range-append (λ i. T (nodeOk w i)) j k (spans fs)
     (family-ok w deep j nx (f .0) (f .1) (level-first w j nx f fs h) (ev .0) (fi .0) n b (fams-left w nx bs (below fs) u)
-    (every-left P (range j k) (range (j + k) (members fs)) d′))
-    (level-ok w deep (j + k) (nx + members bs) fs (level-others w j nx f fs h) (ev .1) (fi .1) (omega arith)
+    (every-left P (range j k) (range (j + k) (spans fs)) d′))
+    (level-ok w deep (j + k) (nx + spans bs) fs (level-others w j nx f fs h) (ev .1) (fi .1) (omega arith)
     (family-born w j nx (f .0) (f .1) (level-first w j nx f fs h) (ev .0) n b) (fams-right w nx bs (below fs) u)
-    (every-right P (range j k) (range (j + k) (members fs)) d′))
+    (every-right P (range j k) (range (j + k) (spans fs)) d′))
 
 -- ---- the next level
 -- the families of the children have one level less below them, and keep the rule
@@ -140,10 +140,10 @@ level-next w dep a nx p q = ap (born w) p ∙ q
 
 -- the level that starts at number a, at depth dep, is not below depth 24
 nodes-deep : (w : List ℕ) (deep dep a nx : ℕ) (fs : List (ℕ × Grove)) → Holds w a (nodes deep nx fs) → Every (λ f. Even (m# w) (f .1)) fs
-    → nx ≡ a + members fs → 1 ≤ nx → level w dep ≡ a → born w a ≡ nx → dep + deep ≡ maxDepth → a ≤ level w maxDepth
+    → nx ≡ a + spans fs → 1 ≤ nx → level w dep ≡ a → born w a ≡ nx → dep + deep ≡ maxDepth → a ≤ level w maxDepth
 nodes-deep w zero dep a nx fs h ev e n p b q = let r : level w maxDepth ≡ a = ap (level w) (sym q ∙ add-zero dep) ∙ p in omega arith
 nodes-deep w (suc deep) dep a nx fs h ev e n p b q =
-    let k : ℕ = nx + members (below fs) in
+    let k : ℕ = nx + spans (below fs) in
     let b′ : born w nx ≡ k = ap (born w) e ∙ level-born w a nx fs (nodes-head w (suc deep) a nx fs h) ev n b in
     let r = nodes-deep w deep (suc dep) nx k (below fs)
     (subst (λ i. Holds w i (nodes deep k (below fs))) (sym e) (nodes-rest w deep a nx fs h)) (below-even (m# w) fs ev) refl (omega arith)
@@ -152,22 +152,22 @@ nodes-deep w (suc deep) dep a nx fs h ev e n p b q =
 
 -- ALL NODES ARE AS THEY SHOULD BE, AND EACH BUT THOSE OF THE FIRST LEVEL IS A CHILD
 pub nodes-ok : (w : List ℕ) (deep dep a nx : ℕ) (fs : List (ℕ × Grove)) → Holds w a (nodes deep nx fs) → Every (λ f. Even (m# w) (f .1)) fs
-    → Every (λ f. Fine (l# w) deep (f .1)) fs → nx ≡ a + members fs → 1 ≤ nx → level w dep ≡ a → born w a ≡ nx → dep + deep ≡ maxDepth
+    → Every (λ f. Fine (l# w) deep (f .1)) fs → nx ≡ a + spans fs → 1 ≤ nx → level w dep ≡ a → born w a ≡ nx → dep + deep ≡ maxDepth
     → Ok w a (length (nodes deep nx fs)) × (born w (a + length (nodes deep nx fs)) ≡ a + length (nodes deep nx fs))
 unfolding nodes
 nodes-ok w zero dep a nx fs h ev fi e n p b q =
     let r : level w maxDepth ≡ a = ap (level w) (sym q ∙ add-zero dep) ∙ p in
     let no-kids : below fs ≡ [] = below-none (l# w) fs fi in
     let len = level-length nx fs in
-    let done : born w (a + members fs) ≡ a + members fs =
-    level-born w a nx fs h ev n b ∙ ap (λ l. nx + members l) no-kids ∙ add-zero nx ∙ e in (
+    let done : born w (a + spans fs) ≡ a + spans fs =
+    level-born w a nx fs h ev n b ∙ ap (λ l. nx + spans l) no-kids ∙ add-zero nx ∙ e in (
       subst (Ok w a) (sym len)
           (level-ok w 0 a nx fs h ev fi n b (subst (Fams w nx) (sym no-kids) tt)
-          (range-every (λ i. leb (level w maxDepth) i ≡ eqb 0 0) a (members fs) (λ i k. le-leb (level w maxDepth) (a + i) (omega arith)))),
+          (range-every (λ i. leb (level w maxDepth) i ≡ eqb 0 0) a (spans fs) (λ i k. le-leb (level w maxDepth) (a + i) (omega arith)))),
       subst (λ k. born w (a + k) ≡ a + k) (sym len) done,
     )
 nodes-ok w (suc deep) dep a nx fs h ev fi e n p b q =
-    let k : ℕ = nx + members (below fs) in
+    let k : ℕ = nx + spans (below fs) in
     let L : List Node = nodes deep k (below fs) in
     let hd = nodes-head w (suc deep) a nx fs h in
     let rs : Holds w nx L = subst (λ i. Holds w i L) (sym e) (nodes-rest w deep a nx fs h) in
@@ -177,10 +177,10 @@ nodes-ok w (suc deep) dep a nx fs h ev fi e n p b q =
     let top = nodes-deep w deep (suc dep) nx k (below fs) rs (below-even (m# w) fs ev) refl (omega arith) p′ b′ q′ in
     let ih = nodes-ok w deep (suc dep) nx k (below fs) rs (below-even (m# w) fs ev) (below-fine (l# w) deep fs fi) refl (omega arith) p′ b′ q′ in
     let here = level-ok w (suc deep) a nx fs hd ev fi n b (level-fams w nx k (below fs) (nodes-head w deep nx k (below fs) rs))
-    (range-every (λ i. leb (level w maxDepth) i ≡ eqb (suc deep) 0) a (members fs)
+    (range-every (λ i. leb (level w maxDepth) i ≡ eqb (suc deep) 0) a (spans fs)
     (λ i u. lt-leb (level w maxDepth) (a + i) (omega arith) ∙ sym (ne-eqb (suc deep) 0 (λ z. omega arith)))) in
     let len = nodes-length deep nx fs in
-    let sum : nx + length L ≡ a + (members fs + length L) = omega arith in (
-      subst (Ok w a) (sym len) (every-range-append (λ i. T (nodeOk w i)) a (members fs) (length L) here (subst (λ i. Ok w i (length L)) e (ih .0))),
+    let sum : nx + length L ≡ a + (spans fs + length L) = omega arith in (
+      subst (Ok w a) (sym len) (every-range-append (λ i. T (nodeOk w i)) a (spans fs) (length L) here (subst (λ i. Ok w i (length L)) e (ih .0))),
       subst (λ z. born w (a + z) ≡ a + z) (sym len) (ap (born w) (sym sum) ∙ ih .1 ∙ sum),
     )

@@ -45,15 +45,15 @@ broods s bare = []
 broods s (leaf R es g) = broods (s + length es) g
 broods s (fork R ks g) = (s, ks) ∷ broods (s + length (entries ks)) g
 
--- how many nodes some families have
-abbrev pub members : List (ℕ × Grove) → ℕ
-members [] = 0
-members (f ∷ fs) = span (f .1) + members fs
+-- how many nodes some families have, their spans together
+abbrev pub spans : List (ℕ × Grove) → ℕ
+spans [] = 0
+spans (f ∷ fs) = span (f .1) + spans fs
 
 -- the nodes of one level, family by family
 unfoldable pub levelNodes : ℕ → List (ℕ × Grove) → List Node
 levelNodes next [] = []
-levelNodes next (f ∷ fs) = family next (f .0) (f .1) ++ levelNodes (next + members (broods (f .0) (f .1))) fs
+levelNodes next (f ∷ fs) = family next (f .0) (f .1) ++ levelNodes (next + spans (broods (f .0) (f .1))) fs
 
 -- the families of the next level
 abbrev pub below : List (ℕ × Grove) → List (ℕ × Grove)
@@ -62,7 +62,7 @@ below fs = each (λ f. broods (f .0) (f .1)) fs
 -- the nodes of a level and of those below it
 unfoldable pub nodes : ℕ → ℕ → List (ℕ × Grove) → List Node
 nodes zero next fs = levelNodes next fs
-nodes (suc deep) next fs = levelNodes next fs ++ nodes deep (next + members (below fs)) (below fs)
+nodes (suc deep) next fs = levelNodes next fs ++ nodes deep (next + spans (below fs)) (below fs)
 
 -- all nodes, in number order
 unfoldable pub numbered : Grove → List Node

@@ -1,4 +1,5 @@
--- The shape test as one pass over the nodes in number order, with counters for the levels. Assumes nothing.
+-- The shape test as one pass over the nodes in number order, with counters for the levels. A working notion, on which no promise rests. Assumes
+-- nothing.
 use Prim.Native.Nat.{_+_, _<_, _≤_, suc, ℕ}
 use Rattle.limits.specs.Limits.{maxDepth}
 use Rattle.words.specs.Shape.{born, inner, level, nodeFits}
