@@ -68,46 +68,53 @@ fn say_no_row(row: usize, rows: usize) {
     say(b"\n");
 }
 
-// A row that has another count than the rows above.
-fn say_uneven(count: usize, columns: usize) {
+// A row that has another count than the rows above, or than the names if it is the first row.
+fn say_uneven(count: usize, columns: usize, rows: usize) {
     say_count(count, b"number");
-    say(b", where the rows above have ");
-    say_number(columns);
+    if rows == 0 {
+        say(b", where there are ");
+        say_count(columns, b"name");
+    } else {
+        say(b", where the rows above have ");
+        say_number(columns);
+    }
     say(b"\n");
 }
 
-// What is wrong with a line as a row of the table.
+// What is wrong with a line as a row of the table, or with the whole text.
 fn say_row_fault(r: Reader) {
     if r.fault == sheet::UNEVEN {
-        say_uneven(r.here.count, r.columns);
+        say_uneven(r.here.count, r.columns, r.rows);
     } else if r.fault == sheet::TOO_MANY_ROWS {
         say(b"more than 65,536 rows\n");
+    } else if r.fault == sheet::NO_ROWS {
+        say(b"no rows\n");
     } else {
         say(b"too long a text\n");
     }
 }
 
-// What is wrong with the line that the reader stopped at.
+// What is wrong with the column that the reader stopped at.
 fn say_line_fault(r: Reader) {
     if r.fault == sheet::line::NOT_A_NUMBER {
         say(b"not a number\n");
     } else if r.fault == sheet::line::TOO_GREAT {
         say(b"a number above 65,535\n");
     } else if r.fault == sheet::line::TOO_WIDE {
-        say(b"more than 16 numbers in a row\n");
+        say(b"more than 16 columns\n");
+    } else if r.fault == sheet::line::EMPTY {
+        say(b"empty\n");
     } else {
         say_row_fault(r);
     }
 }
 
-// What is wrong with the text, with the line it is in.
+// What is wrong with the text, with the line and the column.
 fn say_fault(r: Reader) {
-    if r.fault == sheet::NO_ROWS {
-        say(b"no rows\n");
-        return;
-    }
     say(b"line ");
     io::print_decimal(STDOUT_FILENO, r.line);
+    say(b", column ");
+    say_number(r.column);
     say(b": ");
     say_line_fault(r);
 }

@@ -1,4 +1,4 @@
-// Names below the first line are no numbers.
+// A number has no sign.
 fn main() {
     analyst::run();
 }

@@ -1,62 +1,58 @@
 -- A line that ends: what is known of it where nothing is wrong, and what becomes of the reader and the table. Assumes nothing.
-use Prim.Native.Nat.{_+_, _-_, _<_, _≤_, ℕ}
-use Rattle.sheet.specs.Closing.{accepted, closed, decided, differs, failed, lineTrouble, rowSize, rowTrouble, skipped, taken, troubleAt}
-use Rattle.sheet.specs.InLine.{settled}
+use Prim.Native.Nat.{_+_, _-_, _<_, _≤_, min, ℕ}
+use Rattle.sheet.specs.Closing.{accepted, bare, closed, decided, endTrouble, failed, firstBlank, judged, onward, orWide, titles}
+use Rattle.sheet.specs.InLine.{along, digitAt, moved, settled}
+use Rattle.sheet.specs.Says.{differs, none, orRow, rowTrouble}
 use Rattle.sheet.specs.declared.Reader.{Reader}
+use Rattle.sheet.specs.declared.bytes.Kind.the-variants.{Digit}
+use Rattle.sheet.specs.declared.bytes.Kind.{Kind}
 use Rattle.sheet.specs.declared.line.Line.{Line}
-use Rattle.sheet.specs.declared.line.Place.the-variants.{Ending, Gap, Inside, Names, Wrong}
 use Rattle.sheet.specs.declared.line.Place.{Place}
-use borrow.Author.Tests.{eqb-false, eqb-true, le-ltb, leb-false, lt-leb, lt-ltb, ltb-false, ltb-true, ne-eqb}
+use Rattle.sheet.specs.declared.line.Trouble.{Trouble}
+use borrow.Author.Tests.{eq-eqb, eqb-false, eqb-true, le-ltb, leb-false, lt-leb, lt-ltb, ltb-false, ltb-true, ne-eqb}
 use lib.Dec.{eqb, leb, ltb}
 use lib.ListN.{length}
 use lib.Seq.{paste}
 use mathlib.Core.Bool.{Bool, cond, false, true}
 use mathlib.Core.List.{List}
-use mathlib.Core.Path.{_∙_, _≡_, refl, sym}
+use mathlib.Core.Path.{_∙_, _≡_, ap, refl, sym}
 use native.Mathlib.Omega.{arith}
 
+-- ---- a digit
+-- the line after it, told in two steps
+pub along-digit : (l : Line) (k : Kind) (d : ℕ) (p : Place) (l′ : Line) → k ≡ Digit d → p ≡ digitAt (l .place) d → l′ ≡ moved l p true → l′ ≡ along l k
+along-digit l k d p l′ e q h = rw e (h ∙ ap (λ (x : Place). moved l x true) q)
+
 -- ---- nothing is wrong with the row
--- it is as wide as it may be and as the rows above, it is not one too many, and there is room
+-- it is as wide as it may be and as the lines above, it is not one too many, and there is room
 pub record Fits (columns rows put n room : ℕ) : Type 0 where
   pub narrow : n ≤ 16
   pub even : differs columns n ≡ false
   pub few : rows < 65_536
   pub space : put + n ≤ room
 
-module _ (columns rows put n room : ℕ) (z : n ≡ 0 → ⊥) where
+module _ (columns rows put n room : ℕ) where
   -- a row in which nothing is wrong fits
-  pub row-fits : rowTrouble columns rows put n room ≡ 0 → Fits columns rows put n room
+  pub row-fits : rowTrouble columns rows put n room .kind ≡ 0 → Fits columns rows put n room
   unfolding rowTrouble
-  row-fits e = go (eqb n 0) (ltb 16 n) (differs columns n) (leb 65_536 rows) (ltb room (put + n)) refl refl refl refl refl e
+  row-fits e = go (ltb 16 n) (differs columns n) (leb 65_536 rows) (ltb room (put + n)) refl refl refl refl e
     where
-      go : (p q d m s : Bool) → eqb n 0 ≡ p → ltb 16 n ≡ q → differs columns n ≡ d → leb 65_536 rows ≡ m → ltb room (put + n) ≡ s
-          → cond {A = ℕ} p 0 (cond q 3 (cond d 4 (cond m 5 (cond s 6 0)))) ≡ 0 → Fits columns rows put n room
-      go true q d m s a b c f g e = absurd (z (eqb-true n 0 a))
-      go false true d m s a b c f g e = absurd (omega arith)
-      go false false true m s a b c f g e = absurd (omega arith)
-      go false false false true s a b c f g e = absurd (omega arith)
-      go false false false false true a b c f g e = absurd (omega arith)
-      go false false false false false a b c f g e =
+      go : (q d m s : Bool) → ltb 16 n ≡ q → differs columns n ≡ d → leb 65_536 rows ≡ m → ltb room (put + n) ≡ s
+          → cond {A = Trouble} q (record { kind = 3; column = 17 })
+          (cond d (record { kind = 4; column = min columns n + 1 })
+          (cond m (record { kind = 5; column = 1 }) (cond s (record { kind = 6; column = 1 }) none))) .kind ≡ 0
+          → Fits columns rows put n room
+      go true d m s b c f g e = absurd (omega arith)
+      go false true m s b c f g e = absurd (omega arith)
+      go false false true s b c f g e = absurd (omega arith)
+      go false false false true b c f g e = absurd (omega arith)
+      go false false false false b c f g e =
           record {
             narrow = ltb-false 16 n b;
             even = c;
             few = leb-false 65_536 rows f;
             space = ltb-false room (put + n) g;
           }
-
-module _ (columns rows put n room : ℕ) where
-  -- and in one that fits nothing is wrong
-  pub fits-row : Fits columns rows put n room → rowTrouble columns rows put n room ≡ 0
-  unfolding rowTrouble
-  fits-row f = go (eqb n 0)
-    where
-      even : differs columns n ≡ false
-      even = f .even
-
-      go : (b : Bool)
-          → cond {A = ℕ} b 0 (cond (ltb 16 n) 3 (cond (differs columns n) 4 (cond (leb 65_536 rows) 5 (cond (ltb room (put + n)) 6 0)))) ≡ 0
-      go true = refl
-      go false = rw (le-ltb 16 n (f .narrow), even, lt-leb 65_536 rows (f .few), le-ltb room (put + n) (f .space))
 
 -- ---- the room, told with no sum
 module _ (room put n : ℕ) where
@@ -73,78 +69,112 @@ module _ (room put n : ℕ) where
       go false e = sym (le-ltb room (put + n) (omega (arith, ltb-false (room - put) n e)))
 
 -- ---- nothing is wrong with the line
--- a line that is wrong has a fault
-pub wrong-told : (k n : ℕ) → troubleAt (Wrong k) n ≡ 0 → ⊥
-wrong-told k n e = go (eqb k 0) refl e
+-- names are at most sixteen
+pub wide-fits : (t : Trouble) (n : ℕ) → orWide t n .kind ≡ 0 → n ≤ 16
+unfolding orWide
+wide-fits t n e = go (eqb (t .kind) 0) (ltb 16 n) refl refl e
   where
-    go : (b : Bool) → eqb k 0 ≡ b → cond {A = ℕ} b 1 k ≡ 0 → ⊥
-    go true q e = omega arith
-    go false q e = eqb-false k 0 q e
+    go : (a b : Bool) → eqb (t .kind) 0 ≡ a → ltb 16 n ≡ b → cond {A = Trouble} a (cond b (record { kind = 3; column = 17 }) none) t .kind ≡ 0 → n ≤ 16
+    go true true p q e = absurd (omega arith)
+    go true false p q e = ltb-false 16 n q
+    go false b p q e = absurd (eqb-false (t .kind) 0 p e)
 
--- where nothing is wrong with the line, nothing is wrong with its row
-trouble-none : (p : Place) (n : ℕ) → troubleAt p n ≡ 0 → n ≡ 0
-trouble-none Gap n e = e
-trouble-none (Inside v) n e = e
-trouble-none Ending n e = e
-trouble-none Names n e = e
-trouble-none (Wrong k) n e = absurd (wrong-told k n e)
+-- a row fits
+pub or-fits : (t : Trouble) (columns rows put n room : ℕ) → orRow t columns rows put n room .kind ≡ 0 → Fits columns rows put n room
+unfolding orRow
+or-fits t columns rows put n room e = go (eqb (t .kind) 0) refl e
+  where
+    go : (a : Bool) → eqb (t .kind) 0 ≡ a → cond a (rowTrouble columns rows put n room) t .kind ≡ 0 → Fits columns rows put n room
+    go true p e = row-fits columns rows put n room e
+    go false p e = absurd (eqb-false (t .kind) 0 p e)
 
--- what was wrong inside the line is told
-pub trouble-told : (p : Place) (k n : ℕ) → p ≡ Wrong k → (k ≡ 0 → ⊥) → k ≡ troubleAt p n
-trouble-told p k n e z = rw (e, ne-eqb k 0 z)
+module _ (r : Reader) (l : Line) (room : ℕ) (t : Trouble) (q : t ≡ endTrouble r l room) (e : t .kind ≡ 0) where
+  -- so do names
+  pub names-fit : titles r l ≡ true → l .count ≤ 16
+  unfolding endTrouble
+  names-fit y = wide-fits (l .names) (l .count) (rw y at (sym (ap (λ (x : Trouble). x .kind) q) ∙ e))
 
-module _ (r : Reader) (l : Line) (room : ℕ) (e : lineTrouble r l room ≡ 0) where
-  -- the lines can be counted, and nothing is wrong inside the line nor with its row
-  pub line-both : (r .line + 1 ≤ 18_446_744_073_709_551_615)
-      × (troubleAt (l .place) (rowTrouble (r .columns) (r .rows) (r .put) (rowSize l) room) ≡ 0)
-  unfolding lineTrouble
-  line-both = go (leb 18_446_744_073_709_551_615 (r .line)) refl e
-    where
-      go : (b : Bool) → leb 18_446_744_073_709_551_615 (r .line) ≡ b
-          → cond b 7 (troubleAt (l .place) (rowTrouble (r .columns) (r .rows) (r .put) (rowSize l) room)) ≡ 0
-          → (r .line + 1 ≤ 18_446_744_073_709_551_615)
-          × (troubleAt (l .place) (rowTrouble (r .columns) (r .rows) (r .put) (rowSize l) room) ≡ 0)
-      go true p e = absurd (omega arith)
-      go false p e = (omega (arith, leb-false 18_446_744_073_709_551_615 (r .line) p), e)
+  -- and the row of a line
+  pub line-fits : titles r l ≡ false → Fits (r .columns) (r .rows) (r .put) (l .count) room
+  unfolding endTrouble
+  line-fits y =
+      or-fits (l .numbers) (r .columns) (r .rows) (r .put) (l .count) room (rw y at (sym (ap (λ (x : Trouble). x .kind) q) ∙ e))
 
-  -- so its row fits, where it has one
-  pub line-fits : (n : ℕ) → n ≡ rowSize l → (n ≡ 0 → ⊥) → Fits (r .columns) (r .rows) (r .put) n room
-  line-fits n q z =
-      row-fits (r .columns) (r .rows) (r .put) n room z
-      (rw q (trouble-none (l .place) (rowTrouble (r .columns) (r .rows) (r .put) (rowSize l) room) (line-both .1)))
-
--- ---- the three ways on
-module _ (r : Reader) (table : List ℕ) (l : Line) (k : ℕ) (q : l ≡ settled (r .here)) (e : k ≡ lineTrouble r l (length table)) where
-  -- from what the line ended as
-  closed-is : closed r table ≡ decided r l k table
-  unfolding closed
-  closed-is = rw (e, q)
-
+-- ---- the ways on
+module _ (r : Reader) (table : List ℕ) (l : Line) (t : Trouble) (q : t ≡ endTrouble r l (length table)) where
   -- something is wrong
-  pub closed-failed : (k ≡ 0 → ⊥) → closed r table ≡ (failed r l k, table)
+  pub decided-failed : (t .kind ≡ 0 → ⊥) → decided r l (endTrouble r l (length table)) table ≡ (failed r l (r .line) t, table)
   unfolding decided
-  closed-failed z = closed-is ∙ rw (ne-eqb k 0 z)
+  decided-failed z = rw (← q, ne-eqb (t .kind) 0 z)
 
-  -- the line is no row
-  pub closed-skipped : k ≡ 0 → rowSize l ≡ 0 → closed r table ≡ (skipped r, table)
+  -- names
+  pub decided-titled : t .kind ≡ 0 → titles r l ≡ true → decided r l (endTrouble r l (length table)) table ≡ (onward r 0 (l .count) 0 0, table)
   unfolding decided accepted
-  closed-skipped z y = closed-is ∙ rw (z, y)
+  decided-titled z y = rw (← q, eq-eqb (t .kind) 0 z, y)
 
-  -- the line is a row
-  pub closed-taken : (n : ℕ) → k ≡ 0 → n ≡ rowSize l → (n ≡ 0 → ⊥) → closed r table ≡ (taken r n, paste table (r .put) (l .row) n)
+  -- a row
+  pub decided-taken : t .kind ≡ 0 → titles r l ≡ false
+      → decided r l (endTrouble r l (length table)) table
+      ≡ (onward r 0 (l .count) (r .rows + 1) (r .put + l .count), paste table (r .put) (l .row) (l .count))
   unfolding decided accepted
-  closed-taken n z y x = closed-is ∙ rw (z, ← y, ne-eqb n 0 x)
+  decided-taken z y = rw (← q, eq-eqb (t .kind) 0 z, y)
 
--- a fact of each of the three is one of what the line leads to
-pub decided-cases : (r : Reader) (l : Line) (k : ℕ) (table : List ℕ) (P : Reader × List ℕ → Type 0)
-    → (k ≡ 0 → rowSize l ≡ 0 → P (skipped r, table))
-    → (k ≡ 0 → (rowSize l ≡ 0 → ⊥) → P (taken r (rowSize l), paste table (r .put) (l .row) (rowSize l)))
-    → ((k ≡ 0 → ⊥) → P (failed r l k, table)) → P (decided r l k table)
-unfolding decided accepted
-decided-cases r l k table P skip take fail = go (eqb k 0) (eqb (rowSize l) 0) refl refl
-  where
-    go : (a b : Bool) → eqb k 0 ≡ a → eqb (rowSize l) 0 ≡ b
-        → P (cond a (cond b (skipped r, table) (taken r (rowSize l), paste table (r .put) (l .row) (rowSize l))) (failed r l k, table))
-    go true true p q = skip (eqb-true k 0 p) (eqb-true (rowSize l) 0 q)
-    go true false p q = take (eqb-true k 0 p) (eqb-false (rowSize l) 0 q)
-    go false b p q = fail (eqb-false k 0 p)
+module _ (r : Reader) (table : List ℕ) (l : Line) where
+  -- below a blank line
+  pub judged-blank : (r .blank ≡ 0 → ⊥) → judged r l table ≡ (failed r l (r .blank) (record { kind = 7; column = 1 }), table)
+  unfolding judged
+  judged-blank z = rw (ne-eqb (r .blank) 0 z)
+
+  -- below none
+  pub judged-none : r .blank ≡ 0 → judged r l table ≡ decided r l (endTrouble r l (length table)) table
+  unfolding judged
+  judged-none z = rw (eq-eqb (r .blank) 0 z)
+
+module _ (r : Reader) (table : List ℕ) where
+  -- a blank line
+  pub closed-bare : (k : ℕ) → k ≡ firstBlank (r .blank) (r .line) → bare (r .here) ≡ true
+      → closed r table ≡ (onward r k (r .columns) (r .rows) (r .put), table)
+  unfolding closed
+  closed-bare k e y = rw (y, e)
+
+  -- any other
+  pub closed-full : (l : Line) → l ≡ settled (r .here) → bare (r .here) ≡ false → closed r table ≡ judged r l table
+  unfolding closed
+  closed-full l e y = rw (y, e)
+
+-- a fact of each of the ways is one of what the line leads to
+module _ (r : Reader) (table : List ℕ) (P : Reader × List ℕ → Type 0) where
+  -- by the trouble
+  pub decided-cases : (l : Line) (t : Trouble) → ((t .kind ≡ 0 → ⊥) → P (failed r l (r .line) t, table))
+      → (t .kind ≡ 0 → titles r l ≡ true → P (onward r 0 (l .count) 0 0, table))
+      → (t .kind ≡ 0 → titles r l ≡ false
+      → P (onward r 0 (l .count) (r .rows + 1) (r .put + l .count), paste table (r .put) (l .row) (l .count)))
+      → P (decided r l t table)
+  unfolding decided accepted
+  decided-cases l t fail name take = go (eqb (t .kind) 0) (titles r l) refl refl
+    where
+      go : (a b : Bool) → eqb (t .kind) 0 ≡ a → titles r l ≡ b
+          → P (cond a
+          (cond b (onward r 0 (l .count) 0 0, table)
+          (onward r 0 (l .count) (r .rows + 1) (r .put + l .count), paste table (r .put) (l .row) (l .count)))
+          (failed r l (r .line) t, table))
+      go true true p q = name (eqb-true (t .kind) 0 p) q
+      go true false p q = take (eqb-true (t .kind) 0 p) q
+      go false b p q = fail (eqb-false (t .kind) 0 p)
+
+  -- by the line
+  pub closed-cases : (bare (r .here) ≡ true → P (onward r (firstBlank (r .blank) (r .line)) (r .columns) (r .rows) (r .put), table))
+      → (bare (r .here) ≡ false → (r .blank ≡ 0 → ⊥) → P (failed r (settled (r .here)) (r .blank) (record { kind = 7; column = 1 }), table))
+      → (bare (r .here) ≡ false → r .blank ≡ 0
+      → P (decided r (settled (r .here)) (endTrouble r (settled (r .here)) (length table)) table))
+      → P (closed r table)
+  unfolding closed judged
+  closed-cases pass below judge = go (bare (r .here)) (eqb (r .blank) 0) refl refl
+    where
+      go : (a b : Bool) → bare (r .here) ≡ a → eqb (r .blank) 0 ≡ b
+          → P (cond a (onward r (firstBlank (r .blank) (r .line)) (r .columns) (r .rows) (r .put), table)
+          (cond b (decided r (settled (r .here)) (endTrouble r (settled (r .here)) (length table)) table)
+          (failed r (settled (r .here)) (r .blank) (record { kind = 7; column = 1 }), table)))
+      go true b p q = pass p
+      go false true p q = judge p (eqb-true (r .blank) 0 q)
+      go false false p q = below p (eqb-false (r .blank) 0 q)

@@ -1,154 +1,216 @@
--- A whole line with its end: a row is put behind the others, and a line without numbers changes nothing but the count of lines. Assumes nothing.
+-- A whole line with its end: what becomes of a reader that stands at its start. Assumes nothing.
 use Prim.Native.Nat.{_+_, _≤_, ℕ}
-use Rattle.sheet.proofs.Closings.{Fits, closed-skipped, closed-taken, fits-row}
-use Rattle.sheet.proofs.Kinded.{kind-return}
-use Rattle.sheet.proofs.LineRuns.{at, filled, names-kept, names-plain, numbers-kept, numbers-plain, row-taken, through}
-use Rattle.sheet.proofs.Runs.{next-newline, next-other}
-use Rattle.sheet.specs.Closing.{advanced, closed, lineTrouble, rowSize, rowTrouble, skipped, taken}
-use Rattle.sheet.specs.InLine.{along, emptied, settled}
-use Rattle.sheet.specs.Kinds.{kindOf}
-use Rattle.sheet.specs.Reading.{run}
-use Rattle.sheet.specs.Says.{Ends, Names, Numbers, Plain, byte, empty, newline, return}
+use Rattle.laws.specs.Lists.{any}
+use Rattle.sheet.proofs.Closings.{closed-bare, closed-full, decided-failed, decided-taken, decided-titled, judged-blank, judged-none}
+use Rattle.sheet.proofs.FieldRuns.{at-behind, blank-rest, fields-rest}
+use Rattle.sheet.proofs.Gathered.{line-figure, line-names, line-numbers, line-row, line-titles}
+use Rattle.sheet.proofs.Laying.{laid}
+use Rattle.sheet.proofs.LineRuns.{at, gather, line-bare, line-fields, through}
+use Rattle.sheet.proofs.Texts.{hold-through, whole, whole-fine}
+use Rattle.sheet.specs.Closing.{closed, counted, decided, endTrouble, failed, firstBlank, judged, onward, orWide, titles}
+use Rattle.sheet.specs.Fields.{asName, asNumber, figured, value}
+use Rattle.sheet.specs.InLine.{emptied, settled}
+use Rattle.sheet.specs.Lines.{blankLine, fieldsOf, kinds, named, numbers}
+use Rattle.sheet.specs.Reading.{inside}
+use Rattle.sheet.specs.Says.{lineTrouble, none, orRow, rowTrouble, trouble}
 use Rattle.sheet.specs.declared.Reader.{Reader}
-use Rattle.sheet.specs.declared.bytes.Kind.the-variants.{Return}
 use Rattle.sheet.specs.declared.line.Line.{Line}
-use Rattle.sheet.specs.declared.line.Place.the-variants.{Ending, Gap, Names as InNames}
-use Rattle.sheet.specs.declared.line.Place.{Place}
-use borrow.Author.Tests.{lt-leb}
-use lib.Dec.{eqb}
-use lib.ListN.{drop, length, replicate, take}
+use Rattle.sheet.specs.declared.line.Trouble.{Trouble}
+use borrow.Author.Tests.{eq-eqb, eqb-true, le-ltb, ne-eqb}
+use lib.Dec.{eqb, ltb}
+use lib.ListN.{drop, length, length-map, take}
 use lib.Seq.{paste}
-use mathlib.Core.Bool.{Bool}
-use mathlib.Core.List.{List, [], _++_, _∷_}
-use mathlib.Core.Path.{_∙_, _≡_, ap, refl, sym}
+use mathlib.Core.Bool.{Bool, _&&_, cond, false, not, true}
+use mathlib.Core.List.{List, [], _++_, _∷_, map}
+use mathlib.Core.Path.{_∙_, _≡_, ap, refl, subst, sym}
 use native.Mathlib.Omega.{arith}
 
--- the reader inside a line
-abbrev pub within : Reader → Line → Reader
-within r l = record { line = r .line; columns = r .columns; rows = r .rows; put = r .put; fault = r .fault; here = l }
+-- the reader stands at the start of a line, and nothing was wrong
+pub record Fresh (r : Reader) : Type 0 where
+  pub fine : r .fault ≡ 0
+  pub empty : r .here ≡ emptied
+  pub free : r .held ≡ false
+  pub column : r .column ≡ 0
 
--- ---- up to the end of the line
--- bytes that are no newline lead along the line
-pub plain-runs : {l : List ℕ} → Plain l → (r : Reader) (table t : List ℕ) → r .fault ≡ 0
-    → run (r, table) (l ++ t) ≡ run (within r (through (eqb (r .line) 1) (r .here) l), table) t
-unfolding run through advanced
-plain-runs empty r table t z = refl
-plain-runs (byte {b} {t = l} n x) r table t z =
-    ap (λ (s : Reader × List ℕ). run s (l ++ t)) (next-other r table b (kindOf b) z n refl) ∙ plain-runs x (advanced r (kindOf b)) table t z
+-- ---- what the line has ended as
+-- its last field has ended
+unfoldable pub ended-line : List ℕ → Line
+ended-line l = settled (through emptied (kinds l))
 
--- ---- the end of a line in which nothing is wrong
--- where a line of numbers may end
-pub data Good : Place → Type 0 where
-  in-gap : Good Gap
-  at-return : Good Ending
+module _ (l : List ℕ) where
+  -- what is wrong with its fields as numbers
+  end-numbers : ended-line l .numbers ≡ trouble asNumber 0 (fieldsOf l)
+  unfolding ended-line
+  end-numbers = ap (λ (x : Line). x .numbers) (line-fields (kinds l)) ∙ line-numbers (fieldsOf l)
 
--- no numbers are no trouble
-none-fits : (columns rows put room : ℕ) → rowTrouble columns rows put 0 room ≡ 0
-unfolding rowTrouble
-none-fits columns rows put room = refl
+  -- as names
+  end-names : ended-line l .names ≡ trouble asName 0 (fieldsOf l)
+  unfolding ended-line
+  end-names = ap (λ (x : Line). x .names) (line-fields (kinds l)) ∙ line-names (fieldsOf l)
 
-module _ (r : Reader) (table : List ℕ) (m : r .line + 1 ≤ 18_446_744_073_709_551_615) where
-  -- a line whose row is no trouble is none
-  no-trouble : (l : Line) {p : Place} (n : ℕ) (row : List ℕ) → Good p → rowTrouble (r .columns) (r .rows) (r .put) n (length table) ≡ 0
-      → 0 ≡ lineTrouble (within r l) (at p n row) (length table)
-  unfolding lineTrouble
-  no-trouble l n row in-gap e = rw (lt-leb 18_446_744_073_709_551_615 (r .line) (omega arith), e)
-  no-trouble l n row at-return e = rw (lt-leb 18_446_744_073_709_551_615 (r .line) (omega arith), e)
+  -- whether one begins as a figure
+  end-figure : ended-line l .figure ≡ any figured (fieldsOf l)
+  unfolding ended-line
+  end-figure = ap (λ (x : Line). x .figure) (line-fields (kinds l)) ∙ line-figure (fieldsOf l)
 
-  -- nor is a line of names
-  no-trouble-named : (l : Line) (n : ℕ) (row : List ℕ) → 0 ≡ lineTrouble (within r l) (at InNames n row) (length table)
-  unfolding lineTrouble
-  no-trouble-named l n row =
-      rw (lt-leb 18_446_744_073_709_551_615 (r .line) (omega arith), none-fits (r .columns) (r .rows) (r .put) (length table))
+  -- how many they are, where nothing is wrong with their numbers
+  end-count : trouble asNumber 0 (fieldsOf l) .kind ≡ 0 → ended-line l .count ≡ length (numbers l)
+  unfolding ended-line
+  end-count e = ap (λ (x : Line). x .count) (line-fields (kinds l)) ∙ line-row (fieldsOf l) e .0 ∙ sym (length-map (fieldsOf l) value)
 
-  -- a line of no numbers
-  none-closed : (l : Line) (p : Place) (row : List ℕ) → at p 0 row ≡ settled l → Good p → closed (within r l) table ≡ (skipped r, table)
-  unfolding skipped
-  none-closed l p row q g =
-      closed-skipped (within r l) table (at p 0 row) 0 q (no-trouble l 0 row g (none-fits (r .columns) (r .rows) (r .put) (length table))) refl
-      (size g)
-    where
-      size : {p : Place} → Good p → rowSize (at p 0 row) ≡ 0
-      size in-gap = refl
-      size at-return = refl
+  -- these numbers
+  end-row : trouble asNumber 0 (fieldsOf l) .kind ≡ 0 → take (length (numbers l)) (ended-line l .row) ≡ numbers l
+  unfolding ended-line
+  end-row e =
+      ap (λ (x : Line). take (length (numbers l)) (x .row)) (line-fields (kinds l))
+      ∙ ap (λ (k : ℕ). take k (gather emptied (fieldsOf l) .row)) (length-map (fieldsOf l) value)
+      ∙ line-row (fieldsOf l) e .2
 
-  -- a line of names
-  names-closed : (l : Line) (n : ℕ) (row : List ℕ) → at InNames n row ≡ settled l → closed (within r l) table ≡ (skipped r, table)
-  unfolding skipped
-  names-closed l n row q =
-      closed-skipped (within r l) table (at InNames n row) 0 q (no-trouble-named l n row) refl refl
+  -- how many names
+  end-titles : trouble asName 0 (fieldsOf l) .kind ≡ 0 → ended-line l .count ≡ length (fieldsOf l)
+  unfolding ended-line
+  end-titles e = ap (λ (x : Line). x .count) (line-fields (kinds l)) ∙ line-titles (fieldsOf l) e .0
 
-  -- a row
-  row-closed : (l : Line) (p : Place) (n : ℕ) (row : List ℕ) → at p n row ≡ settled l → Good p → rowSize (at p n row) ≡ n → (n ≡ 0 → ⊥)
-      → Fits (r .columns) (r .rows) (r .put) n (length table) → closed (within r l) table ≡ (taken r n, paste table (r .put) row n)
-  unfolding taken
-  row-closed l p n row q g e z f =
-      closed-taken (within r l) table (at p n row) 0 q (no-trouble l n row g (fits-row (r .columns) (r .rows) (r .put) n (length table) f)) n
-      refl (sym e) z
+-- only where nothing is wrong with the fields their count matters
+or-count : (t : Trouble) (columns rows put n k room : ℕ) → (t .kind ≡ 0 → n ≡ k) → orRow t columns rows put n room ≡ orRow t columns rows put k room
+unfolding orRow
+or-count t columns rows put n k room f = go (eqb (t .kind) 0) refl
+  where
+    go : (b : Bool) → eqb (t .kind) 0 ≡ b → cond b (rowTrouble columns rows put n room) t ≡ cond b (rowTrouble columns rows put k room) t
+    go true e = ap (λ (x : ℕ). rowTrouble columns rows put x room) (f (eqb-true (t .kind) 0 e))
+    go false e = refl
 
-  -- ---- a line of numbers, with a newline or a carriage return and a newline
-  module _ (z : r .fault ≡ 0) (l : Line) (n : ℕ) (row : List ℕ) (q : settled l ≡ at Gap n row) where
-    -- the carriage return leaves the numbers as they are
-    returned : along (eqb (r .line) 1) l Return ≡ at Ending n row
-    unfolding along
-    returned = rw q
+-- names that are at most sixteen are not too many
+wide-none : (t : Trouble) (n : ℕ) → (t .kind ≡ 0 → (n ≤ 16) × (t ≡ none)) → orWide t n ≡ t
+unfolding orWide
+wide-none t n f = go (eqb (t .kind) 0) refl
+  where
+    go : (b : Bool) → eqb (t .kind) 0 ≡ b → cond b (cond (ltb 16 n) (record { kind = 3; column = 17 }) none) t ≡ t
+    go true e = let x = f (eqb-true (t .kind) 0 e) in rw (le-ltb 16 n (x .0)) (sym (x .1))
+    go false e = refl
 
-    -- what both lead to
-    pub ends-run : {e : List ℕ} (s : Reader × List ℕ) (t : List ℕ) → Ends e
-        → ((l′ : Line) (p : Place) → at p n row ≡ settled l′ → Good p → rowSize (at p n row) ≡ n → closed (within r l′) table ≡ s)
-        → run (within r l, table) (e ++ t) ≡ run s t
-    unfolding run advanced
-    ends-run s t newline f = ap (λ x. run x t) (next-newline (within r l) table 10 z refl ∙ f l Gap (sym q) in-gap refl)
-    ends-run s t return f =
-        ap (λ x. run x (10 ∷ t)) (next-other (within r l) table 13 Return z (λ (e : _≡_ {A = ℕ} 13 10). omega arith) (sym kind-return))
-        ∙ ap (λ x. run x t) (next-newline (within r (along (eqb (r .line) 1) l Return)) table 10 z refl
-        ∙ f (along (eqb (r .line) 1) l Return) Ending (ap settled (sym returned)) at-return refl)
+-- ---- the reader behind the line
+module _ (r : Reader) (table l : List ℕ) (h : Fresh r) where
+  -- inside the line, where its newline comes
+  abbrev there : Reader
+  there = inside r (r .mark) false (through emptied (kinds l))
 
--- ---- whole lines, from a fresh line on
--- the numbers xs from place p on, with the rest as it was
-abbrev pub laid : List ℕ → ℕ → List ℕ → List ℕ
-laid table p xs = take p table ++ xs ++ drop (p + length xs) table
+  -- the newline decides
+  whole-closed : whole (r, table) l ≡ closed there table
+  whole-closed =
+      let f : r .held ≡ false = h .free in
+      let e : r .here ≡ emptied = h .empty in
+      whole-fine r table l (h .fine)
+      ∙ ap (λ (x : Line). closed (inside r (r .mark) false x) table) (rw (f, e) (hold-through l emptied .0))
 
--- a line's numbers stand in its row
-line-kept : {l ns : List ℕ} (first : Bool) → Numbers l ns → length ns ≤ 16
-    → settled (through first emptied l) ≡ at Gap (length ns) (filled (replicate 16 0) 0 ns)
-unfolding emptied
-line-kept {ns = ns} first x h =
-    let e : 0 + length ns ≡ length ns = omega arith in
-    numbers-kept first 0 (replicate 16 0) x (omega arith) ∙ ap (λ (j : ℕ). at Gap j (filled (replicate 16 0) 0 ns)) e
+  -- a blank line
+  pub blank-closed : blankLine l ≡ true → whole (r, table) l ≡ (onward r (firstBlank (r .blank) (r .line)) (r .columns) (r .rows) (r .put), table)
+  unfolding onward inside
+  blank-closed e = whole-closed ∙ closed-bare there table (firstBlank (r .blank) (r .line)) refl (line-bare (kinds l) ∙ e)
 
-module _ (r : Reader) (table : List ℕ) (z : r .fault ≡ 0) (f : r .here ≡ emptied) (m : r .line + 1 ≤ 18_446_744_073_709_551_615) (t : List ℕ) where
-  -- so do those of the line that begins here
-  kept : {l ns : List ℕ} → Numbers l ns → length ns ≤ 16
-      → settled (through (eqb (r .line) 1) (r .here) l) ≡ at Gap (length ns) (filled (replicate 16 0) 0 ns)
-  kept {l} x h = ap (λ (y : Line). settled (through (eqb (r .line) 1) y l)) f ∙ line-kept (eqb (r .line) 1) x h
+  module _ (n : blankLine l ≡ false) where
+    -- a line that is not blank is judged
+    full-judged : whole (r, table) l ≡ judged there (ended-line l) table
+    unfolding inside ended-line
+    full-judged = whole-closed ∙ closed-full there table (ended-line l) refl (line-bare (kinds l) ∙ n)
 
-  -- a line without numbers
-  pub skip-line : {l e : List ℕ} → Numbers l [] → Ends e → run (r, table) (l ++ (e ++ t)) ≡ run (skipped r, table) t
-  skip-line {l} {e} x y =
-      plain-runs (numbers-plain x) r table (e ++ t) z
-      ∙ ends-run r table m z (through (eqb (r .line) 1) (r .here) l) 0 (replicate 16 0) (kept x (omega arith)) (skipped r, table) t y
-      (λ l′ p q g s. none-closed r table m l′ p (replicate 16 0) q g)
+    -- it can't stand below a blank one
+    pub below-closed : (r .blank ≡ 0 → ⊥) → whole (r, table) l ≡ (failed r (ended-line l) (r .blank) (record { kind = 7; column = 1 }), table)
+    unfolding failed inside
+    below-closed z = full-judged ∙ judged-blank there table (ended-line l) z
 
-  -- a row
-  pub take-line : {l e ns : List ℕ} → Numbers l ns → Ends e → (length ns ≡ 0 → ⊥) → Fits (r .columns) (r .rows) (r .put) (length ns) (length table)
-      → run (r, table) (l ++ (e ++ t)) ≡ run (taken r (length ns), laid table (r .put) ns) t
-  take-line {l} {e} {ns} x y n g =
-      plain-runs (numbers-plain x) r table (e ++ t) z
-      ∙ ends-run r table m z (through (eqb (r .line) 1) (r .here) l) (length ns) (filled (replicate 16 0) 0 ns) (kept x (g .narrow))
-      (taken r (length ns), paste table (r .put) (filled (replicate 16 0) 0 ns) (length ns)) t y
-      (λ l′ p q h s. row-closed r table m l′ p (length ns) (filled (replicate 16 0) 0 ns) q h s n g)
-      ∙ ap (λ (w : List ℕ). run (taken r (length ns), take (r .put) table ++ w ++ drop (r .put + length ns) table) t)
-      (row-taken ns (replicate 16 0) (g .narrow))
+    module _ (b : r .blank ≡ 0) where
+      -- below none
+      full-decided : whole (r, table) l ≡ decided there (ended-line l) (endTrouble there (ended-line l) (length table)) table
+      unfolding inside
+      full-decided = full-judged ∙ judged-none there table (ended-line l) b
 
-  -- the first line, of names
-  pub skip-names : {l : List ℕ} → r .line ≡ 1 → Names l → run (r, table) (l ++ 10 ∷ t) ≡ run (skipped r, table) t
-  unfolding run
-  skip-names {l} o x =
-      let e : through (eqb (r .line) 1) (r .here) l .place ≡ InNames = rw o (names-kept (r .here) x) in
-      let w : Line = through (eqb (r .line) 1) (r .here) l in
-      plain-runs (names-plain x) r table (10 ∷ t) z
-      ∙ ap (λ s. run s t) (next-newline (within r w) table 10 z refl ∙ names-closed r table m w (w .count) (w .row) (named w e))
-    where
-      named : (w : Line) → w .place ≡ InNames → at InNames (w .count) (w .row) ≡ settled w
-      named w e = rw e
+      -- names stand in the first line alone
+      titles-are : titles there (ended-line l) ≡ (eqb (r .line) 1 && named l)
+      unfolding titles named inside
+      titles-are = ap (λ (x : Bool). eqb (r .line) 1 && not x) (end-figure l)
+
+      -- names
+      module _ (y : (eqb (r .line) 1 && named l) ≡ true) where
+        -- what is wrong with them
+        names-trouble : trouble asName 0 (fieldsOf l) ≡ endTrouble there (ended-line l) (length table)
+        unfolding endTrouble
+        names-trouble =
+            rw (titles-are ∙ y, end-names l)
+            (sym (wide-none (trouble asName 0 (fieldsOf l)) (ended-line l .count)
+            (λ (e : trouble asName 0 (fieldsOf l) .kind ≡ 0).
+            let x = line-titles (fieldsOf l) e in
+            let c : ended-line l .count ≡ length (fieldsOf l) = end-titles l e in
+            (omega (arith, x .1, c), x .2))))
+
+        -- something is
+        pub names-failed : (trouble asName 0 (fieldsOf l) .kind ≡ 0 → ⊥)
+            → whole (r, table) l ≡ (failed r (ended-line l) (r .line) (trouble asName 0 (fieldsOf l)), table)
+        unfolding failed inside
+        names-failed z = full-decided ∙ decided-failed there table (ended-line l) (trouble asName 0 (fieldsOf l)) names-trouble z
+
+        -- nothing is
+        pub names-taken : trouble asName 0 (fieldsOf l) .kind ≡ 0 → whole (r, table) l ≡ (onward r 0 (length (fieldsOf l)) 0 0, table)
+        unfolding onward inside
+        names-taken z =
+            full-decided
+            ∙ decided-titled there table (ended-line l) (trouble asName 0 (fieldsOf l)) names-trouble z (titles-are ∙ y)
+            ∙ ap (λ (k : ℕ). (onward r 0 k 0 0, table)) (end-titles l z)
+
+      -- a row
+      module _ (y : (eqb (r .line) 1 && named l) ≡ false) where
+        -- what is wrong with it
+        row-trouble : lineTrouble (r .columns) (r .rows) (r .put) (length table) l ≡ endTrouble there (ended-line l) (length table)
+        unfolding endTrouble lineTrouble inside
+        row-trouble =
+            rw (titles-are ∙ y, end-numbers l)
+            (or-count (trouble asNumber 0 (fieldsOf l)) (r .columns) (r .rows) (r .put) (length (numbers l)) (ended-line l .count) (length table)
+            (λ (e : trouble asNumber 0 (fieldsOf l) .kind ≡ 0). sym (end-count l e)))
+
+        -- something is
+        pub row-failed : (lineTrouble (r .columns) (r .rows) (r .put) (length table) l .kind ≡ 0 → ⊥)
+            → whole (r, table) l ≡ (failed r (ended-line l) (r .line) (lineTrouble (r .columns) (r .rows) (r .put) (length table) l), table)
+        unfolding failed inside
+        row-failed z =
+            full-decided
+            ∙ decided-failed there table (ended-line l) (lineTrouble (r .columns) (r .rows) (r .put) (length table) l) row-trouble z
+
+        -- nothing is wrong with its fields then
+        fields-fine : (t : Trouble) (columns rows put n room : ℕ) → orRow t columns rows put n room .kind ≡ 0 → t .kind ≡ 0
+        unfolding orRow
+        fields-fine t columns rows put n room e = go (eqb (t .kind) 0) refl e
+          where
+            go : (b : Bool) → eqb (t .kind) 0 ≡ b → cond b (rowTrouble columns rows put n room) t .kind ≡ 0 → t .kind ≡ 0
+            go true p e = eqb-true (t .kind) 0 p
+            go false p e = e
+
+        -- nothing is
+        pub row-taken : lineTrouble (r .columns) (r .rows) (r .put) (length table) l .kind ≡ 0
+            → whole (r, table) l
+            ≡ (onward r 0 (length (numbers l)) (r .rows + 1) (r .put + length (numbers l)), laid table (r .put) (numbers l))
+        unfolding onward inside lineTrouble
+        row-taken z =
+            let f = fields-fine (trouble asNumber 0 (fieldsOf l)) (r .columns) (r .rows) (r .put) (length (numbers l)) (length table) z in
+            full-decided
+            ∙ decided-taken there table (ended-line l) (lineTrouble (r .columns) (r .rows) (r .put) (length table) l) row-trouble z (titles-are ∙ y)
+            ∙ ap (λ (k : ℕ). (onward r 0 k (r .rows + 1) (r .put + k), paste table (r .put) (ended-line l .row) k)) (end-count l f)
+            ∙ ap (λ (x : List ℕ). (
+              onward r 0 (length (numbers l)) (r .rows + 1) (r .put + length (numbers l)),
+              take (r .put) table ++ x ++ drop (r .put + length (numbers l)) table,
+            )) (end-row l f)
+
+-- ---- blank lines
+-- a blank line is one empty field
+pub blank-fields : (l : List ℕ) → blankLine l ≡ true → fieldsOf l ≡ [] ∷ []
+blank-fields l e = fields-rest (kinds l) ∙ blank-rest (kinds l) e
+
+-- which is wrong in a row
+pub blank-trouble : (l : List ℕ) (columns rows put room : ℕ) → blankLine l ≡ true
+    → lineTrouble columns rows put room l ≡ record { kind = 7; column = 1 }
+unfolding lineTrouble trouble orRow asNumber
+blank-trouble l columns rows put room e = rw (blank-fields l e)
+
+-- and in names
+pub blank-names : (l : List ℕ) → blankLine l ≡ true → (named l ≡ true) × (trouble asName 0 (fieldsOf l) ≡ record { kind = 7; column = 1 })
+unfolding named trouble asName
+blank-names l e = (rw (blank-fields l e), rw (blank-fields l e))

@@ -1,163 +1,257 @@
--- One line read whole: a line of numbers leaves them in the line's row, and a line of names leaves names. Assumes nothing.
+-- One line read whole: its fields are judged one after the other. Assumes nothing.
 use Prim.Native.Nat.{_*_, _+_, _<_, _≤_, ℕ}
-use Rattle.sheet.proofs.Kinded.{kind-digit, kind-parts, kind-strange}
-use Rattle.sheet.specs.InLine.{added, along, grown, settled}
-use Rattle.sheet.specs.Kinds.{kindOf}
-use Rattle.sheet.specs.Says.{Names, Numbers, Parts, Plain, Strange, byte, comma, empty, gap, here, last, later, more, nothing, space, tab}
-use Rattle.sheet.specs.declared.bytes.Kind.the-variants.{Digit, Other, Parting, Return}
+use Rattle.laws.specs.Lists.{all}
+use Rattle.sheet.proofs.FieldRuns.{Spot, at-behind, at-open, at-word, emit, ending, fields-rest, move, rest}
+use Rattle.sheet.specs.Closing.{bare}
+use Rattle.sheet.specs.Fields.{asNumber, behind, fields, grownBy, isBlank, isDigit, isFigure, value}
+use Rattle.sheet.specs.InLine.{added, along, blankAt, digitAt, emptied, grown, moved, opened, opens, settled, settledAt}
+use Rattle.sheet.specs.declared.bytes.Kind.the-variants.{Blank, Digit, Other, Parting, Sign}
 use Rattle.sheet.specs.declared.bytes.Kind.{Kind}
 use Rattle.sheet.specs.declared.line.Line.{Line}
-use Rattle.sheet.specs.declared.line.Place.the-variants.{Gap, Inside, Names as InNames, Wrong}
+use Rattle.sheet.specs.declared.line.Place.the-variants.{Behind, Great, Inside, Open, Strange}
 use Rattle.sheet.specs.declared.line.Place.{Place}
-use Rattle.text.specs.Text.{Decimal, digit, followed}
-use borrow.Author.Tests.{le-leb, leb-false, leb-true, lt-leb}
-use lib.Dec.{leb}
-use lib.ListN.{length, length-set, set, take}
-use lib.Seq.{take-suc-set}
-use mathlib.Core.Bool.{Bool, cond, false, true}
-use mathlib.Core.List.{List, [], _++_, _∷_, append-assoc, append-nil}
-use mathlib.Core.Path.{_∙_, _≡_, ap, refl}
-use native.Mathlib.Nat.{add-zero}
-use native.Mathlib.Numerals.{add-one}
+use borrow.Author.Tests.{leb-false, lt-leb, ne-eqb}
+use lib.Dec.{eqb, leb}
+use mathlib.Core.Bool.{Bool, _&&_, _||_, cond, false, true}
+use mathlib.Core.List.{List, [], _++_, _∷_}
+use mathlib.Core.Path.{_∙_, _≡_, ap, refl, sym}
 use native.Mathlib.Omega.{arith}
 
 -- the line after all these bytes
-unfoldable pub through : Bool → Line → List ℕ → Line
-through first l [] = l
-through first l (b ∷ t) = through first (along first l (kindOf b)) t
+unfoldable pub through : Line → List Kind → Line
+through l [] = l
+through l (k ∷ t) = through (along l k) t
 
--- a line at the place p, with k numbers in the row
-abbrev pub at : Place → ℕ → List ℕ → Line
-at p k row = record { place = p; count = k; row = row }
+-- ---- a field so far
+-- the place in a field with these bytes
+unfoldable pub wordPlace : List Kind → Place
+wordPlace f = cond (all isDigit f) (cond (leb (value f) 65_535) (Inside (value f)) Great) Strange
 
--- the numbers, put into the row from k on
-abbrev pub filled : List ℕ → ℕ → List ℕ → List ℕ
-filled row k [] = row
-filled row k (n ∷ ns) = filled (set row k n) (k + 1) ns
+-- the number of a field that is one
+unfoldable pub heldIn : List Kind → ℕ
+heldIn f = cond (eqb (asNumber f) 0) (value f) 0
 
-module _ (first : Bool) (k : ℕ) (row : List ℕ) where
-  -- ---- the digits of a number
-  -- in a gap a digit begins a number
-  pub digit-begins : (d : ℕ) → d < 10 → along first (at Gap k row) (kindOf (48 + d)) ≡ at (Inside d) k row
-  unfolding along
-  digit-begins d h = rw (kind-digit d h)
+-- one byte more is a digit more
+grown-more : (v : ℕ) (f : List Kind) (d : ℕ) → grownBy v (f ++ Digit d ∷ []) ≡ 10 * grownBy v f + d
+unfolding grownBy
+grown-more v [] d = refl
+grown-more v (k ∷ f) d = grown-more (behind v k) f d
 
-  -- inside a number it goes behind it
-  pub digit-follows : (v d : ℕ) → d < 10 → 1 ≤ v → 10 * v + d ≤ 65_535
-      → along first (at (Inside v) k row) (kindOf (48 + d)) ≡ at (Inside (10 * v + d)) k row
-  unfolding along grown
-  digit-follows v d h p q = rw (kind-digit d h, le-leb 1 v p, le-leb (10 * v + d) 65_535 q)
-
-  -- so the digits of a number lead inside it
-  digits : {n : ℕ} {ds : List ℕ} → Decimal n ds → n ≤ 65_535 → (t : List ℕ)
-      → through first (at Gap k row) (ds ++ t) ≡ through first (at (Inside n) k row) t
-  unfolding through
-  digits (digit {d} h) l t = ap (λ (x : Line). through first x t) (digit-begins d h)
-  digits (followed {n} {d} {ds} x s h) l t =
-      rw append-assoc (digits x (omega arith) ((48 + d) ∷ t) ∙ ap (λ (y : Line). through first y t) (digit-follows n d h s l))
-
-  -- ---- the bytes between them
-  -- a number that ends is kept, where there are fewer than sixteen
-  pub number-kept : (v : ℕ) → k < 16 → added (at (Inside v) k row) v ≡ at Gap (k + 1) (set row k v)
-  unfolding added
-  number-kept v h = rw (lt-leb 16 k h)
-
-  -- a byte that parts ends a number
-  pub parted-inside : {b : ℕ} (v : ℕ) → Parts b → k < 16 → along first (at (Inside v) k row) (kindOf b) ≡ at Gap (k + 1) (set row k v)
-  unfolding along
-  parted-inside v p h = rw (kind-parts p, number-kept v h)
-
-  -- and leaves a gap as it is
-  pub parted-gap : {b : ℕ} → Parts b → along first (at Gap k row) (kindOf b) ≡ at Gap k row
-  unfolding along
-  parted-gap p = rw (kind-parts p)
-
--- a number that ends is kept, or is a seventeenth
-pub added-cases : (l : Line) (v : ℕ) (P : Line → Type 0) → (l .count < 16 → P (at Gap (l .count + 1) (set (l .row) (l .count) v)))
-    → (16 ≤ l .count → P (at (Wrong 3) (l .count) (l .row))) → P (added l v)
-unfolding added
-added-cases l v P kept wide = go (leb 16 (l .count)) refl
+-- and they stay digits
+digits-more : (f : List Kind) (k : Kind) → all isDigit (f ++ k ∷ []) ≡ (all isDigit f && isDigit k)
+digits-more [] k = go (isDigit k)
   where
-    go : (b : Bool) → leb 16 (l .count) ≡ b → P (cond b (at (Wrong 3) (l .count) (l .row)) (at Gap (l .count + 1) (set (l .row) (l .count) v)))
-    go true e = wide (leb-true 16 (l .count) e)
-    go false e = kept (leb-false 16 (l .count) e)
+    go : (b : Bool) → (b && true) ≡ b
+    go true = refl
+    go false = refl
+digits-more (j ∷ f) k = go (isDigit j) (digits-more f k)
+  where
+    go : (b : Bool) → all isDigit (f ++ k ∷ []) ≡ (all isDigit f && isDigit k) → (b && all isDigit (f ++ k ∷ [])) ≡ ((b && all isDigit f) && isDigit k)
+    go true e = e
+    go false e = refl
 
--- ---- a line of numbers
--- its numbers stand in the row, behind the k that stood there
-pub numbers-kept : {l ns : List ℕ} (first : Bool) (k : ℕ) (row : List ℕ) → Numbers l ns → k + length ns ≤ 16
-    → settled (through first (at Gap k row) l) ≡ at Gap (k + length ns) (filled row k ns)
-unfolding through
-numbers-kept first k row nothing h = rw add-zero
-numbers-kept first k row (gap {b} {t} p x) h =
-    ap (λ (z : Line). settled (through first z t)) (parted-gap first k row p) ∙ numbers-kept first k row x h
-numbers-kept first k row (last {n} {ds} x l) h =
-    let e : through first (at Gap k row) (ds ++ []) ≡ at (Inside n) k row = digits first k row x l [] in
-    ap settled (rw append-nil at e) ∙ number-kept first k row n (omega arith)
-numbers-kept first k row (more {n} {b} {ds} {t} {ns} x l p y) h =
-    ap settled (digits first k row x l (b ∷ t) ∙ ap (λ (z : Line). through first z t) (parted-inside first k row n p (omega arith)))
-    ∙ numbers-kept first (k + 1) (set row k n) y (omega arith)
-    ∙ ap (λ (j : ℕ). at Gap j (filled (set row k n) (k + 1) ns)) (omega arith)
+-- a digit behind a field
+word-digit : (f : List Kind) (d : ℕ) → digitAt (wordPlace f) d ≡ wordPlace (f ++ Digit d ∷ [])
+unfolding wordPlace value grown
+word-digit f d = rw (digits-more f (Digit d), grown-more 0 f d) (go (all isDigit f) (leb (grownBy 0 f) 65_535) refl)
+  where
+    go : (a b : Bool) → leb (grownBy 0 f) 65_535 ≡ b
+        → digitAt (cond a (cond b (Inside (grownBy 0 f)) Great) Strange) d
+        ≡ cond (a && true) (cond (leb (10 * grownBy 0 f + d) 65_535) (Inside (10 * grownBy 0 f + d)) Great) Strange
+    go true true e = refl
+    go true false e = rw (lt-leb (10 * grownBy 0 f + d) 65_535 (omega (arith, leb-false (grownBy 0 f) 65_535 e)))
+    go false b e = refl
 
--- what is put into the row from k on stands behind its first k
-filled-taken : (ns row : List ℕ) (k : ℕ) → k + length ns ≤ length row → take (k + length ns) (filled row k ns) ≡ take k row ++ ns
-filled-taken [] row k h = rw (add-zero, append-nil)
-filled-taken (n ∷ ns) row k h =
-    let e : k + length (n ∷ ns) ≡ k + 1 + length ns = omega arith in
-    ap (λ (j : ℕ). take j (filled (set row k n) (k + 1) ns)) e
-    ∙ filled-taken ns (set row k n) (k + 1) (simp length-set (omega arith))
-    ∙ rw (add-one, take-suc-set row k n (omega arith), append-assoc)
+-- any other byte of a field makes it no number
+word-other : (f : List Kind) (k : Kind) → isDigit k ≡ false → Strange ≡ wordPlace (f ++ k ∷ [])
+unfolding wordPlace
+word-other f k e = rw (digits-more f k, e) (go (all isDigit f))
+  where
+    go : (a : Bool) → Strange ≡ cond (a && false) (cond (leb (value (f ++ k ∷ [])) 65_535) (Inside (value (f ++ k ∷ []))) Great) Strange
+    go true = refl
+    go false = refl
 
--- from the front on, it is the row's front
-pub row-taken : (ns row : List ℕ) → length ns ≤ length row → take (length ns) (filled row 0 ns) ≡ ns
-row-taken ns row h = let e : 0 + length ns ≡ length ns = omega arith in rw e at (filled-taken ns row 0 (omega arith))
+-- inside a field none begins
+word-shut : (f : List Kind) → opens (wordPlace f) ≡ false
+unfolding wordPlace
+word-shut f = go (all isDigit f) (leb (value f) 65_535)
+  where
+    go : (a b : Bool) → opens (cond a (cond b (Inside (value f)) Great) Strange) ≡ false
+    go true true = refl
+    go true false = refl
+    go false b = refl
 
--- ---- a line of names
--- it stays one
-names-stay : (k : ℕ) (row : List ℕ) (b : Kind) → along true (at InNames k row) b ≡ at InNames k row
-unfolding along
-names-stay k row (Digit d) = refl
-names-stay k row Parting = refl
-names-stay k row Return = refl
-names-stay k row Other = refl
+-- ---- a field that ends is judged
+-- at the end of a line, or at a byte that parts
+settle-word : (c : Kind) (u : List Kind) (l : Line) → settledAt (wordPlace (c ∷ u)) l ≡ added l (asNumber (c ∷ u)) (heldIn (c ∷ u))
+unfolding wordPlace heldIn asNumber
+settle-word c u l = go (all isDigit (c ∷ u)) (leb (value (c ∷ u)) 65_535)
+  where
+    go : (a b : Bool) → settledAt (cond a (cond b (Inside (value (c ∷ u))) Great) Strange) l
+        ≡ added l (cond a (cond b 0 2) 1) (cond (eqb (cond a (cond b 0 2) 1) 0) (value (c ∷ u)) 0)
+    go true true = refl
+    go true false = refl
+    go false b = refl
 
--- whatever follows
-names-through : (k : ℕ) (row t : List ℕ) → through true (at InNames k row) t ≡ at InNames k row
-unfolding through
-names-through k row [] = refl
-names-through k row (b ∷ t) = ap (λ (z : Line). through true z t) (names-stay k row (kindOf b)) ∙ names-through k row t
+-- or at a blank
+blank-word : (c : Kind) (u : List Kind) (l : Line) → blankAt (wordPlace (c ∷ u)) l ≡ added l (asNumber (c ∷ u)) (heldIn (c ∷ u))
+unfolding wordPlace heldIn asNumber
+blank-word c u l = go (all isDigit (c ∷ u)) (leb (value (c ∷ u)) 65_535)
+  where
+    go : (a b : Bool) → blankAt (cond a (cond b (Inside (value (c ∷ u))) Great) Strange) l
+        ≡ added l (cond a (cond b 0 2) 1) (cond (eqb (cond a (cond b 0 2) 1) 0) (value (c ∷ u)) 0)
+    go true true = refl
+    go true false = refl
+    go false b = refl
 
--- a strange byte makes it one
-strange-names : (l : Line) (b : ℕ) → Strange b → along true l (kindOf b) ≡ at InNames (l .count) (l .row)
-unfolding along
-strange-names l b s = rw (kind-strange b s)
+-- ---- the line at a spot
+-- the line l with another place and figure
+abbrev pub placed : Line → Place → Bool → Line
+placed l p figure =
+    record { place = p; figure = figure; count = l .count; row = l .row; numbers = l .numbers; names = l .names }
 
--- so a line with a strange byte in it ends as one
-pub names-kept : {t : List ℕ} (l : Line) → Names t → through true l t .place ≡ InNames
-unfolding through
-names-kept l (here {b} {t} s p) =
-    ap (λ (z : Line). z .place) (ap (λ (z : Line). through true z t) (strange-names l b s) ∙ names-through (l .count) (l .row) t)
-names-kept l (later {b} {t} n x) = names-kept (along true l (kindOf b)) x
+-- the line l, with a field so far
+abbrev pub at : Spot → Line → Line
+at at-open l = placed l Open (l .figure)
+at (at-word c u) l = placed l (wordPlace (c ∷ u)) (l .figure || isFigure c)
+at at-behind l = placed l Behind (l .figure)
 
--- ---- none of these has a newline
--- a byte that parts is none
-parts-plain : {b : ℕ} → Parts b → b ≡ 10 → ⊥
-parts-plain comma e = omega arith
-parts-plain space e = omega arith
-parts-plain tab e = omega arith
+-- a figure came before, or the field begins as one
+abbrev pub figureWith : Bool → List Kind → Bool
+figureWith b [] = b
+figureWith b (c ∷ u) = b || isFigure c
 
--- a number has none
-decimal-plain : {n : ℕ} {ds t : List ℕ} → Decimal n ds → Plain t → Plain (ds ++ t)
-decimal-plain (digit {d} h) p = byte (λ (e : 48 + d ≡ 10). omega arith) p
-decimal-plain (followed {d = d} x s h) p = rw append-assoc (decimal-plain x (byte (λ (e : 48 + d ≡ 10). omega arith) p))
+-- one field more
+unfoldable pub addF : Line → List Kind → Line
+addF l f = added (placed l (l .place) (figureWith (l .figure) f)) (asNumber f) (heldIn f)
 
--- a line of numbers has none
-pub numbers-plain : {l ns : List ℕ} → Numbers l ns → Plain l
-numbers-plain nothing = empty
-numbers-plain (gap p x) = byte (parts-plain p) (numbers-plain x)
-numbers-plain (last {ds = ds} x l) = rw append-nil at (decimal-plain x empty)
-numbers-plain (more x l p y) = decimal-plain x (byte (parts-plain p) (numbers-plain y))
+-- these fields more
+unfoldable pub gather : Line → List (List Kind) → Line
+gather l [] = l
+gather l (f ∷ fs) = gather (addF l f) fs
 
--- a line of names has none
-pub names-plain : {t : List ℕ} → Names t → Plain t
-names-plain (here s p) = byte (s .no-newline) p
-names-plain (later n x) = byte n (names-plain x)
+-- in two parts
+gather-more : (a b : List (List Kind)) (l : Line) → gather l (a ++ b) ≡ gather (gather l a) b
+unfolding gather
+gather-more [] b l = refl
+gather-more (f ∷ a) b l = gather-more a b (addF l f)
+
+-- ---- one byte more
+-- a figure that begins nowhere changes nothing
+figure-kept : (x b : Bool) → (x || (b && false)) ≡ x
+figure-kept true b = refl
+figure-kept false true = refl
+figure-kept false false = refl
+
+-- a byte behind a field's first
+word-moved : (l : Line) (c : Kind) (u u′ : List Kind) (p : Place) (b : Bool) → p ≡ wordPlace (c ∷ u′)
+    → moved (at (at-word c u) l) p b ≡ at (at-word c u′) l
+unfolding moved
+word-moved l c u u′ p b e = rw (e, word-shut (c ∷ u), figure-kept (l .figure || isFigure c) b)
+
+-- any byte
+step : (s : Spot) (l : Line) (k : Kind) → along (at s l) k ≡ at (move s k) (gather l (emit s k))
+unfolding gather addF added moved opened wordPlace value grownBy grown asNumber heldIn
+step at-open l (Digit d) = refl
+step at-open l Blank = refl
+step at-open l Parting = refl
+step at-open l Sign = refl
+step at-open l Other = refl
+step at-behind l (Digit d) = refl
+step at-behind l Blank = refl
+step at-behind l Parting = refl
+step at-behind l Sign = refl
+step at-behind l Other = refl
+step (at-word c u) l (Digit d) = word-moved l c u (u ++ Digit d ∷ []) (digitAt (wordPlace (c ∷ u)) d) true (word-digit (c ∷ u) d)
+step (at-word c u) l Blank = blank-word c u (at (at-word c u) l)
+step (at-word c u) l Parting = ap opened (settle-word c u (at (at-word c u) l))
+step (at-word c u) l Sign = word-moved l c u (u ++ Sign ∷ []) Strange true (word-other (c ∷ u) Sign refl)
+step (at-word c u) l Other = word-moved l c u (u ++ Other ∷ []) Strange false (word-other (c ∷ u) Other refl)
+
+-- the end
+finish : (s : Spot) (l : Line) → settled (at s l) ≡ at at-behind (gather l (ending s))
+unfolding gather addF added asNumber heldIn
+finish at-open l = refl
+finish (at-word c u) l = settle-word c u (at (at-word c u) l)
+finish at-behind l = refl
+
+-- all bytes
+through-rest : (t : List Kind) (s : Spot) (l : Line) → settled (through (at s l) t) ≡ at at-behind (gather l (rest s t))
+unfolding through rest
+through-rest [] s l = finish s l
+through-rest (k ∷ t) s l =
+    ap (λ (x : Line). settled (through x t)) (step s l k)
+    ∙ through-rest t (move s k) (gather l (emit s k))
+    ∙ ap (at at-behind) (sym (gather-more (emit s k) (rest (move s k) t) l))
+
+-- A LINE'S FIELDS ARE JUDGED ONE AFTER THE OTHER
+pub line-fields : (t : List Kind) → settled (through emptied t) ≡ at at-behind (gather emptied (fields t))
+unfolding emptied
+line-fields t = rw (fields-rest t) (through-rest t at-open emptied)
+
+-- ---- a blank line
+-- a field that has ended is not forgotten
+counts : (l : Line) (f : List Kind) → (addF l f .count ≡ 0 → ⊥)
+unfolding addF added
+counts l f e = go (leb 16 (l .count)) e
+  where
+    go : (b : Bool) → cond b 17 (l .count + 1) ≡ 0 → ⊥
+    go true e = omega arith
+    go false e = omega arith
+
+-- no byte lets it be
+emitted-counts : (l : Line) (s : Spot) (k : Kind) → (l .count ≡ 0 → ⊥) → (gather l (emit s k) .count ≡ 0 → ⊥)
+unfolding gather
+emitted-counts l s (Digit d) n = n
+emitted-counts l at-open Blank n = n
+emitted-counts l (at-word c u) Blank n = counts l (c ∷ u)
+emitted-counts l at-behind Blank n = n
+emitted-counts l at-open Parting n = counts l []
+emitted-counts l (at-word c u) Parting n = counts l (c ∷ u)
+emitted-counts l at-behind Parting n = n
+emitted-counts l s Sign n = n
+emitted-counts l s Other n = n
+
+-- the count of a line at a spot is that of the line
+at-count : (s : Spot) (l : Line) → at s l .count ≡ l .count
+at-count at-open l = refl
+at-count (at-word c u) l = refl
+at-count at-behind l = refl
+
+-- a line with a field that has ended is not blank
+full-line : (t : List Kind) (s : Spot) (l : Line) → (l .count ≡ 0 → ⊥) → bare (through (at s l) t) ≡ false
+unfolding through bare
+full-line [] s l n = rw (at-count s l, ne-eqb (l .count) 0 n)
+full-line (k ∷ t) s l n =
+    ap (λ (x : Line). bare (through x t)) (step s l k) ∙ full-line t (move s k) (gather l (emit s k)) (emitted-counts l s k n)
+
+-- nor is one in a field
+word-line : (t : List Kind) (c : Kind) (u : List Kind) (l : Line) → bare (through (at (at-word c u) l) t) ≡ false
+unfolding through bare gather
+word-line [] c u l = rw (word-shut (c ∷ u)) (go (eqb (l .count) 0))
+  where
+    go : (b : Bool) → (b && false) ≡ false
+    go true = refl
+    go false = refl
+word-line (Digit d ∷ t) c u l = ap (λ (x : Line). bare (through x t)) (step (at-word c u) l (Digit d)) ∙ word-line t c (u ++ Digit d ∷ []) l
+word-line (Blank ∷ t) c u l =
+    ap (λ (x : Line). bare (through x t)) (step (at-word c u) l Blank) ∙ full-line t at-behind (addF l (c ∷ u)) (counts l (c ∷ u))
+word-line (Parting ∷ t) c u l =
+    ap (λ (x : Line). bare (through x t)) (step (at-word c u) l Parting) ∙ full-line t at-open (addF l (c ∷ u)) (counts l (c ∷ u))
+word-line (Sign ∷ t) c u l = ap (λ (x : Line). bare (through x t)) (step (at-word c u) l Sign) ∙ word-line t c (u ++ Sign ∷ []) l
+word-line (Other ∷ t) c u l = ap (λ (x : Line). bare (through x t)) (step (at-word c u) l Other) ∙ word-line t c (u ++ Other ∷ []) l
+
+-- from an open field on
+open-line : (t : List Kind) (l : Line) → l .count ≡ 0 → bare (through (at at-open l) t) ≡ all isBlank t
+unfolding through bare gather
+open-line [] l z = rw z
+open-line (Digit d ∷ t) l z = ap (λ (x : Line). bare (through x t)) (step at-open l (Digit d)) ∙ word-line t (Digit d) [] l
+open-line (Blank ∷ t) l z = open-line t l z
+open-line (Parting ∷ t) l z = ap (λ (x : Line). bare (through x t)) (step at-open l Parting) ∙ full-line t at-open (addF l []) (counts l [])
+open-line (Sign ∷ t) l z = ap (λ (x : Line). bare (through x t)) (step at-open l Sign) ∙ word-line t Sign [] l
+open-line (Other ∷ t) l z = ap (λ (x : Line). bare (through x t)) (step at-open l Other) ∙ word-line t Other [] l
+
+-- A LINE IS BARE IF IT HAS BLANKS ALONE
+pub line-bare : (t : List Kind) → bare (through emptied t) ≡ all isBlank t
+unfolding emptied
+line-bare t = open-line t emptied refl

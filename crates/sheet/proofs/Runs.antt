@@ -1,13 +1,16 @@
 -- A text read one byte at a time, and in pieces. Assumes nothing.
 use Prim.Native.Nat.{_+_, _<_, _≤_, ℕ}
-use Rattle.sheet.specs.Closing.{advanced, closed, failed}
+use Rattle.sheet.specs.Closing.{closed, failed, firstBlank}
+use Rattle.sheet.specs.InLine.{along}
 use Rattle.sheet.specs.Kinds.{kindOf}
-use Rattle.sheet.specs.Reading.{ended, finished, next, run}
+use Rattle.sheet.specs.Reading.{ended, finished, inside, markByte, marking, next, read, released, run, unmarking}
 use Rattle.sheet.specs.declared.Reader.{Reader}
 use Rattle.sheet.specs.declared.bytes.Kind.{Kind}
-use borrow.Author.Tests.{eq-eqb, ne-eqb}
+use Rattle.sheet.specs.declared.line.Line.{Line}
+use borrow.Author.Tests.{eq-eqb, le-leb, lt-leb, ne-eqb}
 use lib.ListN.{drop, drop-of-length-le, getD, length}
 use lib.Seq.{drop-cons}
+use mathlib.Core.Bool.{false, true}
 use mathlib.Core.List.{List, [], _++_, _∷_}
 use mathlib.Core.Path.{_∙_, _≡_, refl, sym}
 use native.Mathlib.Numerals.{add-one}
@@ -15,20 +18,47 @@ use native.Mathlib.Omega.{arith}
 
 -- ---- one byte more
 module _ (r : Reader) (table : List ℕ) (b : ℕ) where
+  -- a newline ends the line
+  pub read-newline : b ≡ 10 → read (r, table) b ≡ closed r table
+  unfolding read
+  read-newline e = rw (eq-eqb b 10 e)
+
+  module _ (l : Line) (q : l ≡ released r) (n : b ≡ 10 → ⊥) where
+    -- a carriage return is held back
+    pub read-return : b ≡ 13 → read (r, table) b ≡ (inside r (r .mark) true l, table)
+    unfolding read
+    read-return e = rw (ne-eqb b 10 n, eq-eqb b 13 e, q)
+
+    -- any other byte goes on in the line
+    pub read-other : (k : Kind) (l′ : Line) → k ≡ kindOf b → l′ ≡ along l k → (b ≡ 13 → ⊥) → read (r, table) b ≡ (inside r (r .mark) false l′, table)
+    unfolding read
+    read-other k l′ h p e = rw (ne-eqb b 10 n, ne-eqb b 13 e, p, h, q)
+
+  module _ (m : ℕ) (q : m ≡ markByte (r .mark)) where
+    -- a byte of the mark
+    pub marking-next : b ≡ m → marking (r, table) b ≡ (inside r (r .mark + 1) (r .held) (r .here), table)
+    unfolding marking
+    marking-next e = rw (eq-eqb b (markByte (r .mark)) (e ∙ q))
+
+    -- another
+    pub marking-past : (r′ : Reader) → r′ ≡ unmarking r → (b ≡ m → ⊥) → marking (r, table) b ≡ read (r′, table) b
+    unfolding marking
+    marking-past r′ p e = rw (ne-eqb b (markByte (r .mark)) (λ (h : b ≡ markByte (r .mark)). e (h ∙ sym q)), p)
+
   -- behind a fault nothing changes
   pub next-stays : (r .fault ≡ 0 → ⊥) → next (r, table) b ≡ (r, table)
   unfolding next
   next-stays z = rw (ne-eqb (r .fault) 0 z)
 
-  -- a newline ends the line
-  pub next-newline : r .fault ≡ 0 → b ≡ 10 → next (r, table) b ≡ closed r table
+  -- behind the start
+  pub next-read : r .fault ≡ 0 → 3 ≤ r .mark → next (r, table) b ≡ read (r, table) b
   unfolding next
-  next-newline z e = rw (eq-eqb (r .fault) 0 z, eq-eqb b 10 e)
+  next-read z m = rw (eq-eqb (r .fault) 0 z, le-leb 3 (r .mark) m)
 
-  -- any other byte goes on in it
-  pub next-other : (k : Kind) → r .fault ≡ 0 → (b ≡ 10 → ⊥) → k ≡ kindOf b → next (r, table) b ≡ (advanced r k, table)
+  -- at the start
+  pub next-marking : r .fault ≡ 0 → r .mark < 3 → next (r, table) b ≡ marking (r, table) b
   unfolding next
-  next-other k z e q = rw (eq-eqb (r .fault) 0 z, ne-eqb b 10 e, q)
+  next-marking z m = rw (eq-eqb (r .fault) 0 z, lt-leb 3 (r .mark) m)
 
 -- ---- the end of the text
 module _ (s : Reader × List ℕ) (r : Reader) (q : r ≡ next s 10 .0) where
@@ -43,9 +73,10 @@ module _ (s : Reader × List ℕ) (r : Reader) (q : r ≡ next s 10 .0) where
   finish-rows z y = rw (← q, eq-eqb (r .fault) 0 z, ne-eqb (r .rows) 0 y)
 
   -- no rows are a fault
-  pub finish-none : (r′ : Reader) → r′ ≡ failed r (r .here) 8 → r .fault ≡ 0 → r .rows ≡ 0 → r′ ≡ finished s .0
+  pub finish-none : (r′ : Reader) (k : ℕ) → k ≡ firstBlank (r .blank) (r .line) → r′ ≡ failed r (r .here) k (record { kind = 8; column = 1 })
+      → r .fault ≡ 0 → r .rows ≡ 0 → r′ ≡ finished s .0
   unfolding finished ended
-  finish-none r′ e z y = rw (← q, eq-eqb (r .fault) 0 z, eq-eqb (r .rows) 0 y) e
+  finish-none r′ k p e z y = rw (← q, eq-eqb (r .fault) 0 z, eq-eqb (r .rows) 0 y, ← p) e
 
   -- the table is as the last newline leaves it
   pub finish-table : (table : List ℕ) → table ≡ next s 10 .1 → table ≡ finished s .1

@@ -1,160 +1,394 @@
--- What a text says is what is read. Assumes nothing.
-use Prim.Native.Nat.{_+_, _≤_, ℕ}
-use Rattle.laws.proofs.Tests.{and-none}
+-- What a text says is what is read: its rows, or its first fault with line and column. Assumes nothing.
+use Prim.Native.Nat.{_+_, _<_, _≤_, ℕ}
 use Rattle.laws.specs.Lists.{joined}
-use Rattle.sheet.proofs.Closings.{Fits}
-use Rattle.sheet.proofs.LineEnds.{laid, skip-line, skip-names, take-line}
-use Rattle.sheet.proofs.Runs.{finish-rows, finish-table, pieces}
-use Rattle.sheet.specs.Closing.{differs, skipped, taken}
+use Rattle.sheet.proofs.Closings.{or-fits}
+use Rattle.sheet.proofs.LineEnds.{Fresh, below-closed, blank-closed, blank-names, blank-trouble, ended-line, names-failed, names-taken, row-failed, row-taken}
+use Rattle.sheet.proofs.Laying.{laid, laid-long, laid-more, laid-none}
+use Rattle.sheet.proofs.Runs.{pieces}
+use Rattle.sheet.proofs.Texts.{behindMark, lines-run, mark-run, whole, wholes, wholes-stay}
+use Rattle.sheet.specs.Closing.{counted, failed, firstBlank, onward}
+use Rattle.sheet.specs.Fields.{asName, asNumber, cut, cutAt, cutUp}
 use Rattle.sheet.specs.InLine.{emptied}
-use Rattle.sheet.specs.Reading.{begun, finished, next, run}
+use Rattle.sheet.specs.Lines.{blankLine, fieldsOf, isNewline, kept, lines, named, numbers, onto, unmarked}
+use Rattle.sheet.specs.Reading.{begun, ended, finished, inside, next, run}
 use Rattle.sheet.specs.Reads.{Reads}
-use Rattle.sheet.specs.Says.{Ends, Lines, Says, Whole, blank, named, newline, none, return, row, rows}
+use Rattle.sheet.specs.Says.{Told, lineTrouble, none, says, stopped, told, toldAll, toldBy, toldNames, trouble}
 use Rattle.sheet.specs.declared.Reader.{Reader}
-use borrow.Author.Tests.{eq-eqb}
+use Rattle.sheet.specs.declared.line.Line.{Line}
+use Rattle.sheet.specs.declared.line.Trouble.{Trouble}
+use borrow.Author.Tests.{eq-eqb, eqb-false, eqb-true, lt-ltb, ne-eqb}
 use lib.Dec.{eqb}
-use lib.ListN.{drop, length, length-append, length-drop, take, take-append-drop}
-use lib.Seq.{drop-at, drop-drop, length-take-le, take-at}
-use mathlib.Core.Bool.{false, not}
-use mathlib.Core.List.{List, [], _++_, _∷_, append-assoc, append-nil}
-use mathlib.Core.Path.{_∙_, _≡_, ap, refl, sym}
+use lib.ListN.{drop, length, length-append}
+use mathlib.Core.Bool.{Bool, _&&_, cond, false, true}
+use mathlib.Core.List.{List, [], _++_, _∷_}
+use mathlib.Core.Path.{_∙_, _≡_, ap, refl, subst, sym}
 use native.Mathlib.Nat.{add-zero}
 use native.Mathlib.Omega.{arith}
 
--- ---- numbers laid into the table
--- none
-pub laid-none : (table : List ℕ) (p : ℕ) → table ≡ laid table p []
-laid-none table p = rw (add-zero, append-nil, take-append-drop)
+-- ---- the end of a text
+-- what has become of a reader that had put `put` numbers as `rows` rows, where the rest of the text says o
+record Stood (rows put : ℕ) (table : List ℕ) (o : Told) (s : Reader × List ℕ) : Type 0 where
+  fault : s .0 .fault ≡ o .kind
+  line : (o .kind ≡ 0 → ⊥) → s .0 .line ≡ o .line
+  column : s .0 .column ≡ o .column
+  columns : s .0 .columns ≡ o .columns
+  count : s .0 .rows ≡ rows + length (o .rs)
+  sum : s .0 .put ≡ put + length (joined (o .rs))
+  content : s .1 ≡ laid table put (joined (o .rs))
 
-module _ (table a : List ℕ) (p : ℕ) (h : p + length a ≤ length table) where
-  -- what stands in front of the rest is p and a
-  front : length (take p table ++ a) ≡ p + length a
-  front = length-append (take p table) a ∙ ap (λ (k : ℕ). k + length a) (length-take-le p table (omega arith))
+-- the same, said or come by otherwise
+swap : {rows put : ℕ} {table : List ℕ} {o o′ : Told} {s s′ : Reader × List ℕ} → o ≡ o′ → s ≡ s′ → Stood rows put table o s
+    → Stood rows put table o′ s′
+swap {rows} {put} {table} {o} {o′} {s} {s′} p q x =
+    subst (λ (y : Reader × List ℕ). Stood rows put table o′ y) q (subst (λ (y : Told). Stood rows put table y s) p x)
 
-  -- the table is as long as it was
-  pub laid-long : length (laid table p a) ≡ length table
-  laid-long = length-append (take p table ++ a) (drop (p + length a) table) ∙ omega (arith, front, length-drop (p + length a) table)
+-- the end, where all lines were read
+abbrev done : Reader × List ℕ → Reader × List ℕ
+done s = (ended (s .0), s .1)
 
-  -- its front is what stood before p, and a
-  laid-front : take (p + length a) (laid table p a) ≡ take p table ++ a
-  laid-front = take-at (take p table ++ a) (drop (p + length a) table) (p + length a) front
+-- a fault stays
+ended-fault : (r : Reader) → (r .fault ≡ 0 → ⊥) → ended r ≡ r
+unfolding ended
+ended-fault r z = rw (ne-eqb (r .fault) 0 z)
 
-  -- the rest is as it was
-  laid-rest : (k : ℕ) → drop (p + length a + k) (laid table p a) ≡ drop (p + length a + k) table
-  laid-rest k =
-      rw (← drop-drop k (p + length a) (laid table p a), ← drop-drop k (p + length a) table)
-      (ap (drop k) (drop-at (take p table ++ a) (drop (p + length a) table) (p + length a) front))
+-- a fault in a line
+fail-stood : (r : Reader) (table : List ℕ) (l : Line) (line : ℕ) (t : Trouble) (ls : List (List ℕ)) → (t .kind ≡ 0 → ⊥)
+    → Stood (r .rows) (r .put) table (stopped t line (r .columns)) (done (wholes (failed r l line t, table) ls))
+unfolding failed stopped
+fail-stood r table l line t ls z =
+    swap refl
+    (sym (ap (λ (s : Reader × List ℕ). done s) (wholes-stay ls (failed r l line t, table) z)
+    ∙ ap (λ (y : Reader). (y, table)) (ended-fault (failed r l line t) z)))
+    (record {
+      fault = refl;
+      line = λ e. refl;
+      column = refl;
+      columns = refl;
+      count = sym (add-zero (r .rows));
+      sum = sym (add-zero (r .put));
+      content = laid-none table (r .put);
+    })
 
-  -- one behind the other
-  pub laid-more : (b : List ℕ) → laid (laid table p a) (p + length a) b ≡ laid table p (a ++ b)
-  laid-more b =
-      let e : p + length (a ++ b) ≡ p + length a + length b = simp length-append (omega arith) in
-      rw (laid-front, laid-rest (length b), ← e) (ap (λ (x : List ℕ). x ++ drop (p + length (a ++ b)) table) (append-assoc (take p table) a b))
+-- what a text without more lines says
+abbrev over : ℕ → ℕ → ℕ → Told
+over line columns rows = stopped (cond (eqb rows 0) (record { kind = 8; column = 1 }) none) line columns
+
+-- no line more
+end-stood : (r : Reader) (table : List ℕ) → r .fault ≡ 0 → r .column ≡ 0
+    → Stood (r .rows) (r .put) table (over (firstBlank (r .blank) (r .line)) (r .columns) (r .rows)) (ended r, table)
+unfolding ended failed stopped
+end-stood r table z c = rw (eq-eqb (r .fault) 0 z) (go (eqb (r .rows) 0))
+  where
+    go : (b : Bool)
+        → Stood (r .rows) (r .put) table (stopped (cond b (record { kind = 8; column = 1 }) none) (firstBlank (r .blank) (r .line)) (r .columns))
+        (cond b (failed r (r .here) (firstBlank (r .blank) (r .line)) (record { kind = 8; column = 1 })) r, table)
+    go true =
+        record {
+          fault = refl;
+          line = λ e. refl;
+          column = refl;
+          columns = refl;
+          count = sym (add-zero (r .rows));
+          sum = sym (add-zero (r .put));
+          content = laid-none table (r .put);
+        }
+    go false =
+        record {
+          fault = z;
+          line = λ e. absurd (e refl);
+          column = c;
+          columns = refl;
+          count = sym (add-zero (r .rows));
+          sum = sym (add-zero (r .put));
+          content = laid-none table (r .put);
+        }
+
+-- ---- behind a blank line
+-- what a text says behind a blank line with this number, if these lines are kept below it
+abbrev afterBlank : ℕ → ℕ → ℕ → List (List ℕ) → Told
+afterBlank line columns rows [] = over line columns rows
+afterBlank line columns rows (m ∷ ms) = stopped (record { kind = 7; column = 1 }) line columns
+
+-- one blank line more
+blank-more : (line columns rows : ℕ) (l : List ℕ) (ks : List (List ℕ))
+    → afterBlank line columns rows ks ≡ afterBlank line columns rows (onto true l ks)
+blank-more line columns rows l [] = refl
+blank-more line columns rows l (m ∷ ms) = refl
+
+-- a line that is not blank
+full-more : (line columns rows : ℕ) (l : List ℕ) (ks : List (List ℕ))
+    → stopped (record { kind = 7; column = 1 }) line columns ≡ afterBlank line columns rows (onto false l ks)
+full-more line columns rows l [] = refl
+full-more line columns rows l (m ∷ ms) = refl
+
+-- the reader behind a line is fresh again
+onward-fresh : (r : Reader) (blank columns rows put : ℕ) → Fresh r → Fresh (onward r blank columns rows put)
+unfolding onward
+onward-fresh r blank columns rows put h = record { fine = h .fine; empty = refl; free = refl; column = h .column }
+
+-- the first of blank lines stays
+first-stays : (blank line : ℕ) → (blank ≡ 0 → ⊥) → firstBlank blank line ≡ blank
+unfolding firstBlank
+first-stays blank line z = rw (ne-eqb blank 0 z)
+
+-- one is not blank, or there is no fault but that there are no rows
+blank-stood : (ls : List (List ℕ)) (r : Reader) (table : List ℕ) → Fresh r → (r .blank ≡ 0 → ⊥)
+    → Stood (r .rows) (r .put) table (afterBlank (r .blank) (r .columns) (r .rows) (kept ls)) (done (wholes (r, table) ls))
+unfolding wholes kept onward
+blank-stood [] r table h z =
+    swap (ap (λ (k : ℕ). over k (r .columns) (r .rows)) (first-stays (r .blank) (r .line) z)) refl (end-stood r table (h .fine) (h .column))
+blank-stood (l ∷ ls) r table h z = go (blankLine l) refl (blank-stood ls)
+  where
+    go : (b : Bool) → blankLine l ≡ b
+        → ((r : Reader) (table : List ℕ) → Fresh r → (r .blank ≡ 0 → ⊥)
+        → Stood (r .rows) (r .put) table (afterBlank (r .blank) (r .columns) (r .rows) (kept ls)) (done (wholes (r, table) ls)))
+        → Stood (r .rows) (r .put) table (afterBlank (r .blank) (r .columns) (r .rows) (onto b l (kept ls))) (done (wholes (whole (r, table) l) ls))
+    go true e i =
+        swap (blank-more (r .blank) (r .columns) (r .rows) l (kept ls))
+        (ap (λ (s : Reader × List ℕ). done (wholes s ls))
+        (sym (blank-closed r table l h e
+        ∙ ap (λ (k : ℕ). (onward r k (r .columns) (r .rows) (r .put), table)) (first-stays (r .blank) (r .line) z))))
+        (i (onward r (r .blank) (r .columns) (r .rows) (r .put)) table (onward-fresh r (r .blank) (r .columns) (r .rows) (r .put) h) z)
+    go false e i =
+        swap (full-more (r .blank) (r .columns) (r .rows) l (kept ls))
+        (ap (λ (s : Reader × List ℕ). done (wholes s ls)) (sym (below-closed r table l h e z)))
+        (fail-stood r table (ended-line l) (r .blank) (record { kind = 7; column = 1 }) ls (λ (n : _≡_ {A = ℕ} 7 0). omega arith))
+
+-- a first blank line, behind no other
+first-blank : (l : List ℕ) (ls : List (List ℕ)) (r : Reader) (table : List ℕ) → Fresh r → r .blank ≡ 0 → 1 ≤ r .line → blankLine l ≡ true
+    → Stood (r .rows) (r .put) table (afterBlank (r .line) (r .columns) (r .rows) (kept ls)) (done (wholes (whole (r, table) l) ls))
+unfolding onward firstBlank
+first-blank l ls r table h b m e =
+    swap refl
+    (ap (λ (s : Reader × List ℕ). done (wholes s ls))
+    (sym (blank-closed r table l h e
+    ∙ ap (λ (k : ℕ). (onward r (cond (eqb k 0) (r .line) k) (r .columns) (r .rows) (r .put), table)) b)))
+    (blank-stood ls (onward r (r .line) (r .columns) (r .rows) (r .put)) table (onward-fresh r (r .line) (r .columns) (r .rows) (r .put) h)
+    (λ (z : r .line ≡ 0). omega arith))
 
 -- ---- lines, one after the other
--- the reader stands where a line begins, behind rows of c numbers or none
-record Ready (c : ℕ) (r : Reader) : Type 0 where
-  fine : r .fault ≡ 0
-  fresh : r .here ≡ emptied
-  even : differs (r .columns) c ≡ false
-  told : 1 ≤ r .rows → r .columns ≡ c
+-- the next line's number
+count-next : (line : ℕ) → line < 18_446_744_073_709_551_615 → counted line ≡ line + 1
+unfolding counted
+count-next line h = rw (lt-ltb line 18_446_744_073_709_551_615 h)
 
--- what has become of the reader r and the table behind the rows rs
-record Stood (c : ℕ) (r : Reader) (table : List ℕ) (rs : List (List ℕ)) (s : Reader × List ℕ) : Type 0 where
-  fault : s .0 .fault ≡ 0
-  columns : 1 ≤ r .rows + length rs → s .0 .columns ≡ c
-  rows : s .0 .rows ≡ r .rows + length rs
-  put : s .0 .put ≡ r .put + length (joined rs)
-  content : s .1 ≡ laid table (r .put) (joined rs)
+-- what a blank line says, with what is kept below it
+blank-told : (l : List ℕ) (ks : List (List ℕ)) (room line columns rows put : ℕ) → blankLine l ≡ true
+    → afterBlank line columns rows ks ≡ told room line columns rows put (onto true l ks)
+unfolding told toldBy
+blank-told l [] room line columns rows put e = refl
+blank-told l (m ∷ ms) room line columns rows put e = rw (blank-trouble l columns rows put room e)
 
--- rows of c numbers are as wide as each other
-same-even : (c : ℕ) → differs c c ≡ false
-unfolding differs
-same-even c = and-none (not (eqb c 0)) (not (eqb c c)) (λ e. rw (eq-eqb c c refl))
+-- a line that is not blank is kept
+full-kept : (l : List ℕ) (ks : List (List ℕ)) → onto false l ks ≡ l ∷ ks
+full-kept l [] = refl
+full-kept l (m ∷ ms) = refl
 
--- the end of a line is a byte or two
-some-end : {e : List ℕ} → Ends e → 1 ≤ length e
-some-end newline = omega arith
-some-end return = omega arith
+-- a row in which nothing is wrong has room
+row-room : (columns rows put room : ℕ) (l : List ℕ) → lineTrouble columns rows put room l .kind ≡ 0 → put + length (numbers l) ≤ room
+unfolding lineTrouble
+row-room columns rows put room l e = or-fits (trouble asNumber 0 (fieldsOf l)) columns rows put (length (numbers l)) room e .space
 
-module _ (c : ℕ) (p : 1 ≤ c) (q : c ≤ 16) where
-  -- lines that say rows leave these behind the rows above
-  lines-read : {t : List ℕ} {rs : List (List ℕ)} → Lines c t rs → (r : Reader) (table : List ℕ) → Ready c r
-      → r .line + length t ≤ 18_446_744_073_709_551_615 → r .rows + length rs ≤ 65_536 → r .put + length (joined rs) ≤ length table
-      → Stood c r table rs (run (r, table) t)
-  unfolding run skipped taken
-  lines-read none r table h m f s =
-      record { fault = h .fine; columns = λ w. h .told (omega arith); rows = omega arith; put = omega arith; content = laid-none table (r .put) }
-  lines-read (blank {l} {e} {t} {rs} x y ls) r table h m f s =
-      let long : length (l ++ (e ++ t)) ≡ length l + (length e + length t) = simp length-append in
-      rw (skip-line r table (h .fine) (h .fresh) (omega (arith, some-end y)) t x y)
-      (let i =
-      lines-read ls (skipped r) table (record { fine = h .fine; fresh = refl; even = h .even; told = h .told }) (omega (arith, some-end y)) f s in
-      record { fault = i .fault; columns = i .columns; rows = i .rows; put = i .put; content = i .content })
-  lines-read (row {l} {e} {t} {ns} {rs} x w y ls) r table h m f s =
-      let long : length (l ++ (e ++ t)) ≡ length l + (length e + length t) = simp length-append in
-      let all : length (joined (ns ∷ rs)) ≡ length ns + length (joined rs) = length-append ns (joined rs) in
-      let room : r .put + length ns ≤ length table = omega arith in
-      let fits : Fits (r .columns) (r .rows) (r .put) (length ns) (length table) =
-      record { narrow = omega arith; even = rw w (h .even); few = omega arith; space = room } in
-      rw (take-line r table (h .fine) (h .fresh) (omega (arith, some-end y)) t x y (λ (g : length ns ≡ 0). omega arith) fits)
-      (let i =
-      lines-read ls (taken r (length ns)) (laid table (r .put) ns) (record { fine = h .fine; fresh = refl; even = rw w (same-even c); told = λ g. w })
-      (omega (arith, some-end y)) (omega arith) (omega (arith, laid-long table ns (r .put) room)) in
-      record {
-        fault = i .fault;
-        columns = λ g. i .columns (omega arith);
-        rows = omega (arith, i .rows);
-        put = omega (arith, i .put);
-        content = i .content ∙ laid-more table ns (r .put) room (joined rs);
-      })
+-- what these lines leave of any reader that stands below the first line
+abbrev Below : List (List ℕ) → Type 0
+Below ls = (r : Reader) (table : List ℕ) → Fresh r → r .blank ≡ 0 → 2 ≤ r .line → r .line + length ls ≤ 18_446_744_073_709_551_615
+    → Stood (r .rows) (r .put) table (told (length table) (r .line) (r .columns) (r .rows) (r .put) (kept ls)) (done (wholes (r, table) ls))
+
+module _ (l : List ℕ) (ls : List (List ℕ)) (r : Reader) (table : List ℕ) (h : Fresh r) (b : r .blank ≡ 0) (n : blankLine l ≡ false)
+    (m : r .line + length (l ∷ ls) ≤ 18_446_744_073_709_551_615) (p : 1 ≤ r .line) (i : Below ls) where
+  -- a row in which nothing is wrong
+  taken-stood : (eqb (r .line) 1 && named l) ≡ false → lineTrouble (r .columns) (r .rows) (r .put) (length table) l .kind ≡ 0
+      → r .put + length (numbers l) ≤ length table
+      → Stood (r .rows) (r .put) table (told (length table) (r .line) (r .columns) (r .rows) (r .put) (l ∷ kept ls))
+      (done (wholes (whole (r, table) l) ls))
+  unfolding told toldBy onward
+  taken-stood y e f =
+      let k : ℕ = length (numbers l) in
+      let c : counted (r .line) ≡ r .line + 1 = count-next (r .line) (omega arith) in
+      let table′ : List ℕ = laid table (r .put) (numbers l) in
+      let x : Reader = onward r 0 k (r .rows + 1) (r .put + k) in
+      let g : length table′ ≡ length table = laid-long table (numbers l) (r .put) f in
+      let o : Told = told (length table) (r .line + 1) k (r .rows + 1) (r .put + k) (kept ls) in
+      let q : Stood (r .rows + 1) (r .put + k) table′ o (done (wholes (x, table′) ls)) =
+      swap (ap (λ (w : ℕ). told w (counted (r .line)) k (r .rows + 1) (r .put + k) (kept ls)) g
+      ∙ ap (λ (w : ℕ). told (length table) w k (r .rows + 1) (r .put + k) (kept ls)) c) refl
+      (i x table′ (onward-fresh r 0 k (r .rows + 1) (r .put + k) h) refl (omega (arith, c)) (omega (arith, c))) in
+      rw (eq-eqb (lineTrouble (r .columns) (r .rows) (r .put) (length table) l .kind) 0 e)
+      (swap refl (ap (λ (s : Reader × List ℕ). done (wholes s ls)) (sym (row-taken r table l h n b y e))) (more o q))
+    where
+      more : (o : Told) {s : Reader × List ℕ} → Stood (r .rows + 1) (r .put + length (numbers l)) (laid table (r .put) (numbers l)) o s
+          → Stood (r .rows) (r .put) table
+          (record { kind = o .kind; line = o .line; column = o .column; columns = o .columns; rs = numbers l ∷ o .rs }) s
+      more o q =
+          let j : length (joined (numbers l ∷ o .rs)) ≡ length (numbers l) + length (joined (o .rs)) = length-append (numbers l) (joined (o .rs)) in
+          record {
+            fault = q .fault;
+            line = q .line;
+            column = q .column;
+            columns = q .columns;
+            count = omega (arith, q .count);
+            sum = omega (arith, q .sum, j);
+            content = q .content ∙ laid-more table (numbers l) (r .put) f (joined (o .rs));
+          }
+
+  -- any row
+  row-stood : (eqb (r .line) 1 && named l) ≡ false
+      → Stood (r .rows) (r .put) table (told (length table) (r .line) (r .columns) (r .rows) (r .put) (l ∷ kept ls))
+      (done (wholes (whole (r, table) l) ls))
+  unfolding told toldBy
+  row-stood y = go (eqb (lineTrouble (r .columns) (r .rows) (r .put) (length table) l .kind) 0) refl
+    where
+      go : (q : Bool) → eqb (lineTrouble (r .columns) (r .rows) (r .put) (length table) l .kind) 0 ≡ q
+          → Stood (r .rows) (r .put) table (told (length table) (r .line) (r .columns) (r .rows) (r .put) (l ∷ kept ls))
+          (done (wholes (whole (r, table) l) ls))
+      go true e =
+          let z : lineTrouble (r .columns) (r .rows) (r .put) (length table) l .kind ≡ 0 =
+          eqb-true (lineTrouble (r .columns) (r .rows) (r .put) (length table) l .kind) 0 e in
+          taken-stood y z (row-room (r .columns) (r .rows) (r .put) (length table) l z)
+      go false e =
+          let z : lineTrouble (r .columns) (r .rows) (r .put) (length table) l .kind ≡ 0 → ⊥ =
+          eqb-false (lineTrouble (r .columns) (r .rows) (r .put) (length table) l .kind) 0 e in
+          rw e
+          (swap refl (ap (λ (s : Reader × List ℕ). done (wholes s ls)) (sym (row-failed r table l h n b y z)))
+          (fail-stood r table (ended-line l) (r .line) (lineTrouble (r .columns) (r .rows) (r .put) (length table) l) ls z))
+
+-- no blank line above
+none-above : (blank line : ℕ) → blank ≡ 0 → firstBlank blank line ≡ line
+unfolding firstBlank
+none-above blank line z = rw (eq-eqb blank 0 z)
+
+-- lines below the first
+lines-stood : (ls : List (List ℕ)) → Below ls
+unfolding wholes kept told
+lines-stood [] r table h b p m =
+    swap (ap (λ (k : ℕ). over k (r .columns) (r .rows)) (none-above (r .blank) (r .line) b)) refl (end-stood r table (h .fine) (h .column))
+lines-stood (l ∷ ls) r table h b p m = go (blankLine l) refl (lines-stood ls)
+  where
+    later : eqb (r .line) 1 ≡ false
+    later = ne-eqb (r .line) 1 (λ (e : r .line ≡ 1). omega arith)
+
+    go : (q : Bool) → blankLine l ≡ q → Below ls
+        → Stood (r .rows) (r .put) table (told (length table) (r .line) (r .columns) (r .rows) (r .put) (onto q l (kept ls)))
+        (done (wholes (whole (r, table) l) ls))
+    go true e i =
+        swap (blank-told l (kept ls) (length table) (r .line) (r .columns) (r .rows) (r .put) e) refl
+        (first-blank l ls r table h b (omega arith) e)
+    go false e i =
+        swap (ap (told (length table) (r .line) (r .columns) (r .rows) (r .put)) (sym (full-kept l (kept ls)))) refl
+        (row-stood l ls r table h b e m (omega arith) i (rw later))
+
+-- ---- the first line
+-- what a blank first line says
+blank-all : (l : List ℕ) (ks : List (List ℕ)) (room : ℕ) → blankLine l ≡ true → afterBlank 1 0 0 ks ≡ toldAll room (onto true l ks)
+unfolding toldAll told toldNames
+blank-all l [] room e = refl
+blank-all l (m ∷ ms) room e = let x = blank-names l e in rw (x .0, x .1)
+
+-- what any other first line says
+all-full : (l : List ℕ) (ks : List (List ℕ)) (room : ℕ)
+    → cond (named l) (toldNames (trouble asName 0 (fieldsOf l)) room (length (fieldsOf l)) ks) (told room 1 0 0 0 (l ∷ ks)) ≡ toldAll room (l ∷ ks)
+unfolding toldAll
+all-full l ks room = refl
+
+module _ (l : List ℕ) (ls : List (List ℕ)) (table : List ℕ) (m : 1 + length (l ∷ ls) ≤ 18_446_744_073_709_551_615) where
+  -- the reader before it is fresh
+  begun-fresh : Fresh behindMark
+  unfolding begun inside
+  begun-fresh = record { fine = refl; empty = refl; free = refl; column = refl }
+
+  -- names
+  names-stood : blankLine l ≡ false → named l ≡ true
+      → Stood 0 0 table (toldNames (trouble asName 0 (fieldsOf l)) (length table) (length (fieldsOf l)) (kept ls))
+      (done (wholes (whole (behindMark, table) l) ls))
+  unfolding toldNames begun inside onward
+  names-stood n y = go (eqb (trouble asName 0 (fieldsOf l) .kind) 0) refl
+    where
+      go : (q : Bool) → eqb (trouble asName 0 (fieldsOf l) .kind) 0 ≡ q
+          → Stood 0 0 table
+          (cond q (told (length table) 2 (length (fieldsOf l)) 0 0 (kept ls)) (stopped (trouble asName 0 (fieldsOf l)) 1 0))
+          (done (wholes (whole (behindMark, table) l) ls))
+      go true e =
+          let z : trouble asName 0 (fieldsOf l) .kind ≡ 0 = eqb-true (trouble asName 0 (fieldsOf l) .kind) 0 e in
+          let c : counted 1 ≡ 2 = count-next 1 (omega arith) in
+          swap (ap (λ (k : ℕ). told (length table) k (length (fieldsOf l)) 0 0 (kept ls)) c)
+          (ap (λ (s : Reader × List ℕ). done (wholes s ls)) (sym (names-taken behindMark table l begun-fresh n refl y z)))
+          (lines-stood ls (onward behindMark 0 (length (fieldsOf l)) 0 0) table (onward-fresh behindMark 0 (length (fieldsOf l)) 0 0 begun-fresh) refl
+          (omega (arith, c)) (omega (arith, c)))
+      go false e =
+          let z : trouble asName 0 (fieldsOf l) .kind ≡ 0 → ⊥ = eqb-false (trouble asName 0 (fieldsOf l) .kind) 0 e in
+          swap refl (ap (λ (s : Reader × List ℕ). done (wholes s ls)) (sym (names-failed behindMark table l begun-fresh n refl y z)))
+          (fail-stood behindMark table (ended-line l) 1 (trouble asName 0 (fieldsOf l)) ls z)
+
+  -- any first line
+  first-stood : Stood 0 0 table (toldAll (length table) (onto (blankLine l) l (kept ls))) (done (wholes (whole (behindMark, table) l) ls))
+  unfolding begun inside
+  first-stood = go (blankLine l) refl
+    where
+      full : (q : Bool) → named l ≡ q → blankLine l ≡ false
+          → Stood 0 0 table
+          (cond q (toldNames (trouble asName 0 (fieldsOf l)) (length table) (length (fieldsOf l)) (kept ls)) (told (length table) 1 0 0 0 (l ∷ kept ls)))
+          (done (wholes (whole (behindMark, table) l) ls))
+      full true y n = names-stood n y
+      full false y n = row-stood l ls behindMark table begun-fresh refl n m (omega arith) (lines-stood ls) y
+
+      go : (q : Bool) → blankLine l ≡ q → Stood 0 0 table (toldAll (length table) (onto q l (kept ls))) (done (wholes (whole (behindMark, table) l) ls))
+      go true e = swap (blank-all l (kept ls) (length table) e) refl (first-blank l ls behindMark table begun-fresh refl (omega arith) e)
+      go false e =
+          swap (all-full l (kept ls) (length table) ∙ ap (toldAll (length table)) (sym (full-kept l (kept ls)))) refl (full (named l) refl e)
 
 -- ---- the whole text
--- the reader is ready before the first byte
-begun-ready : (c : ℕ) → Ready c begun
-unfolding begun differs
-begun-ready c = record { fine = refl; fresh = refl; even = refl; told = λ (h : 1 ≤ 0). absurd (omega arith) }
+-- a text has no more lines than one more than its bytes
+cut-short : (t : List ℕ) → length (cutUp isNewline t) ≤ length t + 1
+unfolding cut
+cut-short [] = omega arith
+cut-short (b ∷ t) = go (eqb b 10) (cut-short t)
+  where
+    go : (q : Bool) → length (cutUp isNewline t) ≤ length t + 1
+        → length (cutAt q b (cut isNewline t) .0 ∷ cutAt q b (cut isNewline t) .1) ≤ length (b ∷ t) + 1
+    go true h = omega (arith, h)
+    go false h = omega (arith, h)
 
--- and behind a line of names
-skipped-ready : (c : ℕ) → Ready c (skipped begun)
-unfolding begun differs skipped
-skipped-ready c = record { fine = refl; fresh = refl; even = refl; told = λ (h : 1 ≤ 0). absurd (omega arith) }
-
-module _ (c : ℕ) (p : 1 ≤ c) (q : c ≤ 16) (table : List ℕ) where
-  -- a text that says rows leaves these
-  whole-read : {t : List ℕ} {rs : List (List ℕ)} → Whole c t rs → 1 + length t ≤ 18_446_744_073_709_551_615 → length rs ≤ 65_536
-      → length (joined rs) ≤ length table → Stood c begun table rs (run (begun, table) t)
-  unfolding begun skipped
-  whole-read (rows ls) m f s = lines-read c p q ls begun table (begun-ready c) m (omega arith) (omega arith)
-  whole-read (named {l} {t} {rs} x ls) m f s =
-      let long : length (l ++ 10 ∷ t) ≡ length l + (1 + length t) = simp length-append (omega arith) in
-      rw (skip-names begun table refl refl (omega arith) t refl x)
-      (let i = lines-read c p q ls (skipped begun) table (skipped-ready c) (omega arith) (omega arith) (omega arith) in
-      record { fault = i .fault; columns = i .columns; rows = i .rows; put = i .put; content = i .content })
+-- the mark does not make it longer
+unmarked-short : (t : List ℕ) → length (unmarked t) ≤ length t
+unfolding unmarked
+unmarked-short [] = omega arith
+unmarked-short (a ∷ []) = omega arith
+unmarked-short (a ∷ b ∷ []) = omega arith
+unmarked-short (a ∷ b ∷ c ∷ t) = go (eqb a 239 && (eqb b 187 && eqb c 191))
+  where
+    go : (q : Bool) → length (cond q t (a ∷ b ∷ c ∷ t)) ≤ length (a ∷ b ∷ c ∷ t)
+    go true = omega arith
+    go false = omega arith
 
 -- the last newline
 pub run-last : (t : List ℕ) (s : Reader × List ℕ) → run s (t ++ 10 ∷ []) ≡ next (run s t) 10
 unfolding run
 run-last t s = pieces t (10 ∷ []) s
 
--- A TEXT THAT SAYS ROWS IS READ AS THESE, WITH NO FAULT
-pub sheet-read : (t : List ℕ) (c : ℕ) (rs : List (List ℕ)) (table : List ℕ) → Says t c rs → length (joined rs) ≤ length table
-    → Reads c rs table (finished (run (begun, table) t))
-unfolding begun
-sheet-read t c rs table h s =
-    let long : length (t ++ 10 ∷ []) ≡ length t + 1 = simp length-append in
-    let i : Stood c begun table rs (next (run (begun, table) t) 10) =
-    rw run-last at (whole-read c (h .wide .0) (h .wide .1) table (h .whole) (omega arith) (h .few) s) in
-    let e : next (run (begun, table) t) 10 .0 ≡ finished (run (begun, table) t) .0 =
-    finish-rows (run (begun, table) t) (next (run (begun, table) t) 10 .0) refl (i .fault)
-    (λ (g : next (run (begun, table) t) 10 .0 .rows ≡ 0). omega (arith, h .some)) in
-    let w : next (run (begun, table) t) 10 .1 ≡ finished (run (begun, table) t) .1 =
-    finish-table (run (begun, table) t) (next (run (begun, table) t) 10 .0) refl (next (run (begun, table) t) 10 .1) refl in
-    let z : 0 + length (joined rs) ≡ length (joined rs) = omega arith in
+-- behind the mark
+marked-past : 3 ≤ behindMark .mark
+unfolding inside
+marked-past = omega arith
+
+-- WHAT A TEXT SAYS IS WHAT IS READ: its rows and no fault, or the first fault with its line and column, and the rows above it
+pub sheet-read : (t table : List ℕ) → length t + 2 ≤ 18_446_744_073_709_551_615
+    → Reads (says (length table) t) table (finished (run (begun, table) t))
+unfolding says lines kept wholes finished
+sheet-read t table h =
+    let s : Reader × List ℕ = next (run (begun, table) t) 10 in
+    let e : s ≡ wholes (behindMark, table) (cutUp isNewline (unmarked t)) =
+    sym (run-last t (begun, table)) ∙ mark-run table t ∙ lines-run (unmarked t) behindMark table marked-past in
+    let i : Stood 0 0 table (says (length table) t) (done s) =
+    swap refl (ap (λ (x : Reader × List ℕ). done x) (sym e))
+    (first-stood (cut isNewline (unmarked t) .0) (cut isNewline (unmarked t) .1) table
+    (omega (arith, cut-short (unmarked t), unmarked-short t))) in
+    let z : 0 + length (joined (says (length table) t .rs)) ≡ length (joined (says (length table) t .rs)) = omega arith in
     record {
-      fault = ap (λ (r : Reader). r .fault) (sym e) ∙ i .fault;
-      columns = ap (λ (r : Reader). r .columns) (sym e) ∙ i .columns (omega (arith, h .some));
-      rows = ap (λ (r : Reader). r .rows) (sym e) ∙ i .rows ∙ omega arith;
-      put = ap (λ (r : Reader). r .put) (sym e) ∙ i .put ∙ z;
-      content = sym w ∙ i .content ∙ ap (λ (k : ℕ). joined rs ++ drop k table) z;
+      fault = i .fault;
+      line = i .line;
+      column = i .column;
+      columns = i .columns;
+      rows = i .count ∙ omega arith;
+      put = i .sum ∙ z;
+      content = i .content ∙ ap (λ (k : ℕ). joined (says (length table) t .rs) ++ drop k table) z;
     }

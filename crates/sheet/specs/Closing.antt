@@ -1,81 +1,96 @@
--- What a newline does: the line is a row, or none, or can't be taken. Assumes nothing.
+-- What a newline does: the line is blank, or names, or a row, or can't be taken. Assumes nothing.
 use Prim.Native.Nat.{_+_, ℕ}
-use Rattle.sheet.specs.InLine.{along, emptied, settled}
+use Rattle.sheet.specs.InLine.{emptied, opens, settled}
+use Rattle.sheet.specs.Says.{none, orRow}
 use Rattle.sheet.specs.declared.Reader.{Reader}
-use Rattle.sheet.specs.declared.bytes.Kind.{Kind}
 use Rattle.sheet.specs.declared.line.Line.{Line}
-use Rattle.sheet.specs.declared.line.Place.the-variants.{Ending, Gap, Inside, Names, Wrong}
-use Rattle.sheet.specs.declared.line.Place.{Place}
-use lib.Dec.{eqb, leb, ltb}
+use Rattle.sheet.specs.declared.line.Trouble.{Trouble}
+use lib.Dec.{eqb, ltb}
 use lib.ListN.{length}
 use lib.Seq.{paste}
-use mathlib.Core.Bool.{Bool, _&&_, cond, not}
+use mathlib.Core.Bool.{Bool, _&&_, cond, false, not}
 use mathlib.Core.List.{List}
 
--- ---- what is wrong
--- there are rows above, and they have another count
-unfoldable pub differs : ℕ → ℕ → Bool
-differs columns count = not (eqb columns 0) && not (eqb columns count)
+-- ---- what the line is
+-- no field has begun
+unfoldable pub bare : Line → Bool
+bare l = eqb (l .count) 0 && opens (l .place)
 
--- a row of `count` numbers behind those that were put: more than 16 (3), not as many as the rows above have (4), more than 65,536 rows (5), no
--- room (6)
-unfoldable pub rowTrouble : ℕ → ℕ → ℕ → ℕ → ℕ → ℕ
-rowTrouble columns rows put count room =
-    cond (eqb count 0) 0
-    (cond (ltb 16 count) 3
-    (cond (differs columns count) 4 (cond (leb 65_536 rows) 5 (cond (ltb room (put + count)) 6 0))))
+-- it is the first, and no field began with a digit, a sign or a point
+unfoldable pub titles : Reader → Line → Bool
+titles r l = eqb (r .line) 1 && not (l .figure)
 
--- how many numbers the line has: a line of names has none
-abbrev pub sizeAt : Place → ℕ → ℕ
-sizeAt Gap n = n
-sizeAt (Inside v) n = n
-sizeAt Ending n = n
-sizeAt Names n = 0
-sizeAt (Wrong k) n = n
+-- names: at most 16
+unfoldable pub orWide : Trouble → ℕ → Trouble
+orWide t count = cond (eqb (t .kind) 0) (cond (ltb 16 count) (record { kind = 3; column = 17 }) none) t
 
--- how many numbers of a line that has ended are put
-abbrev pub rowSize : Line → ℕ
-rowSize l = sizeAt (l .place) (l .count)
-
--- what was wrong inside the line comes before what is wrong with the row
-abbrev pub troubleAt : Place → ℕ → ℕ
-troubleAt Gap n = n
-troubleAt (Inside v) n = n
-troubleAt Ending n = n
-troubleAt Names n = n
-troubleAt (Wrong k) n = cond (eqb k 0) 1 k
-
--- too many lines (7) comes before all
-unfoldable pub lineTrouble : Reader → Line → ℕ → ℕ
-lineTrouble r l room =
-    cond (leb 18_446_744_073_709_551_615 (r .line)) 7 (troubleAt (l .place) (rowTrouble (r .columns) (r .rows) (r .put) (rowSize l) room))
+-- what is wrong with a line that has ended
+unfoldable pub endTrouble : Reader → Line → ℕ → Trouble
+endTrouble r l room =
+    cond (titles r l) (orWide (l .names) (l .count)) (orRow (l .numbers) (r .columns) (r .rows) (r .put) (l .count) room)
 
 -- ---- what becomes of the reader
--- behind a line that is no row
-unfoldable pub skipped : Reader → Reader
-skipped r = record { line = r .line + 1; columns = r .columns; rows = r .rows; put = r .put; fault = r .fault; here = emptied }
+-- the number of the next line; 2^64 - 1 is the last
+unfoldable pub counted : ℕ → ℕ
+counted line = cond (ltb line 18_446_744_073_709_551_615) (line + 1) line
 
--- behind a row of n numbers
-unfoldable pub taken : Reader → ℕ → Reader
-taken r n = record { line = r .line + 1; columns = n; rows = r .rows + 1; put = r .put + n; fault = r .fault; here = emptied }
+-- the first of blank lines is remembered
+unfoldable pub firstBlank : ℕ → ℕ → ℕ
+firstBlank blank line = cond (eqb blank 0) line blank
+
+-- behind a line, with so many columns, rows and numbers
+unfoldable pub onward : Reader → ℕ → ℕ → ℕ → ℕ → Reader
+onward r blank columns rows put =
+    record {
+      mark = r .mark;
+      held = false;
+      line = counted (r .line);
+      blank = blank;
+      columns = columns;
+      rows = rows;
+      put = put;
+      fault = r .fault;
+      column = r .column;
+      here = emptied;
+    }
 
 -- at a line that can't be taken
-unfoldable pub failed : Reader → Line → ℕ → Reader
-failed r l k = record { line = r .line; columns = r .columns; rows = r .rows; put = r .put; fault = k; here = l }
+unfoldable pub failed : Reader → Line → ℕ → Trouble → Reader
+failed r l line t =
+    record {
+      mark = r .mark;
+      held = false;
+      line = line;
+      blank = r .blank;
+      columns = r .columns;
+      rows = r .rows;
+      put = r .put;
+      fault = t .kind;
+      column = t .column;
+      here = l;
+    }
 
--- at a byte that is no newline
-unfoldable pub advanced : Reader → Kind → Reader
-advanced r k =
-    record { line = r .line; columns = r .columns; rows = r .rows; put = r .put; fault = r .fault; here = along (eqb (r .line) 1) (r .here) k }
+-- a line in which nothing is wrong: names, above all rows, or a row that is put behind the others
+unfoldable pub accepted : Reader → Line → List ℕ → Reader × List ℕ
+accepted r l table =
+    cond (titles r l) (onward r 0 (l .count) 0 0, table)
+    (onward r 0 (l .count) (r .rows + 1) (r .put + l .count), paste table (r .put) (l .row) (l .count))
 
--- a line with n numbers and nothing wrong: its row is put behind the others
-unfoldable pub accepted : Reader → Line → ℕ → List ℕ → Reader × List ℕ
-accepted r l n table = cond (eqb n 0) (skipped r, table) (taken r n, paste table (r .put) (l .row) n)
+-- a line that ended as l, with the trouble t
+unfoldable pub decided : Reader → Line → Trouble → List ℕ → Reader × List ℕ
+decided r l t table = cond (eqb (t .kind) 0) (accepted r l table) (failed r l (r .line) t, table)
 
--- a line that ended as l, with the trouble k
-unfoldable pub decided : Reader → Line → ℕ → List ℕ → Reader × List ℕ
-decided r l k table = cond (eqb k 0) (accepted r l (rowSize l) table) (failed r l k, table)
+-- the same, with its trouble
+abbrev pub weighed : Reader → Line → List ℕ → Reader × List ℕ
+weighed r l table = decided r l (endTrouble r l (length table)) table
+
+-- a line that is not blank: a blank one above it is an empty field (7)
+unfoldable pub judged : Reader → Line → List ℕ → Reader × List ℕ
+judged r l table =
+    cond (eqb (r .blank) 0) (weighed r l table) (failed r l (r .blank) (record { kind = 7; column = 1 }), table)
 
 -- a newline: what becomes of the reader and the table
 unfoldable pub closed : Reader → List ℕ → Reader × List ℕ
-closed r table = decided r (settled (r .here)) (lineTrouble r (settled (r .here)) (length table)) table
+closed r table =
+    cond (bare (r .here)) (onward r (firstBlank (r .blank) (r .line)) (r .columns) (r .rows) (r .put), table)
+    (judged r (settled (r .here)) table)

@@ -1,87 +1,102 @@
--- One line, byte by byte: where its reader stands, and the numbers that have ended. Assumes nothing.
+-- One line, byte by byte: where its reader stands, and what is known of the fields that have ended. Assumes nothing.
 use Prim.Native.Nat.{_*_, _+_, ℕ}
-use Rattle.sheet.specs.declared.bytes.Kind.the-variants.{Digit, Other, Parting, Return}
+use Rattle.sheet.specs.Says.{none}
+use Rattle.sheet.specs.declared.bytes.Kind.the-variants.{Blank, Digit, Other, Parting, Sign}
 use Rattle.sheet.specs.declared.bytes.Kind.{Kind}
 use Rattle.sheet.specs.declared.line.Line.{Line}
-use Rattle.sheet.specs.declared.line.Place.the-variants.{Ending, Gap, Inside, Names, Wrong}
+use Rattle.sheet.specs.declared.line.Place.the-variants.{Behind, Great, Inside, Open, Strange}
 use Rattle.sheet.specs.declared.line.Place.{Place}
-use lib.Dec.{leb}
+use Rattle.sheet.specs.declared.line.Trouble.{Trouble}
+use lib.Dec.{eqb, leb}
 use lib.ListN.{replicate, set}
-use mathlib.Core.Bool.{Bool, cond, false, true}
+use mathlib.Core.Bool.{Bool, _&&_, _||_, cond, false, true}
 
--- a digit behind the number v: none goes behind 0 (1: not a number), and a number above 65,535 is too great (2)
-unfoldable pub grown : ℕ → ℕ → Place
-grown v d = cond (leb 1 v) (cond (leb (10 * v + d) 65_535) (Inside (10 * v + d)) (Wrong 2)) (Wrong 1)
+-- ---- a field that ends
+-- something is wrong in a column, or not (0): the first such is kept
+unfoldable pub marked : Trouble → ℕ → ℕ → Trouble
+marked t kind column = cond (eqb (t .kind) 0) (cond (eqb kind 0) t (record { kind = kind; column = column })) t
 
--- a digit
-abbrev pub digitAt : Place → ℕ → Place
-digitAt Gap d = Inside d
-digitAt (Inside v) d = grown v d
-digitAt Ending d = Wrong 1
-digitAt Names d = Names
-digitAt (Wrong k) d = Wrong k
+-- of what is wrong with a number, what is wrong with a name
+unfoldable pub onlyEmpty : ℕ → ℕ
+onlyEmpty kind = cond (eqb kind 7) 7 0
 
--- a byte that parts
-abbrev pub partedAt : Place → Place
-partedAt Gap = Gap
-partedAt (Inside v) = Gap
-partedAt Ending = Wrong 1
-partedAt Names = Names
-partedAt (Wrong k) = Wrong k
+-- a field ends, with what is wrong with it as a number, and the number: it stands behind the others of its line; a seventeenth is one too many (3)
+unfoldable pub added : Line → ℕ → ℕ → Line
+added l kind v =
+    record {
+      place = Behind;
+      figure = l .figure;
+      count = cond (leb 16 (l .count)) 17 (l .count + 1);
+      row = cond (leb 16 (l .count)) (l .row) (set (l .row) (l .count) v);
+      numbers = cond (leb 16 (l .count)) (marked (l .numbers) 3 17) (marked (l .numbers) kind (l .count + 1));
+      names = cond (leb 16 (l .count)) (marked (l .names) 3 17) (marked (l .names) (onlyEmpty kind) (l .count + 1));
+    }
 
--- a carriage return: only the newline may follow it
-abbrev pub returnAt : Place → Place
-returnAt Gap = Ending
-returnAt (Inside v) = Ending
-returnAt Ending = Wrong 1
-returnAt Names = Names
-returnAt (Wrong k) = Wrong k
-
--- any other byte: in the text's first line it makes names of the line, whatever stood before it
-abbrev pub otherAt : Bool → Place → Place
-otherAt true p = Names
-otherAt false Gap = Wrong 1
-otherAt false (Inside v) = Wrong 1
-otherAt false Ending = Wrong 1
-otherAt false Names = Names
-otherAt false (Wrong k) = Wrong k
-
--- a byte that is no newline, by its kind
-abbrev pub moved : Bool → Place → Kind → Place
-moved first p (Digit d) = digitAt p d
-moved first p Parting = partedAt p
-moved first p Return = returnAt p
-moved first p Other = otherAt first p
-
--- the number v ends: it stands behind the others of its line; a seventeenth is one too many (3)
-unfoldable pub added : Line → ℕ → Line
-added l v =
-    cond (leb 16 (l .count)) (record { place = Wrong 3; count = l .count; row = l .row })
-    (record { place = Gap; count = l .count + 1; row = set (l .row) (l .count) v })
-
--- a number ends here, if the reader stands inside one
+-- the field ends in which the reader stands, which is empty if it is open
 abbrev pub settledAt : Place → Line → Line
-settledAt Gap l = l
-settledAt (Inside v) l = added l v
-settledAt Ending l = l
-settledAt Names l = l
-settledAt (Wrong k) l = l
+settledAt Open l = added l 7 0
+settledAt (Inside v) l = added l 0 v
+settledAt Great l = added l 2 0
+settledAt Strange l = added l 1 0
+settledAt Behind l = l
 
--- the same, of the reader that the line has
+-- the same, of the place that the line has
 abbrev pub settled : Line → Line
 settled l = settledAt (l .place) l
 
--- a byte that parts and a carriage return end a number
-abbrev pub kept : Kind → Line → Line
-kept (Digit d) l = l
-kept Parting l = settled l
-kept Return l = settled l
-kept Other l = l
+-- ---- one byte more
+-- a field may begin here
+abbrev pub opens : Place → Bool
+opens Open = true
+opens (Inside v) = false
+opens Great = false
+opens Strange = false
+opens Behind = true
+
+-- a digit behind the number v, which may then be too great
+unfoldable pub grown : ℕ → ℕ → Place
+grown v d = cond (leb (10 * v + d) 65_535) (Inside (10 * v + d)) Great
+
+-- a digit
+abbrev pub digitAt : Place → ℕ → Place
+digitAt Open d = grown 0 d
+digitAt (Inside v) d = grown v d
+digitAt Great d = Great
+digitAt Strange d = Strange
+digitAt Behind d = grown 0 d
+
+-- a byte of a field; one that begins a field may make a figure of it
+unfoldable pub moved : Line → Place → Bool → Line
+moved l p figure =
+    record {
+      place = p;
+      figure = l .figure || (figure && opens (l .place));
+      count = l .count;
+      row = l .row;
+      numbers = l .numbers;
+      names = l .names;
+    }
+
+-- a blank ends a field, unless the field is open
+abbrev pub blankAt : Place → Line → Line
+blankAt Open l = l
+blankAt (Inside v) l = added l 0 v
+blankAt Great l = added l 2 0
+blankAt Strange l = added l 1 0
+blankAt Behind l = l
+
+-- behind a byte that parts a field is open
+unfoldable pub opened : Line → Line
+opened l = record { place = Open; figure = l .figure; count = l .count; row = l .row; numbers = l .numbers; names = l .names }
 
 -- the line after one more byte
-unfoldable pub along : Bool → Line → Kind → Line
-along first l k = record { place = moved first (kept k l .place) k; count = kept k l .count; row = kept k l .row }
+abbrev pub along : Line → Kind → Line
+along l (Digit d) = moved l (digitAt (l .place) d) true
+along l Blank = blankAt (l .place) l
+along l Parting = opened (settled l)
+along l Sign = moved l Strange true
+along l Other = moved l Strange false
 
 -- before the first byte of a line
 unfoldable pub emptied : Line
-emptied = record { place = Gap; count = 0; row = replicate 16 0 }
+emptied = record { place = Open; figure = false; count = 0; row = replicate 16 0; numbers = none; names = none }

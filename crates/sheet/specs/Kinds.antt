@@ -1,15 +1,19 @@
--- What one byte of a text of rows is. Assumes nothing.
+-- What one byte of a line is. Assumes nothing.
 use Prim.Native.Nat.{_-_, ℕ}
 use Rattle.limits.specs.Limits.{within}
-use Rattle.sheet.specs.declared.bytes.Kind.the-variants.{Digit, Other, Parting, Return}
+use Rattle.sheet.specs.declared.bytes.Kind.the-variants.{Blank, Digit, Other, Parting, Sign}
 use Rattle.sheet.specs.declared.bytes.Kind.{Kind}
 use lib.Dec.{eqb}
 use mathlib.Core.Bool.{Bool, _||_, cond}
 
--- a comma, a space or a tab
+-- a comma, a semicolon or a tab parts two fields
 unfoldable pub parting : ℕ → Bool
-parting b = eqb b 44 || (eqb b 32 || eqb b 9)
+parting b = eqb b 44 || (eqb b 59 || eqb b 9)
 
--- a digit's byte is 48 more than the digit
+-- a plus, a minus or a point
+unfoldable pub signing : ℕ → Bool
+signing b = eqb b 43 || (eqb b 45 || eqb b 46)
+
+-- a digit's byte is 48 more than the digit; a blank is a space
 unfoldable pub kindOf : ℕ → Kind
-kindOf b = cond (within 48 57 b) (Digit (b - 48)) (cond (parting b) Parting (cond (eqb b 13) Return Other))
+kindOf b = cond (within 48 57 b) (Digit (b - 48)) (cond (eqb b 32) Blank (cond (parting b) Parting (cond (signing b) Sign Other)))

@@ -1,8 +1,10 @@
 pub mod Kinds
+pub mod Fields
+pub mod Lines
+pub mod Says
 pub mod InLine
 pub mod Closing
 pub mod Reading
-pub mod Says
 pub mod Reads
 pub mod Tidy
 pub mod Stops

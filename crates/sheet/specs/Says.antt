@@ -1,65 +1,84 @@
--- Which texts say which rows. A text is a list of bytes; it is lines, and a line is numbers. Assumes nothing.
-use Prim.Native.Nat.{_+_, _<_, _≤_, ℕ}
-use Rattle.text.specs.Text.{Decimal}
+-- What a text says: its rows, or the first thing that is wrong with it, with line and column. Assumes nothing.
+use Prim.Native.Nat.{_+_, min, ℕ}
+use Rattle.sheet.specs.Fields.{asName, asNumber}
+use Rattle.sheet.specs.Lines.{fieldsOf, lines, named, numbers}
+use Rattle.sheet.specs.declared.bytes.Kind.{Kind}
+use Rattle.sheet.specs.declared.line.Trouble.{Trouble}
+use lib.Dec.{eqb, leb, ltb}
 use lib.ListN.{length}
-use mathlib.Core.List.{List, [], _++_, _∷_}
-use mathlib.Core.Path.{_≡_}
+use mathlib.Core.Bool.{Bool, _&&_, cond, not}
+use mathlib.Core.List.{List, [], _∷_}
 
--- ---- a line of numbers
--- a comma, a space or a tab
-pub data Parts : ℕ → Type 0 where
-  comma : Parts 44
-  space : Parts 32
-  tab : Parts 9
+-- ---- what is wrong with a line
+-- nothing
+abbrev pub none : Trouble
+none = record { kind = 0; column = 0 }
 
--- the line says these numbers: each in decimal without a leading zero and up to 65,535, one byte or more that parts between two, and any number of
--- these before and behind
-pub data Numbers : List ℕ → List ℕ → Type 0 where
-  nothing : Numbers [] []
-  gap : {b : ℕ} {t ns : List ℕ} → Parts b → Numbers t ns → Numbers (b ∷ t) ns
-  last : {n : ℕ} {ds : List ℕ} → Decimal n ds → n ≤ 65_535 → Numbers ds (n ∷ [])
-  more : {n b : ℕ} {ds t ns : List ℕ} → Decimal n ds → n ≤ 65_535 → Parts b → Numbers t ns → Numbers (ds ++ b ∷ t) (n ∷ ns)
+-- the leftmost field in which something is wrong, the first of these being column j + 1: one too many is wrong in itself (3)
+unfoldable pub trouble : (List Kind → ℕ) → ℕ → List (List Kind) → Trouble
+trouble wrong j [] = none
+trouble wrong j (f ∷ fs) =
+    cond (leb 16 j) (record { kind = 3; column = 17 })
+    (cond (eqb (wrong f) 0) (trouble wrong (j + 1) fs) (record { kind = wrong f; column = j + 1 }))
 
--- a newline, perhaps with a carriage return before it
-pub data Ends : List ℕ → Type 0 where
-  newline : Ends (10 ∷ [])
-  return : Ends (13 ∷ 10 ∷ [])
+-- there are rows or names above, and they have another count
+unfoldable pub differs : ℕ → ℕ → Bool
+differs columns count = not (eqb columns 0) && not (eqb columns count)
 
--- ---- a line of names
--- a byte that has no place in a line of numbers
-pub record Strange (b : ℕ) : Type 0 where
-  pub no-digit : (d : ℕ) → d < 10 → b ≡ 48 + d → ⊥
-  pub no-parts : Parts b → ⊥
-  pub no-return : b ≡ 13 → ⊥
-  pub no-newline : b ≡ 10 → ⊥
+-- a row of `count` numbers behind those that were put: more than 16 (3), not as many as there are columns (4: at the first that is missing or too
+-- many), more than 65,536 rows (5), no room in the table (6)
+unfoldable pub rowTrouble : ℕ → ℕ → ℕ → ℕ → ℕ → Trouble
+rowTrouble columns rows put count room =
+    cond (ltb 16 count) (record { kind = 3; column = 17 })
+    (cond (differs columns count) (record { kind = 4; column = min columns count + 1 })
+    (cond (leb 65_536 rows) (record { kind = 5; column = 1 }) (cond (ltb room (put + count)) (record { kind = 6; column = 1 }) none)))
 
--- no newline
-pub data Plain : List ℕ → Type 0 where
-  empty : Plain []
-  byte : {b : ℕ} {t : List ℕ} → (b ≡ 10 → ⊥) → Plain t → Plain (b ∷ t)
+-- what is wrong in a field comes before what is wrong with the row
+unfoldable pub orRow : Trouble → ℕ → ℕ → ℕ → ℕ → ℕ → Trouble
+orRow t columns rows put count room = cond (eqb (t .kind) 0) (rowTrouble columns rows put count room) t
 
--- a line with a strange byte in it
-pub data Names : List ℕ → Type 0 where
-  here : {b : ℕ} {t : List ℕ} → Strange b → Plain t → Names (b ∷ t)
-  later : {b : ℕ} {t : List ℕ} → (b ≡ 10 → ⊥) → Names t → Names (b ∷ t)
+-- a line as a row
+unfoldable pub lineTrouble : ℕ → ℕ → ℕ → ℕ → List ℕ → Trouble
+lineTrouble columns rows put room l = orRow (trouble asNumber 0 (fieldsOf l)) columns rows put (length (numbers l)) room
 
--- ---- the text
--- lines that say these rows of c numbers; a line without numbers says none
-pub data Lines (c : ℕ) : List ℕ → List (List ℕ) → Type 0 where
-  none : Lines c [] []
-  blank : {l e t : List ℕ} {rs : List (List ℕ)} → Numbers l [] → Ends e → Lines c t rs → Lines c (l ++ (e ++ t)) rs
-  row : {l e t ns : List ℕ} {rs : List (List ℕ)} → Numbers l ns → length ns ≡ c → Ends e → Lines c t rs → Lines c (l ++ (e ++ t)) (ns ∷ rs)
+-- ---- what a text says
+-- what is wrong (0: nothing), in which line and column, how many columns there are, and the rows above the fault
+pub record Told : Type 0 where
+  pub kind : ℕ
+  pub line : ℕ
+  pub column : ℕ
+  pub columns : ℕ
+  pub rs : List (List ℕ)
 
--- the first line may be one of names
-pub data Whole (c : ℕ) : List ℕ → List (List ℕ) → Type 0 where
-  rows : {t : List ℕ} {rs : List (List ℕ)} → Lines c t rs → Whole c t rs
-  named : {l t : List ℕ} {rs : List (List ℕ)} → Names l → Lines c t rs → Whole c (l ++ 10 ∷ t) rs
+-- t is wrong in a line
+unfoldable pub stopped : Trouble → ℕ → ℕ → Told
+stopped t line columns = record { kind = t .kind; line = line; column = t .column; columns = columns; rs = [] }
 
--- the text says these rows, one to 65,536, of c numbers, 1 to 16. It may lack its last newline: it is read as if one more came behind it
-pub record Says (t : List ℕ) (c : ℕ) (rs : List (List ℕ)) : Type 0 where
-  pub whole : Whole c (t ++ 10 ∷ []) rs
-  pub wide : (1 ≤ c) × (c ≤ 16)
-  pub some : 1 ≤ length rs
-  pub few : length rs ≤ 65_536
-  -- the lines can be counted
-  pub short : length t + 2 ≤ 18_446_744_073_709_551_615
+-- a line with the numbers ns and the trouble t, and what the lines below it say
+unfoldable pub toldBy : Trouble → ℕ → ℕ → List ℕ → Told → Told
+toldBy t line columns ns below =
+    cond (eqb (t .kind) 0)
+    (record { kind = below .kind; line = below .line; column = below .column; columns = below .columns; rs = ns ∷ below .rs })
+    (stopped t line columns)
+
+-- these lines, the first of which has this number, below `rows` rows with `put` numbers: a row a line; no rows at all are a fault (8)
+unfoldable pub told : ℕ → ℕ → ℕ → ℕ → ℕ → List (List ℕ) → Told
+told room line columns rows put [] =
+    stopped (cond (eqb rows 0) (record { kind = 8; column = 1 }) none) line columns
+told room line columns rows put (l ∷ ls) =
+    toldBy (lineTrouble columns rows put room l) line columns (numbers l)
+    (told room (line + 1) (length (numbers l)) (rows + 1) (put + length (numbers l)) ls)
+
+-- names with the trouble t above these lines: as many as there are columns
+unfoldable pub toldNames : Trouble → ℕ → ℕ → List (List ℕ) → Told
+toldNames t room count ls = cond (eqb (t .kind) 0) (told room 2 count 0 0 ls) (stopped t 1 0)
+
+-- all lines of a text
+unfoldable pub toldAll : ℕ → List (List ℕ) → Told
+toldAll room [] = told room 1 0 0 0 []
+toldAll room (l ∷ ls) =
+    cond (named l) (toldNames (trouble asName 0 (fieldsOf l)) room (length (fieldsOf l)) ls) (told room 1 0 0 0 (l ∷ ls))
+
+-- WHAT A TEXT SAYS, read into a table with room for so many numbers
+unfoldable pub says : ℕ → List ℕ → Told
+says room t = toldAll room (lines t)

@@ -1,16 +1,41 @@
--- Where a reader stops: at the end of the first line with a fault. A working notion, on which no promise rests. Assumes nothing.
-use Prim.Native.Nat.{_+_, suc, ℕ}
-use Rattle.laws.specs.Lists.{times}
-use Rattle.sheet.specs.Reading.{begun, run}
-use mathlib.Core.List.{List, [], _++_, _∷_}
+-- Which line of a text stops the reading, and why. A working notion, on which no promise rests. Assumes nothing.
+use Prim.Native.Nat.{_+_, _<_, _≤_, ℕ}
+use Rattle.laws.specs.Lists.{all, joined}
+use Rattle.sheet.specs.Fields.{asName, isDigit, value}
+use Rattle.sheet.specs.Lines.{fieldsOf, named, numbers}
+use Rattle.sheet.specs.Says.{Told, lineTrouble, trouble}
+use Rattle.sheet.specs.declared.bytes.Kind.{Kind}
+use lib.ListN.{length}
+use mathlib.Core.Bool.{false, true}
+use mathlib.Core.List.{List, [], _++_, _∷_, map}
 use mathlib.Core.Path.{_≡_}
 
--- the text t has a fault: it is at the end of a line, nothing was wrong before that newline, nothing changes behind it, and the number of the line is
--- one more than the newlines before it
-pub record Stops (t table : List ℕ) : Type 0 where
-  pub before : List ℕ
-  pub behind : List ℕ
-  pub whole : t ≡ before ++ 10 ∷ behind
-  pub fine : run (begun, table) before .0 .fault ≡ 0
-  pub stays : run (begun, table) t ≡ run (begun, table) (before ++ 10 ∷ [])
-  pub line : run (begun, table) t .0 .line ≡ suc (times 10 before)
+-- a field is wrong as a number: it is empty, is not digits alone, or says more than 65,535
+pub data Wrong : ℕ → List Kind → Type 0 where
+  empty : Wrong 7 []
+  strange : {k : Kind} {f : List Kind} → all isDigit (k ∷ f) ≡ false → Wrong 1 (k ∷ f)
+  great : {k : Kind} {f : List Kind} → all isDigit (k ∷ f) ≡ true → 65_535 < value (k ∷ f) → Wrong 2 (k ∷ f)
+
+-- or it is right
+pub data Right : List Kind → Type 0 where
+  right : {k : Kind} {f : List Kind} → all isDigit (k ∷ f) ≡ true → value (k ∷ f) ≤ 65_535 → Right (k ∷ f)
+
+-- these lines, the first of which has this number, below `rows` rows with `put` numbers, say o, in which something is wrong: nothing is wrong with the
+-- lines before, each of which is a row, and this is wrong with the next one; or there is none, and no row
+pub record Stops (room line rows put : ℕ) (ls : List (List ℕ)) (o : Told) : Type 0 where
+  pub before : List (List ℕ)
+  pub behind : List (List ℕ)
+  pub whole : ls ≡ before ++ behind
+  pub number : o .line ≡ line + length before
+  pub above : o .rs ≡ map numbers before
+  pub why : (l : List ℕ) (ms : List (List ℕ)) → behind ≡ l ∷ ms
+      → lineTrouble (o .columns) (rows + length before) (put + length (joined (map numbers before))) room l ≡ record { kind = o .kind; column = o .column }
+  pub none : behind ≡ [] → (o .kind ≡ 8) × (rows + length before ≡ 0)
+
+-- the lines ls of a text say o, in which something is wrong: with its names, or below them, or there are none
+pub data StopsText (room : ℕ) (ls : List (List ℕ)) (o : Told) : Type 0 where
+  at-names : {l : List ℕ} {ms : List (List ℕ)} → ls ≡ l ∷ ms → named l ≡ true
+      → trouble asName 0 (fieldsOf l) ≡ record { kind = o .kind; column = o .column } → o .line ≡ 1 → StopsText room ls o
+  below-names : {l : List ℕ} {ms : List (List ℕ)} → ls ≡ l ∷ ms → named l ≡ true → trouble asName 0 (fieldsOf l) .kind ≡ 0
+      → Stops room 2 0 0 ms o → StopsText room ls o
+  no-names : Stops room 1 0 0 ls o → StopsText room ls o

@@ -1,26 +1,33 @@
-// The reader of a text of rows: fed piece by piece, it puts each whole row behind the last into a lent table, and names the first line with a fault.
+// The reader of a text of rows: fed piece by piece, it puts each whole row behind the last into a lent table, and names the first line and column
+// with a fault.
 pub mod bytes;
 pub mod line;
 
-ghost use Prim.Native.Nat.{_+_, _≤_};
-ghost use Rattle.sheet.specs.Closing.{advanced, closed, differs, failed, lineTrouble, rowSize, rowTrouble, skipped, taken, troubleAt};
-ghost use Rattle.sheet.specs.Reading.{begun, finished, next, run};
+ghost use Prim.Native.Nat.{_+_, _≤_, min};
+ghost use Rattle.sheet.specs.Closing.{bare, closed, counted, endTrouble, failed, firstBlank, judged, onward, orWide, titles, weighed};
+ghost use Rattle.sheet.specs.Reading.{begun, finished, inside, markByte, marking, next, read, released, run, unmarking};
+ghost use Rattle.sheet.specs.Says.{differs, orRow, rowTrouble};
 ghost use lib.Dec.{ltb};
 ghost use lib.ListN.{length};
 ghost use lib.Seq.{paste};
 ghost use mathlib.Core.Path.{_≡_};
 use bytes::Kind;
 use line::Line;
-use line::Place;
+use line::Trouble;
 
-// Where the reading stands: the number of the line that is being read, the numbers of a row (0 before the first), how many rows were put and
-// how many numbers these are, the fault (0 for none), and what is known of the line.
+// Where the reading stands: how much of the mark EF BB BF has come (3 behind it), whether a carriage return is held back, the number of the line
+// that is being read or has the fault, the first of the blank lines right above it (0 for none), the columns (0 before the first line), how many rows
+// were put and how many numbers these are, the fault (0 for none) and its column, and what is known of the line.
 pub struct Reader {
+    pub mark: u32,
+    pub held: bool,
     pub line: u64,
+    pub blank: u64,
     pub columns: usize,
     pub rows: usize,
     pub put: usize,
     pub fault: u32,
+    pub column: usize,
     pub here: Line,
 }
 
@@ -30,29 +37,34 @@ pub const TOO_MANY_ROWS: u32 = 5;
 
 pub const TABLE_SHORT: u32 = 6;
 
-pub const TOO_MANY_LINES: u32 = 7;
-
 pub const NO_ROWS: u32 = 8;
 
 pub const MOST_ROWS: usize = 65_536;
 
 const MOST_LINES: u64 = 18_446_744_073_709_551_615;
 
+// The mark is over, or was none.
+const PAST: u32 = 3;
+
 // Before the first byte of a text.
 pub fn start() -> Reader
     ensures { λ r. ⌜ r ≡ begun ⌝ }
 {
     Reader {
+        mark: 0,
+        held: false,
         line: 1,
+        blank: 0,
         columns: 0,
         rows: 0,
         put: 0,
         fault: 0,
+        column: 0,
         here: line::fresh(),
     }
 }
 
-// The row has another count than the rows above, if there are such.
+// The row has another count than there are columns, if that is known.
 fn uneven(columns: usize, count: usize) -> bool
     ensures { λ r. ⌜ r ≡ differs columns count ⌝ }
 {
@@ -72,71 +84,112 @@ fn lacks(room: usize, put: usize, count: usize) -> bool
     room - put < count
 }
 
-// Why a row of `count` numbers can't be put behind the rows that were, or 0. A line without numbers is no row.
-fn row_trouble(columns: usize, rows: usize, put: usize, count: usize, room: usize) -> u32
+// The first column that is missing, or too many.
+fn uneven_column(columns: usize, count: usize) -> usize
+    requires { ⌜ count ≤ 16 ⌝ }
+    ensures { λ r. ⌜ r ≡ min columns count + 1 ⌝ }
+{
+    if columns < count {
+        return columns + 1;
+    }
+    count + 1
+}
+
+// Why a row of `count` numbers can't be put behind the rows that were.
+fn row_trouble(columns: usize, rows: usize, put: usize, count: usize, room: usize) -> Trouble
     ensures { λ r. ⌜ r ≡ rowTrouble columns rows put count room ⌝ }
 {
-    if count == 0 {
-        return 0;
-    }
     if line::WIDEST < count {
-        return line::TOO_WIDE;
+        return Trouble {
+            kind: line::TOO_WIDE,
+            column: line::WIDEST + 1,
+        };
     }
     if uneven(columns, count) {
-        return UNEVEN;
+        return Trouble {
+            kind: UNEVEN,
+            column: uneven_column(columns, count),
+        };
     }
     if MOST_ROWS <= rows {
-        return TOO_MANY_ROWS;
+        return Trouble {
+            kind: TOO_MANY_ROWS,
+            column: 1,
+        };
     }
     if lacks(room, put, count) {
-        return TABLE_SHORT;
+        return Trouble {
+            kind: TABLE_SHORT,
+            column: 1,
+        };
     }
-    0
+    line::no_trouble()
 }
 
-// How many numbers of the line are put: none of a line of names.
-fn row_size(ended: Line) -> usize
-    ensures { λ r. ⌜ r ≡ rowSize ended ⌝ }
+// What is wrong in a field comes before what is wrong with the row.
+fn field_or_row(
+    t: Trouble,
+    columns: usize,
+    rows: usize,
+    put: usize,
+    count: usize,
+    room: usize,
+) -> Trouble
+    ensures { λ r. ⌜ r ≡ orRow t columns rows put count room ⌝ }
 {
-    let place = ended.place;
-    match place {
-        Place::Gap => ended.count,
-        Place::Inside(_) => ended.count,
-        Place::Ending => ended.count,
-        Place::Names => 0,
-        Place::Wrong(_) => ended.count,
+    if t.kind != 0 {
+        return t;
     }
+    row_trouble(columns, rows, put, count, room)
 }
 
-// What was wrong inside the line comes before what is wrong with its row.
-fn first_trouble(place: Place, other: u32) -> u32
-    ensures { λ r. ⌜ r ≡ troubleAt place other ⌝ }
+// What is wrong with names.
+fn name_or_wide(t: Trouble, count: usize) -> Trouble
+    ensures { λ r. ⌜ r ≡ orWide t count ⌝ }
 {
-    match place {
-        Place::Gap => other,
-        Place::Inside(_) => other,
-        Place::Ending => other,
-        Place::Names => other,
-        Place::Wrong(k) => {
-            if k == 0 {
-                return line::NOT_A_NUMBER;
-            }
-            k
-        }
+    if t.kind != 0 {
+        return t;
     }
+    if line::WIDEST < count {
+        return Trouble {
+            kind: line::TOO_WIDE,
+            column: line::WIDEST + 1,
+        };
+    }
+    line::no_trouble()
 }
 
-// Why the line can't be taken, or 0.
-fn line_trouble(r: Reader, ended: Line, room: usize) -> u32
-    ensures { λ k. ⌜ k ≡ lineTrouble r ended room ⌝ }
+// No field of the line has begun.
+fn is_bare(here: Line) -> bool
+    ensures { λ r. ⌜ r ≡ bare here ⌝ }
 {
-    if MOST_LINES <= r.line {
-        return TOO_MANY_LINES;
+    if here.count != 0 {
+        return false;
     }
-    let n = row_size(ended);
-    let trouble = row_trouble(r.columns, r.rows, r.put, n, room);
-    let place = ended.place;
-    first_trouble(place, trouble)
+    let place = here.place;
+    line::may_begin(place)
+}
+
+// The line is the first, and names.
+fn has_titles(r: Reader, ended: Line) -> bool
+    ensures { λ k. ⌜ k ≡ titles r ended ⌝ }
+{
+    if r.line != 1 {
+        return false;
+    }
+    !ended.figure
+}
+
+// Why the line can't be taken.
+fn line_trouble(r: Reader, ended: Line, room: usize) -> Trouble
+    ensures { λ k. ⌜ k ≡ endTrouble r ended room ⌝ }
+{
+    if has_titles(r, ended) {
+        let names = ended.names;
+        return name_or_wide(names, ended.count);
+    }
+    let numbers = ended.numbers;
+    field_or_row(numbers, r.columns, r.rows, r.put, ended.count, room)
 }
 
 // Puts the first n numbers of a row into the table.
@@ -151,63 +204,82 @@ fn put_row(row: [u16; 16], n: usize, table: &mut [u16], at: usize)
     }
 }
 
-// Behind a line that is no row.
-fn skip(r: Reader) -> Reader
-    requires { ⌜ r .line + 1 ≤ 18446744073709551615 ⌝ }
-    ensures { λ s. ⌜ s ≡ skipped r ⌝ }
+// The next line's number.
+fn count_line(line: u64) -> u64
+    ensures { λ n. ⌜ n ≡ counted line ⌝ }
+{
+    if line < MOST_LINES {
+        return line + 1;
+    }
+    line
+}
+
+// The first of blank lines.
+fn first_blank(blank: u64, line: u64) -> u64
+    ensures { λ n. ⌜ n ≡ firstBlank blank line ⌝ }
+{
+    if blank == 0 {
+        return line;
+    }
+    blank
+}
+
+// Behind a line, with so many columns, rows and numbers.
+fn go_onward(r: Reader, blank: u64, columns: usize, rows: usize, put: usize) -> Reader
+    ensures { λ s. ⌜ s ≡ onward r blank columns rows put ⌝ }
 {
     Reader {
-        line: r.line + 1,
-        columns: r.columns,
-        rows: r.rows,
-        put: r.put,
+        mark: r.mark,
+        held: false,
+        line: count_line(r.line),
+        blank,
+        columns,
+        rows,
+        put,
         fault: r.fault,
+        column: r.column,
         here: line::fresh(),
     }
 }
 
 // Behind a row of n numbers.
 fn take_row(r: Reader, n: usize, room: usize) -> Reader
-    requires { ⌜ (r .line + 1 ≤ 18446744073709551615) × (r .rows + 1 ≤ 65536) × (r .put + n ≤ room) ⌝ }
-    ensures { λ s. ⌜ s ≡ taken r n ⌝ }
+    requires { ⌜ (r .rows + 1 ≤ 65536) × (r .put + n ≤ room) ⌝ }
+    ensures { λ s. ⌜ s ≡ onward r 0 n (r .rows + 1) (r .put + n) ⌝ }
 {
-    Reader {
-        line: r.line + 1,
-        columns: n,
-        rows: r.rows + 1,
-        put: r.put + n,
-        fault: r.fault,
-        here: line::fresh(),
-    }
+    go_onward(r, 0, n, r.rows + 1, r.put + n)
 }
 
 // At a line that can't be taken.
-fn fail(r: Reader, ended: Line, fault: u32) -> Reader
-    ensures { λ s. ⌜ s ≡ failed r ended fault ⌝ }
+fn fail(r: Reader, ended: Line, line: u64, trouble: Trouble) -> Reader
+    ensures { λ s. ⌜ s ≡ failed r ended line trouble ⌝ }
 {
     Reader {
-        line: r.line,
+        mark: r.mark,
+        held: false,
+        line,
+        blank: r.blank,
         columns: r.columns,
         rows: r.rows,
         put: r.put,
-        fault,
+        fault: trouble.kind,
+        column: trouble.column,
         here: ended,
     }
 }
 
-// At a newline: the line is a row, or none, or can't be taken.
-fn close(r: Reader, table: &mut [u16]) -> Reader
-    ensures { λ s. ⌜ (s ≡ closed r (now (table .entry)) .0) × (now (table .exit) ≡ closed r (now (table .entry)) .1) ⌝ }
+// A line that has ended is names, or a row that is put behind the others, or can't be taken.
+fn decide(r: Reader, ended: Line, table: &mut [u16]) -> Reader
+    ensures { λ s. ⌜ (s ≡ weighed r ended (now (table .entry)) .0) × (now (table .exit) ≡ weighed r ended (now (table .entry)) .1) ⌝ }
 {
     let room = table.len();
-    let ended = line::settle(r.here);
-    let fault = line_trouble(r, ended, room);
-    if fault != 0 {
-        return fail(r, ended, fault);
+    let trouble = line_trouble(r, ended, room);
+    if trouble.kind != 0 {
+        return fail(r, ended, r.line, trouble);
     }
-    let n = row_size(ended);
-    if n == 0 {
-        return skip(r);
+    let n = ended.count;
+    if has_titles(r, ended) {
+        return go_onward(r, 0, n, 0, 0);
     }
     let at = r.put;
     let row = ended.row;
@@ -215,19 +287,108 @@ fn close(r: Reader, table: &mut [u16]) -> Reader
     take_row(r, n, room)
 }
 
-// At any other byte.
-fn advance(r: Reader, kind: Kind) -> Reader
-    ensures { λ s. ⌜ s ≡ advanced r kind ⌝ }
+// A line that is not blank: it may not stand below a blank one.
+fn judge(r: Reader, ended: Line, table: &mut [u16]) -> Reader
+    ensures { λ s. ⌜ (s ≡ judged r ended (now (table .entry)) .0) × (now (table .exit) ≡ judged r ended (now (table .entry)) .1) ⌝ }
 {
-    let here = line::along(r.here, kind, r.line == 1);
+    if r.blank != 0 {
+        return fail(
+            r,
+            ended,
+            r.blank,
+            Trouble {
+                kind: line::EMPTY,
+                column: 1,
+            },
+        );
+    }
+    decide(r, ended, table)
+}
+
+// At a newline.
+fn close(r: Reader, table: &mut [u16]) -> Reader
+    ensures { λ s. ⌜ (s ≡ closed r (now (table .entry)) .0) × (now (table .exit) ≡ closed r (now (table .entry)) .1) ⌝ }
+{
+    if is_bare(r.here) {
+        return go_onward(r, first_blank(r.blank, r.line), r.columns, r.rows, r.put);
+    }
+    judge(r, line::settle(r.here), table)
+}
+
+// Inside a line.
+fn stay(r: Reader, mark: u32, held: bool, here: Line) -> Reader
+    ensures { λ s. ⌜ s ≡ inside r mark held here ⌝ }
+{
     Reader {
+        mark,
+        held,
         line: r.line,
+        blank: r.blank,
         columns: r.columns,
         rows: r.rows,
         put: r.put,
         fault: r.fault,
+        column: r.column,
         here,
     }
+}
+
+// A carriage return that was held back is a byte as any other, since no newline follows it.
+fn release(r: Reader) -> Line
+    ensures { λ l. ⌜ l ≡ released r ⌝ }
+{
+    if r.held {
+        return line::along(r.here, Kind::Other);
+    }
+    r.here
+}
+
+// One byte more of a text whose start was looked at.
+fn read_byte(r: Reader, b: u8, table: &mut [u16]) -> Reader
+    ensures { λ s. ⌜ (s ≡ read (r, now (table .entry)) b .0) × (now (table .exit) ≡ read (r, now (table .entry)) b .1) ⌝ }
+{
+    if b == bytes::NEWLINE {
+        return close(r, table);
+    }
+    let here = release(r);
+    if b == bytes::RETURN {
+        return stay(r, r.mark, true, here);
+    }
+    stay(r, r.mark, false, line::along(here, bytes::kind_of(b)))
+}
+
+// The bytes of the mark.
+fn mark_byte(k: u32) -> u8
+    ensures { λ b. ⌜ b ≡ markByte k ⌝ }
+{
+    if k == 0 {
+        return 0xef;
+    }
+    if k == 1 {
+        return 0xbb;
+    }
+    0xbf
+}
+
+// The start was not the mark: what came of it is bytes as any other.
+fn unmark(r: Reader) -> Reader
+    ensures { λ s. ⌜ s ≡ unmarking r ⌝ }
+{
+    if r.mark == 0 {
+        return stay(r, PAST, r.held, r.here);
+    }
+    stay(r, PAST, r.held, line::along(r.here, Kind::Other))
+}
+
+// One byte more of the text's start.
+fn begin(r: Reader, b: u8, table: &mut [u16]) -> Reader
+    requires { ⌜ r .mark + 1 ≤ 3 ⌝ }
+    ensures { λ s. ⌜ (s ≡ marking (r, now (table .entry)) b .0) × (now (table .exit) ≡ marking (r, now (table .entry)) b .1) ⌝ }
+{
+    if b == mark_byte(r.mark) {
+        return stay(r, r.mark + 1, r.held, r.here);
+    }
+    read_byte(unmark(r), b, table)
 }
 
 // One byte more. Behind a fault nothing changes.
@@ -237,10 +398,10 @@ fn step(r: Reader, b: u8, table: &mut [u16]) -> Reader
     if r.fault != 0 {
         return r;
     }
-    if b == bytes::NEWLINE {
-        return close(r, table);
+    if PAST <= r.mark {
+        return read_byte(r, b, table);
     }
-    advance(r, bytes::kind_of(b))
+    begin(r, b, table)
 }
 
 // Reads one piece more of the text.
@@ -256,7 +417,7 @@ pub fn feed(reader: Reader, text: &[u8], table: &mut [u16]) -> Reader
     r
 }
 
-// The end of the text: it may lack its last newline. A text without rows is a fault.
+// The end of the text: it may lack its last newline. A text without rows is a fault, in the line where the first row should stand.
 pub fn finish(reader: Reader, table: &mut [u16]) -> Reader
     ensures { λ s. ⌜ (s ≡ finished (reader, now (table .entry)) .0) × (now (table .exit) ≡ finished (reader, now (table .entry)) .1) ⌝ }
 {
@@ -267,5 +428,13 @@ pub fn finish(reader: Reader, table: &mut [u16]) -> Reader
     if r.rows != 0 {
         return r;
     }
-    fail(r, r.here, NO_ROWS)
+    fail(
+        r,
+        r.here,
+        first_blank(r.blank, r.line),
+        Trouble {
+            kind: NO_ROWS,
+            column: 1,
+        },
+    )
 }

@@ -1,22 +1,34 @@
-// One line of a text of rows, byte by byte: its numbers so far, and where its reader stands.
-ghost use Rattle.sheet.specs.InLine.{added, along as along·, digitAt, emptied, grown, kept, moved, otherAt, partedAt, returnAt, settled};
+// One line of a text of rows, byte by byte: what is known of its fields so far, and where its reader stands.
+ghost use Rattle.sheet.specs.InLine.{added, along as along·, blankAt, digitAt, emptied, grown, marked, moved, onlyEmpty, opened, opens, settled};
+ghost use Rattle.sheet.specs.Says.{none};
+ghost use mathlib.Core.Bool.{_&&_, _||_};
 ghost use mathlib.Core.Path.{_≡_};
 use crate::bytes::Kind;
 
-// Where a number may start, inside a number, behind the carriage return, in a line of names, or in a line with a fault.
+// In a field in which nothing stands yet, in a number, in one that is too great, in a field that is no number, or behind a field.
 pub enum Place {
-    Gap,
+    Open,
     Inside(u16),
-    Ending,
-    Names,
-    Wrong(u32),
+    Great,
+    Strange,
+    Behind,
 }
 
-// The place, how many numbers have ended, and these.
+// What is wrong (0: nothing), and in which column.
+pub struct Trouble {
+    pub kind: u32,
+    pub column: usize,
+}
+
+// The place, whether a field began with a digit, a sign or a point, how many fields have ended (17 for more than 16), their numbers, and the first
+// thing that is wrong with them as numbers and as names.
 pub struct Line {
     pub place: Place,
+    pub figure: bool,
     pub count: usize,
     pub row: [u16; 16],
+    pub numbers: Trouble,
+    pub names: Trouble,
 }
 
 pub const NOT_A_NUMBER: u32 = 1;
@@ -25,31 +37,117 @@ pub const TOO_GREAT: u32 = 2;
 
 pub const TOO_WIDE: u32 = 3;
 
+pub const EMPTY: u32 = 7;
+
 pub const WIDEST: usize = 16;
+
+// Nothing is wrong.
+pub fn no_trouble() -> Trouble
+    ensures { λ r. ⌜ r ≡ none ⌝ }
+{
+    Trouble { kind: 0, column: 0 }
+}
 
 // Before the first byte of a line.
 pub fn fresh() -> Line
     ensures { λ r. ⌜ r ≡ emptied ⌝ }
 {
     Line {
-        place: Place::Gap,
+        place: Place::Open,
+        figure: false,
         count: 0,
         row: [0; 16],
+        numbers: no_trouble(),
+        names: no_trouble(),
     }
 }
 
-// The digit d goes behind the number v: not behind 0, and not beyond 65,535.
+// The first thing that is wrong is kept.
+fn mark(t: Trouble, kind: u32, column: usize) -> Trouble
+    ensures { λ r. ⌜ r ≡ marked t kind column ⌝ }
+{
+    if t.kind != 0 {
+        return t;
+    }
+    if kind == 0 {
+        return t;
+    }
+    Trouble { kind, column }
+}
+
+// A name may be anything but empty.
+fn name_trouble(kind: u32) -> u32
+    ensures { λ r. ⌜ r ≡ onlyEmpty kind ⌝ }
+{
+    if kind == EMPTY {
+        return EMPTY;
+    }
+    0
+}
+
+// A field has ended: its number is kept behind the others, at most 16 in a line.
+fn add(line: Line, kind: u32, v: u16) -> Line
+    ensures { λ r. ⌜ r ≡ added line kind v ⌝ }
+{
+    let count = line.count;
+    let mut row = line.row;
+    if WIDEST <= count {
+        return Line {
+            place: Place::Behind,
+            figure: line.figure,
+            count: WIDEST + 1,
+            row,
+            numbers: mark(line.numbers, TOO_WIDE, WIDEST + 1),
+            names: mark(line.names, TOO_WIDE, WIDEST + 1),
+        };
+    }
+    row[count] = v;
+    Line {
+        place: Place::Behind,
+        figure: line.figure,
+        count: count + 1,
+        row,
+        numbers: mark(line.numbers, kind, count + 1),
+        names: mark(line.names, name_trouble(kind), count + 1),
+    }
+}
+
+// The field ends in which the reader stands.
+pub fn settle(line: Line) -> Line
+    ensures { λ r. ⌜ r ≡ settled line ⌝ }
+{
+    let place = line.place;
+    match place {
+        Place::Open => add(line, EMPTY, 0),
+        Place::Inside(v) => add(line, 0, v),
+        Place::Great => add(line, TOO_GREAT, 0),
+        Place::Strange => add(line, NOT_A_NUMBER, 0),
+        Place::Behind => line,
+    }
+}
+
+// A field may begin here.
+pub fn may_begin(place: Place) -> bool
+    ensures { λ r. ⌜ r ≡ opens place ⌝ }
+{
+    match place {
+        Place::Open => true,
+        Place::Inside(_) => false,
+        Place::Great => false,
+        Place::Strange => false,
+        Place::Behind => true,
+    }
+}
+
+// The digit d goes behind the number v, which may then be too great.
 fn grow(v: u16, d: u8) -> Place
     ensures { λ r. ⌜ r ≡ grown v d ⌝ }
 {
-    if v < 1 {
-        return Place::Wrong(NOT_A_NUMBER);
-    }
     let grown = 10 * v as u32 + d as u32;
     if grown <= 65_535 {
         return Place::Inside(grown as u16);
     }
-    Place::Wrong(TOO_GREAT)
+    Place::Great
 }
 
 // A digit begins a number, or goes behind one.
@@ -57,126 +155,86 @@ fn at_digit(place: Place, d: u8) -> Place
     ensures { λ r. ⌜ r ≡ digitAt place d ⌝ }
 {
     match place {
-        Place::Gap => Place::Inside(d as u16),
+        Place::Open => grow(0, d),
         Place::Inside(v) => grow(v, d),
-        Place::Ending => Place::Wrong(NOT_A_NUMBER),
-        Place::Names => Place::Names,
-        Place::Wrong(k) => Place::Wrong(k),
+        Place::Great => Place::Great,
+        Place::Strange => Place::Strange,
+        Place::Behind => grow(0, d),
     }
 }
 
-// A byte that parts leaves a gap.
-fn at_parting(place: Place) -> Place
-    ensures { λ r. ⌜ r ≡ partedAt place ⌝ }
+// A figure came before, or one begins here.
+fn has_figure(before: bool, figure: bool, begins: bool) -> bool
+    ensures { λ r. ⌜ r ≡ (before || (figure && begins)) ⌝ }
 {
-    match place {
-        Place::Gap => Place::Gap,
-        Place::Inside(_) => Place::Gap,
-        Place::Ending => Place::Wrong(NOT_A_NUMBER),
-        Place::Names => Place::Names,
-        Place::Wrong(k) => Place::Wrong(k),
+    if before {
+        return true;
     }
+    if figure {
+        return begins;
+    }
+    false
 }
 
-// Behind a carriage return only the newline may come.
-fn at_return(place: Place) -> Place
-    ensures { λ r. ⌜ r ≡ returnAt place ⌝ }
+// A byte of a field leads to a place; the first one of a field may make a figure of it.
+fn go_on(line: Line, place: Place, figure: bool) -> Line
+    ensures { λ r. ⌜ r ≡ moved line place figure ⌝ }
 {
-    match place {
-        Place::Gap => Place::Ending,
-        Place::Inside(_) => Place::Ending,
-        Place::Ending => Place::Wrong(NOT_A_NUMBER),
-        Place::Names => Place::Names,
-        Place::Wrong(k) => Place::Wrong(k),
-    }
-}
-
-// Any other byte makes the text's first line one of names, and is a fault in another.
-fn at_other(place: Place, first: bool) -> Place
-    ensures { λ r. ⌜ r ≡ otherAt first place ⌝ }
-{
-    if first {
-        return Place::Names;
-    }
-    match place {
-        Place::Gap => Place::Wrong(NOT_A_NUMBER),
-        Place::Inside(_) => Place::Wrong(NOT_A_NUMBER),
-        Place::Ending => Place::Wrong(NOT_A_NUMBER),
-        Place::Names => Place::Names,
-        Place::Wrong(k) => Place::Wrong(k),
-    }
-}
-
-// The place behind one more byte.
-fn go_on(place: Place, kind: Kind, first: bool) -> Place
-    ensures { λ r. ⌜ r ≡ moved first place kind ⌝ }
-{
-    match kind {
-        Kind::Digit(d) => at_digit(place, d),
-        Kind::Parting => at_parting(place),
-        Kind::Return => at_return(place),
-        Kind::Other => at_other(place, first),
-    }
-}
-
-// The number v has ended: it is kept behind the others, at most 16 in a line.
-fn add(line: Line, v: u16) -> Line
-    ensures { λ r. ⌜ r ≡ added line v ⌝ }
-{
-    let count = line.count;
-    let mut row = line.row;
-    if WIDEST <= count {
-        return Line {
-            place: Place::Wrong(TOO_WIDE),
-            count,
-            row,
-        };
-    }
-    row[count] = v;
+    let stood = line.place;
+    let row = line.row;
+    let numbers = line.numbers;
+    let names = line.names;
     Line {
-        place: Place::Gap,
-        count: count + 1,
+        place,
+        figure: has_figure(line.figure, figure, may_begin(stood)),
+        count: line.count,
         row,
+        numbers,
+        names,
     }
 }
 
-// A number ends here, if one is being read.
-pub fn settle(line: Line) -> Line
-    ensures { λ r. ⌜ r ≡ settled line ⌝ }
+// A blank ends a field, but not an open one.
+fn at_blank(line: Line) -> Line
+    ensures { λ r. ⌜ r ≡ blankAt (line .place) line ⌝ }
 {
     let place = line.place;
     match place {
-        Place::Gap => line,
-        Place::Inside(v) => add(line, v),
-        Place::Ending => line,
-        Place::Names => line,
-        Place::Wrong(_) => line,
+        Place::Open => line,
+        Place::Inside(v) => add(line, 0, v),
+        Place::Great => add(line, TOO_GREAT, 0),
+        Place::Strange => add(line, NOT_A_NUMBER, 0),
+        Place::Behind => line,
     }
 }
 
-// A byte that parts and a carriage return end a number.
-fn keep(line: Line, kind: Kind) -> Line
-    ensures { λ r. ⌜ r ≡ kept kind line ⌝ }
+// Behind a byte that parts a field is open.
+fn open(line: Line) -> Line
+    ensures { λ r. ⌜ r ≡ opened line ⌝ }
 {
-    match kind {
-        Kind::Digit(_) => line,
-        Kind::Parting => settle(line),
-        Kind::Return => settle(line),
-        Kind::Other => line,
-    }
-}
-
-// The line after one more byte, which is no newline.
-pub fn along(line: Line, kind: Kind, first: bool) -> Line
-    ensures { λ r. ⌜ r ≡ along· first line kind ⌝ }
-{
-    let held = keep(line, kind);
-    let stood = held.place;
-    let place = go_on(stood, kind, first);
-    let row = held.row;
+    let row = line.row;
+    let numbers = line.numbers;
+    let names = line.names;
     Line {
-        place,
-        count: held.count,
+        place: Place::Open,
+        figure: line.figure,
+        count: line.count,
         row,
+        numbers,
+        names,
+    }
+}
+
+// The line after one more byte.
+pub fn along(line: Line, kind: Kind) -> Line
+    ensures { λ r. ⌜ r ≡ along· line kind ⌝ }
+{
+    let place = line.place;
+    match kind {
+        Kind::Digit(d) => go_on(line, at_digit(place, d), true),
+        Kind::Blank => at_blank(line),
+        Kind::Parting => open(settle(line)),
+        Kind::Sign => go_on(line, Place::Strange, true),
+        Kind::Other => go_on(line, Place::Strange, false),
     }
 }

@@ -24,6 +24,9 @@ returns-2 c =
     let last = c .before .before .before .before .before .before .step .ensures in
     (finish-rows _ _ (last .0) (c .before .before .if1 .left) (c .if2 .taken), finish-table _ _ (last .0) _ (last .1))
 
+first-blank-requires : tie.Need-first-blank-requires
+first-blank-requires c κs = search needs
+
 fail-requires : tie.Need-fail-requires
 fail-requires c κs = search needs
 
@@ -32,10 +35,8 @@ same-length-3 c = search needs
 
 returns-3 : tie.Need-returns-3
 returns-3 c =
-    let last = c .before .before .before .before .before .before .before .step .ensures in (
-      finish-none _ _ (last .0) _ (c .fail .ensures) (c .before .before .before .if1 .left) (c .before .if2 .left),
-      finish-table _ _ (last .0) _ (last .1),
-    )
+    let last = c .before .before .before .before .before .before .before .before .step .ensures in
+    (finish-none _ _ (last .0) _ _ (c .before .first-blank .ensures) (c .fail .ensures) (c .before .before .before .before .if1 .left) (c .before .before .if2 .left), finish-table _ _ (last .0) _ (last .1))
 
 pub finish-spec : {M : Type 1} → statement M
 finish-spec =
@@ -46,6 +47,7 @@ finish-spec =
     returns
     same-length-2
     returns-2
+    first-blank-requires
     fail-requires
     same-length-3
     returns-3)

@@ -1,29 +1,29 @@
--- `sheet::line_trouble` meets its contract: too many lines come before all.
+-- `sheet::line_trouble` meets its contract: names, or a row.
 -- Assumes nothing.
 use Rattle.sheet.proofs.line_trouble.Statement.{statement}
 use Rattle.sheet.proofs.line_trouble.Tie as tie
-use Rattle.sheet.specs.Closing.{lineTrouble}
+use Rattle.sheet.specs.Closing.{endTrouble}
 use borrow.Author.Needs.{needs}
-use borrow.Author.Tests.{le-leb, lt-leb}
+use mathlib.Core.Path.{_∙_, sym}
+
+has-titles-requires : tie.Need-has-titles-requires
+has-titles-requires c κs = search needs
+
+name-or-wide-requires : tie.Need-name-or-wide-requires
+name-or-wide-requires c κs = search needs
 
 returns : tie.Need-returns
-unfolding lineTrouble
-returns c = rw (le-leb _ _ (c .if1 .taken))
+unfolding endTrouble
+returns c = rw (sym (c .before .before .before .has-titles .ensures) ∙ c .before .before .if1 .taken) (c .name-or-wide .ensures)
 
-row-size-requires : tie.Need-row-size-requires
-row-size-requires c κs = search needs
-
-row-trouble-requires : tie.Need-row-trouble-requires
-row-trouble-requires c κs = search needs
-
-first-trouble-requires : tie.Need-first-trouble-requires
-first-trouble-requires c κs = search needs
+field-or-row-requires : tie.Need-field-or-row-requires
+field-or-row-requires c κs = search needs
 
 returns-2 : tie.Need-returns-2
-unfolding lineTrouble
-returns-2 c = rw (lt-leb _ _ (c .before .before .before .if1 .left)) (cc)
+unfolding endTrouble
+returns-2 c = rw (sym (c .before .before .before .has-titles .ensures) ∙ c .before .before .if1 .left) (c .field-or-row .ensures)
 
 pub line-trouble-spec : {M : Type 1} → statement M
 line-trouble-spec =
     tie.close
-    (tie.spec returns row-size-requires row-trouble-requires first-trouble-requires returns-2)
+    (tie.spec has-titles-requires name-or-wide-requires returns field-or-row-requires returns-2)

@@ -2,78 +2,57 @@
 -- Assumes nothing.
 use Rattle.sheet.proofs.row_trouble.Statement.{statement}
 use Rattle.sheet.proofs.row_trouble.Tie as tie
-use Rattle.sheet.specs.Closing.{rowTrouble}
+use Rattle.sheet.specs.Says.{rowTrouble}
 use borrow.Author.Needs.{needs}
-use borrow.Author.Tests.{eq-eqb, le-leb, le-ltb, lt-leb, lt-ltb, ne-eqb}
+use borrow.Author.Tests.{le-leb, le-ltb, lt-leb, lt-ltb}
 use mathlib.Core.Path.{_∙_, sym}
+
+add-t7 : tie.Need-add-t7
+add-t7 c = search needs
 
 returns : tie.Need-returns
 unfolding rowTrouble
-returns c = rw (eq-eqb _ _ (c .if1 .taken))
-
-returns-2 : tie.Need-returns-2
-unfolding rowTrouble
-returns-2 c = rw (ne-eqb _ _ (c .before .if1 .left), lt-ltb _ _ (c .if2 .taken))
+returns c = rw (lt-ltb _ _ (c .if1 .taken))
 
 uneven-requires : tie.Need-uneven-requires
 uneven-requires c κs = search needs
 
+uneven-column-requires : tie.Need-uneven-column-requires
+uneven-column-requires c κs = search needs
+
+returns-2 : tie.Need-returns-2
+unfolding rowTrouble
+returns-2 c = rw (le-ltb _ _ (c .before .before .before .if1 .left), sym (c .before .before .uneven .ensures) ∙ c .before .if2 .taken) (cc)
+
 returns-3 : tie.Need-returns-3
 unfolding rowTrouble
-returns-3 c =
-    rw (
-      ne-eqb _ _ (c .before .before .before .if1 .left),
-      le-ltb _ _ (c .before .before .if2 .left),
-      sym (c .before .uneven .ensures) ∙ c .if3 .taken,
-    )
-
-returns-4 : tie.Need-returns-4
-unfolding rowTrouble
-returns-4 c =
-    let even = c .before in
-    rw (
-      ne-eqb _ _ (even .before .before .before .if1 .left),
-      le-ltb _ _ (even .before .before .if2 .left),
-      sym (even .before .uneven .ensures) ∙ even .if3 .left,
-      le-leb _ _ (c .if4 .taken),
-    )
+returns-3 c = rw (le-ltb _ _ (c .before .before .before .if1 .left), sym (c .before .before .uneven .ensures) ∙ c .before .if2 .left, le-leb _ _ (c .if3 .taken))
 
 lacks-requires : tie.Need-lacks-requires
 lacks-requires c κs = search needs
 
+returns-4 : tie.Need-returns-4
+unfolding rowTrouble
+returns-4 c = rw (le-ltb _ _ (c .before .before .before .before .before .if1 .left), sym (c .before .before .before .before .uneven .ensures) ∙ c .before .before .before .if2 .left, lt-leb _ _ (c .before .before .if3 .left), sym (c .before .lacks .ensures) ∙ c .if4 .taken)
+
+no-trouble-requires : tie.Need-no-trouble-requires
+no-trouble-requires c κs = search needs
+
 returns-5 : tie.Need-returns-5
 unfolding rowTrouble
-returns-5 c =
-    let even = c .before .before .before in
-    rw (
-      ne-eqb _ _ (even .before .before .before .if1 .left),
-      le-ltb _ _ (even .before .before .if2 .left),
-      sym (even .before .uneven .ensures) ∙ even .if3 .left,
-      lt-leb _ _ (c .before .before .if4 .left),
-      sym (c .before .lacks .ensures) ∙ c .if5 .taken,
-    )
-
-returns-6 : tie.Need-returns-6
-unfolding rowTrouble
-returns-6 c =
-    let even = c .before .before .before in
-    rw (
-      ne-eqb _ _ (even .before .before .before .if1 .left),
-      le-ltb _ _ (even .before .before .if2 .left),
-      sym (even .before .uneven .ensures) ∙ even .if3 .left,
-      lt-leb _ _ (c .before .before .if4 .left),
-      sym (c .before .lacks .ensures) ∙ c .if5 .left,
-    )
+returns-5 c = rw (le-ltb _ _ (c .before .before .before .before .before .before .if1 .left), sym (c .before .before .before .before .before .uneven .ensures) ∙ c .before .before .before .before .if2 .left, lt-leb _ _ (c .before .before .before .if3 .left), sym (c .before .before .lacks .ensures) ∙ c .before .if4 .left) (c .no-trouble .ensures)
 
 pub row-trouble-spec : {M : Type 1} → statement M
 row-trouble-spec =
     tie.close
     (tie.spec
+    add-t7
     returns
-    returns-2
     uneven-requires
+    uneven-column-requires
+    returns-2
     returns-3
-    returns-4
     lacks-requires
-    returns-5
-    returns-6)
+    returns-4
+    no-trouble-requires
+    returns-5)

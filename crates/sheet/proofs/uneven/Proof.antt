@@ -1,8 +1,8 @@
--- `sheet::uneven` meets its contract: one return for no rows above, one for the test.
+-- `sheet::uneven` meets its contract: one return for no columns yet, one for the test.
 -- Assumes nothing.
 use Rattle.sheet.proofs.uneven.Statement.{statement}
 use Rattle.sheet.proofs.uneven.Tie as tie
-use Rattle.sheet.specs.Closing.{differs}
+use Rattle.sheet.specs.Says.{differs}
 use borrow.Author.Tests.{eq-eqb, ne-eqb}
 
 returns : tie.Need-returns

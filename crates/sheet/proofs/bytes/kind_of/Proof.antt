@@ -18,36 +18,38 @@ returns : tie.Need-returns
 unfolding kindOf
 returns c = rw (sym (c .before .is-within .ensures) ∙ c .if1 .taken)
 
+returns-2 : tie.Need-returns-2
+unfolding kindOf
+returns-2 c = rw (sym (c .before .before .is-within .ensures) ∙ c .before .if1 .left, eq-eqb _ _ (c .if2 .taken))
+
 parts-requires : tie.Need-parts-requires
 parts-requires c κs = search needs
 
-returns-2 : tie.Need-returns-2
-unfolding kindOf
-returns-2 c =
-    rw (
-      sym (c .before .before .before .is-within .ensures) ∙ c .before .before .if1 .left,
-      sym (c .before .parts .ensures) ∙ c .if2 .taken,
-    )
-
 returns-3 : tie.Need-returns-3
 unfolding kindOf
-returns-3 c =
-    rw (
-      sym (c .before .before .before .before .is-within .ensures) ∙ c .before .before .before .if1 .left,
-      sym (c .before .before .parts .ensures) ∙ c .before .if2 .left,
-      eq-eqb _ _ (c .if3 .taken),
-    )
+returns-3 c = rw (sym (c .before .before .before .before .is-within .ensures) ∙ c .before .before .before .if1 .left, ne-eqb _ _ (c .before .before .if2 .left), sym (c .before .parts .ensures) ∙ c .if3 .taken)
+
+signs-requires : tie.Need-signs-requires
+signs-requires c κs = search needs
 
 returns-4 : tie.Need-returns-4
 unfolding kindOf
-returns-4 c =
-    rw (
-      sym (c .before .before .before .before .is-within .ensures) ∙ c .before .before .before .if1 .left,
-      sym (c .before .before .parts .ensures) ∙ c .before .if2 .left,
-      ne-eqb _ _ (c .if3 .left),
-    )
+returns-4 c = rw (sym (c .before .before .before .before .before .before .is-within .ensures) ∙ c .before .before .before .before .before .if1 .left, ne-eqb _ _ (c .before .before .before .before .if2 .left), sym (c .before .before .before .parts .ensures) ∙ c .before .before .if3 .left, sym (c .before .signs .ensures) ∙ c .if4 .taken)
+
+returns-5 : tie.Need-returns-5
+unfolding kindOf
+returns-5 c = rw (sym (c .before .before .before .before .before .before .is-within .ensures) ∙ c .before .before .before .before .before .if1 .left, ne-eqb _ _ (c .before .before .before .before .if2 .left), sym (c .before .before .before .parts .ensures) ∙ c .before .before .if3 .left, sym (c .before .signs .ensures) ∙ c .if4 .left)
 
 pub kind-of-spec : {M : Type 1} → statement M
 kind-of-spec =
     tie.close
-    (tie.spec is-within-requires sub-t4 returns parts-requires returns-2 returns-3 returns-4)
+    (tie.spec
+    is-within-requires
+    sub-t4
+    returns
+    returns-2
+    parts-requires
+    returns-3
+    signs-requires
+    returns-4
+    returns-5)

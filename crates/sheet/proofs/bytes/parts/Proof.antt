@@ -1,4 +1,4 @@
--- `sheet::bytes::parts` meets its contract: a return for each byte that parts, and one for any other.
+-- `sheet::bytes::parts` meets its contract: a return for each such byte, and one for any other.
 -- Assumes nothing.
 use Rattle.sheet.proofs.bytes.parts.Statement.{statement}
 use Rattle.sheet.proofs.bytes.parts.Tie as tie

@@ -7,11 +7,14 @@ use borrow.Author.Needs.{needs}
 enum-told : tie.Need-enum-told
 enum-told c = search needs
 
+grow-requires : tie.Need-grow-requires
+grow-requires c κs = search needs
+
 enum-known-place : tie.Need-enum-known-place
 enum-known-place c = search needs
 
-grow-requires : tie.Need-grow-requires
-grow-requires c κs = search needs
+grow-requires-2 : tie.Need-grow-requires-2
+grow-requires-2 c κs = search needs
 
 enum-told-2 : tie.Need-enum-told-2
 enum-told-2 c = search needs
@@ -19,8 +22,11 @@ enum-told-2 c = search needs
 enum-told-3 : tie.Need-enum-told-3
 enum-told-3 c = search needs
 
-enum-known-place-2 : tie.Need-enum-known-place-2
-enum-known-place-2 c = search needs
+enum-told-4 : tie.Need-enum-told-4
+enum-told-4 c = search needs
+
+grow-requires-3 : tie.Need-grow-requires-3
+grow-requires-3 c κs = search needs
 
 returns : tie.Need-returns
 returns c = cc
@@ -29,10 +35,10 @@ returns-2 : tie.Need-returns-2
 returns-2 c = cc
 
 returns-3 : tie.Need-returns-3
-returns-3 c = search needs
+returns-3 c = cc
 
 returns-4 : tie.Need-returns-4
-returns-4 c = search needs
+returns-4 c = cc
 
 returns-5 : tie.Need-returns-5
 returns-5 c = cc
@@ -42,11 +48,13 @@ at-digit-spec =
     tie.close
     (tie.spec
     enum-told
-    enum-known-place
     grow-requires
+    enum-known-place
+    grow-requires-2
     enum-told-2
     enum-told-3
-    enum-known-place-2
+    enum-told-4
+    grow-requires-3
     returns
     returns-2
     returns-3

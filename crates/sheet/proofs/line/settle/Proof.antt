@@ -7,17 +7,26 @@ use borrow.Author.Needs.{needs}
 enum-told : tie.Need-enum-told
 enum-told c = search needs
 
+add-requires : tie.Need-add-requires
+add-requires c κs = search needs
+
 enum-known-place : tie.Need-enum-known-place
 enum-known-place c = search needs
 
-add-requires : tie.Need-add-requires
-add-requires c κs = search needs
+add-requires-2 : tie.Need-add-requires-2
+add-requires-2 c κs = search needs
 
 enum-told-2 : tie.Need-enum-told-2
 enum-told-2 c = search needs
 
+add-requires-3 : tie.Need-add-requires-3
+add-requires-3 c κs = search needs
+
 enum-told-3 : tie.Need-enum-told-3
 enum-told-3 c = search needs
+
+add-requires-4 : tie.Need-add-requires-4
+add-requires-4 c κs = search needs
 
 enum-told-4 : tie.Need-enum-told-4
 enum-told-4 c = search needs
@@ -42,10 +51,13 @@ settle-spec =
     tie.close
     (tie.spec
     enum-told
-    enum-known-place
     add-requires
+    enum-known-place
+    add-requires-2
     enum-told-2
+    add-requires-3
     enum-told-3
+    add-requires-4
     enum-told-4
     returns
     returns-2
