@@ -16,7 +16,7 @@ enum {
     EDITION = 2,  /* what both programs build */
     NODE_WORDS = 5,
     CENTRES = 16, /* what the analyst's program builds with */
-    LEAF = 32
+    LEAF = 128
 };
 
 static char text[MOST_TEXT + 1];

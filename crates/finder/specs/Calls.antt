@@ -18,7 +18,7 @@ centres = 16
 
 -- and the rows of a leaf
 abbrev pub leafRows : ℕ
-leafRows = 32
+leafRows = 128
 
 -- the table t of c columns does not have row i
 abbrev pub Missing : List ℕ → ℕ → ℕ → Type 0

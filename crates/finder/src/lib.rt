@@ -11,7 +11,7 @@ use radius::Found;
 // Centres of an inner node, and rows of a leaf: what the bench measures with.
 const CENTRES: usize = 16;
 
-const LEAF: usize = 32;
+const LEAF: usize = 128;
 
 // The table does not have the row asked about. No call of the library gives this number: theirs go up to 26.
 pub const NO_ROW: u32 = 27;
