@@ -73,7 +73,7 @@
 #include <stdint.h>
 
 #define BOURASCUL_VERSION_MAJOR 2
-#define BOURASCUL_VERSION_MINOR 0
+#define BOURASCUL_VERSION_MINOR 1
 
 #ifdef __cplusplus
 extern "C" {
