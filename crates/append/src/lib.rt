@@ -77,7 +77,8 @@ fn join_row(table: &[u16], c: usize, index: &[u32], room: &mut [u32], work: &mut
 
 // Writes the index with the table's last row in it into the room.
 pub fn append(table: &[u16], c: usize, index: &[u32], room: &mut [u32], work: &mut [u32]) -> Built
-    ensures { λ r. ⌜ Appends (now (table .entry)) c (now (index .entry)) (now (room .entry)) (now (work .entry)) (now (room .exit)) (now (work .exit)) (r .number) (r .words) (r .nodes) ⌝ }
+    ensures { λ r. ⌜ Appends (now (table .entry)) c (now (index .entry)) (now (room .entry)) (now (work .entry)) (now (room .exit)) (now (work .exit))
+        (r .number) (r .words) (r .nodes) ⌝ }
 {
     let number = refusal_of(table, c, index, room.len(), work.len());
     if number != 0 {

@@ -90,7 +90,8 @@ fn child_stray(
 ) -> usize
     requires { ⌜ Paired (now table) c (now index) ⌝ }
     requires { ⌜ (k < N# (now index)) × (inner (now index) k ≡ true) × (a < m# (now index)) × Firsts (now index) (child# (now index) k) (now fs) ⌝ }
-    ensures { λ r. ⌜ FirstIn (now (index .entry)) k (kidStrays (between (now (table .entry)) c) (now (index .entry)) k (child# (now (index .entry)) k + a)) r ⌝ }
+    ensures { λ r. ⌜ FirstIn (now (index .entry)) k (kidStrays (between (now (table .entry)) c) (now (index .entry)) k (child# (now (index .entry)) k + a))
+        r ⌝ }
 {
     let child = node_child(index, k);
     let j = child + a;

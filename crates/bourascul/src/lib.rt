@@ -81,7 +81,8 @@ pub extern "C" fn bourascul_build(
     room: &mut [u32],
     work: &mut [u32],
 ) -> Built
-    ensures { λ r. ⌜ Builds (now (table .entry)) c edition m l (now (room .entry)) (now (work .entry)) (now (room .exit)) (now (work .exit)) (r .number) (r .words) (r .nodes) ⌝ }
+    ensures { λ r. ⌜ Builds (now (table .entry)) c edition m l (now (room .entry)) (now (work .entry)) (now (room .exit)) (now (work .exit))
+        (r .number) (r .words) (r .nodes) ⌝ }
 {
     let built = build::build(
         table,
@@ -108,7 +109,8 @@ pub extern "C" fn bourascul_append(
     room: &mut [u32],
     work: &mut [u32],
 ) -> Built
-    ensures { λ r. ⌜ Appends (now (table .entry)) c (now (index .entry)) (now (room .entry)) (now (work .entry)) (now (room .exit)) (now (work .exit)) (r .number) (r .words) (r .nodes) ⌝ }
+    ensures { λ r. ⌜ Appends (now (table .entry)) c (now (index .entry)) (now (room .entry)) (now (work .entry)) (now (room .exit)) (now (work .exit))
+        (r .number) (r .words) (r .nodes) ⌝ }
 {
     let built = append::append(table, c as usize, index, room, work);
     Built {
@@ -139,7 +141,8 @@ pub extern "C" fn bourascul_radius(
     r: u32,
     how: &mut [u8],
 ) -> Found
-    ensures { λ f. ⌜ Searched (now (table .entry)) c (now (index .entry)) (now (query .entry)) r (now (how .entry)) (now (how .exit)) (f .number) (f .inside) (f .measured) ⌝ }
+    ensures { λ f. ⌜ Searched (now (table .entry)) c (now (index .entry)) (now (query .entry)) r (now (how .entry)) (now (how .exit)) (f .number)
+        (f .inside) (f .measured) ⌝ }
 {
     let found = radius::radius(table, c as usize, index, query, r, how);
     Found {
@@ -161,7 +164,9 @@ pub extern "C" fn bourascul_nearest(
     how: &mut [u8],
     work: &mut [u32],
 ) -> Near
-    ensures { λ g. ⌜ Answered (now (table .entry)) c (now (index .entry)) (now (query .entry)) w (min (length (now (rows .entry))) (length (now (distances .entry)))) (now (rows .entry)) (now (rows .exit)) (now (distances .entry)) (now (distances .exit)) (now (how .entry)) (now (how .exit)) (now (work .entry)) (now (work .exit)) (g .number) (g .given) (g .measured) ⌝ }
+    ensures { λ g. ⌜ Answered (now (table .entry)) c (now (index .entry)) (now (query .entry)) w (min (length (now (rows .entry))) (length (now (distances .entry))))
+        (now (rows .entry)) (now (rows .exit)) (now (distances .entry)) (now (distances .exit)) (now (how .entry)) (now (how .exit)) (now (work .entry))
+        (now (work .exit)) (g .number) (g .given) (g .measured) ⌝ }
 {
     let near = nearest::nearest(
         table,
@@ -194,7 +199,9 @@ fn within(
     how: &mut [u8],
     work: &mut [u32],
 ) -> Near
-    ensures { λ g. ⌜ Answered (now (table .entry)) c (now (index .entry)) (now (query .entry)) w (min own (min (length (now (rows .entry))) (length (now (distances .entry))))) (now (rows .entry)) (now (rows .exit)) (now (distances .entry)) (now (distances .exit)) (now (how .entry)) (now (how .exit)) (now (work .entry)) (now (work .exit)) (g .number) (g .given) (g .measured) ⌝ }
+    ensures { λ g. ⌜ Answered (now (table .entry)) c (now (index .entry)) (now (query .entry)) w (min own (min (length (now (rows .entry))) (length (now (distances .entry)))))
+        (now (rows .entry)) (now (rows .exit)) (now (distances .entry)) (now (distances .exit)) (now (how .entry)) (now (how .exit)) (now (work .entry))
+        (now (work .exit)) (g .number) (g .given) (g .measured) ⌝ }
 {
     let near = nearest::within(
         table,
@@ -230,7 +237,9 @@ pub extern "C" fn bourascul_nearest_answers(
     how: &mut [u8],
     work: &mut [u32],
 ) -> Near
-    ensures { λ g. ⌜ Recorded (now (table .entry)) c (now (index .entry)) (now (query .entry)) w (now (answers .entry)) (now (answers .exit)) (now (rows .entry)) (now (rows .exit)) (now (distances .entry)) (now (distances .exit)) (now (how .entry)) (now (how .exit)) (now (work .entry)) (now (work .exit)) (g .number) (g .given) (g .measured) ⌝ }
+    ensures { λ g. ⌜ Recorded (now (table .entry)) c (now (index .entry)) (now (query .entry)) w (now (answers .entry)) (now (answers .exit))
+        (now (rows .entry)) (now (rows .exit)) (now (distances .entry)) (now (distances .exit)) (now (how .entry)) (now (how .exit)) (now (work .entry))
+        (now (work .exit)) (g .number) (g .given) (g .measured) ⌝ }
 {
     let room = answers.len();
     let near = within(table, c, index, query, w, room, rows, distances, how, work);

@@ -265,7 +265,8 @@ pub fn build(
     room: &mut [u32],
     work: &mut [u32],
 ) -> Built
-    ensures { λ r. ⌜ Builds (now (table .entry)) c edition m l (now (room .entry)) (now (work .entry)) (now (room .exit)) (now (work .exit)) (r .number) (r .words) (r .nodes) ⌝ }
+    ensures { λ r. ⌜ Builds (now (table .entry)) c edition m l (now (room .entry)) (now (work .entry)) (now (room .exit)) (now (work .exit))
+        (r .number) (r .words) (r .nodes) ⌝ }
 {
     if !columns_ok(c) {
         return refused(1);

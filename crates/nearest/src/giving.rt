@@ -14,7 +14,8 @@ pub fn give(
     k: usize,
 )
     requires { ⌜ Gives (now rows) (now distances) (now how) (now work) n k ⌝ }
-    ensures { λ _. ⌜ Gave (now (rows .entry)) (now (rows .exit)) (now (distances .entry)) (now (distances .exit)) (now (how .entry)) (now (how .exit)) (now (work .entry)) (now (work .exit)) n k ⌝ }
+    ensures { λ _. ⌜ Gave (now (rows .entry)) (now (rows .exit)) (now (distances .entry)) (now (distances .exit)) (now (how .entry)) (now (how .exit))
+        (now (work .entry)) (now (work .exit)) n k ⌝ }
 {
     let mut i = k;
     while 0 < i {

@@ -33,7 +33,8 @@ pub fn find(
     work: &mut [u32],
 ) -> usize
     requires { ⌜ Lent (now table) c (now index) (now query) wanted (now rows) (now distances) (now how) (now work) ⌝ }
-    ensures { λ k. ⌜ Found (now (table .entry)) c (now (index .entry)) (now (query .entry)) wanted (now (rows .entry)) (now (rows .exit)) (now (distances .entry)) (now (distances .exit)) (now (how .entry)) (now (how .exit)) (now (work .entry)) (now (work .exit)) k ⌝ }
+    ensures { λ k. ⌜ Found (now (table .entry)) c (now (index .entry)) (now (query .entry)) wanted (now (rows .entry)) (now (rows .exit))
+        (now (distances .entry)) (now (distances .exit)) (now (how .entry)) (now (how .exit)) (now (work .entry)) (now (work .exit)) k ⌝ }
 {
     let n = words::places::rows(index);
     clear_bytes(how, n);
@@ -103,7 +104,9 @@ fn answer(
     work: &mut [u32],
 ) -> Given
     requires { ⌜ (room ≤ length (now rows)) × (room ≤ length (now distances)) ⌝ }
-    ensures { λ g. ⌜ Answered (now (table .entry)) c (now (index .entry)) (now (query .entry)) wanted room (now (rows .entry)) (now (rows .exit)) (now (distances .entry)) (now (distances .exit)) (now (how .entry)) (now (how .exit)) (now (work .entry)) (now (work .exit)) (g .number) (g .given) (g .measured) ⌝ }
+    ensures { λ g. ⌜ Answered (now (table .entry)) c (now (index .entry)) (now (query .entry)) wanted room (now (rows .entry)) (now (rows .exit))
+        (now (distances .entry)) (now (distances .exit)) (now (how .entry)) (now (how .exit)) (now (work .entry)) (now (work .exit)) (g .number)
+        (g .given) (g .measured) ⌝ }
 {
     let number = refusal(table, c, index, query, wanted, room, how.len(), work.len());
     if number != 0 {
@@ -146,7 +149,9 @@ pub fn nearest(
     how: &mut [u8],
     work: &mut [u32],
 ) -> Given
-    ensures { λ g. ⌜ Answered (now (table .entry)) c (now (index .entry)) (now (query .entry)) wanted (min (length (now (rows .entry))) (length (now (distances .entry)))) (now (rows .entry)) (now (rows .exit)) (now (distances .entry)) (now (distances .exit)) (now (how .entry)) (now (how .exit)) (now (work .entry)) (now (work .exit)) (g .number) (g .given) (g .measured) ⌝ }
+    ensures { λ g. ⌜ Answered (now (table .entry)) c (now (index .entry)) (now (query .entry)) wanted (min (length (now (rows .entry))) (length (now (distances .entry))))
+        (now (rows .entry)) (now (rows .exit)) (now (distances .entry)) (now (distances .exit)) (now (how .entry)) (now (how .exit)) (now (work .entry))
+        (now (work .exit)) (g .number) (g .given) (g .measured) ⌝ }
 {
     let room = least(rows.len(), distances.len());
     answer(
@@ -176,7 +181,9 @@ pub fn within(
     how: &mut [u8],
     work: &mut [u32],
 ) -> Given
-    ensures { λ g. ⌜ Answered (now (table .entry)) c (now (index .entry)) (now (query .entry)) wanted (min own (min (length (now (rows .entry))) (length (now (distances .entry))))) (now (rows .entry)) (now (rows .exit)) (now (distances .entry)) (now (distances .exit)) (now (how .entry)) (now (how .exit)) (now (work .entry)) (now (work .exit)) (g .number) (g .given) (g .measured) ⌝ }
+    ensures { λ g. ⌜ Answered (now (table .entry)) c (now (index .entry)) (now (query .entry)) wanted (min own (min (length (now (rows .entry))) (length (now (distances .entry)))))
+        (now (rows .entry)) (now (rows .exit)) (now (distances .entry)) (now (distances .exit)) (now (how .entry)) (now (how .exit)) (now (work .entry))
+        (now (work .exit)) (g .number) (g .given) (g .measured) ⌝ }
 {
     let room = least(own, least(rows.len(), distances.len()));
     answer(

@@ -26,7 +26,8 @@ use words::places::word;
 fn sweep(index: &[u32], k: usize, how: &mut [u8])
     requires { ⌜ InShape (now index) ⌝ }
     requires { ⌜ (k < N# (now index)) × (n# (now index) ≤ length (now how)) ⌝ }
-    ensures { λ _. ⌜ now (how .exit) ≡ marked (sweptAt (now (index .entry))) (start# (now (index .entry)) k + 1) (start# (now (index .entry)) k + count# (now (index .entry)) k) (now (how .entry)) ⌝ }
+    ensures { λ _. ⌜ now (how .exit) ≡ marked (sweptAt (now (index .entry))) (start# (now (index .entry)) k + 1) (start# (now (index .entry)) k + count# (now (index .entry)) k)
+        (now (how .entry)) ⌝ }
 {
     let start = node_start(index, k);
     let end = start + node_count(index, k);
@@ -85,7 +86,8 @@ pub fn descend(
 )
     requires { ⌜ Lent (now index) (now table) c (now query) (now how) ⌝ }
     requires { ⌜ Left (now index) levels k × (k < N# (now index)) × (x ≤ maxDistance) × (x ≡ firstAt (from (now table) c (now query)) (now index) k) ⌝ }
-    ensures { λ _. ⌜ now (how .exit) ≡ write (nodeMarks (from (now (table .entry)) c (now (query .entry))) r (now (index .entry)) levels k bound) (now (how .entry)) ⌝ }
+    ensures { λ _. ⌜ now (how .exit) ≡ write (nodeMarks (from (now (table .entry)) c (now (query .entry))) r (now (index .entry)) levels k bound)
+        (now (how .entry)) ⌝ }
 {
     if x + node_radius(index, k) <= r {
         sweep(index, k, how);

@@ -50,7 +50,8 @@ fn leaf_row(
 )
     requires { ⌜ Lent (now index) (now table) c (now query) (now how) ⌝ }
     requires { ⌜ (p < n# (now index)) × (x ≤ maxDistance) × (base ≡ pairAt (now index) 0) ⌝ }
-    ensures { λ _. ⌜ now (how .exit) ≡ byte (row# (now (index .entry)) p) (leafMark (from (now (table .entry)) c (now (query .entry))) r (now (index .entry)) x p) (now (how .entry)) ⌝ }
+    ensures { λ _. ⌜ now (how .exit) ≡ byte (row# (now (index .entry)) p) (leafMark (from (now (table .entry)) c (now (query .entry))) r (now (index .entry)) x p)
+        (now (how .entry)) ⌝ }
 {
     let row = word(index, base + 2 * p);
     let verdict = decide(x, index[base + 2 * p + 1], r);
@@ -76,7 +77,8 @@ pub fn open_leaf(
 )
     requires { ⌜ Lent (now index) (now table) c (now query) (now how) ⌝ }
     requires { ⌜ (k < N# (now index)) × (x ≤ maxDistance) ⌝ }
-    ensures { λ _. ⌜ now (how .exit) ≡ marked (leafAt (from (now (table .entry)) c (now (query .entry))) r (now (index .entry)) x) (start# (now (index .entry)) k + 1) (start# (now (index .entry)) k + count# (now (index .entry)) k) (now (how .entry)) ⌝ }
+    ensures { λ _. ⌜ now (how .exit) ≡ marked (leafAt (from (now (table .entry)) c (now (query .entry))) r (now (index .entry)) x) (start# (now (index .entry)) k + 1)
+        (start# (now (index .entry)) k + count# (now (index .entry)) k) (now (how .entry)) ⌝ }
 {
     let start = node_start(index, k);
     let end = start + node_count(index, k);

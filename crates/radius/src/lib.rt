@@ -33,7 +33,8 @@ pub struct Found {
 // The search on an index that is known to be in shape, with what is lent known to fit it: so that many searches take one test.
 pub fn search(table: &[u16], c: usize, index: &[u32], query: &[u16], r: u32, how: &mut [u8])
     requires { ⌜ Lent (now index) (now table) c (now query) (now how) ⌝ }
-    ensures { λ _. ⌜ now (how .exit) ≡ write (marks (from (now (table .entry)) c (now (query .entry))) r (treeOf (now (index .entry)))) (wiped (n# (now (index .entry))) (now (how .entry))) ⌝ }
+    ensures { λ _. ⌜ now (how .exit) ≡ write (marks (from (now (table .entry)) c (now (query .entry))) r (treeOf (now (index .entry))))
+        (wiped (n# (now (index .entry))) (now (how .entry))) ⌝ }
 {
     clear_bytes(how, rows(index));
     if nodes(index) == 0 {
@@ -71,7 +72,8 @@ pub fn radius(
     r: u32,
     how: &mut [u8],
 ) -> Found
-    ensures { λ f. ⌜ Searched (now (table .entry)) c (now (index .entry)) (now (query .entry)) r (now (how .entry)) (now (how .exit)) (f .number) (f .inside) (f .measured) ⌝ }
+    ensures { λ f. ⌜ Searched (now (table .entry)) c (now (index .entry)) (now (query .entry)) r (now (how .entry)) (now (how .exit)) (f .number)
+        (f .inside) (f .measured) ⌝ }
 {
     let number = refusal(table, c, index, query, how.len());
     if number != 0 {

@@ -21,7 +21,8 @@ pub fn search(
     work: &mut [u32],
 ) -> usize
     requires { ⌜ Blank (now table) c (now query) (now index) w (now how) (now work) ⌝ }
-    ensures { λ k. ⌜ Searched (now (table .entry)) c (now (query .entry)) (now (index .entry)) w (now (how .entry)) (now (how .exit)) (now (work .entry)) (now (work .exit)) k ⌝ }
+    ensures { λ k. ⌜ Searched (now (table .entry)) c (now (query .entry)) (now (index .entry)) w (now (how .entry)) (now (how .exit)) (now (work .entry))
+        (now (work .exit)) k ⌝ }
 {
     let n = rows(index);
     let base = pair_at(index, 0);

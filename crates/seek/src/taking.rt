@@ -43,7 +43,8 @@ pub fn measure_row(
 ) -> usize
     requires { ⌜ Ready (now table) c (now query) n w (now how) (now work) held ⌝ }
     requires { ⌜ r < n ⌝ }
-    ensures { λ k. ⌜ Took (from (now (table .entry)) c (now (query .entry))) n w (now (how .entry)) (now (how .exit)) (now (work .entry)) (now (work .exit)) held k (λ (s : ℕ). is s r) ⌝ }
+    ensures { λ k. ⌜ Took (from (now (table .entry)) c (now (query .entry))) n w (now (how .entry)) (now (how .exit)) (now (work .entry))
+        (now (work .exit)) held k (λ (s : ℕ). is s r) ⌝ }
 {
     let d = query_distance(table, c, query, r);
     how[r] = 1;
@@ -67,7 +68,8 @@ fn measure_centres(
 ) -> usize
     requires { ⌜ Ready (now table) c (now query) n w (now how) (now work) held ⌝ }
     requires { ⌜ (InShape (now index)) × (n ≡ n# (now index)) × (a < e) × (e ≤ N# (now index)) ⌝ }
-    ensures { λ k. ⌜ Took (from (now (table .entry)) c (now (query .entry))) n w (now (how .entry)) (now (how .exit)) (now (work .entry)) (now (work .exit)) held k (λ (s : ℕ). sumTo (λ (i : ℕ). is s (first# (now (index .entry)) (a + suc i))) (e - (a + 1))) ⌝ }
+    ensures { λ k. ⌜ Took (from (now (table .entry)) c (now (query .entry))) n w (now (how .entry)) (now (how .exit)) (now (work .entry))
+        (now (work .exit)) held k (λ (s : ℕ). sumTo (λ (i : ℕ). is s (first# (now (index .entry)) (a + suc i))) (e - (a + 1))) ⌝ }
 {
     let mut k = held;
     let mut j = a + 1;
@@ -94,9 +96,12 @@ fn open_inner(
     k: usize,
     b: u32,
 ) -> Sizes
-    requires { ⌜ Takes (now table) c (now query) (now index) w (now how) (now work) len held (node k b (from (now table) c (now query) (first# (now index) k))) ⌝ }
+    requires { ⌜ Takes (now table) c (now query) (now index) w (now how) (now work) len held (node k b (from (now table) c (now query) (first# (now index) k)))
+        ⌝ }
     requires { ⌜ (n ≡ n# (now index)) × (0 < child# (now index) k) ⌝ }
-    ensures { λ s. ⌜ Taken (now (index .entry)) (from (now (table .entry)) c (now (query .entry))) w (now (how .entry)) (now (how .exit)) (now (work .entry)) (now (work .exit)) len (s .len) held (s .held) (node k b (from (now (table .entry)) c (now (query .entry)) (first# (now (index .entry)) k))) ⌝ }
+    ensures { λ s. ⌜ Taken (now (index .entry)) (from (now (table .entry)) c (now (query .entry))) w (now (how .entry)) (now (how .exit))
+        (now (work .entry)) (now (work .exit)) len (s .len) held (s .held) (node k b (from (now (table .entry)) c (now (query .entry)) (first# (now (index .entry)) k)))
+        ⌝ }
 {
     let a = node_child(index, k);
     let e = a + centres(index);
@@ -125,9 +130,12 @@ fn open_node(
     k: usize,
     b: u32,
 ) -> Sizes
-    requires { ⌜ Takes (now table) c (now query) (now index) w (now how) (now work) len held (node k b (from (now table) c (now query) (first# (now index) k))) ⌝ }
+    requires { ⌜ Takes (now table) c (now query) (now index) w (now how) (now work) len held (node k b (from (now table) c (now query) (first# (now index) k)))
+        ⌝ }
     requires { ⌜ n ≡ n# (now index) ⌝ }
-    ensures { λ s. ⌜ Taken (now (index .entry)) (from (now (table .entry)) c (now (query .entry))) w (now (how .entry)) (now (how .exit)) (now (work .entry)) (now (work .exit)) len (s .len) held (s .held) (node k b (from (now (table .entry)) c (now (query .entry)) (first# (now (index .entry)) k))) ⌝ }
+    ensures { λ s. ⌜ Taken (now (index .entry)) (from (now (table .entry)) c (now (query .entry))) w (now (how .entry)) (now (how .exit))
+        (now (work .entry)) (now (work .exit)) len (s .len) held (s .held) (node k b (from (now (table .entry)) c (now (query .entry)) (first# (now (index .entry)) k)))
+        ⌝ }
 {
     if node_child(index, k) == 0 {
         let far = last(work, 3 * n, w, held);
@@ -158,7 +166,9 @@ pub fn take_item(
 ) -> Sizes
     requires { ⌜ Takes (now table) c (now query) (now index) w (now how) (now work) len held (itemOf (now index) (from (now table) c (now query)) e) ⌝ }
     requires { ⌜ (n ≡ n# (now index)) × (base ≡ pairAt (now index) 0) ⌝ }
-    ensures { λ s. ⌜ Taken (now (index .entry)) (from (now (table .entry)) c (now (query .entry))) w (now (how .entry)) (now (how .exit)) (now (work .entry)) (now (work .exit)) len (s .len) held (s .held) (itemOf (now (index .entry)) (from (now (table .entry)) c (now (query .entry))) e) ⌝ }
+    ensures { λ s. ⌜ Taken (now (index .entry)) (from (now (table .entry)) c (now (query .entry))) w (now (how .entry)) (now (how .exit))
+        (now (work .entry)) (now (work .exit)) len (s .len) held (s .held) (itemOf (now (index .entry)) (from (now (table .entry)) c (now (query .entry))) e)
+        ⌝ }
 {
     let id = id_of(e) as usize;
     if id < 2 * n {

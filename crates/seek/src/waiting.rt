@@ -69,7 +69,8 @@ pub fn open_leaf(
 ) -> usize
     requires { ⌜ Room (now index) (now work) n len (count# (now index) k) ⌝ }
     requires { ⌜ k < N# (now index) ⌝ }
-    ensures { λ r. ⌜ More (now (work .entry)) (now (work .exit)) len (count# (now (index .entry)) k - 1) (λ (i : ℕ). placed (now (index .entry)) b (kept (now (work .entry)) n (first# (now (index .entry)) k)) (start# (now (index .entry)) k + suc i)) last r ⌝ }
+    ensures { λ r. ⌜ More (now (work .entry)) (now (work .exit)) len (count# (now (index .entry)) k - 1) (λ (i : ℕ). placed (now (index .entry)) b (kept (now (work .entry)) n (first# (now (index .entry)) k)) (start# (now (index .entry)) k + suc i))
+        last r ⌝ }
 {
     let f = node_first(index, k);
     let x = work[2 * n + f];

@@ -44,7 +44,8 @@ fn nearer(table: &[u16], c: usize, centre: u32, part: &mut [u32])
 // The entry at p is to be chosen before the one at b: it is farther from the centres, or as far with a row number that is no greater.
 fn precedes(part: &[u32], p: usize, b: usize) -> bool
     requires { ⌜ (p + 3 ≤ length (now part)) × (b + 3 ≤ length (now part)) ⌝ }
-    ensures { λ r. ⌜ r ≡ ahead (getD (now (part .entry)) p 0) (getD (now (part .entry)) (p + 1) 0) (getD (now (part .entry)) b 0) (getD (now (part .entry)) (b + 1) 0) ⌝ }
+    ensures { λ r. ⌜ r ≡ ahead (getD (now (part .entry)) p 0) (getD (now (part .entry)) (p + 1) 0) (getD (now (part .entry)) b 0) (getD (now (part .entry)) (b + 1) 0)
+        ⌝ }
 {
     if part[b + 1] < part[p + 1] {
         return true;
