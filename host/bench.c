@@ -1,6 +1,7 @@
 /* Times the library against a plain scan and against the same algorithms in plain C, all in one run:
      bench PLOT.svg [MOST_ROWS]      prints Markdown tables, writes the plot
      bench --shares [MOST_ROWS]      single calls over a season, by m and l
+     bench --append [MOST_ROWS]      one row appended beside a build, and 600 one by one
    Every outcome is compared as well; exit status 1 where two differ. Every buffer is touched before a time is taken, and
    times are the processor's, so that a busy machine shows less. */
 #define _DEFAULT_SOURCE
@@ -79,7 +80,7 @@ const char *bench_compiler(int k)
     return yards[k] == NULL ? NULL : yards[k]->compiler;
 }
 
-static double now(void)
+double bench_now(void)
 {
     struct timespec t;
     clock_gettime(CLOCK_PROCESS_CPUTIME_ID, &t);
@@ -95,7 +96,7 @@ static void *must(void *p)
     return p;
 }
 
-static void agree(bool same, const char *what)
+void bench_agree(bool same, const char *what)
 {
     if (!same)
         printf("DIFFERENCE: %s\n", what);
@@ -153,7 +154,7 @@ static uint32_t choose_r(struct set *s)
     return far[7];
 }
 
-static void *touched(size_t bytes, int by)
+void *bench_touched(size_t bytes, int by)
 {
     return memset(must(malloc(bytes)), by, bytes);
 }
@@ -171,11 +172,11 @@ static struct set make_set(struct line *l)
     else
         fill_uniform(&s);
     for (int k = 0; k < 2; k++) {
-        s.room[k] = touched(words * sizeof(uint32_t), k + 1);
-        s.image[k] = touched(BOURASCUL_BLOCKS(words) * BOURASCUL_BLOCK_BYTES, k + 1);
-        s.how[k] = touched(l->n, k + 1);
+        s.room[k] = bench_touched(words * sizeof(uint32_t), k + 1);
+        s.image[k] = bench_touched(BOURASCUL_BLOCKS(words) * BOURASCUL_BLOCK_BYTES, k + 1);
+        s.how[k] = bench_touched(l->n, k + 1);
     }
-    s.work = touched(BOURASCUL_WORK_WORDS(l->n) * sizeof(uint32_t), 1);
+    s.work = bench_touched(BOURASCUL_WORK_WORDS(l->n) * sizeof(uint32_t), 1);
     draw_queries(&s);
     l->r = choose_r(&s);
     return s;
@@ -308,7 +309,7 @@ static struct gives compare(struct set *s, int kind, uint32_t q)
         if (kind == BUILD || kind == READ)
             memset(s->room[1], 0xff, BOURASCUL_ROOM_WORDS(s->line->n) * sizeof(uint32_t));
         struct gives theirs = run(s, kind, way, q);
-        agree(ours.one == theirs.one && (scan || ours.two == theirs.two) && same_bytes(kind, s, scan), names[kind]);
+        bench_agree(ours.one == theirs.one && (scan || ours.two == theirs.two) && same_bytes(kind, s, scan), names[kind]);
     }
     return ours;
 }
@@ -317,8 +318,8 @@ static struct gives compare(struct set *s, int kind, uint32_t q)
 static void compare_all(struct set *s)
 {
     struct line *l = s->line;
-    agree(compare(s, BUILD, 0).two == 0, "build refused");
-    agree(compare(s, CHECK, 0).one == 0, "check refused");
+    bench_agree(compare(s, BUILD, 0).two == 0, "build refused");
+    bench_agree(compare(s, CHECK, 0).one == 0, "check refused");
     compare(s, WRITE, 0);
     compare(s, READ, 0);
     for (uint32_t q = 0; q < QUERIES; q++) {
@@ -348,10 +349,10 @@ static void time_pass(struct set *s, int kind, int way)
     uint32_t calls = calls_of(kind, s->table.n);
     if (kind > CHECK)
         run(s, kind, way, 0);
-    double begin = now();
+    double begin = bench_now();
     for (uint32_t q = 0; q < calls; q++)
         run(s, kind, way, q % QUERIES);
-    double mean = (now() - begin) / calls;
+    double mean = (bench_now() - begin) / calls;
     *best = *best == 0 || mean < *best ? mean : *best;
 }
 
@@ -428,11 +429,14 @@ int main(int count, char **word)
 {
     uint32_t most = count > 2 ? (uint32_t)strtoul(word[2], NULL, 10) : sizes[SIZES - 1];
     if (count < 2 || count > 3 || most < sizes[0]) {
-        fputs("usage: bench PLOT.svg [MOST_ROWS]    (MOST_ROWS at least 1000)\n       bench --shares [MOST_ROWS]\n", stderr);
+        fputs("usage: bench PLOT.svg [MOST_ROWS]    (MOST_ROWS at least 1000)\n       bench --shares [MOST_ROWS]\n       bench --append [MOST_ROWS]\n",
+              stderr);
         return 2;
     }
     if (strcmp(word[1], "--shares") == 0) {
         tell_shares(most);
+    } else if (strcmp(word[1], "--append") == 0) {
+        bench_append(most);
     } else if (!tables(word[1], most)) {
         perror("bench");
         return 2;

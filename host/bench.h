@@ -1,4 +1,4 @@
-/* What the bench's two files share: what is timed, by whom, and what came out. */
+/* What the bench's files share: what is timed, by whom, and what came out. */
 #ifndef HOST_BENCH_H
 #define HOST_BENCH_H
 
@@ -45,6 +45,15 @@ struct line {
     double took[KINDS][WAYS], inside, radius_measured, nearest_measured;
 };
 
+/* Microseconds of processor time. */
+double bench_now(void);
+
+/* Memory that has been touched, filled with this byte; the bench ends where there is none. */
+void *bench_touched(size_t bytes, int by);
+
+/* Tells a difference where two outcomes are not the same; the exit status is 1 then. */
+void bench_agree(bool same, const char *what);
+
 /* The yardstick's first or second compiler; NULL where there is no second. */
 const char *bench_compiler(int k);
 
@@ -52,6 +61,9 @@ const char *bench_compiler(int k);
 double bench_better(const double *took, enum way first);
 
 const char *bench_data(const struct line *l);
+
+/* Appends timed beside builds, told as Markdown. */
+void bench_append(uint32_t most);
 
 /* Markdown. Lines come table by table, each with its sizes, of which there are `each`. */
 void bench_tell(const struct line *lines, size_t count, size_t each);

@@ -2,8 +2,9 @@
 # Builds the library for C hosts (rt staticlib) and the programs beside it, into target/host:
 #   host/build.sh                  exit status 2 where something is missing
 #   host/build.sh --if-possible    says what is missing and exits 0 then
-#   host/build.sh --checked        the C code with gcc's address and undefined-behaviour checks
-# The archive is for x86-64. On another processor the programs are cross-compiled and run under an emulator.
+#   host/build.sh --checked        the C code with gcc's address and undefined-behaviour checks; under an emulator with the latter alone
+# The archive is for x86-64. On another processor the programs are cross-compiled and run under an emulator; target/host/emulator has the
+# words that run one.
 # CC, EMULATOR: another compiler or emulator. BOURASCUL_ARCHIVE: an archive to link in the place of rt's.
 # SECOND_CC: the compiler that the bench's yardstick is compiled by as well (clang beside gcc, gcc beside clang, where there is one).
 # BOURASCUL_OTHER: an archive of the library at another commit, for the bench to time beside this one.
@@ -15,7 +16,7 @@ checks=''
 for word in "$@"; do
     case $word in
     --if-possible) if_possible=yes ;;
-    --checked) checks='-g -fsanitize=address,undefined -fno-sanitize-recover=all' ;;
+    --checked) checks='-g -fsanitize=undefined -fno-sanitize-recover=all' ;;
     *) echo "usage: host/build.sh [--if-possible] [--checked]" >&2; exit 2 ;;
     esac
 done
@@ -26,29 +27,11 @@ missing() {
     exit 2
 }
 
-has() { command -v "$1" >/dev/null 2>&1; }
-
 # ---- What is at hand ----
 
-emulator=''
-static=''
-case $(uname -m) in
-x86_64 | amd64)
-    cc=${CC:-cc}
-    has "$cc" || missing "no C compiler: install gcc or clang, or name one in CC"
-    ;;
-*)
-    cc=${CC:-x86_64-linux-gnu-gcc}
-    has "$cc" || missing "the library is x86-64 code and this is $(uname -m): install the cross compiler x86_64-linux-gnu-gcc (Debian: gcc-x86-64-linux-gnu), or name one in CC"
-    for name in ${EMULATOR:-qemu-x86_64 qemu-x86_64-static}; do
-        if [ -z "$emulator" ] && has "$name"; then emulator=$name; fi
-    done
-    [ -n "$emulator" ] || missing "the library is x86-64 code and this is $(uname -m): install the emulator qemu-x86_64 (Debian: qemu-user), or name one in EMULATOR"
-    # A static program needs no x86-64 libraries on the machine that emulates it.
-    static=-static
-    echo "host: x86-64 programs run under $emulator here; times measured so say nothing"
-    ;;
-esac
+. host/processor.sh
+# Under an emulator the address checks' shadow memory takes all the memory there is.
+if [ -n "$checks" ] && [ -z "$emulator" ]; then checks="$checks -fsanitize=address"; fi
 
 archive=${BOURASCUL_ARCHIVE:-target/staticlib/libbourascul.a}
 if [ -z "${BOURASCUL_ARCHIVE:-}" ]; then
@@ -67,6 +50,7 @@ out=target/host
 mkdir -p "$out"
 printf '%s\n' "$emulator" >"$out/emulator"
 
+# No program is static: gcc's checks can't be, and a cross compiler's static libm may name a file that is not there.
 compile() {
     program=$1
     level=$2
@@ -74,7 +58,7 @@ compile() {
     files=''
     for name in "$@"; do files="$files host/$name.c"; done
     # shellcheck disable=SC2086
-    "$cc" -std=c99 $level $checks $static -Wall -Wextra -Wpedantic -Iinclude -Ihost $with -o "$out/$program" $files "$archive" -lm
+    "$cc" -std=c99 $level $checks -Wall -Wextra -Wpedantic -Iinclude -Ihost $with -o "$out/$program" $files "$archive" $libraries || return 1
     echo "host: $out/$program"
 }
 
@@ -86,15 +70,16 @@ yardstick() {
 
 # The other archive as one object, in which every name but the calls is local, and these begin with other_.
 rename_other() {
-    ld -r --whole-archive "$BOURASCUL_OTHER" -o "$out/other.o"
+    "$("$cc" -print-prog-name=ld)" -r --whole-archive "$BOURASCUL_OTHER" -o "$out/other.o"
+    objcopy=$("$cc" -print-prog-name=objcopy)
     for call in build check write read radius nearest; do
-        objcopy --redefine-sym "bourascul_$call=other_$call" "$out/other.o"
+        "$objcopy" --redefine-sym "bourascul_$call=other_$call" "$out/other.o"
     done
-    objcopy --wildcard --keep-global-symbol='other_*' "$out/other.o"
+    "$objcopy" --wildcard --keep-global-symbol='other_*' "$out/other.o"
 }
 
-with=''
-compile trial -O2 trial kinds samples spoil calls lend self naive naive_tree naive_search
+with='' libraries=''
+compile trial -O2 trial kinds appends samples spoil calls lend self naive naive_tree naive_append naive_search
 compile season -O2 season minutes
 compile stack -O2 stack
 
@@ -105,7 +90,7 @@ case $("$cc" --version) in
 *) second=${SECOND_CC:-clang} ;;
 esac
 # On another processor clang compiles for x86-64 when told to, if it finds a C library's headers for it.
-if [ -n "$static" ]; then second="$second --target=x86_64-linux-gnu"; fi
+if [ -n "$emulator" ]; then second="$second --target=x86_64-linux-gnu"; fi
 # The two compilers' run-time checks can't be linked together.
 if [ -z "$checks" ] && has "${second%% *}" && yardstick "$second" plain_second 2>"$out/second.log"; then
     with="$with $out/plain_second.o -DBENCH_SECOND"
@@ -116,4 +101,6 @@ if [ -n "${BOURASCUL_OTHER:-}" ]; then
     rename_other
     with="$with $out/other.o -DBENCH_OTHER"
 fi
-compile bench -O3 bench bench_tell plot minutes
+libraries=-lm
+rm -f "$out/bench"
+compile bench -O3 bench bench_tell bench_append plot minutes || missing "the bench, which does not link"

@@ -12,6 +12,7 @@
 
 enum call {
     BUILD,
+    APPEND,
     CHECK,
     RADIUS,
     NEAREST,
@@ -22,7 +23,7 @@ enum call {
     CALLS
 };
 
-static const char *const call_names[CALLS] = { "build", "check", "radius", "nearest", "nearest_answers", "list", "write", "read" };
+static const char *const call_names[CALLS] = { "build", "append", "check", "radius", "nearest", "nearest_answers", "list", "write", "read" };
 
 enum {
     NUMBERS = 19,
@@ -67,7 +68,9 @@ static void show_lot(const struct lot *lot)
            lot->l, lot->edition, lot->r, lot->w, lot->node);
     printf("  lengths: room %zu, taken %zu, work %zu, how %zu, rows %zu, distances %zu, answers %zu, image %zu\n", lot->room, lot->taken, lot->work,
            lot->how, lot->rows, lot->distances, lot->answers, lot->image_length);
+    printf("  lengths for an append: table %zu, room %zu, work %zu\n", lot->table_length + lot->next, lot->append_room, lot->append_work);
     show_columns("table", lot->table, lot->table_length);
+    show_columns("behind the table", lot->table + lot->table_length, lot->next);
     if (lot->fitting != NULL)
         show_columns("table that fits", lot->fitting, lot->table_length);
     show_columns("query", lot->query, lot->query_length);
@@ -229,6 +232,20 @@ void try_build(struct trial *t, const struct lot *lot)
                                          lot->room, lend_given(LENT_WORK), lot->work);
     struct naive_says should = naive_build(model_table(lot), lot->m, lot->l, lot->edition, model_room(LENT_ROOM), model_room(LENT_WORK));
     compare(t, lot, BUILD, three(is.number, is.words, is.nodes), should, lents, 3);
+}
+
+void try_append(struct trial *t, const struct lot *lot)
+{
+    static const enum lent lents[] = { LENT_TABLE, LENT_INDEX, LENT_ROOM, LENT_WORK };
+    struct naive_table table = { lot->table, lot->table_length + lot->next, lot->c };
+    lend(&t->draw, LENT_TABLE, table.length * sizeof *lot->table, lot->table);
+    lend_index(t, lot);
+    lend_words(t, LENT_ROOM, lot->append_room);
+    lend_words(t, LENT_WORK, lot->append_work);
+    bourascul_built is = bourascul_append(lend_given(LENT_TABLE), table.length, lot->c, lend_given(LENT_INDEX), lot->index_length,
+                                          lend_given(LENT_ROOM), lot->append_room, lend_given(LENT_WORK), lot->append_work);
+    struct naive_says should = naive_append(table, model_index(lot), model_room(LENT_ROOM), model_room(LENT_WORK));
+    compare(t, lot, APPEND, three(is.number, is.words, is.nodes), should, lents, 4);
 }
 
 void try_check(struct trial *t, const struct lot *lot)

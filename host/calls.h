@@ -15,6 +15,7 @@ struct trial {
 struct lot {
     const uint16_t *table;
     size_t table_length;
+    size_t next; /* the numbers behind the table that an append is lent with it: those of one row, where nothing is wrong */
     const uint16_t *fitting; /* the table that decides the outcome in a trial of two tables, else NULL */
     uint32_t c, m, l, edition;
     const uint32_t *index;
@@ -23,11 +24,13 @@ struct lot {
     size_t query_length;
     uint32_t r, w, node;
     size_t room, taken, work, how, rows, distances, answers; /* `room` is a build's, `taken` a reading's */
+    size_t append_room, append_work;
     const uint8_t *image;
     size_t image_length;
 };
 
 void try_build(struct trial *t, const struct lot *lot);
+void try_append(struct trial *t, const struct lot *lot);
 void try_check(struct trial *t, const struct lot *lot);
 void try_radius(struct trial *t, const struct lot *lot);
 void try_nearest(struct trial *t, const struct lot *lot);

@@ -23,7 +23,7 @@ extern "C" {
 
 namespace {
 
-const uint32_t columns = MINUTE_COLUMNS, queries = 60, wanted = 10, neighbour = 20, passes = 6, centres = 16, leaf = 128;
+const uint32_t columns = MINUTE_COLUMNS, queries = 60, wanted = 10, neighbour = 20, passes = 6, centres = 16, leaf = 128, edition = 2;
 
 /* The table as nanoflann asks for it. It counts in float, which holds every distance here exactly: with whole numbers, or numbers without a sign, it would
    cut every node at the first column. */
@@ -50,7 +50,9 @@ struct Index {
     uint32_t count() const { return static_cast<uint32_t>(rows.kdtree_get_point_count()); }
     void build()
     {
-        words = bourascul_build(rows.table.data(), rows.table.size(), columns, centres, leaf, room.data(), room.size(), work.data(), work.size()).words;
+        words = bourascul_build(rows.table.data(), rows.table.size(), columns, centres, leaf, edition, room.data(), room.size(), work.data(),
+                                work.size())
+                    .words;
     }
     bourascul_within within(const uint16_t *query, uint32_t r)
     {

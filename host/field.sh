@@ -7,7 +7,6 @@
 set -eu
 cd "$(dirname "$0")/.."
 
-cxx=${CXX:-g++}
 python=${PYTHON:-/usr/bin/python3}
 archive=${BOURASCUL_ARCHIVE:-target/staticlib/libbourascul.a}
 out=target/host/field
@@ -17,19 +16,21 @@ missing() {
     exit 2
 }
 
-command -v "$cxx" >/dev/null 2>&1 || missing "no C++ compiler: install g++, or name one in CXX"
+. host/processor.sh >&2
+has "$cxx" || missing "no C++ compiler for x86-64: install g++ (where it is a cross compiler, g++-x86-64-linux-gnu), or name one in CXX"
 echo '#include <nanoflann.hpp>' | "$cxx" -fsyntax-only -x c++ - 2>/dev/null || missing "no nanoflann: install libnanoflann-dev"
 "$python" -c 'import scipy.spatial' 2>/dev/null || missing "no scipy: install python3-scipy, or name a Python that has it in PYTHON"
 [ -f "$archive" ] || missing "no archive $archive: host/build.sh makes it"
 
 mkdir -p "$out"
-"${CC:-cc}" -std=c99 -O3 -Wall -Wextra -Wpedantic -Ihost -c -o "$out/minutes.o" host/minutes.c
+"$cc" -std=c99 -O3 -Wall -Wextra -Wpedantic -Ihost -c -o "$out/minutes.o" host/minutes.c
 "$cxx" -std=c++17 -O3 -Wall -Wextra -Wpedantic -Iinclude -Ihost -o "$out/field" host/field.cpp "$out/minutes.o" "$archive"
 
 [ $# -gt 0 ] || set -- 100000 1048576
 echo "| rows | index | build, ms | radius, us | 10 nearest, us |"
 echo "|---|---|---|---|---|"
 for rows in "$@"; do
-    "$out/field" "$rows" "$out"
+    # shellcheck disable=SC2086
+    $emulator "$out/field" "$rows" "$out"
     "$python" host/field.py "$out"
 done

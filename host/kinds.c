@@ -9,8 +9,7 @@
 
 static struct sample sample;
 
-/* Too short for what is asked, half of the time by one. */
-static size_t shorter(struct draw *d, size_t length)
+size_t shorter(struct draw *d, size_t length)
 {
     return length == 0 ? 0 : draw_one_in(d, 2) ? length - 1 : draw_below(d, (uint32_t)length);
 }
@@ -20,9 +19,9 @@ static size_t around(struct draw *d, size_t length)
     return draw_one_in(d, 4) ? shorter(d, length) : length + (draw_one_in(d, 2) ? 0 : draw_below(d, 40));
 }
 
-/* Each call but the build. */
-static void every_call(struct trial *t, const struct lot *lot)
+void every_call(struct trial *t, const struct lot *lot)
 {
+    try_append(t, lot);
     try_check(t, lot);
     try_searches(t, lot);
     try_list(t, lot);
@@ -316,7 +315,7 @@ static void words_at_random(struct trial *t, uint32_t limit)
 
 /* ---- Refusals ---- */
 
-static uint32_t draw_bad_columns(struct draw *d, uint32_t c)
+uint32_t draw_bad_columns(struct draw *d, uint32_t c)
 {
     const uint32_t bad[] = { 0, 17, 18, UINT32_MAX, 65536 + c, c + 1, c - 1, 2 * c };
     return bad[draw_below(d, 8)];
@@ -328,7 +327,7 @@ static void one_fault(struct draw *d, struct sample *s, struct lot *lot)
     const uint32_t bad_m[] = { 0, 1, 65, 64, UINT32_MAX }, bad_l[] = { 0, 1, lot->m - 1, lot->m, 1024, 1025, UINT32_MAX };
     const uint32_t bad_editions[] = { 0, 3, 3 - s->edition, UINT32_MAX };
     size_t n = s->n, asked = lot->w < n ? lot->w : n;
-    switch (draw_below(d, 17)) {
+    switch (draw_below(d, 20)) {
     case 0: lot->c = draw_bad_columns(d, lot->c); break;
     case 1: lot->m = bad_m[draw_below(d, 5)]; break;
     case 2: lot->l = bad_l[draw_below(d, 7)]; break;
@@ -344,6 +343,9 @@ static void one_fault(struct draw *d, struct sample *s, struct lot *lot)
     case 12: lot->index_length = shorter(d, lot->index_length); break;
     case 13: lot->edition = bad_editions[draw_below(d, 4)]; break;
     case 14: lot->taken = shorter(d, taken_words(s)); break;
+    case 15: lot->next = draw_below(d, s->c + 1); break;
+    case 16: lot->append_room = shorter(d, build_words(n + 1)); break;
+    case 17: lot->append_work = shorter(d, 6 * (n + 1)); break;
     default:
         spoil_index(d, s);
         lot->index_length = s->index_length;
@@ -378,16 +380,27 @@ static void too_many_rows(struct trial *t, uint32_t limit)
     struct lot lot = fair_lot(&t->draw, &sample);
     lot.table = table;
     lot.edition = 2;
+    lot.next = 0;
     lot.query_length = draw_between(&t->draw, 1, 2);
     for (lot.c = 1; lot.c <= 2; lot.c++)
         for (size_t less = 0; less < 2; less++) {
             lot.table_length = (size_t)1048577 * lot.c - less;
             try_build(t, &lot);
+            try_append(t, &lot);
             try_check(t, &lot);
             try_searches(t, &lot);
             try_card(t, &lot);
         }
     free(table);
+}
+
+/* The last row that there is room for, new to the index of all others; every room is just long enough. */
+static void append_last(struct trial *t, struct lot lot, uint32_t *room, uint32_t *work)
+{
+    lot.next = lot.c;
+    lot.table_length -= lot.next;
+    lot.index_length = bourascul_build(lot.table, lot.table_length, lot.c, lot.m, lot.l, 2, room, lot.room, work, lot.work).words;
+    try_append(t, &lot);
 }
 
 /* The greatest table there is, with every room just long enough; and the old card of its index. */
@@ -406,13 +419,15 @@ static void largest_table(struct trial *t, uint32_t limit)
     bourascul_built built = bourascul_build(table, n * c, c, 32, 200, 2, room, asked, work, 6 * n);
     struct lot lot = { .table = table, .table_length = n * c, .c = c, .m = 32, .l = 200, .edition = 2, .index = room,
                        .index_length = built.words, .query = query, .query_length = c, .r = 900, .w = 20, .node = 3, .room = asked,
-                       .taken = built.words, .work = 6 * n, .how = n, .rows = 20, .distances = 20, .answers = 20 };
+                       .taken = built.words, .work = 6 * n, .how = n, .rows = 20, .distances = 20, .answers = 20, .append_room = asked,
+                       .append_work = 6 * n };
     try_build(t, &lot);
     every_call(t, &lot);
     if (built.number == 0) {
         lot.index_length = make_old(room);
         try_card(t, &lot);
     }
+    append_last(t, lot, room, work);
     free(table);
     free(room);
     free(work);
@@ -616,6 +631,12 @@ const struct kind kinds[] = {
     { "old cards spoilt at random under right check words", spoilt_card, 1 },
     { "all calls on random words as index", words_at_random, 1 },
     { "all calls with one to three faults at once", refusals, 1 },
+    { "appends to indexes of any kind, all calls on what comes out", append_any, 1 },
+    { "appends to small indexes where rows stand twice", append_twice, 1 },
+    { "200 rows appended one by one, from none on", append_chain, 8 },
+    { "50 rows appended one by one to indexes of any kind", append_chain_on, 8 },
+    { "equal rows appended one by one down to depth 24, and one that differs", append_equal, 8 },
+    { "appends with each two of 19 faults", append_pairs, 4 },
     { "two tables that agree in the rows measured", two_tables, 1 },
     { "images written and read, rooms short, exact and long", image_rooms, 1 },
     { "images spoilt at random, sealed again or not", spoilt_image, 1 },

@@ -15,6 +15,20 @@ struct kind {
 extern const struct kind kinds[];
 extern const size_t kinds_count;
 
+/* The kinds that have a file of their own, appends.c. */
+void append_any(struct trial *t, uint32_t limit);
+void append_twice(struct trial *t, uint32_t limit);
+void append_chain(struct trial *t, uint32_t limit);
+void append_chain_on(struct trial *t, uint32_t limit);
+void append_equal(struct trial *t, uint32_t limit);
+void append_pairs(struct trial *t, uint32_t limit);
+
+/* What the files of kinds share. Each call but the build. */
+void every_call(struct trial *t, const struct lot *lot);
+/* Too short for what is asked, half of the time by one. */
+size_t shorter(struct draw *d, size_t length);
+uint32_t draw_bad_columns(struct draw *d, uint32_t c);
+
 /* 01's own cases on the naive implementation and on the library; gives the number of differences. */
 uint32_t self_test(void);
 

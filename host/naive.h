@@ -1,4 +1,4 @@
-/* The scope paper (01) with edition 2 (02, R-4 and R-11) once more, in plain C: clear rather than fast, and sharing nothing with
+/* The scope paper (01) with edition 2 (02, R-4 and R-11) and appended rows (R-2) once more, in plain C: clear rather than fast, and sharing nothing with
    the library. Each call takes and gives what the library's call of the same name does (include/bourascul.h). */
 #ifndef HOST_NAIVE_H
 #define HOST_NAIVE_H
@@ -56,6 +56,7 @@ struct naive_records {
 uint32_t naive_distance(const uint16_t *a, const uint16_t *b, uint32_t c);
 
 struct naive_says naive_build(struct naive_table table, uint32_t m, uint32_t l, uint32_t edition, struct naive_room room, struct naive_room work);
+struct naive_says naive_append(struct naive_table table, struct naive_index index, struct naive_room room, struct naive_room work);
 struct naive_says naive_check(struct naive_table table, struct naive_index index, struct naive_room work);
 struct naive_says naive_radius(struct naive_table table, struct naive_index index, struct naive_query query, uint32_t r, struct naive_bytes how);
 struct naive_says naive_nearest(struct naive_table table, struct naive_index index, struct naive_query query, uint32_t w, struct naive_room rows,

@@ -78,6 +78,12 @@ size_t naive_pair_place(const uint32_t *w, uint32_t p);
 /* The tree that an index in shape describes, of either edition. */
 struct tree naive_read_tree(const uint32_t *w, struct naive_table table);
 void naive_free_tree(struct tree *t);
+/* The node over a run and all below it, by the build's rule; the run has its first in front and the others ascending, and is rewritten. */
+struct node *naive_grow(struct tree *t, uint32_t start, uint32_t count, uint32_t depth);
+/* Puts the tree's index into the room and gives the number of nodes. */
+uint32_t naive_put_tree(const struct tree *t, uint32_t *room);
+/* Row numbers ascending, for qsort. */
+int naive_by_number(const void *a, const void *b);
 /* Puts the edition 2 index of an edition 1 index in shape into the room: each node gets its inner reach (R-4's widening). */
 void naive_put_wide(const uint32_t *w, struct naive_table table, uint32_t *room);
 

@@ -90,7 +90,7 @@ static uint32_t group_of(const struct tree *t, const uint32_t *centre, uint32_t 
     return closest;
 }
 
-static int by_number(const void *a, const void *b)
+int naive_by_number(const void *a, const void *b)
 {
     uint32_t x = *(const uint32_t *)a, y = *(const uint32_t *)b;
     return (x > y) - (x < y);
@@ -108,7 +108,7 @@ static void set_out_groups(struct tree *t, const struct node *v, const uint32_t 
         for (uint32_t i = 0; i < v->count; i++)
             if (group[i] == j && v->start + i != centre[j])
                 run[at++] = t->row[v->start + i];
-        qsort(run + begin + 1, at - begin - 1, sizeof *run, by_number);
+        qsort(run + begin + 1, at - begin - 1, sizeof *run, naive_by_number);
         size[j] = at - begin;
     }
     memcpy(t->row + v->start, run, v->count * sizeof *run);
@@ -116,7 +116,7 @@ static void set_out_groups(struct tree *t, const struct node *v, const uint32_t 
     free(group);
 }
 
-static struct node *grow(struct tree *t, uint32_t start, uint32_t count, uint32_t depth)
+struct node *naive_grow(struct tree *t, uint32_t start, uint32_t count, uint32_t depth)
 {
     struct node *v = naive_fresh(1, sizeof *v);
     v->start = start;
@@ -133,7 +133,7 @@ static struct node *grow(struct tree *t, uint32_t start, uint32_t count, uint32_
     set_out_groups(t, v, centre, size);
     v->child = naive_fresh(t->m, sizeof *v->child);
     for (uint32_t j = 0, at = start; j < t->m; at += size[j], j++)
-        v->child[j] = grow(t, at, size[j], depth + 1);
+        v->child[j] = naive_grow(t, at, size[j], depth + 1);
     return v;
 }
 
@@ -181,6 +181,13 @@ static void put_index(const struct tree *t, uint32_t nodes, uint32_t *w)
     free(list);
 }
 
+uint32_t naive_put_tree(const struct tree *t, uint32_t *room)
+{
+    uint32_t nodes = t->root == NULL ? 0 : count_nodes(t, t->root);
+    put_index(t, nodes, room);
+    return nodes;
+}
+
 /* Puts the index into the room and gives the number of nodes. */
 static uint32_t build_in(uint32_t edition, struct naive_table table, uint32_t m, uint32_t l, uint32_t *room)
 {
@@ -188,9 +195,8 @@ static uint32_t build_in(uint32_t edition, struct naive_table table, uint32_t m,
     for (uint32_t i = 0; i < t.n; i++)
         t.row[i] = i;
     if (t.n > 0)
-        t.root = grow(&t, 0, t.n, 0);
-    uint32_t nodes = t.n > 0 ? count_nodes(&t, t.root) : 0;
-    put_index(&t, nodes, room);
+        t.root = naive_grow(&t, 0, t.n, 0);
+    uint32_t nodes = naive_put_tree(&t, room);
     naive_free_tree(&t);
     return nodes;
 }

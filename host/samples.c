@@ -37,9 +37,10 @@ static uint16_t draw_value(struct draw *d, enum style style, uint32_t row)
     return (uint16_t)(9000 * cluster + draw_below(d, 30));
 }
 
+/* The table and the row behind it. */
 static void fill_table(struct draw *d, struct sample *s, enum style style)
 {
-    for (uint32_t i = 0; i < s->n; i++) {
+    for (uint32_t i = 0; i <= s->n; i++) {
         uint16_t *row = s->table + (size_t)i * s->c;
         bool copied = i > 0 && draw_one_in(d, style == FEW ? 2 : 9);
         const uint16_t *from = s->table + (size_t)(copied ? draw_below(d, i) : 0) * s->c;
@@ -68,9 +69,25 @@ void draw_query(struct draw *d, struct sample *s)
         s->query[j] = near && j < s->c ? (uint16_t)(row[j] + draw_below(d, shift + 1)) : draw_value(d, style, draw_below(d, SAMPLE_ROWS));
 }
 
+void draw_next_row(struct draw *d, struct sample *s)
+{
+    uint16_t *row = s->table + (size_t)s->n * s->c;
+    bool near = s->n > 0 && !draw_one_in(d, 4);
+    const uint16_t *from = s->table + (size_t)(near ? draw_below(d, s->n) : 0) * s->c;
+    enum style style = draw_below(d, STYLES);
+    uint32_t shift = draw_one_in(d, 3) ? 0 : draw_below(d, 4);
+    for (uint32_t j = 0; j < s->c; j++)
+        row[j] = near ? (uint16_t)(from[j] + draw_below(d, shift + 1)) : draw_value(d, style, s->n);
+}
+
 void draw_sample(struct draw *d, struct sample *s, uint32_t limit)
 {
-    s->n = draw_below(d, limit + 1);
+    draw_sample_of(d, s, draw_below(d, limit + 1));
+}
+
+void draw_sample_of(struct draw *d, struct sample *s, uint32_t n)
+{
+    s->n = n;
     s->c = draw_one_in(d, 3) ? draw_between(d, 1, 2) : draw_between(d, 1, 16);
     s->edition = 2;
     draw_centres(d, s);
@@ -361,6 +378,9 @@ struct lot fair_lot(struct draw *d, const struct sample *s)
     lot.rows = longer(d, asked);
     lot.distances = longer(d, asked);
     lot.answers = longer(d, asked);
+    lot.next = s->c;
+    lot.append_room = longer(d, build_words((size_t)s->n + 1));
+    lot.append_work = longer(d, 6 * ((size_t)s->n + 1));
     lot.image = s->image;
     lot.image_length = s->image_length;
     return lot;

@@ -20,12 +20,16 @@ struct sample {
     size_t image_length;
 };
 
-/* A table of at most `limit` rows, mostly full of ties, with m and l that give a tree, and a query. The edition is 2; no index
-   yet. */
+/* A table of at most `limit` rows, mostly full of ties, with one row more behind it, m and l that give a tree, and a query. The
+   edition is 2; no index yet. */
 void draw_sample(struct draw *d, struct sample *s, uint32_t limit);
-/* n equal rows, with m and l small. */
+/* The same with n rows. */
+void draw_sample_of(struct draw *d, struct sample *s, uint32_t n);
+/* n equal rows and one more behind them, with m and l small. */
 void draw_equal_rows(struct draw *d, struct sample *s, uint32_t n);
 void draw_query(struct draw *d, struct sample *s);
+/* Another row behind the table: one of the table's, a little moved or not, or any. */
+void draw_next_row(struct draw *d, struct sample *s);
 
 /* In the sample's edition, 1 or 2: the build's index; an accepted one of another hand (other centres, orders and ties); one in shape
    that fits no table. */
@@ -53,7 +57,8 @@ size_t build_words(size_t n);
 /* How many words come out where a card of the sample's index, of either edition, is read. */
 size_t taken_words(const struct sample *s);
 
-/* What all calls on the sample are lent, with r, w and a node drawn; each room is long enough, often longer. */
+/* What all calls on the sample are lent, an append the row behind the table with it, with r, w and a node drawn; each room is long
+   enough, often longer. */
 struct lot fair_lot(struct draw *d, const struct sample *s);
 
 #endif

@@ -1,5 +1,5 @@
-/* The scope paper's own cases, cases of the inner reach worked out by hand, and old cards: the naive implementation against the
-   numbers printed there, the library against the naive one. */
+/* The scope paper's own cases, cases of the inner reach worked out by hand, old cards, and appends worked out by another hand: the naive
+   implementation against the numbers printed there, the library against the naive one. */
 #include <inttypes.h>
 #include <stdio.h>
 #include <string.h>
@@ -344,6 +344,155 @@ static void limits(void)
     }
 }
 
+/* ---- Appends ---- */
+
+/* The last row is new to the index of the others: the build's with m = l = 2, or these words. */
+struct append_case {
+    uint32_t n;
+    uint16_t rows[7];
+    uint32_t before[21], words[67];
+};
+
+/* The plan's four (five rows with 6, 12 and 0, and the first row of all); ties, radii that grow, equal rows, leaves of one row, rows in no
+   order; words that no build gives: leaves out of order that stay and are split, a row twice, wrong distances and reaches. */
+static const struct append_case append_list[] = {
+    { 6, { 0, 1, 10, 11, 20, 6 }, { 0 },
+      { 2, 6, 1, 2, 2, 5, 1, 0, 0, 6, 1, 20, 1, 0, 4, 3, 10, 1, 4, 2, 0, 9, 9, 0, 2, 0, 1, 1, 2, 2, 0, 4, 4, 0, 0, 1, 1, 2, 0, 5, 4, 4, 0, 3, 9 } },
+    { 6, { 0, 1, 10, 11, 20, 12 }, { 0 },
+      { 2, 6, 1, 2, 2, 7, 1, 0, 0, 6, 1, 20, 1, 0, 3, 3, 10, 1, 3, 3, 5, 9, 8, 0, 2, 0, 1, 1, 2, 1, 0, 0, 0, 3, 1, 0, 0, 0, 4, 2, 0, 1, 1,
+        0, 0, 1, 1, 2, 0, 4, 0, 3, 0, 5, 1 } },
+    { 6, { 0, 1, 10, 11, 20, 0 }, { 0 },
+      { 2, 6, 1, 2, 2, 7, 1, 0, 0, 6, 1, 20, 0, 0, 4, 3, 10, 0, 4, 2, 0, 9, 9, 0, 3, 5, 1, 0, 3, 1, 0, 0, 0, 0, 2, 0, 0, 0, 2, 1, 0, 0, 0,
+        0, 0, 5, 0, 1, 0, 2, 0, 4, 0, 3, 9 } },
+    { 1, { 4 }, { 0 },
+      { 2, 1, 1, 2, 2, 1, 1, 0, 0, 1, 0, 0, 0, 0, 0 } },
+    { 6, { 0, 1, 10, 11, 20, 10 }, { 0 },
+      { 2, 6, 1, 2, 2, 5, 1, 0, 0, 6, 1, 20, 1, 0, 4, 3, 10, 1, 4, 2, 0, 9, 9, 0, 2, 0, 1, 1, 2, 2, 0, 0, 0, 0, 0, 1, 1, 2, 0, 5, 0, 4, 0, 3, 9 } },
+    { 6, { 0, 1, 10, 11, 20, 25 }, { 0 },
+      { 2, 6, 1, 2, 2, 7, 1, 0, 0, 6, 1, 25, 1, 0, 3, 3, 10, 1, 3, 3, 5, 9, 5, 0, 2, 0, 1, 1, 2, 1, 0, 0, 0, 3, 2, 0, 5, 5, 5, 1, 0, 0, 0,
+        0, 0, 1, 1, 2, 0, 4, 0, 5, 5, 3, 0 } },
+    { 5, { 7, 7, 7, 7, 6 }, { 0 },
+      { 2, 5, 1, 2, 2, 7, 1, 0, 0, 5, 1, 1, 0, 0, 4, 3, 1, 0, 4, 1, 0, 0, 0, 0, 3, 5, 1, 0, 3, 1, 0, 0, 0, 0, 2, 0, 0, 0, 2, 1, 0, 0, 0,
+        0, 0, 3, 0, 4, 0, 2, 0, 1, 0 } },
+    { 5, { 7, 7, 7, 7, 7 }, { 0 },
+      { 2, 5, 1, 2, 2, 7, 1, 0, 0, 5, 1, 0, 0, 0, 4, 3, 0, 0, 4, 1, 0, 0, 0, 0, 3, 5, 0, 0, 3, 1, 0, 0, 0, 0, 2, 0, 0, 0, 2, 1, 0, 0, 0,
+        0, 0, 4, 0, 3, 0, 2, 0, 1, 0 } },
+    { 2, { 5, 6 }, { 0 },
+      { 2, 2, 1, 2, 2, 1, 1, 0, 0, 2, 0, 1, 1, 0, 0, 1, 1 } },
+    { 3, { 0, 10, 0 }, { 0 },
+      { 2, 3, 1, 2, 2, 3, 1, 0, 0, 3, 1, 10, 0, 0, 2, 0, 0, 0, 2, 1, 0, 0, 0, 0, 0, 2, 0, 1, 0 } },
+    { 3, { 0, 10, 25 }, { 0 },
+      { 2, 3, 1, 2, 2, 3, 1, 0, 0, 3, 1, 25, 10, 0, 2, 0, 10, 10, 2, 1, 0, 0, 0, 0, 0, 1, 10, 2, 0 } },
+    { 7, { 3, 9, 4, 1, 7, 2, 6 }, { 0 },
+      { 2, 7, 1, 2, 2, 7, 1, 0, 0, 7, 1, 6, 1, 0, 5, 3, 3, 1, 5, 2, 0, 2, 2, 0, 4, 5, 3, 1, 4, 1, 0, 0, 0, 0, 2, 0, 1, 1, 2, 2, 0, 2, 2,
+        0, 0, 5, 1, 2, 0, 6, 2, 3, 0, 1, 0, 4, 2 } },
+    { 7, { 3, 9, 4, 1, 7, 2, 7 }, { 0 },
+      { 2, 7, 1, 2, 2, 9, 1, 0, 0, 7, 1, 6, 1, 0, 4, 3, 2, 1, 4, 3, 5, 2, 2, 0, 3, 7, 1, 1, 3, 1, 0, 0, 0, 4, 1, 0, 0, 0, 5, 2, 0, 0, 0,
+        0, 2, 0, 1, 1, 2, 1, 0, 0, 0, 0, 0, 5, 1, 2, 0, 3, 0, 1, 0, 4, 0, 6, 0 } },
+    { 7, { 3, 9, 4, 1, 7, 2, 0 }, { 0 },
+      { 2, 7, 1, 2, 2, 7, 1, 0, 0, 7, 1, 6, 1, 0, 5, 3, 3, 1, 5, 2, 0, 2, 2, 0, 3, 5, 1, 1, 3, 2, 0, 1, 1, 0, 2, 0, 1, 1, 2, 1, 0, 0, 0,
+        0, 0, 5, 1, 2, 0, 3, 0, 6, 1, 1, 0, 4, 2 } },
+    { 7, { 3, 9, 4, 1, 7, 2, 25 }, { 0 },
+      { 2, 7, 1, 2, 2, 9, 1, 0, 0, 7, 1, 22, 1, 0, 4, 3, 2, 1, 4, 3, 5, 16, 2, 0, 3, 7, 1, 1, 3, 1, 0, 0, 0, 4, 2, 0, 2, 2, 6, 1, 0, 0, 0,
+        0, 2, 0, 1, 1, 2, 1, 0, 0, 0, 0, 0, 5, 1, 2, 0, 3, 0, 1, 0, 4, 2, 6, 0 } },
+    { 4, { 5, 9, 1, 6 }, { 2, 3, 1, 2, 4, 1, 1, 0, 0, 3, 0, 4, 4, 0, 0, 2, 4, 1, 4 },
+      { 2, 4, 1, 2, 4, 1, 1, 0, 0, 4, 0, 4, 1, 0, 0, 2, 4, 1, 4, 3, 1 } },
+    { 5, { 5, 9, 6, 4, 5 }, { 2, 4, 1, 2, 4, 1, 1, 0, 0, 4, 0, 4, 1, 0, 0, 3, 1, 2, 1, 1, 4 },
+      { 2, 5, 1, 2, 4, 3, 1, 0, 0, 5, 1, 4, 0, 0, 4, 0, 1, 0, 4, 1, 0, 0, 0, 0, 0, 2, 1, 3, 1, 4, 0, 1, 0 } },
+    { 3, { 0, 5, 9 }, { 2, 2, 1, 2, 2, 1, 1, 0, 0, 2, 0, 3, 2, 0, 0, 0, 7 },
+      { 2, 3, 1, 2, 2, 1, 1, 0, 0, 3, 0, 9, 2, 0, 0, 0, 0, 2, 9 } },
+    { 3, { 0, 10, 6 }, { 2, 2, 1, 2, 2, 1, 1, 0, 0, 2, 0, 50, 3, 0, 4, 1, 1 },
+      { 2, 3, 1, 2, 2, 3, 1, 0, 0, 3, 1, 50, 3, 0, 1, 0, 0, 0, 1, 2, 0, 4, 4, 0, 0, 1, 0, 2, 4 } },
+};
+
+static size_t words_of(const uint32_t *w)
+{
+    return 8 + 5 * (size_t)w[5] + 2 * (size_t)w[1];
+}
+
+/* The lot of an append of row n - 1 to the index in `room`. */
+static struct lot append_lot(const uint16_t *rows, uint32_t n)
+{
+    struct lot lot = lot_of(rows, n - 1, 1, 2, 2);
+    lot.index_length = words_of(room);
+    lot.next = 1;
+    lot.append_room = build_words(n);
+    lot.append_work = 6 * (size_t)n;
+    return lot;
+}
+
+/* What the naive append gives on this lot, into `grown`; the library is held to it. */
+static struct naive_says append(const struct lot *lot, uint32_t *grown)
+{
+    struct naive_table table = { lot->table, lot->table_length + lot->next, lot->c };
+    struct naive_index index = { lot->index, lot->index_length };
+    struct naive_room r = { grown, lot->append_room }, w = { work, lot->append_work };
+    try_append(&trial, lot);
+    return naive_append(table, index, r, w);
+}
+
+static void append_cases(void)
+{
+    static uint32_t grown[WORDS];
+    for (size_t i = 0; i < sizeof append_list / sizeof *append_list; i++) {
+        const struct append_case *a = &append_list[i];
+        struct lot lot = lot_of(a->rows, a->n - 1, 1, 2, 2);
+        build(&lot);
+        if (a->before[0] != 0)
+            memcpy(room, a->before, sizeof a->before);
+        lot = append_lot(a->rows, a->n);
+        expect_says("an append", append(&lot, grown), 0, (uint32_t)words_of(a->words), a->words[5]);
+        expect_words("an append's words", grown, a->words, words_of(a->words));
+    }
+}
+
+/* 27 equal rows and one that differs by 1: the leaf at depth 24 grows. */
+static void append_deepest(void)
+{
+    static uint32_t grown[WORDS];
+    uint16_t table[28];
+    for (uint32_t i = 0; i < 28; i++)
+        table[i] = i < 27 ? 7 : 6;
+    struct lot lot = lot_of(table, 27, 1, 2, 2);
+    build(&lot);
+    lot = append_lot(table, 28);
+    expect_says("an append at depth 24", append(&lot, grown), 0, 8 + 5 * 49 + 2 * 28, 49);
+    for (uint32_t p = 0; p < 28; p++) {
+        uint32_t row = p == 0 ? 0 : p < 4 ? 24 + p : 28 - p;
+        expect_words("an append at depth 24, order", grown + 8 + 5 * 49 + 2 * p, &row, 1);
+    }
+}
+
+/* Rooms for the rows before, another number of rows, no rows at all; of several the lowest. */
+static void append_refusals(void)
+{
+    static const uint16_t rows[] = { 0, 1, 10, 11, 20, 6 };
+    static uint32_t grown[WORDS];
+    built(five);
+    struct lot lot = append_lot(rows, 6);
+    lot.append_room = build_words(6) - 1;
+    expect_says("an append, room a word short", append(&lot, grown), 5, 0, 0);
+    lot = append_lot(rows, 6);
+    lot.append_work = 35;
+    expect_says("an append, workspace a word short", append(&lot, grown), 5, 0, 0);
+    lot.next = 0;
+    lot.append_work = 29;
+    expect_says("an append of no row, workspace a word short", append(&lot, grown), 5, 0, 0);
+    lot.append_work = 30;
+    expect_says("an append of no row", append(&lot, grown), 8, 0, 0);
+    lot.table_length = 0;
+    expect_says("an append over no rows", append(&lot, grown), 8, 0, 0);
+    lot = append_lot(rows, 6);
+    lot.c = 17;
+    expect_says("an append with 17 columns", append(&lot, grown), 1, 0, 0);
+    lot = append_lot(rows, 6);
+    lot.index_length--;
+    expect_says("an append to too few words", append(&lot, grown), 8, 0, 0);
+    lot = append_lot(rows, 6);
+    room[8 + 5 * 5] = 5;
+    expect_says("an append to an index with its row", append(&lot, grown), 9, 0, 0);
+}
+
 uint32_t self_test(void)
 {
     memset(&trial, 0, sizeof trial);
@@ -360,5 +509,8 @@ uint32_t self_test(void)
     old_index();
     wrong_inner_reaches();
     closed_by_the_middle();
+    append_cases();
+    append_deepest();
+    append_refusals();
     return wrong + (uint32_t)trial.differences;
 }

@@ -15,6 +15,7 @@ enum { COLUMNS = 16, ROWS = 1 + 2 * COLUMNS, CENTRES = 2, LEAF = 2, WORDS = 12 *
 
 static uint16_t table[ROWS * COLUMNS], query[COLUMNS];
 static uint32_t room[WORDS], back[WORDS], work[6 * ROWS], rows[ROWS], distances[ROWS], words, blocks;
+static uint32_t most_rows[WORDS], two_rows[WORDS];
 static bourascul_answer answers[ROWS];
 static uint8_t how[ROWS], image[BYTES];
 static uint32_t number;
@@ -29,6 +30,14 @@ static void build(void)
     bourascul_built built = bourascul_build(table, ROWS * COLUMNS, COLUMNS, CENTRES, LEAF, 2, room, WORDS, work, 6 * ROWS);
     number = built.number;
     words = built.words;
+}
+
+/* The last row goes down all levels, to a leaf at depth 24; the third row splits the leaf that is all of the index of two. */
+static void append(void)
+{
+    bourascul_built deep = bourascul_append(table, ROWS * COLUMNS, COLUMNS, most_rows, WORDS, back, WORDS, work, 6 * ROWS);
+    bourascul_built split = bourascul_append(table, 3 * COLUMNS, COLUMNS, two_rows, WORDS, back, WORDS, work, 6 * ROWS);
+    number = deep.number != 0 || deep.nodes != 49 || split.number != 0 || split.nodes != 3;
 }
 
 static void check(void)
@@ -71,7 +80,8 @@ static void list(void)
     number = bourascul_list(room, words, 0).length == 0;
 }
 
-/* How many bytes from the stack's top on the call painted over. */
+/* How many bytes from the stack's top on the call painted over. The first time, the loader may do so too: it looks for what the call needs
+   of the C library. */
 static size_t taken(void (*call)(void))
 {
     static unsigned char stack[STACK];
@@ -96,10 +106,14 @@ int main(void)
         const char *name;
         void (*call)(void);
     } calls[] = {
-        { "bourascul_build", build },       { "bourascul_check", check },
-        { "bourascul_radius", radius },     { "bourascul_nearest", nearest },
+        { "bourascul_build", build },
+        { "bourascul_append", append },
+        { "bourascul_check", check },
+        { "bourascul_radius", radius },
+        { "bourascul_nearest", nearest },
         { "bourascul_nearest_answers", nearest_answers },
-        { "bourascul_write", write_image }, { "bourascul_read", read_image },
+        { "bourascul_write", write_image },
+        { "bourascul_read", read_image },
         { "bourascul_list", list },
     };
     size_t none = taken(nothing);
@@ -108,8 +122,11 @@ int main(void)
     for (int i = 0; i < 2 * COLUMNS; i++)
         table[(1 + i) * COLUMNS + i % COLUMNS] = (uint16_t)(i < COLUMNS ? 2 : 1);
     query[0] = 9;
+    bourascul_build(table, (ROWS - 1) * COLUMNS, COLUMNS, CENTRES, LEAF, 2, most_rows, WORDS, work, 6 * ROWS);
+    bourascul_build(table, 2 * COLUMNS, COLUMNS, CENTRES, LEAF, 2, two_rows, WORDS, work, 6 * ROWS);
     puts("| call | bytes of stack |\n|---|---|");
     for (size_t i = 0; i < sizeof calls / sizeof *calls; i++) {
+        taken(calls[i].call);
         size_t bytes = taken(calls[i].call);
         printf("| %s | %zu |\n", calls[i].name, bytes - none);
         if (number != 0) {

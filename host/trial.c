@@ -18,7 +18,7 @@
 #include "lend.h"
 
 enum {
-    GRACE_SECONDS = 240 /* no case takes this long, so a call that does hangs */
+    GRACE_SECONDS = 900 /* no case takes this long, under an emulator neither, so a call that does hangs */
 };
 
 struct plan {

@@ -1,16 +1,22 @@
 #!/bin/sh
 # A trial of the trial: the mock (host/mock.c) must show no difference, and each wrong library of host/wrong.txt must show one.
 #   host/wrong.sh [ROUNDS [SEED]]
+#   host/wrong.sh --only PART [ROUNDS [SEED]]    those alone in whose names this stands
 # One line a library. Exit status 1 where a wrong one is missed or a sound one differs, 2 where one can't be tried.
 # CC: another compiler. Mock and trial are both plain C here, so no proved library is needed, nor an x86-64 processor.
 set -eu
 cd "$(dirname "$0")/.."
 
+only=''
+if [ "${1:-}" = --only ]; then
+    only=${2:?usage: host/wrong.sh --only PART [ROUNDS [SEED]]}
+    shift 2
+fi
 rounds=${1:-480}
 seed=${2:-20}
 cc=${CC:-cc}
 out=target/host/wrong
-mocked='mock naive naive_tree naive_search plain plain_search'
+mocked='mock naive naive_tree naive_append naive_search plain plain_search'
 wrong=0 found=0 sound=0 differing=0
 
 stop() {
@@ -25,7 +31,7 @@ compile() {
 # ---- One library ----
 
 # The trial links the naive implementation too. So that it is never compared with an edited copy of itself, the mock's parts
-# are joined into one object, and every name in it but the eight calls is made local.
+# are joined into one object, and every name in it but the calls is made local.
 join_mock() {
     parts=''
     for name in $mocked; do
@@ -91,7 +97,7 @@ finish() {
 
 rm -rf "$out"
 mkdir -p "$out/tried" "$out/mock" "$out/edited"
-for name in trial kinds samples spoil calls lend self naive naive_tree naive_search; do compile "host/$name.c" "$out/tried/$name.o"; done
+for name in trial kinds appends samples spoil calls lend self naive naive_tree naive_append naive_search; do compile "host/$name.c" "$out/tried/$name.o"; done
 for name in $mocked; do compile "host/$name.c" "$out/mock/$name.o"; done
 
 kind=sound title='the mock as it is'
@@ -101,10 +107,14 @@ title=''
 while IFS= read -r text <&3; do
     case $text in
     '' | '#'*) ;;
-    'wrong: '* | 'sound: '*) finish; kind=${text%%:*} title=${text#*: } ;;
+    'wrong: '* | 'sound: '*)
+        finish
+        kind=${text%%:*} title=${text#*: }
+        case $title in *"$only"*) ;; *) title='' ;; esac
+        ;;
     'file: '*) file=${text#file: } ;;
     'old: '*) old=${text#old: } ;;
-    'new:'*) new=${text#new:} new=${new# }; replace ;;
+    'new:'*) new=${text#new:} new=${new# }; [ -z "$title" ] || replace ;;
     *) stop "host/wrong.txt: can't read: $text" ;;
     esac
 done 3<host/wrong.txt

@@ -12,8 +12,9 @@
    Calls on different buffers may run at the same time; there is no state between calls. Any CONTENT may be lent: words
    and bytes from a stranger are tested, never trusted. More room than asked for may be lent, and is left as it was.
 
-   STACK. Nothing else is taken. Bytes of stack that a call takes at most, measured on x86-64 (target/host/stack): write 40, list
-   128, read 240, build 392, nearest 592, nearest_answers 608, check 5,000, radius 19,816 (25 levels).
+   STACK. Nothing else is taken. Bytes of stack that a call takes at most, measured on x86-64 code (target/host/stack): write 40,
+   list 128, read 240, build 392, nearest 592, nearest_answers 608, check 1,904, radius 19,816 (25 levels); append is not measured
+   yet. A loader that binds late takes about 3,500 more in the first call that needs memcpy, memmove or memset.
 
    NUMBERS. Each call but bourascul_list gives a number first. 0 is done; any other is a refusal, and of several the lowest
    is given (bourascul_read gives 8, 9 and 5 last, in this order; bourascul_write gives 16 before 5):
@@ -25,8 +26,8 @@
       6  the query's length is not the columns
       7  nearest: 0 wanted
       8  the index has fewer than 8 words, or an impossible header (an edition other than 2 is one), or one of other rows or
-         columns than the table's, or fewer words than its header asks for; reading: the image's header is of other rows or
-         columns than the table's
+         columns than the table's, or fewer words than its header asks for; append: of other rows than the table's but the
+         last; reading: the image's header is of other rows or columns than the table's
       9  the index's shape is wrong; reading: the shape of the index in the image
      10  check: a row number stands a second time
      11  check: a stored distance is wrong
@@ -67,8 +68,8 @@ extern "C" {
 #define BOURASCUL_MOST_DISTANCE 1048560u
 #define BOURASCUL_BLOCK_BYTES 512u
 
-/* Words of room that a build over n rows asks for, enough for reading too, and words of workspace for build, check and
-   nearest. */
+/* Words of room that a build over n rows asks for, and an append to the n-th, enough for reading too; and words of workspace for
+   build, append, check and nearest. */
 #define BOURASCUL_ROOM_WORDS(n) (12u * (size_t)(n) + 8u)
 #define BOURASCUL_WORK_WORDS(n) (6u * (size_t)(n))
 
@@ -137,6 +138,20 @@ typedef struct bourascul_part {
    For single searches m = 16 and l = 128 are a good choice: a search tests every node, and larger leaves have fewer. */
 bourascul_built bourascul_build(const uint16_t *table, size_t table_length, uint32_t c, uint32_t m, uint32_t l, uint32_t edition,
                                 uint32_t *room, size_t room_length, uint32_t *work, size_t work_length);
+
+/* One row more: the table's last row goes into an index of the rows before it.
+   Lent: the table of n rows, the new one last; the index of the first n - 1 rows (more words may be lent); room of at least
+   12n + 8 words; work of at least 6n words. Index and room are different buffers.
+   Numbers: 0, 1, 3, 4, 5, 8, 9. 8 unless the table has just one row more than the header says, so for a table without rows.
+   Done: the first `words` words of room are the new index, and the rest stays; the first 6n words of work are 0, and the rest
+   stays. From the root the row goes to the child whose first is closest, the earliest among equals, down to a leaf, where it
+   stands last; radii on the way grow and inner reaches shrink as it asks. A leaf of more than l rows above depth 24 is split as
+   a build splits it, its first and then the others ascending, unless a row stands in it twice. The leaf's distances are measured
+   anew; all other rows keep their order and their stored distances, and nodes are numbered anew. The first row of all gives the
+   build of one row. If bourascul_check accepts the old index, it accepts the new one; a fresh build may give another.
+   Each call tests and copies the whole index, so for some hundred rows a build may be cheaper. */
+bourascul_built bourascul_append(const uint16_t *table, size_t table_length, uint32_t c, const uint32_t *index, size_t index_length,
+                                 uint32_t *room, size_t room_length, uint32_t *work, size_t work_length);
 
 /* The full check of an index from anyone, against its table.
    Lent: the table; the index; work of at least 6n words.
