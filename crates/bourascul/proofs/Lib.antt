@@ -1,4 +1,6 @@
 pub mod Counts
 pub mod Demands
+pub mod Firsts
+pub mod More
 pub mod Numbers
 pub mod Promises
