@@ -260,22 +260,6 @@ void try_check(struct trial *t, const struct lot *lot)
     compare(t, lot, CHECK, three(is.number, is.place, is.second), should, lents, 3);
 }
 
-static uint32_t tally(const uint8_t *how, size_t n, uint8_t a, uint8_t b)
-{
-    uint32_t sum = 0;
-    for (size_t i = 0; i < n; i++)
-        sum += how[i] == a || how[i] == b;
-    return sum;
-}
-
-/* Where a row number stands twice the how-bytes are open; the counts are still tallies of them. */
-static struct naive_says open_radius(const struct lot *lot)
-{
-    size_t n = lot->table_length / lot->c;
-    leave_open(LENT_HOW, n);
-    return three(0, tally(lend_given(LENT_HOW), n, 2, 3), tally(lend_given(LENT_HOW), n, 1, 3));
-}
-
 void try_radius(struct trial *t, const struct lot *lot)
 {
     static const enum lent lents[] = { LENT_TABLE, LENT_INDEX, LENT_QUERY, LENT_HOW };
@@ -286,10 +270,6 @@ void try_radius(struct trial *t, const struct lot *lot)
     bourascul_within is = bourascul_radius(lend_given(LENT_TABLE), lot->table_length, lot->c, lend_given(LENT_INDEX), lot->index_length,
                                            lend_given(LENT_QUERY), lot->query_length, lot->r, lend_given(LENT_HOW), lot->how);
     struct naive_says should = naive_radius(model_table(lot), model_index(lot), model_query(lot), lot->r, model_bytes(LENT_HOW));
-    if (should.number == 0 && lot->fitting == NULL && naive_verdict(lot) == 10) {
-        open_outcomes[RADIUS]++;
-        should = open_radius(lot);
-    }
     compare(t, lot, RADIUS, three(is.number, is.inside, is.measured), should, lents, 4);
 }
 

@@ -638,6 +638,7 @@ const struct kind kinds[] = {
     { "equal rows appended one by one down to depth 24, and one that differs", append_equal, 8 },
     { "appends with each two of 19 faults", append_pairs, 4 },
     { "two tables that agree in the rows measured", two_tables, 1 },
+    { "asking for more: the laws on two searches, of the library alone", asking_for_more, 1 },
     { "images written and read, rooms short, exact and long", image_rooms, 1 },
     { "images spoilt at random, sealed again or not", spoilt_image, 1 },
     { "each byte of a small image changed, sealed again or not", each_byte, 8 },

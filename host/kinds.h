@@ -23,6 +23,9 @@ void append_chain_on(struct trial *t, uint32_t limit);
 void append_equal(struct trial *t, uint32_t limit);
 void append_pairs(struct trial *t, uint32_t limit);
 
+/* And that of more.c: two searches, of which the second asks for more. */
+void asking_for_more(struct trial *t, uint32_t limit);
+
 /* What the files of kinds share. Each call but the build. */
 void every_call(struct trial *t, const struct lot *lot);
 /* Too short for what is asked, half of the time by one. */

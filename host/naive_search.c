@@ -54,6 +54,8 @@ static uint32_t child_bound(const struct search *s, const struct node *child, ui
 
 /* ---- Radius ---- */
 
+/* Marks are set in the descent's order, and out unmeasured is not set: it stands there from the start. So where a row number stands
+   twice, the last mark that is not 0 stands. */
 static void mark_measured(struct search *s, uint32_t row)
 {
     s->how[row] = s->x[row] <= s->r ? 3 : 1;
@@ -65,8 +67,8 @@ static void treat_leaf(struct search *s, const struct node *v)
     for (uint32_t p = v->start + 1; p < v->start + v->count; p++) {
         uint32_t row = s->tree.row[p], stored = s->tree.stored[p];
         if (apart(x, stored) > s->r)
-            s->how[row] = 0;
-        else if (x + stored <= s->r)
+            continue;
+        if (x + stored <= s->r)
             s->how[row] = 2;
         else
             mark_measured(s, row);
@@ -88,7 +90,7 @@ static void descend(struct search *s, const struct node *v, uint32_t bound)
         return;
     }
     uint32_t y = least_over_centres(s, v);
-    for (uint32_t j = 0; j < s->tree.m; j++)
+    for (uint32_t j = 1; j < s->tree.m; j++)
         mark_measured(s, first_of(&s->tree, v->child[j]));
     for (uint32_t j = 0; j < s->tree.m; j++)
         descend(s, v->child[j], child_bound(s, v->child[j], bound, y));

@@ -156,6 +156,7 @@ static void five_searches(void)
     static const uint32_t rows[4][5] = { { 2 }, { 2, 3 }, { 1, 0 }, { 2, 3, 1, 0, 4 } }, far[3][2] = { { 1 }, { 1, 2 }, { 4, 5 } };
     radius_case(five, 9, 1, "10301", 1, 3);
     radius_case(five, 0, 20, "32222", 5, 1);
+    radius_case(five, 0, 19, "32231", 4, 3);
     radius_case(five, 10, 5, "10331", 2, 4);
     nearest_case(five, 9, 1, (struct closest){ rows[0], far[0], 1, 3, NULL });
     nearest_case(five, 9, 2, (struct closest){ rows[1], far[1], 2, 4, NULL });

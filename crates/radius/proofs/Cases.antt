@@ -103,15 +103,17 @@ module _ (t : List ℕ) (f : T (fit t)) where
           (s .counts z) .1 ∙ ap measured first ∙ eqb→eq (measured bytes) k (and-r (a && b) d f),
         )
 
--- THE CALL GIVES WHAT 01 SAYS: its three radius cases, and one that (x - y)/2 rounded down would fail
+-- THE CALL GIVES WHAT 01 SAYS: its three radius cases, one that (x - y)/2 rounded down would fail, and one with a lesser r that measures more (R-13)
 pub radius-call-cases : Gives five 9 1 (1 ∷ 0 ∷ 3 ∷ 0 ∷ 1 ∷ []) 1 3
     × Gives five 0 20 (3 ∷ 2 ∷ 2 ∷ 2 ∷ 2 ∷ []) 5 1
     × Gives five 10 5 (1 ∷ 0 ∷ 3 ∷ 3 ∷ 1 ∷ []) 2 4
     × Gives (4 ∷ 2 ∷ 2 ∷ 6 ∷ 7 ∷ []) 6 0 (1 ∷ 0 ∷ 0 ∷ 3 ∷ 1 ∷ []) 1 3
+    × Gives five 0 19 (3 ∷ 2 ∷ 2 ∷ 3 ∷ 1 ∷ []) 4 3
 unfolding fit right
 radius-call-cases = (
   gives five tt 9 1 (1 ∷ 0 ∷ 3 ∷ 0 ∷ 1 ∷ []) 1 3 tt,
   gives five tt 0 20 (3 ∷ 2 ∷ 2 ∷ 2 ∷ 2 ∷ []) 5 1 tt,
   gives five tt 10 5 (1 ∷ 0 ∷ 3 ∷ 3 ∷ 1 ∷ []) 2 4 tt,
   gives (4 ∷ 2 ∷ 2 ∷ 6 ∷ 7 ∷ []) tt 6 0 (1 ∷ 0 ∷ 0 ∷ 3 ∷ 1 ∷ []) 1 3 tt,
+  gives five tt 0 19 (3 ∷ 2 ∷ 2 ∷ 3 ∷ 1 ∷ []) 4 3 tt,
 )

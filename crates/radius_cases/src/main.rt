@@ -63,10 +63,12 @@ fn five(query: u16, r: u32) {
     show(&table, 1, &index, &[query], r);
 }
 
-// The three cases of 01 that are proved; a row at exactly r, and one just beyond; a far query; r as large as it can be.
+// The three cases of 01 that are proved; a lesser r that measures more; a row at exactly r, and one just beyond; a far query; r as large
+// as it can be.
 fn five_rows() {
     five(9, 1);
     five(0, 20);
+    five(0, 19);
     five(10, 5);
     five(9, 2);
     five(30, 10);

@@ -1,0 +1,88 @@
+-- 02, R-13: asking for more, as theorems on what two calls give on one accepted index, with one query, whatever each is lent. Assumes nothing.
+use Prim.Native.Nat.{_<_, _≤_, min, ℕ}
+use Rattle.answers.specs.Records.{made}
+use Rattle.answers.specs.declared.Answer.{Answer}
+use Rattle.audit.specs.Calls.{Checks}
+use Rattle.bourascul.proofs.Demands.{answers-exact, nearest-exact, radius-exact}
+use Rattle.bourascul.proofs.Firsts.{measured-still, same-first}
+use Rattle.bourascul.specs.Recorded.{Recorded}
+use Rattle.measure.specs.Table.{from}
+use Rattle.nearest.proofs.HowBytes.{near-length}
+use Rattle.nearest.specs.Calls.{Answered, Settled}
+use Rattle.radius.proofs.Cases.{radius-call-cases}
+use Rattle.radius.specs.Calls.{Searched}
+use Rattle.tree.specs.Build.{build}
+use Rattle.tree.specs.Cases.{five}
+use Rattle.tree.specs.Grove.{treeOf}
+use Rattle.tree.specs.Nearest.{isMeasured, nearHow}
+use Rattle.words.specs.Words.{n#}
+use lib.Dec.{T}
+use lib.ListN.{List·getD-append, drop, getD, length, take}
+use mathlib.Core.List.{List, [], _∷_}
+use mathlib.Core.Path.{_∙_, _≡_, ap, refl, subst, sym}
+use native.Mathlib.Omega.{arith}
+
+-- the how-byte of row i is the definition's
+byte-is : {x : ℕ → ℕ} {w : List ℕ} {wanted : ℕ} {rs rs′ ds ds′ how how′ : List ℕ} {given : ℕ} → Settled x w wanted rs rs′ ds ds′ how how′ given
+    → (i : ℕ) → i < n# w → getD how′ i 0 ≡ getD (nearHow x (n# w) (treeOf w) wanted) i 0
+byte-is {x} {w} {wanted} {how = how} Z i h =
+    let bytes : List ℕ = nearHow x (n# w) (treeOf w) wanted in
+    ap (λ (l : List ℕ). getD l i 0) (Z .bytes)
+    ∙ List·getD-append bytes (drop (n# w) how) 0 i (subst (λ (n : ℕ). i < n) (sym (near-length x (n# w) (treeOf w) wanted)) h)
+
+-- an index of which a check gave 0
+module _ {t : List ℕ} {c : ℕ} {w work₀ work₁ : List ℕ} {place second : ℕ} (ok : Checks t c w work₀ work₁ 0 place second) where
+  -- two nearest searches: fewer are wanted, and more; either may be more than there are rows
+  module _ {q : List ℕ} {few many room room₂ : ℕ} {rs rs′ ds ds′ how how′ work work′ rs₂ rs₂′ ds₂ ds₂′ how₂ how₂′ work₂ work₂′ : List ℕ}
+      {given met given₂ met₂ : ℕ} (s : Answered t c w q few room rs rs′ ds ds′ how how′ work work′ 0 given met)
+      (s₂ : Answered t c w q many room₂ rs₂ rs₂′ ds₂ ds₂′ how₂ how₂′ work₂ work₂′ 0 given₂ met₂) (more : few ≤ many) where
+    -- THE FIRST TEN OF TWENTY ARE THE TEN: no fewer are given, and the first rows and distances are the same
+    pub first-of-more : (given ≤ given₂) × (take given rs₂′ ≡ take given rs′) × (take given ds₂′ ≡ take given ds′)
+    first-of-more =
+        let Z = nearest-exact ok s in
+        let Z₂ = nearest-exact ok s₂ in
+        let k : ℕ = min few (n# w) in
+        let k₂ : ℕ = min many (n# w) in (
+          omega (arith, Z .count, Z₂ .count),
+          same-first (from t c q) (n# w) (λ a. a .0) few many given (drop k rs) (drop k₂ rs₂) more (Z .count) (Z .rows) (Z₂ .rows),
+          same-first (from t c q) (n# w) (λ a. a .1) few many given (drop k ds) (drop k₂ ds₂) more (Z .count) (Z .distances) (Z₂ .distances),
+        )
+
+    -- EVERY ROW MEASURED FOR TEN IS MEASURED FOR TWENTY
+    pub measured-more : (i : ℕ) → i < n# w → T (isMeasured (getD how′ i 0)) → T (isMeasured (getD how₂′ i 0))
+    measured-more i h m =
+        subst (λ (v : ℕ). T (isMeasured v)) (sym (byte-is (nearest-exact ok s₂) i h))
+        (measured-still (from t c q) (n# w) (treeOf w) few many i more h
+        (subst (λ (v : ℕ). T (isMeasured v)) (byte-is (nearest-exact ok s) i h) m))
+
+  -- the same with records
+  module _ {q : List ℕ} {few many : ℕ} {as₀ as₁ as₂ as₃ : List Answer}
+      {rs rs′ ds ds′ how how′ work work′ rs₂ rs₂′ ds₂ ds₂′ how₂ how₂′ work₂ work₂′ : List ℕ} {given met given₂ met₂ : ℕ}
+      (s : Recorded t c w q few as₀ as₁ rs rs′ ds ds′ how how′ work work′ 0 given met)
+      (s₂ : Recorded t c w q many as₂ as₃ rs₂ rs₂′ ds₂ ds₂′ how₂ how₂′ work₂ work₂′ 0 given₂ met₂) (more : few ≤ many) where
+    -- THE FIRST TEN RECORDS OF TWENTY ARE THE TEN
+    pub records-of-more : (given ≤ given₂) × (take given as₃ ≡ take given as₁) × (take given rs₂′ ≡ take given rs′) × (take given ds₂′ ≡ take given ds′)
+    records-of-more =
+        let F = first-of-more (s .plain) (s₂ .plain) more in
+        let same = same-first (from t c q) (n# w) (λ a. made (a .0) (a .1)) few many given (drop (min few (n# w)) as₀) (drop (min many (n# w)) as₂) more
+        (nearest-exact ok (s .plain) .count) (answers-exact ok s) (answers-exact ok s₂) in
+        (F .0, same, F .1, F .2)
+
+    -- EVERY ROW MEASURED FOR TEN IS MEASURED FOR TWENTY
+    pub records-measured-more : (i : ℕ) → i < n# w → T (isMeasured (getD how′ i 0)) → T (isMeasured (getD how₂′ i 0))
+    records-measured-more = measured-more (s .plain) (s₂ .plain) more
+
+  -- A LARGER r NEVER LOSES A ROW
+  pub none-lost : {q : List ℕ} {r r₂ : ℕ} {before after before₂ after₂ : List ℕ} {in# met in₂ met₂ : ℕ} → Searched t c w q r before after 0 in# met
+      → Searched t c w q r₂ before₂ after₂ 0 in₂ met₂ → r ≤ r₂ → (i : ℕ) → i < n# w → 2 ≤ getD after i 0 → 2 ≤ getD after₂ i 0
+  none-lost s s₂ wider i h m = radius-exact ok s₂ i h .1 (omega (arith, radius-exact ok s i h .0 m))
+
+-- IT MAY MEASURE FEWER: on the five-row table with its built index, every search with query 0 and r 19 that is lent how-bytes enough measures 3 rows,
+-- and with r 20 measures 1
+pub wider-measures-fewer : {before after before₂ after₂ : List ℕ} {number in# met number₂ in₂ met₂ : ℕ} → 5 ≤ length before → 5 ≤ length before₂
+    → Searched five 1 (build five 1 2 2 2) (0 ∷ []) 19 before after number in# met
+    → Searched five 1 (build five 1 2 2 2) (0 ∷ []) 20 before₂ after₂ number₂ in₂ met₂ → (number ≡ 0) × (met ≡ 3) × (number₂ ≡ 0) × (met₂ ≡ 1)
+wider-measures-fewer {before} {after} {before₂} {after₂} {number} {in#} {met} {number₂} {in₂} {met₂} h h₂ s s₂ =
+    let a = radius-call-cases .4 before after number in# met h s in
+    let b = radius-call-cases .1 before₂ after₂ number₂ in₂ met₂ h₂ s₂ in
+    (a .0, a .3, b .0, b .3)
