@@ -23,7 +23,7 @@ fn say_reader(name: &[u8], r: Reader) {
 }
 
 fn show(name: &[u8], text: &[u8]) {
-    let mut table = [0; 64];
+    let mut table = [0; 32];
     let fed = sheet::feed(sheet::start(), text, &mut table);
     let r = sheet::finish(fed, &mut table);
     say_reader(name, r);
@@ -74,12 +74,12 @@ fn part_4() {
     show(b"bytes of any kind", b"\x00\x01\xff\n\x7f\n");
     show(
         b"more than the table has room for",
-        b"1 1 1 1 1 1 1 1 1 1 1 1\n1 1 1 1 1 1 1 1 1 1 1 1\n1 1 1 1 1 1 1 1 1 1 1 1\n1 1 1 1 1 1 1 1 1 1 1 1\n1 1 1 1 1 1 1 1 1 1 1 1\n1 1 1 1 1 1 1 1 1 1 1 1\n",
+        b"1 1 1 1 1 1 1 1 1 1 1 1\n1 1 1 1 1 1 1 1 1 1 1 1\n1 1 1 1 1 1 1 1 1 1 1 1\n",
     );
 }
 
 fn in_pieces() {
-    let mut table = [0; 64];
+    let mut table = [0; 32];
     let first = sheet::feed(sheet::start(), b"\xef\xbb", &mut table);
     let second = sheet::feed(first, b"\xbf1,2\r", &mut table);
     let third = sheet::feed(second, b"\n3,", &mut table);

@@ -4,77 +4,35 @@ use Rattle.sheet.specs.Fields.{asName, asNumber, cut, fields, grownBy, v
 use Rattle.sheet.specs.Kinds.{kindOf, parting, signing}
 use Rattle.sheet.specs.Lines.{body, kept, lines, named, unmarked}
 use Rattle.sheet.specs.Says.{Told, differs, lineTrouble, orRow, rowTrouble, says, stopped, told, toldAll, toldBy, toldNames, trouble}
-use mathlib.Core.List.{List, [], _∷_}
+use mathlib.Core.List.{[], _∷_}
 use mathlib.Core.Path.{_≡_, refl}
 
 -- this is wrong, in this line and column, in a text of so many columns
 abbrev wrong : ℕ → ℕ → ℕ → ℕ → Told
 wrong kind line column columns = record { kind = kind; line = line; column = column; columns = columns; rs = [] }
 
--- ---- an empty place
--- 1,,3
-between : says 99 (49 ∷ 44 ∷ 44 ∷ 51 ∷ []) ≡ wrong 7 1 2 0
+-- `1,,3`, `,2,3`, `7,8,`, a comma alone, and 1 and 2 with a blank line between them
+empty-places : (says 99 (49 ∷ 44 ∷ 44 ∷ 51 ∷ []) ≡ wrong 7 1 2 0)
+    × (says 99 (44 ∷ 50 ∷ 44 ∷ 51 ∷ []) ≡ wrong 7 1 1 0)
+    × (says 99 (55 ∷ 44 ∷ 56 ∷ 44 ∷ []) ≡ wrong 7 1 3 0)
+    × (says 99 (44 ∷ []) ≡ wrong 7 1 1 0)
+    × (says 99 (49 ∷ 10 ∷ 10 ∷ 50 ∷ []) ≡ record { kind = 7; line = 2; column = 1; columns = 1; rs = (1 ∷ []) ∷ [] })
 unfolding says toldAll told toldBy toldNames stopped lineTrouble trouble orRow rowTrouble differs lines kept unmarked body named cut fields value grownBy asNumber asName kindOf parting signing
-between = refl
+empty-places = (refl, refl, refl, refl, refl)
 
--- ,2,3
-before : says 99 (44 ∷ 50 ∷ 44 ∷ 51 ∷ []) ≡ wrong 7 1 1 0
+-- a first row is no names: `1.5,2`, `-1,2`, `1;2`, and 1 behind the mark, with a carriage return and a newline
+first-rows : (says 99 (49 ∷ 46 ∷ 53 ∷ 44 ∷ 50 ∷ []) ≡ wrong 1 1 1 0)
+    × (says 99 (45 ∷ 49 ∷ 44 ∷ 50 ∷ []) ≡ wrong 1 1 1 0)
+    × (says 99 (49 ∷ 59 ∷ 50 ∷ []) ≡ record { kind = 0; line = 2; column = 0; columns = 2; rs = (1 ∷ 2 ∷ []) ∷ [] })
+    × (says 99 (239 ∷ 187 ∷ 191 ∷ 49 ∷ 13 ∷ 10 ∷ []) ≡ record { kind = 0; line = 2; column = 0; columns = 1; rs = (1 ∷ []) ∷ [] })
 unfolding says toldAll told toldBy toldNames stopped lineTrouble trouble orRow rowTrouble differs lines kept unmarked body named cut fields value grownBy asNumber asName kindOf parting signing
-before = refl
+first-rows = (refl, refl, refl, refl)
 
--- 7,8,
-behind : says 99 (55 ∷ 44 ∷ 56 ∷ 44 ∷ []) ≡ wrong 7 1 3 0
+-- `a;b` above `1,5;2`, so that a decimal comma shows itself; `a,b` above `007 8`; names alone; and nothing
+names-above : (says 99 (97 ∷ 59 ∷ 98 ∷ 10 ∷ 49 ∷ 44 ∷ 53 ∷ 59 ∷ 50 ∷ []) ≡ wrong 4 2 3 2)
+    × (says 99 (97 ∷ 44 ∷ 98 ∷ 10 ∷ 48 ∷ 48 ∷ 55 ∷ 32 ∷ 56 ∷ [])
+    ≡ record { kind = 0; line = 3; column = 0; columns = 2; rs = (7 ∷ 8 ∷ []) ∷ [] })
+    × (says 99 (97 ∷ 10 ∷ []) ≡ wrong 8 2 1 1)
+    × (says 99 [] ≡ wrong 8 1 1 0)
 unfolding says toldAll told toldBy toldNames stopped lineTrouble trouble orRow rowTrouble differs lines kept unmarked body named cut fields value grownBy asNumber asName kindOf parting signing
-behind = refl
-
--- a comma alone
-lone-comma : says 99 (44 ∷ []) ≡ wrong 7 1 1 0
-unfolding says toldAll told toldBy toldNames stopped lineTrouble trouble orRow rowTrouble differs lines kept unmarked body named cut fields value grownBy asNumber asName kindOf parting signing
-lone-comma = refl
-
--- 1, a blank line, 2
-blank-between : says 99 (49 ∷ 10 ∷ 10 ∷ 50 ∷ []) ≡ record { kind = 7; line = 2; column = 1; columns = 1; rs = (1 ∷ []) ∷ [] }
-unfolding says toldAll told toldBy toldNames stopped lineTrouble trouble orRow rowTrouble differs lines kept unmarked body named cut fields value grownBy asNumber asName kindOf parting signing
-blank-between = refl
-
--- ---- a first row that is no names
--- 1.5,2
-point : says 99 (49 ∷ 46 ∷ 53 ∷ 44 ∷ 50 ∷ []) ≡ wrong 1 1 1 0
-unfolding says toldAll told toldBy toldNames stopped lineTrouble trouble orRow rowTrouble differs lines kept unmarked body named cut fields value grownBy asNumber asName kindOf parting signing
-point = refl
-
--- -1,2
-sign : says 99 (45 ∷ 49 ∷ 44 ∷ 50 ∷ []) ≡ wrong 1 1 1 0
-unfolding says toldAll told toldBy toldNames stopped lineTrouble trouble orRow rowTrouble differs lines kept unmarked body named cut fields value grownBy asNumber asName kindOf parting signing
-sign = refl
-
--- 1;2
-semicolon : says 99 (49 ∷ 59 ∷ 50 ∷ []) ≡ record { kind = 0; line = 2; column = 0; columns = 2; rs = (1 ∷ 2 ∷ []) ∷ [] }
-unfolding says toldAll told toldBy toldNames stopped lineTrouble trouble orRow rowTrouble differs lines kept unmarked body named cut fields value grownBy asNumber asName kindOf parting signing
-semicolon = refl
-
--- 1 behind the mark, with a carriage return and a newline
-mark : says 99 (239 ∷ 187 ∷ 191 ∷ 49 ∷ 13 ∷ 10 ∷ []) ≡ record { kind = 0; line = 2; column = 0; columns = 1; rs = (1 ∷ []) ∷ [] }
-unfolding says toldAll told toldBy toldNames stopped lineTrouble trouble orRow rowTrouble differs lines kept unmarked body named cut fields value grownBy asNumber asName kindOf parting signing
-mark = refl
-
--- ---- names
--- a;b above 1,5;2: a decimal comma shows itself
-decimal-comma : says 99 (97 ∷ 59 ∷ 98 ∷ 10 ∷ 49 ∷ 44 ∷ 53 ∷ 59 ∷ 50 ∷ []) ≡ wrong 4 2 3 2
-unfolding says toldAll told toldBy toldNames stopped lineTrouble trouble orRow rowTrouble differs lines kept unmarked body named cut fields value grownBy asNumber asName kindOf parting signing
-decimal-comma = refl
-
--- a,b above 007 8
-zeros : says 99 (97 ∷ 44 ∷ 98 ∷ 10 ∷ 48 ∷ 48 ∷ 55 ∷ 32 ∷ 56 ∷ []) ≡ record { kind = 0; line = 3; column = 0; columns = 2; rs = (7 ∷ 8 ∷ []) ∷ [] }
-unfolding says toldAll told toldBy toldNames stopped lineTrouble trouble orRow rowTrouble differs lines kept unmarked body named cut fields value grownBy asNumber asName kindOf parting signing
-zeros = refl
-
--- names alone
-names-alone : says 99 (97 ∷ 10 ∷ []) ≡ wrong 8 2 1 1
-unfolding says toldAll told toldBy toldNames stopped lineTrouble trouble orRow rowTrouble differs lines kept unmarked body named cut fields value grownBy asNumber asName kindOf parting signing
-names-alone = refl
-
--- nothing
-nothing : says 99 [] ≡ wrong 8 1 1 0
-unfolding says toldAll told toldBy toldNames stopped lineTrouble trouble orRow rowTrouble differs lines kept unmarked body named cut fields value grownBy asNumber asName kindOf parting signing
-nothing = refl
+names-above = (refl, refl, refl, refl)

@@ -1,5 +1,5 @@
 -- When each fault is told, and that no row is lost. Assumes nothing.
-use Prim.Native.Nat.{_+_, _<_, _≤_, ℕ}
+use Prim.Native.Nat.{_+_, _≤_, ℕ}
 use Rattle.laws.specs.Lists.{all, joined}
 use Rattle.sheet.proofs.Sheets.{sheet-read}
 use Rattle.sheet.specs.Fields.{asName, asNumber, isDigit, value}
@@ -13,7 +13,7 @@ use borrow.Author.Tests.{eqb-false, eqb-true, le-leb, leb-false, leb-true, lt-le
 use lib.Dec.{T, eqb, leb}
 use lib.ListN.{length, length-append, length-map}
 use mathlib.Core.Bool.{Bool, cond, false, true}
-use mathlib.Core.List.{List, [], _++_, _∷_, map}
+use mathlib.Core.List.{List, [], _∷_, map}
 use mathlib.Core.Logic.{_⊎_, inl, inr}
 use mathlib.Core.Path.{_∙_, _≡_, ap, refl, subst, sym}
 use native.Mathlib.Nat.{add-zero}

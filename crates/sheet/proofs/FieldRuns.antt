@@ -1,7 +1,6 @@
 -- A line's fields, gathered from left to right: what the reader of a line does at each byte. Assumes nothing.
-use Prim.Native.Nat.{ℕ}
 use Rattle.laws.specs.Lists.{all, each, keep}
-use Rattle.sheet.specs.Fields.{cut, cutUp, fields, isBlank, isParting, orEmpty, something, words}
+use Rattle.sheet.specs.Fields.{cut, fields, isBlank, isParting, orEmpty, something, words}
 use Rattle.sheet.specs.declared.bytes.Kind.the-variants.{Blank, Digit, Other, Parting, Sign}
 use Rattle.sheet.specs.declared.bytes.Kind.{Kind}
 use Rattle.laws.proofs.Never.{never}

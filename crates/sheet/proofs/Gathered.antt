@@ -2,13 +2,13 @@
 use Prim.Native.Nat.{_+_, _≤_, ℕ}
 use Rattle.laws.specs.Lists.{all, any}
 use Rattle.sheet.proofs.LineRuns.{addF, figureWith, gather, heldIn}
-use Rattle.sheet.specs.Fields.{asName, asNumber, figured, isDigit, isFigure, value}
+use Rattle.sheet.specs.Fields.{asName, asNumber, figured, isDigit, value}
 use Rattle.sheet.specs.InLine.{added, emptied, marked, onlyEmpty}
 use Rattle.sheet.specs.Says.{none, trouble}
 use Rattle.sheet.specs.declared.bytes.Kind.{Kind}
 use Rattle.sheet.specs.declared.line.Line.{Line}
 use Rattle.sheet.specs.declared.line.Trouble.{Trouble}
-use borrow.Author.Tests.{eqb-false, eqb-true, leb-false, lt-leb, ne-eqb}
+use borrow.Author.Tests.{eqb-false, leb-false, lt-leb, ne-eqb}
 use lib.Dec.{eqb, leb}
 use lib.ListN.{length, length-set, replicate, set, take}
 use lib.Seq.{take-suc-set}

@@ -2,12 +2,12 @@
 use Prim.Native.Nat.{_+_, _≤_, ℕ}
 use Rattle.laws.specs.Lists.{any}
 use Rattle.sheet.proofs.Closings.{closed-bare, closed-full, decided-failed, decided-taken, decided-titled, judged-blank, judged-none}
-use Rattle.sheet.proofs.FieldRuns.{at-behind, blank-rest, fields-rest}
+use Rattle.sheet.proofs.FieldRuns.{blank-rest, fields-rest}
 use Rattle.sheet.proofs.Gathered.{line-figure, line-names, line-numbers, line-row, line-titles}
 use Rattle.sheet.proofs.Laying.{laid}
-use Rattle.sheet.proofs.LineRuns.{at, gather, line-bare, line-fields, through}
+use Rattle.sheet.proofs.LineRuns.{gather, line-bare, line-fields, through}
 use Rattle.sheet.proofs.Texts.{hold-through, whole, whole-fine}
-use Rattle.sheet.specs.Closing.{closed, counted, decided, endTrouble, failed, firstBlank, judged, onward, orWide, titles}
+use Rattle.sheet.specs.Closing.{closed, decided, endTrouble, failed, firstBlank, judged, onward, orWide, titles}
 use Rattle.sheet.specs.Fields.{asName, asNumber, figured, value}
 use Rattle.sheet.specs.InLine.{emptied, settled}
 use Rattle.sheet.specs.Lines.{blankLine, fieldsOf, kinds, named, numbers}
@@ -16,13 +16,13 @@ use Rattle.sheet.specs.Says.{lineTrouble, none, orRow, rowTrouble, troub
 use Rattle.sheet.specs.declared.Reader.{Reader}
 use Rattle.sheet.specs.declared.line.Line.{Line}
 use Rattle.sheet.specs.declared.line.Trouble.{Trouble}
-use borrow.Author.Tests.{eq-eqb, eqb-true, le-ltb, ne-eqb}
+use borrow.Author.Tests.{eqb-true, le-ltb}
 use lib.Dec.{eqb, ltb}
 use lib.ListN.{drop, length, length-map, take}
 use lib.Seq.{paste}
 use mathlib.Core.Bool.{Bool, _&&_, cond, false, not, true}
-use mathlib.Core.List.{List, [], _++_, _∷_, map}
-use mathlib.Core.Path.{_∙_, _≡_, ap, refl, subst, sym}
+use mathlib.Core.List.{List, [], _++_, _∷_}
+use mathlib.Core.Path.{_∙_, _≡_, ap, refl, sym}
 use native.Mathlib.Omega.{arith}
 
 -- the reader stands at the start of a line, and nothing was wrong

@@ -1,5 +1,5 @@
 -- One line read whole: its fields are judged one after the other. Assumes nothing.
-use Prim.Native.Nat.{_*_, _+_, _<_, _≤_, ℕ}
+use Prim.Native.Nat.{_*_, _+_, ℕ}
 use Rattle.laws.specs.Lists.{all}
 use Rattle.sheet.proofs.FieldRuns.{Spot, at-behind, at-open, at-word, emit, ending, fields-rest, move, rest}
 use Rattle.sheet.specs.Closing.{bare}

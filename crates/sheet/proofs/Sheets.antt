@@ -8,7 +8,6 @@ use Rattle.sheet.proofs.Runs.{pieces}
 use Rattle.sheet.proofs.Texts.{behindMark, lines-run, mark-run, whole, wholes, wholes-stay}
 use Rattle.sheet.specs.Closing.{counted, failed, firstBlank, onward}
 use Rattle.sheet.specs.Fields.{asName, asNumber, cut, cutAt, cutUp}
-use Rattle.sheet.specs.InLine.{emptied}
 use Rattle.sheet.specs.Lines.{blankLine, fieldsOf, isNewline, kept, lines, named, numbers, onto, unmarked}
 use Rattle.sheet.specs.Reading.{begun, ended, finished, inside, next, run}
 use Rattle.sheet.specs.Reads.{Reads}
@@ -154,15 +153,20 @@ blank-stood (l ∷ ls) r table h z = go (blankLine l) refl (blank-stood ls)
         (ap (λ (s : Reader × List ℕ). done (wholes s ls)) (sym (below-closed r table l h e z)))
         (fail-stood r table (ended-line l) (r .blank) (record { kind = 7; column = 1 }) ls (λ (n : _≡_ {A = ℕ} 7 0). omega arith))
 
+-- no blank line above
+none-above : (blank line : ℕ) → blank ≡ 0 → firstBlank blank line ≡ line
+unfolding firstBlank
+none-above blank line z = rw (eq-eqb blank 0 z)
+
 -- a first blank line, behind no other
 first-blank : (l : List ℕ) (ls : List (List ℕ)) (r : Reader) (table : List ℕ) → Fresh r → r .blank ≡ 0 → 1 ≤ r .line → blankLine l ≡ true
     → Stood (r .rows) (r .put) table (afterBlank (r .line) (r .columns) (r .rows) (kept ls)) (done (wholes (whole (r, table) l) ls))
-unfolding onward firstBlank
+unfolding onward
 first-blank l ls r table h b m e =
     swap refl
     (ap (λ (s : Reader × List ℕ). done (wholes s ls))
     (sym (blank-closed r table l h e
-    ∙ ap (λ (k : ℕ). (onward r (cond (eqb k 0) (r .line) k) (r .columns) (r .rows) (r .put), table)) b)))
+    ∙ ap (λ (k : ℕ). (onward r k (r .columns) (r .rows) (r .put), table)) (none-above (r .blank) (r .line) b))))
     (blank-stood ls (onward r (r .line) (r .columns) (r .rows) (r .put)) table (onward-fresh r (r .line) (r .columns) (r .rows) (r .put) h)
     (λ (z : r .line ≡ 0). omega arith))
 
@@ -251,11 +255,6 @@ module _ (l : List ℕ) (ls : List (List ℕ)) (r : Reader) (table : List ℕ) (
           rw e
           (swap refl (ap (λ (s : Reader × List ℕ). done (wholes s ls)) (sym (row-failed r table l h n b y z)))
           (fail-stood r table (ended-line l) (r .line) (lineTrouble (r .columns) (r .rows) (r .put) (length table) l) ls z))
-
--- no blank line above
-none-above : (blank line : ℕ) → blank ≡ 0 → firstBlank blank line ≡ line
-unfolding firstBlank
-none-above blank line z = rw (eq-eqb blank 0 z)
 
 -- lines below the first
 lines-stood : (ls : List (List ℕ)) → Below ls

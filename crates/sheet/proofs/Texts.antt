@@ -1,5 +1,5 @@
 -- A text, line by line: the mark at its start, the carriage returns, and the newlines. Assumes nothing.
-use Prim.Native.Nat.{_+_, _≤_, ℕ}
+use Prim.Native.Nat.{_≤_, ℕ}
 use Rattle.sheet.proofs.Closings.{closed-cases, decided-cases}
 use Rattle.sheet.proofs.LineRuns.{through}
 use Rattle.sheet.proofs.Runs.{next-read, next-stays, read-newline, read-other, read-return}
@@ -12,13 +12,12 @@ use Rattle.sheet.specs.Reading.{begun, inside, markByte, marking, next, 
 use Rattle.sheet.specs.declared.Reader.{Reader}
 use Rattle.sheet.specs.declared.bytes.Kind.the-variants.{Other}
 use Rattle.sheet.specs.declared.line.Line.{Line}
-use borrow.Author.Tests.{eq-eqb, eqb-false, eqb-true, le-leb, ne-eqb}
-use lib.Dec.{eqb, leb}
+use borrow.Author.Tests.{eq-eqb, eqb-false, eqb-true, ne-eqb}
+use lib.Dec.{eqb}
 use lib.ListN.{length}
-use mathlib.Core.Bool.{Bool, _&&_, cond, false, true}
+use mathlib.Core.Bool.{Bool, cond, false, true}
 use mathlib.Core.List.{List, [], _++_, _∷_, map}
 use mathlib.Core.Path.{_∙_, _≡_, ap, refl, subst, sym}
-use native.Mathlib.Omega.{arith}
 
 -- ---- carriage returns
 -- a line with a carriage return that was held back, or none

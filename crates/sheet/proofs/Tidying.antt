@@ -18,7 +18,7 @@ use Rattle.laws.proofs.Never.{never}
 use borrow.Author.Tests.{eq-eqb, eqb-true}
 use lib.Dec.{eqb, leb}
 use lib.ListN.{length, length-set, set, take}
-use lib.Seq.{length-paste, length-take-le, paste}
+use lib.Seq.{length-paste, length-take-le}
 use mathlib.Core.Bool.{Bool, _&&_, cond, false, not, true}
 use mathlib.Core.List.{List, [], _∷_}
 use mathlib.Core.Path.{_∙_, _≡_, ap, refl, sym}

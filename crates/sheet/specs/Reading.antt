@@ -5,7 +5,6 @@ use Rattle.sheet.specs.InLine.{along, emptied}
 use Rattle.sheet.specs.Kinds.{kindOf}
 use Rattle.sheet.specs.declared.Reader.{Reader}
 use Rattle.sheet.specs.declared.bytes.Kind.the-variants.{Other}
-use Rattle.sheet.specs.declared.bytes.Kind.{Kind}
 use Rattle.sheet.specs.declared.line.Line.{Line}
 use lib.Dec.{eqb, leb}
 use mathlib.Core.Bool.{Bool, _&&_, cond, false, true}
