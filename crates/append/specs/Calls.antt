@@ -1,7 +1,6 @@
 -- What the call promises: 02, R-2. Assumes nothing.
 use Prim.Native.Nat.{_*_, _+_, _≤_, ℕ}
 use Rattle.appending.specs.Append.{appended}
-use Rattle.build.specs.Filled.{shortOf}
 use Rattle.laws.specs.Every.{Every}
 use Rattle.limits.specs.Limits.{maxRows}
 use Rattle.limits.specs.Said.{Said, fault, said, tableFaults}
@@ -9,9 +8,9 @@ use Rattle.measure.specs.Table.{rowsOf}
 use Rattle.tree.specs.Calls.{roomOf}
 use Rattle.words.specs.Shape.{shapeOk}
 use Rattle.words.specs.Words.{N#, c#, n#, wordsOk}
-use lib.Dec.{eqb}
+use lib.Dec.{eqb, ltb}
 use lib.ListN.{drop, length, replicate}
-use mathlib.Core.Bool.{_&&_, cond, not}
+use mathlib.Core.Bool.{_&&_, _||_, cond, not}
 use mathlib.Core.List.{List, _++_}
 use mathlib.Core.Path.{_≡_}
 
@@ -24,7 +23,7 @@ olderFaults w n c = fault 8 (not (wordsOk w && eqb (n# w + 1) n && eqb (c# w) c)
 unfoldable pub saidAppend : List ℕ → ℕ → List ℕ → ℕ → ℕ → Said
 saidAppend T c w room work =
     let n = rowsOf T c in
-    said (tableFaults (length T) c ++ fault 5 (shortOf n room work) ++ olderFaults w n c)
+    said (tableFaults (length T) c ++ fault 5 (ltb room (roomOf n) || ltb work (6 * n)) ++ olderFaults w n c)
 
 -- For every input: the number is the lowest that applies. On 0 the index with the table's last row in it stands at the front of the room and the
 -- first 6n words of the workspace are zero, both as they were beyond that; on a refusal both are as they were and the counts are 0

@@ -1,5 +1,4 @@
--- What the layers above use of an index in shape: the words' and the shape's tests, read node by node. A working notion, on which no promise rests.
--- Assumes nothing.
+-- What the layers above use of an index in shape: the words' and the shape's tests, read node by node. Assumes nothing.
 use Prim.Native.Nat.{_*_, _+_, _-_, _<_, _≤_, ℕ}
 use Rattle.limits.specs.Limits.{maxCentres, maxColumns, maxDepth, maxDistance, maxLeaf, maxRows, minCentres}
 use Rattle.words.specs.Shape.{inner, level, tile}
