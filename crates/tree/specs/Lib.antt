@@ -1,4 +1,5 @@
 pub mod Grove
+pub mod Tested
 pub mod Encode
 pub mod Build
 pub mod Check

@@ -33,12 +33,6 @@ little : (c : tie.After-join-row)
     → c .join-row .result ≤ 2 * (n# (start (c .before .before .before .before .before) .args .index .now) + 1)
 little c = c .join-row .ensures .few
 
-refusal-of-requires : tie.Need-refusal-of-requires
-refusal-of-requires c κs = search needs
-
-refused-requires : tie.Need-refused-requires
-refused-requires c κs = search needs
-
 returns : tie.Need-returns
 returns c = refused-appends (narrow (c .before .before .before .before .before .before)) (c .before .before .refusal-of .ensures) (c .before .if1 .taken) (c .refused .ensures)
 
@@ -53,15 +47,6 @@ centres-requires c κs = header-there (none (c .before .before))
 
 leaf-size-requires : tie.Need-leaf-size-requires
 leaf-size-requires c κs = header-there (none (c .before .before .before))
-
-build-requires : tie.Need-build-requires
-build-requires c κs = search needs
-
-same-length : tie.Need-same-length
-same-length c = search needs
-
-same-length-2 : tie.Need-same-length-2
-same-length-2 c = search needs
 
 returns-2 : tie.Need-returns-2
 returns-2 c =
@@ -88,24 +73,6 @@ join-row-requires c κs =
     let i = c .before .before in
     joinable (none (i .before .before)) (ap (λ (k : ℕ). k + 1) (i .before .rows .ensures .0)) (i .if2 .left)
 
-mul-t10 : tie.Need-mul-t10
-mul-t10 c = search needs
-
-add-t11 : tie.Need-add-t11
-add-t11 c = search needs
-
-mul-t23 : tie.Need-mul-t23
-mul-t23 c = search needs
-
-add-t24 : tie.Need-add-t24
-add-t24 c = search needs
-
-same-length-3 : tie.Need-same-length-3
-same-length-3 c = search needs
-
-same-length-4 : tie.Need-same-length-4
-same-length-4 c = search needs
-
 returns-3 : tie.Need-returns-3
 returns-3 c =
     let j = c .before .before .before .before in
@@ -116,25 +83,25 @@ pub append-spec : {M : Type 1} → statement M
 append-spec =
     tie.close
     (tie.spec
-    refusal-of-requires
-    refused-requires
+    (λ c κs. search needs)
+    (λ c κs. search needs)
     returns
     rows-requires
     add-n
     centres-requires
     leaf-size-requires
-    build-requires
-    same-length
-    same-length-2
+    (λ c κs. search needs)
+    (λ c. search needs)
+    (λ c. search needs)
     returns-2
     mul-used
     slice-relend-prefix-join-row
     slice-aggregate-join-row
     join-row-requires
-    mul-t10
-    add-t11
-    mul-t23
-    add-t24
-    same-length-3
-    same-length-4
+    (λ c. search needs)
+    (λ c. search needs)
+    (λ c. search needs)
+    (λ c. search needs)
+    (λ c. search needs)
+    (λ c. search needs)
     returns-3)

@@ -45,15 +45,6 @@ refill-requires c κs =
     let r = counted f in
     regrowable (start r .pre) (r .rows .ensures .0) (f .leaf-for .ensures) (l .lay-leaf .ensures) (m .limit-for .ensures)
 
-clear-words-requires : tie.Need-clear-words-requires
-clear-words-requires c κs = search needs
-
-same-length : tie.Need-same-length
-same-length c = search needs
-
-same-length-2 : tie.Need-same-length-2
-same-length-2 c = search needs
-
 returns : tie.Need-returns
 returns c =
     let k = c .before .before in
@@ -75,7 +66,7 @@ join-row-spec =
     lay-leaf-requires
     limit-for-requires
     refill-requires
-    clear-words-requires
-    same-length
-    same-length-2
+    (λ c κs. search needs)
+    (λ c. search needs)
+    (λ c. search needs)
     returns)

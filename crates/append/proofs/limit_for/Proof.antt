@@ -4,9 +4,6 @@ use Rattle.append.proofs.limit_for.Statement.{statement}
 use Rattle.append.proofs.limit_for.Tie as tie
 use borrow.Author.Needs.{needs}
 
-leaf-size-requires : tie.Need-leaf-size-requires
-leaf-size-requires c κs = search needs
-
 returns : tie.Need-returns
 returns c = rw (c .if1 .taken)
 
@@ -14,4 +11,4 @@ returns-2 : tie.Need-returns-2
 returns-2 c = rw (c .before .if1 .left) (c .leaf-size .ensures .0)
 
 pub limit-for-spec : {M : Type 1} → statement M
-limit-for-spec = tie.close (tie.spec leaf-size-requires returns returns-2)
+limit-for-spec = tie.close (tie.spec (λ c κs. search needs) returns returns-2)

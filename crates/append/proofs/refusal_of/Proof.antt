@@ -13,9 +13,6 @@ use native.Mathlib.Omega.{arith}
 right : (c : tie.Else1) → Sized (length (c .before .before .before .before .args .table .now)) (c .before .before .before .before .args .c)
 right c = sized _ _ (sym (c .before .table-number .ensures) ∙ c .if1 .left)
 
-table-number-requires : tie.Need-table-number-requires
-table-number-requires c κs = search needs
-
 returns : tie.Need-returns
 returns c = by-table _ _ _ _ _ (c .before .table-number .ensures) (c .if1 .taken)
 
@@ -39,9 +36,6 @@ returns-3 c =
 sub-index-number : tie.Need-sub-index-number
 sub-index-number c = omega arith
 
-index-number-requires : tie.Need-index-number-requires
-index-number-requires c κs = search needs
-
 returns-4 : tie.Need-returns-4
 returns-4 c =
     let s = c .before .before .before in
@@ -53,12 +47,12 @@ pub refusal-of-spec : {M : Type 1} → statement M
 refusal-of-spec =
     tie.close
     (tie.spec
-    table-number-requires
+    (λ c κs. search needs)
     returns
     div-n
     too-short-requires
     returns-2
     returns-3
     sub-index-number
-    index-number-requires
+    (λ c κs. search needs)
     returns-4)

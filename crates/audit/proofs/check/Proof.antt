@@ -26,9 +26,6 @@ going c =
     let a = start c .args in
     clear (a .table .now) (a .c) (a .index .now) (length (a .work .now)) (none c)
 
-refusal-of-requires : tie.Need-refusal-of-requires
-refusal-of-requires c κs = search needs
-
 returns : tie.Need-returns
 returns c =
     let a = c .before .before .before .before .before .args in
@@ -39,9 +36,6 @@ first-fault-requires c κs =
     let P = going (c .before) in
     (P .index, (omega (arith, P .words, P .index .rows), words-whole _ (P .there) .0))
 
-same-length : tie.Need-same-length
-same-length c = search needs
-
 returns-2 : tie.Need-returns-2
 returns-2 c =
     let e = c .before .before .before .before in
@@ -51,4 +45,4 @@ returns-2 c =
 
 pub check-spec : {M : Type 1} → statement M
 check-spec =
-    tie.close (tie.spec refusal-of-requires returns first-fault-requires same-length returns-2)
+    tie.close (tie.spec (λ c κs. search needs) returns first-fault-requires (λ c. search needs) returns-2)

@@ -33,25 +33,10 @@ at-end c =
     wiped-again _ (start (first c) .args .work .now) (marks .last .1 .0) (first c .before .before .rows .ensures .0) (before-marks (first c))
     (marks .ensures .1) (c .clear-words2 .ensures)
 
-rows-requires : tie.Need-rows-requires
-rows-requires c κs = search needs
-
-clear-words-requires : tie.Need-clear-words-requires
-clear-words-requires c κs = search needs
-
 first-again-requires : tie.Need-first-again-requires
 first-again-requires c κs =
     let f = c .before .before .before in
     (start f .pre .0 .shape, subst (Clear (n# (start f .args .index .now))) (sym (before-marks f)) (wiped-clear _ _ (omega arith)))
-
-mul-clear-words : tie.Need-mul-clear-words
-mul-clear-words c = search needs
-
-clear-words-requires-2 : tie.Need-clear-words-requires-2
-clear-words-requires-2 c κs = search needs
-
-same-length : tie.Need-same-length
-same-length c = search needs
 
 returns : tie.Need-returns
 returns c =
@@ -60,12 +45,6 @@ returns c =
     let p = l .before .before .before .before .first-again in
     let n = first l .before .before .rows .ensures .0 in
     (again-found (between (a .table .now) (a .c)) (a .index .now) (p .result) (p .ensures .0) (omega (arith, n)), at-end l)
-
-measured-fault-requires : tie.Need-measured-fault-requires
-measured-fault-requires c κs = search needs
-
-same-length-2 : tie.Need-same-length-2
-same-length-2 c = search needs
 
 returns-2 : tie.Need-returns-2
 returns-2 c =
@@ -80,13 +59,13 @@ pub first-fault-spec : {M : Type 1} → statement M
 first-fault-spec =
     tie.close
     (tie.spec
-    rows-requires
-    clear-words-requires
+    (λ c κs. search needs)
+    (λ c κs. search needs)
     first-again-requires
-    mul-clear-words
-    clear-words-requires-2
-    same-length
+    (λ c. search needs)
+    (λ c κs. search needs)
+    (λ c. search needs)
     returns
-    measured-fault-requires
-    same-length-2
+    (λ c κs. search needs)
+    (λ c. search needs)
     returns-2)

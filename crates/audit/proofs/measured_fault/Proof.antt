@@ -21,24 +21,12 @@ earlier k = k .before .before .before
 abbrev dist : tie.Start → ℕ → ℕ → ℕ
 dist s = between (s .args .table .now) (s .args .c)
 
-first-wrong-distance-requires : tie.Need-first-wrong-distance-requires
-first-wrong-distance-requires c κs = search needs
-
-rows-requires : tie.Need-rows-requires
-rows-requires c κs = search needs
-
 returns : tie.Need-returns
 returns c =
     let p = c .before .before in
     let s = start p in
     let r = p .first-wrong-distance in
     distance-found (dist s) (s .args .index .now) (r .result) (r .ensures) (omega arith)
-
-first-wrong-reach-requires : tie.Need-first-wrong-reach-requires
-first-wrong-reach-requires c κs = search needs
-
-nodes-requires : tie.Need-nodes-requires
-nodes-requires c κs = search needs
 
 returns-2 : tie.Need-returns-2
 returns-2 c =
@@ -47,9 +35,6 @@ returns-2 c =
     let p = earlier later .first-wrong-distance in
     let k = later .first-wrong-reach in
     radius-found (dist s) (s .args .index .now) (p .result) (p .ensures) (k .result) (k .ensures) (omega arith) (omega arith)
-
-closeness-requires : tie.Need-closeness-requires
-closeness-requires c κs = search needs
 
 returns-3 : tie.Need-returns-3
 returns-3 c =
@@ -64,11 +49,11 @@ pub measured-fault-spec : {M : Type 1} → statement M
 measured-fault-spec =
     tie.close
     (tie.spec
-    first-wrong-distance-requires
-    rows-requires
+    (λ c κs. search needs)
+    (λ c κs. search needs)
     returns
-    first-wrong-reach-requires
-    nodes-requires
+    (λ c κs. search needs)
+    (λ c κs. search needs)
     returns-2
-    closeness-requires
+    (λ c κs. search needs)
     returns-3)

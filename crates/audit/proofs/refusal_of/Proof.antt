@@ -8,9 +8,6 @@ use borrow.Author.Needs.{needs}
 use mathlib.Core.Path.{_∙_, sym}
 use native.Mathlib.Omega.{arith}
 
-table-number-requires : tie.Need-table-number-requires
-table-number-requires c κs = search needs
-
 returns : tie.Need-returns
 returns c = by-table _ _ _ _ (c .before .table-number .ensures) (c .if1 .taken)
 
@@ -23,9 +20,6 @@ mul-if2 c = omega (arith, sized _ _ (sym (c .before .table-number .ensures) ∙ 
 returns-2 : tie.Need-returns-2
 returns-2 c = five _ _ _ _ (c .before .before .table-number .ensures) (c .before .if1 .left) (c .if2 .taken)
 
-index-number-requires : tie.Need-index-number-requires
-index-number-requires c κs = search needs
-
 returns-3 : tie.Need-returns-3
 returns-3 c =
     by-index _ _ _ _ (c .before .before .before .table-number .ensures) (c .before .before .if1 .left) (c .before .if2 .left) (c .index-number .ensures)
@@ -34,10 +28,10 @@ pub refusal-of-spec : {M : Type 1} → statement M
 refusal-of-spec =
     tie.close
     (tie.spec
-    table-number-requires
+    (λ c κs. search needs)
     returns
     div-n
     mul-if2
     returns-2
-    index-number-requires
+    (λ c κs. search needs)
     returns-3)

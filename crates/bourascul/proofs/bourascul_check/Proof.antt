@@ -6,9 +6,6 @@ use Rattle.bourascul.proofs.bourascul_check.Tie as tie
 use borrow.Author.Needs.{needs}
 use native.Mathlib.Omega.{arith}
 
-check-requires : tie.Need-check-requires
-check-requires c κs = search needs
-
 cast-t9 : tie.Need-cast-t9
 cast-t9 c =
     let check = c .before .before .before .check in
@@ -19,11 +16,5 @@ cast-t10 c =
     let check = c .before .before .before .before .check in
     let small = check-small (check .ensures) in omega (arith, small .0, small .1)
 
-same-length : tie.Need-same-length
-same-length c = search needs
-
-returns : tie.Need-returns
-returns c = search needs
-
 pub bourascul-check-spec : {M : Type 1} → statement M
-bourascul-check-spec = tie.close (tie.spec check-requires cast-t9 cast-t10 same-length returns)
+bourascul-check-spec = tie.close (tie.spec (λ c κs. search needs) cast-t9 cast-t10 (λ c. search needs) (λ c. search needs))

@@ -6,9 +6,6 @@ use Rattle.words.proofs.Listed.{part-small}
 use borrow.Author.Needs.{needs}
 use native.Mathlib.Omega.{arith}
 
-part-of-requires : tie.Need-part-of-requires
-part-of-requires c κs = search needs
-
 cast-t5 : tie.Need-cast-t5
 cast-t5 c =
     let part-of = c .before .part-of in
@@ -19,8 +16,5 @@ cast-t6 c =
     let part-of = c .before .before .part-of in
     let small = part-small (part-of .ensures) in omega (arith, small .0, small .1)
 
-returns : tie.Need-returns
-returns c = search needs
-
 pub bourascul-list-spec : {M : Type 1} → statement M
-bourascul-list-spec = tie.close (tie.spec part-of-requires cast-t5 cast-t6 returns)
+bourascul-list-spec = tie.close (tie.spec (λ c κs. search needs) cast-t5 cast-t6 (λ c. search needs))

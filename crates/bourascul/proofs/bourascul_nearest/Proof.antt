@@ -6,9 +6,6 @@ use Rattle.nearest.proofs.Promises.{nearest-small}
 use borrow.Author.Needs.{needs}
 use native.Mathlib.Omega.{arith}
 
-nearest-requires : tie.Need-nearest-requires
-nearest-requires c κs = search needs
-
 cast-t21 : tie.Need-cast-t21
 cast-t21 c =
     let nearest = c .before .before .before .before .before .before .before .before .before .nearest in
@@ -19,30 +16,15 @@ cast-t22 c =
     let nearest = c .before .before .before .before .before .before .before .before .before .before .nearest in
     let small = nearest-small (nearest .ensures) in omega (arith, small .0, small .1)
 
-same-length : tie.Need-same-length
-same-length c = search needs
-
-same-length-2 : tie.Need-same-length-2
-same-length-2 c = search needs
-
-same-length-3 : tie.Need-same-length-3
-same-length-3 c = search needs
-
-same-length-4 : tie.Need-same-length-4
-same-length-4 c = search needs
-
-returns : tie.Need-returns
-returns c = search needs
-
 pub bourascul-nearest-spec : {M : Type 1} → statement M
 bourascul-nearest-spec =
     tie.close
     (tie.spec
-    nearest-requires
+    (λ c κs. search needs)
     cast-t21
     cast-t22
-    same-length
-    same-length-2
-    same-length-3
-    same-length-4
-    returns)
+    (λ c. search needs)
+    (λ c. search needs)
+    (λ c. search needs)
+    (λ c. search needs)
+    (λ c. search needs))

@@ -6,9 +6,6 @@ use Rattle.radius.proofs.Promises.{radius-small}
 use borrow.Author.Needs.{needs}
 use native.Mathlib.Omega.{arith}
 
-radius-requires : tie.Need-radius-requires
-radius-requires c κs = search needs
-
 cast-t11 : tie.Need-cast-t11
 cast-t11 c =
     let radius = c .before .before .before .radius in
@@ -19,11 +16,5 @@ cast-t12 c =
     let radius = c .before .before .before .before .radius in
     let small = radius-small (radius .ensures) in omega (arith, small .0, small .1)
 
-same-length : tie.Need-same-length
-same-length c = search needs
-
-returns : tie.Need-returns
-returns c = search needs
-
 pub bourascul-radius-spec : {M : Type 1} → statement M
-bourascul-radius-spec = tie.close (tie.spec radius-requires cast-t11 cast-t12 same-length returns)
+bourascul-radius-spec = tie.close (tie.spec (λ c κs. search needs) cast-t11 cast-t12 (λ c. search needs) (λ c. search needs))

@@ -6,19 +6,10 @@ use Rattle.card.proofs.Theorems.{read-small}
 use borrow.Author.Needs.{needs}
 use native.Mathlib.Omega.{arith}
 
-read-image-requires : tie.Need-read-image-requires
-read-image-requires c κs = search needs
-
-block-number-requires : tie.Need-block-number-requires
-block-number-requires c κs = search needs
-
 cast-t10 : tie.Need-cast-t10
 cast-t10 c =
     let read-image = c .before .before .before .before .read-image in
     omega (arith, read-small (read-image .ensures))
-
-same-length : tie.Need-same-length
-same-length c = search needs
 
 returns : tie.Need-returns
 returns c =
@@ -28,4 +19,4 @@ returns c =
 
 pub bourascul-read-spec : {M : Type 1} → statement M
 bourascul-read-spec =
-    tie.close (tie.spec read-image-requires block-number-requires cast-t10 same-length returns)
+    tie.close (tie.spec (λ c κs. search needs) (λ c κs. search needs) cast-t10 (λ c. search needs) returns)

@@ -6,9 +6,6 @@ use Rattle.nearest.proofs.Promises.{nearest-small}
 use borrow.Author.Needs.{needs}
 use native.Mathlib.Omega.{arith}
 
-within-requires : tie.Need-within-requires
-within-requires c κs = search needs
-
 cast-t22 : tie.Need-cast-t22
 cast-t22 c =
     let k = nearest-small (c .before .before .before .before .before .before .before .before .before .within .ensures) in
@@ -19,30 +16,15 @@ cast-t23 c =
     let k = nearest-small (c .before .before .before .before .before .before .before .before .before .before .within .ensures) in
     omega (arith, k .0, k .1)
 
-same-length : tie.Need-same-length
-same-length c = search needs
-
-same-length-2 : tie.Need-same-length-2
-same-length-2 c = search needs
-
-same-length-3 : tie.Need-same-length-3
-same-length-3 c = search needs
-
-same-length-4 : tie.Need-same-length-4
-same-length-4 c = search needs
-
-returns : tie.Need-returns
-returns c = search needs
-
 pub within-spec : {M : Type 1} → statement M
 within-spec =
     tie.close
     (tie.spec
-    within-requires
+    (λ c κs. search needs)
     cast-t22
     cast-t23
-    same-length
-    same-length-2
-    same-length-3
-    same-length-4
-    returns)
+    (λ c. search needs)
+    (λ c. search needs)
+    (λ c. search needs)
+    (λ c. search needs)
+    (λ c. search needs))

@@ -46,28 +46,10 @@ says c =
     let a = begun c .args in
     saidBuild (a .table .now) (a .c) (a .edition) (a .m) (a .l) (length (a .room .now)) (length (a .work .now)) .0
 
-columns-ok-requires : tie.Need-columns-ok-requires
-columns-ok-requires c κs = search needs
-
-refused-requires : tie.Need-refused-requires
-refused-requires c κs = search needs
-
 returns : tie.Need-returns
 returns c =
     let k = c .before .before in
     refused-builds (one _ _ _ _ _ _ _ (no (k .columns-ok .ensures) (c .before .if1 .taken))) (λ q. omega arith) (c .refused .ensures)
-
-new-requires : tie.Need-new-requires
-new-requires c κs = search needs
-
-enum-known-p : tie.Need-enum-known-p
-enum-known-p c = search needs
-
-enum-told : tie.Need-enum-told
-enum-told c = search needs
-
-refused-requires-2 : tie.Need-refused-requires-2
-refused-requires-2 c κs = search needs
 
 returns-2 : tie.Need-returns-2
 returns-2 c =
@@ -79,9 +61,6 @@ returns-2 c =
 
 lengths-number-requires : tie.Need-lengths-number-requires
 lengths-number-requires c κs = columns-are _ (columns (tested (c .before))) .0
-
-refused-requires-3 : tie.Need-refused-requires-3
-refused-requires-3 c κs = search needs
 
 -- the number of the lengths is what the call says
 said-is : (c : tie.After-lengths-number) → c .lengths-number .result ≡ says (c .before .before)
@@ -153,12 +132,6 @@ mul-t17 c = omega (arith, few (c .before .before .before .before))
 add-t23 : tie.Need-add-t23
 add-t23 c = omega (arith, few (c .before .before .before .before))
 
-same-length : tie.Need-same-length
-same-length c = search needs
-
-same-length-2 : tie.Need-same-length-2
-same-length-2 c = search needs
-
 returns-4 : tie.Need-returns-4
 returns-4 c =
     let f = c .before .before .before .before in
@@ -168,16 +141,16 @@ pub build-spec : {M : Type 1} → statement M
 build-spec =
     tie.close
     (tie.spec
-    columns-ok-requires
-    refused-requires
+    (λ c κs. search needs)
+    (λ c κs. search needs)
     returns
-    new-requires
-    enum-known-p
-    enum-told
-    refused-requires-2
+    (λ c κs. search needs)
+    (λ c. search needs)
+    (λ c. search needs)
+    (λ c κs. search needs)
     returns-2
     lengths-number-requires
-    refused-requires-3
+    (λ c κs. search needs)
     returns-3
     div-n
     mul-used
@@ -188,6 +161,6 @@ build-spec =
     add-t18
     mul-t17
     add-t23
-    same-length
-    same-length-2
+    (λ c. search needs)
+    (λ c. search needs)
     returns-4)

@@ -29,20 +29,11 @@ long c = search needs
 few : (c : tie.After-grow) → (c .grow .result ≤ 2 * start c .args .n) × (start c .args .n ≤ maxRows)
 few c = (c .grow .ensures .few, start c .pre .fit .rows)
 
-grow-requires : tie.Need-grow-requires
-grow-requires c κs = search needs
-
-put-header-requires : tie.Need-put-header-requires
-put-header-requires c κs = search needs
-
 mul-at : tie.Need-mul-at
 mul-at c = omega (arith, few (grown (c .before .before)))
 
 add-at : tie.Need-add-at
 add-at c = omega (arith, few (grown (c .before .before)))
-
-mul-put-positions : tie.Need-mul-put-positions
-mul-put-positions c = search needs
 
 sub-put-positions : tie.Need-sub-put-positions
 sub-put-positions c =
@@ -56,23 +47,11 @@ part-put-positions-start c =
     let room = positions-fit (start g .pre) (g .grow .result) (g .grow .ensures .few) in
     search needs
 
-part-put-positions-end : tie.Need-part-put-positions-end
-part-put-positions-end c = search needs
-
 put-positions-requires : tie.Need-put-positions-requires
 put-positions-requires c κs =
     let g = grown (c .before .before .before .before) in
     let room = positions-fit (start g .pre) (g .grow .result) (g .grow .ensures .few) in
     search needs
-
-clear-words-requires : tie.Need-clear-words-requires
-clear-words-requires c κs = search needs
-
-same-length : tie.Need-same-length
-same-length c = search needs
-
-same-length-2 : tie.Need-same-length-2
-same-length-2 c = search needs
 
 returns : tie.Need-returns
 returns c =
@@ -87,16 +66,16 @@ pub fill-spec : {M : Type 1} → statement M
 fill-spec =
     tie.close
     (tie.spec
-    grow-requires
-    put-header-requires
+    (λ c κs. search needs)
+    (λ c κs. search needs)
     mul-at
     add-at
-    mul-put-positions
+    (λ c. search needs)
     sub-put-positions
     part-put-positions-start
-    part-put-positions-end
+    (λ c. search needs)
     put-positions-requires
-    clear-words-requires
-    same-length
-    same-length-2
+    (λ c κs. search needs)
+    (λ c. search needs)
+    (λ c. search needs)
     returns)

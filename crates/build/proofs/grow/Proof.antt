@@ -20,12 +20,6 @@ levels-requires c κs =
     let r = c .before .before .before .before .before .before in
     (start r .pre .fit, record { origin = start r .args .room .now; rooted = r .root .ensures })
 
-same-length : tie.Need-same-length
-same-length c = search needs
-
-same-length-2 : tie.Need-same-length-2
-same-length-2 c = search needs
-
 returns-2 : tie.Need-returns-2
 returns-2 c =
     let l = c .before .before .before .before in
@@ -34,4 +28,4 @@ returns-2 c =
 
 pub grow-spec : {M : Type 1} → statement M
 grow-spec =
-    tie.close (tie.spec returns root-requires levels-requires same-length same-length-2 returns-2)
+    tie.close (tie.spec returns root-requires levels-requires (λ c. search needs) (λ c. search needs) returns-2)

@@ -29,39 +29,6 @@ row-distance-requires c κs =
     let this = row-ends (s .args .c) (s .args .n) i (omega arith) in
     (s .pre .0, omega arith, omega arith)
 
-greater-requires : tie.Need-greater-requires Inv-loop μ-loop
-greater-requires c κs = search needs
-
-least-of-requires : tie.Need-least-of-requires Inv-loop μ-loop
-least-of-requires c κs = search needs
-
-mul-at : tie.Need-mul-at Inv-loop μ-loop
-mul-at c = search needs
-
-mul-put-entry : tie.Need-mul-put-entry Inv-loop μ-loop
-mul-put-entry c = search needs
-
-sub-put-entry : tie.Need-sub-put-entry Inv-loop μ-loop
-sub-put-entry c = search needs
-
-part-put-entry-start : tie.Need-part-put-entry-start Inv-loop μ-loop
-part-put-entry-start c = search needs
-
-part-put-entry-end : tie.Need-part-put-entry-end Inv-loop μ-loop
-part-put-entry-end c = search needs
-
-cast-put-entry : tie.Need-cast-put-entry Inv-loop μ-loop
-cast-put-entry c = search needs
-
-put-entry-requires : tie.Need-put-entry-requires Inv-loop μ-loop
-put-entry-requires c κs = search needs
-
-add-i : tie.Need-add-i Inv-loop μ-loop
-add-i c = search needs
-
-loop-less : tie.Need-loop-less Inv-loop μ-loop
-loop-less c = search needs
-
 loop-again : tie.Need-loop-again Inv-loop μ-loop
 loop-again c =
     let e = c .before .before in
@@ -72,9 +39,6 @@ loop-again c =
     laying-step (s .loop .inv) (metric (a .table .now) (a .c) .self 0) (search needs) (search needs) (g .before .row-distance .ensures .0)
     (g .greater .ensures) (b .least-of .ensures)
     (e .put-entry .ensures) (search needs)
-
-same-length : tie.Need-same-length Inv-loop μ-loop
-same-length c = search needs
 
 returns : tie.Need-returns Inv-loop μ-loop
 returns c = laying-done (c .before .loop .inv) (search needs)
@@ -87,17 +51,17 @@ lay-spec =
     μ-loop
     loop-holds
     row-distance-requires
-    greater-requires
-    least-of-requires
-    mul-at
-    mul-put-entry
-    sub-put-entry
-    part-put-entry-start
-    part-put-entry-end
-    cast-put-entry
-    put-entry-requires
-    add-i
-    loop-less
+    (λ c κs. search needs)
+    (λ c κs. search needs)
+    (λ c. search needs)
+    (λ c. search needs)
+    (λ c. search needs)
+    (λ c. search needs)
+    (λ c. search needs)
+    (λ c. search needs)
+    (λ c κs. search needs)
+    (λ c. search needs)
+    (λ c. search needs)
     loop-again
-    same-length
+    (λ c. search needs)
     returns)

@@ -7,16 +7,10 @@ use Rattle.limits.proofs.Sized.{length-right}
 use borrow.Author.Needs.{needs}
 use mathlib.Core.Path.{_∙_, sym}
 
-length-number-requires : tie.Need-length-number-requires
-length-number-requires c κs = search needs
-
 returns : tie.Need-returns
 returns c =
     let a = c .before .before .args in
     by-length (a .length) (a .c) (a .room) (a .work) (c .before .length-number .ensures) (c .if1 .taken)
-
-div-too-short : tie.Need-div-too-short
-div-too-short c = search needs
 
 too-short-requires : tie.Need-too-short-requires
 too-short-requires c κs = length-right _ _ (sym (c .before .length-number .ensures) ∙ c .if1 .left) .1
@@ -39,9 +33,9 @@ pub lengths-number-spec : {M : Type 1} → statement M
 lengths-number-spec =
     tie.close
     (tie.spec
-    length-number-requires
+    (λ c κs. search needs)
     returns
-    div-too-short
+    (λ c. search needs)
     too-short-requires
     returns-2
     returns-3)

@@ -7,38 +7,17 @@ use borrow.Author.Needs.{needs}
 use lib.ListN.{length-set}
 use native.Mathlib.Omega.{arith}
 
-cast-room : tie.Need-cast-room
-cast-room c = search needs
-
-slice-write-room : tie.Need-slice-write-room
-slice-write-room c = search needs
-
-cast-room-2 : tie.Need-cast-room-2
-cast-room-2 c = search needs
-
 slice-write-room-2 : tie.Need-slice-write-room-2
 slice-write-room-2 c = simp length-set (omega arith)
-
-cast-room-3 : tie.Need-cast-room-3
-cast-room-3 c = search needs
 
 slice-write-room-3 : tie.Need-slice-write-room-3
 slice-write-room-3 c = simp length-set (omega arith)
 
-cast-room-4 : tie.Need-cast-room-4
-cast-room-4 c = search needs
-
 slice-write-room-4 : tie.Need-slice-write-room-4
 slice-write-room-4 c = simp length-set (omega arith)
 
-cast-room-5 : tie.Need-cast-room-5
-cast-room-5 c = search needs
-
 slice-write-room-5 : tie.Need-slice-write-room-5
 slice-write-room-5 c = simp length-set (omega arith)
-
-cast-room-6 : tie.Need-cast-room-6
-cast-room-6 c = search needs
 
 slice-write-room-6 : tie.Need-slice-write-room-6
 slice-write-room-6 c = simp length-set (omega arith)
@@ -49,9 +28,6 @@ slice-write-room-7 c = simp length-set (omega arith)
 slice-write-room-8 : tie.Need-slice-write-room-8
 slice-write-room-8 c = simp length-set (omega arith)
 
-same-length : tie.Need-same-length
-same-length c = search needs
-
 returns : tie.Need-returns
 returns c = eight-sets (c .before .before .args .room .now) _ _ _ _ _ _ _ _ (c .before .before .pre .0)
 
@@ -59,19 +35,19 @@ pub put-header-spec : {M : Type 1} → statement M
 put-header-spec =
     tie.close
     (tie.spec
-    cast-room
-    slice-write-room
-    cast-room-2
+    (λ c. search needs)
+    (λ c. search needs)
+    (λ c. search needs)
     slice-write-room-2
-    cast-room-3
+    (λ c. search needs)
     slice-write-room-3
-    cast-room-4
+    (λ c. search needs)
     slice-write-room-4
-    cast-room-5
+    (λ c. search needs)
     slice-write-room-5
-    cast-room-6
+    (λ c. search needs)
     slice-write-room-6
     slice-write-room-7
     slice-write-room-8
-    same-length
+    (λ c. search needs)
     returns)

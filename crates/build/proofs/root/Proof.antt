@@ -5,30 +5,6 @@ use Rattle.build.proofs.root.Statement.{statement}
 use Rattle.build.proofs.root.Tie as tie
 use borrow.Author.Needs.{needs}
 
-lay-requires : tie.Need-lay-requires
-lay-requires c κs = search needs
-
-sub-put-node : tie.Need-sub-put-node
-sub-put-node c = search needs
-
-part-put-node-start : tie.Need-part-put-node-start
-part-put-node-start c = search needs
-
-part-put-node-end : tie.Need-part-put-node-end
-part-put-node-end c = search needs
-
-cast-put-node : tie.Need-cast-put-node
-cast-put-node c = search needs
-
-put-node-requires : tie.Need-put-node-requires
-put-node-requires c κs = search needs
-
-same-length : tie.Need-same-length
-same-length c = search needs
-
-same-length-2 : tie.Need-same-length-2
-same-length-2 c = search needs
-
 returns : tie.Need-returns
 returns c =
     let l = c .before .before .before .before .before .before in
@@ -39,12 +15,12 @@ pub root-spec : {M : Type 1} → statement M
 root-spec =
     tie.close
     (tie.spec
-    lay-requires
-    sub-put-node
-    part-put-node-start
-    part-put-node-end
-    cast-put-node
-    put-node-requires
-    same-length
-    same-length-2
+    (λ c κs. search needs)
+    (λ c. search needs)
+    (λ c. search needs)
+    (λ c. search needs)
+    (λ c. search needs)
+    (λ c κs. search needs)
+    (λ c. search needs)
+    (λ c. search needs)
     returns)

@@ -7,9 +7,6 @@ use Rattle.card.proofs.read_image.Tie as tie
 use borrow.Author.Needs.{needs}
 use native.Mathlib.Omega.{arith}
 
-refusal-of-requires : tie.Need-refusal-of-requires
-refusal-of-requires c κs = search needs
-
 returns : tie.Need-returns
 returns c =
     let r = c .before .before in
@@ -23,9 +20,6 @@ put-index-requires c κs =
     let t = counts (a .room .now) (r .refusal-of .ensures) (c .before .if1 .left) in
     (clear-tabled _ _ _ _ C, (t, omega (arith, t, C .space)))
 
-same-length : tie.Need-same-length
-same-length c = search needs
-
 returns-2 : tie.Need-returns-2
 returns-2 c =
     let p = c .before .before in
@@ -34,4 +28,4 @@ returns-2 c =
 
 pub read-image-spec : {M : Type 1} → statement M
 read-image-spec =
-    tie.close (tie.spec refusal-of-requires returns put-index-requires same-length returns-2)
+    tie.close (tie.spec (λ c κs. search needs) returns put-index-requires (λ c. search needs) returns-2)

@@ -8,11 +8,8 @@ use borrow.Author.Needs.{needs}
 returns : tie.Need-returns
 returns c = none-wide _ _ _ (c .if1 .taken)
 
-div-result : tie.Need-div-result
-div-result c = search needs
-
 returns-2 : tie.Need-returns-2
 returns-2 c = row-below _ _ _ (c .if1 .left)
 
 pub has-row-spec : {M : Type 1} → statement M
-has-row-spec = tie.close (tie.spec returns div-result returns-2)
+has-row-spec = tie.close (tie.spec returns (λ c. search needs) returns-2)

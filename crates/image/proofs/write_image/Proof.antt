@@ -32,9 +32,6 @@ ok c = yes (c .before .words-ok .ensures) (c .if1 .left)
 count : (c : tie.After-blocks-for) → c .blocks-for .result ≡ blocksFor (wordsOf (words (c .before .before)))
 count c = c .blocks-for .ensures .0 ∙ ap blocksFor (c .before .words-of .ensures .0)
 
-words-ok-requires : tie.Need-words-ok-requires
-words-ok-requires c κs = search needs
-
 returns : tie.Need-returns
 returns c =
     let start = c .before .before .before .before in
@@ -42,12 +39,6 @@ returns c =
 
 words-of-requires : tie.Need-words-of-requires
 words-of-requires c κs = (header-there (words c) (ok c), header-possible (words c) (words-whole (words c) (ok c) .1))
-
-blocks-for-requires : tie.Need-blocks-for-requires
-blocks-for-requires c κs = search needs
-
-mul-if2 : tie.Need-mul-if2
-mul-if2 c = search needs
 
 returns-2 : tie.Need-returns-2
 returns-2 c =
@@ -65,9 +56,6 @@ slice-aggregate-put-blocks c =
 put-blocks-requires : tie.Need-put-blocks-requires
 put-blocks-requires c κs = (c .before .before .before .blocks-for .ensures .1, c .before .before .if2 .left)
 
-same-length : tie.Need-same-length
-same-length c = search needs
-
 returns-3 : tie.Need-returns-3
 unfolding image
 returns-3 c =
@@ -84,13 +72,13 @@ pub write-image-spec : {M : Type 1} → statement M
 write-image-spec =
     tie.close
     (tie.spec
-    words-ok-requires
+    (λ c κs. search needs)
     returns
     words-of-requires
-    blocks-for-requires
-    mul-if2
+    (λ c κs. search needs)
+    (λ c. search needs)
     returns-2
     slice-aggregate-put-blocks
     put-blocks-requires
-    same-length
+    (λ c. search needs)
     returns-3)

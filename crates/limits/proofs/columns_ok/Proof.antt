@@ -4,11 +4,8 @@ use Rattle.limits.proofs.columns_ok.Statement.{statement}
 use Rattle.limits.proofs.columns_ok.Tie as tie
 use borrow.Author.Needs.{needs}
 
-is-within-requires : tie.Need-is-within-requires
-is-within-requires c κs = search needs
-
 returns : tie.Need-returns
 returns c = c .is-within .ensures
 
 pub columns-ok-spec : {M : Type 1} → statement M
-columns-ok-spec = tie.close (tie.spec is-within-requires returns)
+columns-ok-spec = tie.close (tie.spec (λ c κs. search needs) returns)

@@ -4,11 +4,8 @@ use Rattle.limits.proofs.edition_ok.Statement.{statement}
 use Rattle.limits.proofs.edition_ok.Tie as tie
 use borrow.Author.Needs.{needs}
 
-is-within-requires : tie.Need-is-within-requires
-is-within-requires c κs = search needs
-
 returns : tie.Need-returns
 returns c = c .is-within .ensures
 
 pub edition-ok-spec : {M : Type 1} → statement M
-edition-ok-spec = tie.close (tie.spec is-within-requires returns)
+edition-ok-spec = tie.close (tie.spec (λ c κs. search needs) returns)

@@ -5,14 +5,8 @@ use Rattle.limits.proofs.length_number.Statement.{statement}
 use Rattle.limits.proofs.length_number.Tie as tie
 use borrow.Author.Needs.{needs}
 
-rem-if1 : tie.Need-rem-if1
-rem-if1 c = search needs
-
 returns : tie.Need-returns
 returns c = three _ _ (c .if1 .taken)
-
-div-if2 : tie.Need-div-if2
-div-if2 c = search needs
 
 returns-2 : tie.Need-returns-2
 returns-2 c = four _ _ (c .before .if1 .left) (c .if2 .taken)
@@ -21,4 +15,4 @@ returns-3 : tie.Need-returns-3
 returns-3 c = none-of-length _ _ (c .before .if1 .left) (c .if2 .left)
 
 pub length-number-spec : {M : Type 1} → statement M
-length-number-spec = tie.close (tie.spec rem-if1 returns div-if2 returns-2 returns-3)
+length-number-spec = tie.close (tie.spec (λ c. search needs) returns (λ c. search needs) returns-2 returns-3)

@@ -5,17 +5,11 @@ use Rattle.limits.proofs.share_ok.Statement.{statement}
 use Rattle.limits.proofs.share_ok.Tie as tie
 use borrow.Author.Needs.{needs}
 
-is-within-requires : tie.Need-is-within-requires
-is-within-requires c κs = search needs
-
 returns : tie.Need-returns
 returns c = stop _ (no (c .before .is-within .ensures) (c .if1 .taken))
-
-is-within-requires-2 : tie.Need-is-within-requires-2
-is-within-requires-2 c κs = search needs
 
 returns-2 : tie.Need-returns-2
 returns-2 c = go-on (yes (c .before .before .is-within .ensures) (c .before .if1 .left)) (c .is-within2 .ensures)
 
 pub share-ok-spec : {M : Type 1} → statement M
-share-ok-spec = tie.close (tie.spec is-within-requires returns is-within-requires-2 returns-2)
+share-ok-spec = tie.close (tie.spec (λ c κs. search needs) returns (λ c κs. search needs) returns-2)

@@ -8,9 +8,6 @@ use Rattle.limits.proofs.table_number.Tie as tie
 use borrow.Author.Needs.{needs}
 use mathlib.Core.Path.{_∙_}
 
-columns-ok-requires : tie.Need-columns-ok-requires
-columns-ok-requires c κs = search needs
-
 returns : tie.Need-returns
 returns c = one _ _ (no (c .before .columns-ok .ensures) (c .if1 .taken))
 
@@ -22,4 +19,4 @@ returns-2 c = c .length-number .ensures ∙ by-length _ _ (yes (c .before .befor
 
 pub table-number-spec : {M : Type 1} → statement M
 table-number-spec =
-    tie.close (tie.spec columns-ok-requires returns length-number-requires returns-2)
+    tie.close (tie.spec (λ c κs. search needs) returns length-number-requires returns-2)

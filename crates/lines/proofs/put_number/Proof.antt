@@ -6,15 +6,6 @@ use Rattle.lines.proofs.put_number.Tie as tie
 use borrow.Author.Needs.{needs}
 use native.Mathlib.Omega.{arith}
 
-decimal-requires : tie.Need-decimal-requires
-decimal-requires c κs = search needs
-
-array-share-prefix-digits : tie.Need-array-share-prefix-digits
-array-share-prefix-digits c = search needs
-
-slice-aggregate-copy : tie.Need-slice-aggregate-copy
-slice-aggregate-copy c = search needs
-
 copy-requires : tie.Need-copy-requires
 copy-requires c κs =
     let d = c .before .before .decimal .ensures in omega (arith, twenty (omega arith) (d .1 .0), d .0 .1)
@@ -31,9 +22,6 @@ add-result : tie.Need-add-result
 add-result c =
     omega (arith, twenty (omega arith) (c .before .before .before .before .before .decimal .ensures .1 .0))
 
-same-length : tie.Need-same-length
-same-length c = search needs
-
 returns : tie.Need-returns
 returns c =
     let d = c .before .before .before .before .before .decimal .ensures in
@@ -43,12 +31,12 @@ pub put-number-spec : {M : Type 1} → statement M
 put-number-spec =
     tie.close
     (tie.spec
-    decimal-requires
-    array-share-prefix-digits
-    slice-aggregate-copy
+    (λ c κs. search needs)
+    (λ c. search needs)
+    (λ c. search needs)
     copy-requires
     add-end
     slice-write-text
     add-result
-    same-length
+    (λ c. search needs)
     returns)

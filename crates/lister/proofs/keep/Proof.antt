@@ -14,35 +14,14 @@ Inv-loop came text₀ kept n i₀ text i = Copied came text₀ kept n text i
 abbrev μ-loop : tie.MeasureT-loop
 μ-loop came text₀ kept n i₀ text i = n - i
 
-sub-least : tie.Need-sub-least Inv-loop μ-loop
-sub-least c = search needs
-
-least-requires : tie.Need-least-requires Inv-loop μ-loop
-least-requires c κs = search needs
-
 loop-holds : tie.Need-loop-holds Inv-loop μ-loop
 loop-holds c = kept-start _ _ _ _ (c .least .ensures) (c .before .before .before .pre)
-
-shared-slice-read-text : tie.Need-shared-slice-read-text Inv-loop μ-loop
-shared-slice-read-text c = search needs
-
-add-text : tie.Need-add-text Inv-loop μ-loop
-add-text c = search needs
 
 slice-write-text : tie.Need-slice-write-text Inv-loop μ-loop
 slice-write-text c = omega (arith, copied-long _ _ _ _ _ _ (c .before .before .loop .inv))
 
-add-i : tie.Need-add-i Inv-loop μ-loop
-add-i c = search needs
-
-loop-less : tie.Need-loop-less Inv-loop μ-loop
-loop-less c = search needs
-
 loop-again : tie.Need-loop-again Inv-loop μ-loop
 loop-again c = copied-next _ _ _ _ _ _ (c .before .before .loop .inv) (c .before .loop-test .taken)
-
-add-result : tie.Need-add-result Inv-loop μ-loop
-add-result c = search needs
 
 same-length : tie.Need-same-length Inv-loop μ-loop
 same-length c = copied-long _ _ _ _ _ _ (c .before .loop .inv)
@@ -56,15 +35,15 @@ keep-spec =
     (tie.spec
     Inv-loop
     μ-loop
-    sub-least
-    least-requires
+    (λ c. search needs)
+    (λ c κs. search needs)
     loop-holds
-    shared-slice-read-text
-    add-text
+    (λ c. search needs)
+    (λ c. search needs)
     slice-write-text
-    add-i
-    loop-less
+    (λ c. search needs)
+    (λ c. search needs)
     loop-again
-    add-result
+    (λ c. search needs)
     same-length
     returns)

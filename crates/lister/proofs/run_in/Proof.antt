@@ -8,26 +8,8 @@ use borrow.Author.Needs.{needs}
 use lib.Seq.{length-take-le}
 use mathlib.Core.Path.{refl, sym}
 
-read-text-requires : tie.Need-read-text-requires
-read-text-requires c κs = search needs
-
-slice-reshare-prefix-read-numbers : tie.Need-slice-reshare-prefix-read-numbers
-slice-reshare-prefix-read-numbers c = search needs
-
 slice-aggregate-read-numbers : tie.Need-slice-aggregate-read-numbers
 slice-aggregate-read-numbers c = sym (length-take-le _ _ (c .before .before .before .read-text .ensures))
-
-read-numbers-requires : tie.Need-read-numbers-requires
-read-numbers-requires c κs = search needs
-
-print-refused-requires : tie.Need-print-refused-requires
-print-refused-requires c κs = search needs
-
-same-length : tie.Need-same-length
-same-length c = search needs
-
-same-length-2 : tie.Need-same-length-2
-same-length-2 c = search needs
 
 returns : tie.Need-returns
 returns c =
@@ -47,18 +29,6 @@ list-requires c κs =
     let going = c .before .before .before in
     zero-reads _ _ _ _ _ (going .before .before .before .read-numbers .ensures) (going .if1 .left) .0 .enough
 
-same-length-3 : tie.Need-same-length-3
-same-length-3 c = search needs
-
-same-length-4 : tie.Need-same-length-4
-same-length-4 c = search needs
-
-same-length-5 : tie.Need-same-length-5
-same-length-5 c = search needs
-
-same-length-6 : tie.Need-same-length-6
-same-length-6 c = search needs
-
 returns-2 : tie.Need-returns-2
 returns-2 c =
     let going = c .before .before .before .before .before .before .before .before in
@@ -70,19 +40,19 @@ pub run-in-spec : {M : Type 1} → statement M
 run-in-spec =
     tie.close
     (tie.spec
-    read-text-requires
-    slice-reshare-prefix-read-numbers
+    (λ c κs. search needs)
+    (λ c. search needs)
     slice-aggregate-read-numbers
-    read-numbers-requires
-    print-refused-requires
-    same-length
-    same-length-2
+    (λ c κs. search needs)
+    (λ c κs. search needs)
+    (λ c. search needs)
+    (λ c. search needs)
     returns
     slice-reshare-prefix-list
     slice-aggregate-list
     list-requires
-    same-length-3
-    same-length-4
-    same-length-5
-    same-length-6
+    (λ c. search needs)
+    (λ c. search needs)
+    (λ c. search needs)
+    (λ c. search needs)
     returns-2)

@@ -5,15 +5,6 @@ use Rattle.measure.proofs.column.Tie as tie
 use borrow.Author.Needs.{needs}
 use native.Mathlib.Omega.{arith}
 
-sub-result : tie.Need-sub-result
-sub-result c = search needs
-
-cast-result : tie.Need-cast-result
-cast-result c = search needs
-
-cast-result-2 : tie.Need-cast-result-2
-cast-result-2 c = search needs
-
 returns : tie.Need-returns
 returns c = (omega arith, omega arith)
 
@@ -21,4 +12,4 @@ returns-2 : tie.Need-returns-2
 returns-2 c = (omega arith, omega arith)
 
 pub column-spec : {M : Type 1} → statement M
-column-spec = tie.close (tie.spec sub-result cast-result cast-result-2 returns returns-2)
+column-spec = tie.close (tie.spec (λ c. search needs) (λ c. search needs) (λ c. search needs) returns returns-2)

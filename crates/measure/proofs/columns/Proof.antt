@@ -15,33 +15,6 @@ Inv-loop a b before from c sum₀ i₀ sum i = (i ≤ c) × (sum ≤ 65535 * i) 
 abbrev μ-loop : tie.MeasureT-loop
 μ-loop a b before from c sum₀ i₀ sum i = c - i
 
-loop-holds : tie.Need-loop-holds Inv-loop μ-loop
-loop-holds c = search needs
-
-mul-column : tie.Need-mul-column Inv-loop μ-loop
-mul-column c = search needs
-
-shared-slice-read-column : tie.Need-shared-slice-read-column Inv-loop μ-loop
-shared-slice-read-column c = search needs
-
-mul-column-2 : tie.Need-mul-column-2 Inv-loop μ-loop
-mul-column-2 c = search needs
-
-shared-slice-read-column-2 : tie.Need-shared-slice-read-column-2 Inv-loop μ-loop
-shared-slice-read-column-2 c = search needs
-
-column-requires : tie.Need-column-requires Inv-loop μ-loop
-column-requires c κs = search needs
-
-add-sum : tie.Need-add-sum Inv-loop μ-loop
-add-sum c = search needs
-
-add-i : tie.Need-add-i Inv-loop μ-loop
-add-i c = search needs
-
-loop-less : tie.Need-loop-less Inv-loop μ-loop
-loop-less c = search needs
-
 loop-again : tie.Need-loop-again Inv-loop μ-loop
 loop-again c =
     let at-loop = c .before .before .before .before in
@@ -61,14 +34,14 @@ columns-spec =
     (tie.spec
     Inv-loop
     μ-loop
-    loop-holds
-    mul-column
-    shared-slice-read-column
-    mul-column-2
-    shared-slice-read-column-2
-    column-requires
-    add-sum
-    add-i
-    loop-less
+    (λ c. search needs)
+    (λ c. search needs)
+    (λ c. search needs)
+    (λ c. search needs)
+    (λ c. search needs)
+    (λ c κs. search needs)
+    (λ c. search needs)
+    (λ c. search needs)
+    (λ c. search needs)
     loop-again
     returns)

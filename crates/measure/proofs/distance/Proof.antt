@@ -20,17 +20,11 @@ returns c =
     let e : 4 ≡ length (a .a .now) = omega arith in
     (c .before .columns .ensures .0 ∙ ap (λ k. l1 k (a .a .now) (a .b .now)) e, omega arith)
 
-columns-requires-2 : tie.Need-columns-requires-2
-columns-requires-2 c κs = search needs
-
 returns-2 : tie.Need-returns-2
 returns-2 c =
     let a = c .before .before .before .before .before .before .before .before .args in
     let e : 5 ≡ length (a .a .now) = omega arith in
     (c .before .columns2 .ensures .0 ∙ ap (λ k. l1 k (a .a .now) (a .b .now)) e, omega arith)
-
-columns-requires-3 : tie.Need-columns-requires-3
-columns-requires-3 c κs = search needs
 
 returns-3 : tie.Need-returns-3
 returns-3 c =
@@ -43,18 +37,15 @@ columns-requires-4 c κs =
     let a = c .before .before .before .args in
     (search needs, (search needs, search needs, sym (l1-none (a .a .now) (a .b .now))))
 
-returns-4 : tie.Need-returns-4
-returns-4 c = search needs
-
 pub distance-spec : {M : Type 1} → statement M
 distance-spec =
     tie.close
     (tie.spec
     columns-requires
     returns
-    columns-requires-2
+    (λ c κs. search needs)
     returns-2
-    columns-requires-3
+    (λ c κs. search needs)
     returns-3
     columns-requires-4
-    returns-4)
+    (λ c. search needs))

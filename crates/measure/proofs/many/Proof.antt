@@ -25,8 +25,5 @@ columns-requires-2 c κs =
     let a = c .before .before .before .args in
     (search needs, (search needs, search needs, sym (l1-none (a .a .now) (a .b .now))))
 
-returns-2 : tie.Need-returns-2
-returns-2 c = search needs
-
 pub many-spec : {M : Type 1} → statement M
-many-spec = tie.close (tie.spec columns-requires returns columns-requires-2 returns-2)
+many-spec = tie.close (tie.spec columns-requires returns columns-requires-2 (λ c. search needs))

@@ -5,21 +5,9 @@ use Rattle.measure.proofs.row_distance.Tie as tie
 use Rattle.measure.specs.Table.{between}
 use borrow.Author.Needs.{needs}
 
-row-of-requires : tie.Need-row-of-requires
-row-of-requires c κs = search needs
-
-row-of-requires-2 : tie.Need-row-of-requires-2
-row-of-requires-2 c κs = search needs
-
-many-requires : tie.Need-many-requires
-many-requires c κs = search needs
-
 returns : tie.Need-returns
 unfolding between
 returns c = ((cc), search needs)
-
-distance-requires : tie.Need-distance-requires
-distance-requires c κs = search needs
 
 returns-2 : tie.Need-returns-2
 unfolding between
@@ -27,4 +15,4 @@ returns-2 c = ((cc), search needs)
 
 pub row-distance-spec : {M : Type 1} → statement M
 row-distance-spec =
-    tie.close (tie.spec row-of-requires row-of-requires-2 many-requires returns distance-requires returns-2)
+    tie.close (tie.spec (λ c κs. search needs) (λ c κs. search needs) (λ c κs. search needs) returns (λ c κs. search needs) returns-2)

@@ -30,9 +30,6 @@ lent l =
     core-asks _ _ _ _ _ (a .rows .now) (a .distances .now) (a .how .now) (a .work .now) (start e .pre) (e .before .refusal .ensures) _ _
     (e .if1 .left) (l .before .rows .ensures .0) (l .least .ensures)
 
-refusal-requires : tie.Need-refusal-requires
-refusal-requires c κs = search needs
-
 returns : tie.Need-returns
 returns c =
     let s = c .before .before .before .before .before .before .before .before .before in
@@ -46,9 +43,6 @@ rows-requires c κs =
     (c .if1 .left) refl refl in
     omega (arith, L .shape .whole .words)
 
-least-requires : tie.Need-least-requires
-least-requires c κs = search needs
-
 find-requires : tie.Need-find-requires
 find-requires c κs = lent (c .before .before .before .before)
 
@@ -57,18 +51,6 @@ tally-requires c κs =
     let f = c .before .before .before .before .before .before .before .before .before in
     let l = asked f in
     omega (arith, l .before .rows .ensures .0, f .find .ensures .bytes, lent l .bytes)
-
-same-length : tie.Need-same-length
-same-length c = search needs
-
-same-length-2 : tie.Need-same-length-2
-same-length-2 c = search needs
-
-same-length-3 : tie.Need-same-length-3
-same-length-3 c = search needs
-
-same-length-4 : tie.Need-same-length-4
-same-length-4 c = search needs
 
 returns-2 : tie.Need-returns-2
 returns-2 c =
@@ -83,14 +65,14 @@ pub answer-spec : {M : Type 1} → statement M
 answer-spec =
     tie.close
     (tie.spec
-    refusal-requires
+    (λ c κs. search needs)
     returns
     rows-requires
-    least-requires
+    (λ c κs. search needs)
     find-requires
     tally-requires
-    same-length
-    same-length-2
-    same-length-3
-    same-length-4
+    (λ c. search needs)
+    (λ c. search needs)
+    (λ c. search needs)
+    (λ c. search needs)
     returns-2)

@@ -29,9 +29,6 @@ clear-bytes-requires c κs =
     let r = c .before in
     omega (arith, r .rows .ensures .0, r .before .before .before .before .before .before .before .before .pre .bytes)
 
-same-length : tie.Need-same-length
-same-length c = search needs
-
 returns : tie.Need-returns
 returns c =
     let b = c .before .before .before in
@@ -63,18 +60,6 @@ clear-words-requires c κs =
     let b = wiping s in
     omega (arith, counted b .rows .ensures .0, start b .pre .words, s .search .ensures .since .words, g .give .ensures .outside .same)
 
-same-length-2 : tie.Need-same-length-2
-same-length-2 c = search needs
-
-same-length-3 : tie.Need-same-length-3
-same-length-3 c = search needs
-
-same-length-4 : tie.Need-same-length-4
-same-length-4 c = search needs
-
-same-length-5 : tie.Need-same-length-5
-same-length-5 c = search needs
-
 returns-2 : tie.Need-returns-2
 returns-2 c =
     let g = c .before .before .before .before .before .before .before .before .before .before .before .before in
@@ -91,14 +76,14 @@ find-spec =
     (tie.spec
     rows-requires
     clear-bytes-requires
-    same-length
+    (λ c. search needs)
     returns
     search-requires
     give-requires
     mul-clear-words
     clear-words-requires
-    same-length-2
-    same-length-3
-    same-length-4
-    same-length-5
+    (λ c. search needs)
+    (λ c. search needs)
+    (λ c. search needs)
+    (λ c. search needs)
     returns-2)

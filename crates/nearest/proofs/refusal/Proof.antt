@@ -8,17 +8,11 @@ use borrow.Author.Needs.{needs}
 use mathlib.Core.Path.{_∙_, sym}
 use native.Mathlib.Omega.{arith}
 
-table-number-requires : tie.Need-table-number-requires
-table-number-requires c κs = search needs
-
 returns : tie.Need-returns
 returns c = by-table _ _ _ _ _ _ _ _ (c .before .table-number .ensures) (c .if1 .taken)
 
 div-n : tie.Need-div-n
 div-n c = omega (arith, sized _ _ (sym (c .before .table-number .ensures) ∙ c .if1 .left) .some)
-
-least-requires : tie.Need-least-requires
-least-requires c κs = search needs
 
 returns-2 : tie.Need-returns-2
 returns-2 c =
@@ -71,9 +65,6 @@ returns-6 c =
     let if6 = c .if6 in
     seven _ _ _ _ _ _ _ _ (table-number .ensures) (if1 .left) (least .ensures) (if2 .left) (if3 .left) (if4 .left) (if5 .left) (if6 .taken)
 
-index-number-requires : tie.Need-index-number-requires
-index-number-requires c κs = search needs
-
 returns-7 : tie.Need-returns-7
 returns-7 c =
     let table-number = c .before .before .before .before .before .before .before .before .table-number in
@@ -91,15 +82,15 @@ pub refusal-spec : {M : Type 1} → statement M
 refusal-spec =
     tie.close
     (tie.spec
-    table-number-requires
+    (λ c κs. search needs)
     returns
     div-n
-    least-requires
+    (λ c κs. search needs)
     returns-2
     returns-3
     mul-if4
     returns-4
     returns-5
     returns-6
-    index-number-requires
+    (λ c κs. search needs)
     returns-7)

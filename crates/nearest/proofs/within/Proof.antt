@@ -8,29 +8,11 @@ use borrow.Author.Needs.{needs}
 use mathlib.Core.Path.{_∙_, ap}
 use native.Mathlib.Omega.{arith}
 
-least-requires : tie.Need-least-requires
-least-requires c κs = search needs
-
-least-requires-2 : tie.Need-least-requires-2
-least-requires-2 c κs = search needs
-
 answer-requires : tie.Need-answer-requires
 answer-requires c κs =
     let least = c .before .before .before .before .before .least in
     let least2 = c .before .before .before .before .least2 in
     (omega (arith, least .ensures, least2 .ensures), omega (arith, least .ensures, least2 .ensures))
-
-same-length : tie.Need-same-length
-same-length c = search needs
-
-same-length-2 : tie.Need-same-length-2
-same-length-2 c = search needs
-
-same-length-3 : tie.Need-same-length-3
-same-length-3 c = search needs
-
-same-length-4 : tie.Need-same-length-4
-same-length-4 c = search needs
 
 returns : tie.Need-returns
 returns c =
@@ -43,11 +25,11 @@ pub within-spec : {M : Type 1} → statement M
 within-spec =
     tie.close
     (tie.spec
-    least-requires
-    least-requires-2
+    (λ c κs. search needs)
+    (λ c κs. search needs)
     answer-requires
-    same-length
-    same-length-2
-    same-length-3
-    same-length-4
+    (λ c. search needs)
+    (λ c. search needs)
+    (λ c. search needs)
+    (λ c. search needs)
     returns)

@@ -8,9 +8,6 @@ use borrow.Author.Needs.{needs}
 use mathlib.Core.Path.{_∙_, sym}
 use native.Mathlib.Omega.{arith}
 
-refusal-requires : tie.Need-refusal-requires
-refusal-requires c κs = search needs
-
 returns : tie.Need-returns
 returns c = refused-is _ _ _ _ _ _ (c .before .refusal .ensures) (c .if1 .taken)
 
@@ -26,9 +23,6 @@ tally-requires c κs =
     let how = c .before .before .before .before .before .before .before .before .before .before .before .before .args .how .now in
     omega (arith, fits _ _ _ _ how (sym (c .before .before .before .before .before .before .before .refusal .ensures) ∙ c .before .before .before .before .before .before .if1 .left) .how, c .rows .ensures .0, c .before .before .before .before .search .kept .1 .1 .1 .1 .1 .0)
 
-same-length : tie.Need-same-length
-same-length c = search needs
-
 returns-2 : tie.Need-returns-2
 returns-2 c =
     let how = c .before .before .before .before .before .before .before .before .before .before .before .before .before .args .how .now in
@@ -40,10 +34,10 @@ pub radius-spec : {M : Type 1} → statement M
 radius-spec =
     tie.close
     (tie.spec
-    refusal-requires
+    (λ c κs. search needs)
     returns
     search-requires
     rows-requires
     tally-requires
-    same-length
+    (λ c. search needs)
     returns-2)

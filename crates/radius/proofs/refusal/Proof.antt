@@ -8,9 +8,6 @@ use borrow.Author.Needs.{needs}
 use mathlib.Core.Path.{_∙_, sym}
 use native.Mathlib.Omega.{arith}
 
-table-number-requires : tie.Need-table-number-requires
-table-number-requires c κs = search needs
-
 returns : tie.Need-returns
 returns c = by-table _ _ _ _ _ (c .before .table-number .ensures) (c .if1 .taken)
 
@@ -23,9 +20,6 @@ returns-2 c = five _ _ _ _ _ (c .before .before .table-number .ensures) (c .befo
 returns-3 : tie.Need-returns-3
 returns-3 c = six _ _ _ _ _ (c .before .before .before .table-number .ensures) (c .before .before .if1 .left) (c .before .if2 .left) (c .if3 .taken)
 
-index-number-requires : tie.Need-index-number-requires
-index-number-requires c κs = search needs
-
 returns-4 : tie.Need-returns-4
 returns-4 c =
     by-index _ _ _ _ _ (c .before .before .before .before .table-number .ensures) (c .before .before .before .if1 .left) (c .before .before .if2 .left) (c .before .if3 .left)
@@ -35,10 +29,10 @@ pub refusal-spec : {M : Type 1} → statement M
 refusal-spec =
     tie.close
     (tie.spec
-    table-number-requires
+    (λ c κs. search needs)
     returns
     div-n
     returns-2
     returns-3
-    index-number-requires
+    (λ c κs. search needs)
     returns-4)

@@ -8,9 +8,6 @@ use borrow.Author.Needs.{needs}
 use mathlib.Core.Path.{_∙_, ap}
 use native.Mathlib.Omega.{arith}
 
-row-at-requires : tie.Need-row-at-requires
-row-at-requires c κs = search needs
-
 row-distance-requires : tie.Need-row-distance-requires
 row-distance-requires c κs =
     let s = c .before .before .before in
@@ -29,4 +26,4 @@ returns c =
     c .row-distance .ensures .0 ∙ ap (between (a .table .now) (a .c) (a .f)) (c .before .row-at .ensures .0)
 
 pub apart-spec : {M : Type 1} → statement M
-apart-spec = tie.close (tie.spec row-at-requires row-distance-requires returns)
+apart-spec = tie.close (tie.spec (λ c κs. search needs) row-distance-requires returns)

@@ -28,18 +28,6 @@ ends l = l .before .before .before
 abbrev dist : tie.Start Inv-loop μ-loop → ℕ → ℕ → ℕ
 dist s = between (s .args .table .now) (s .args .c)
 
-node-first-requires : tie.Need-node-first-requires Inv-loop μ-loop
-node-first-requires c κs = search needs
-
-node-end-requires : tie.Need-node-end-requires Inv-loop μ-loop
-node-end-requires c κs = search needs
-
-node-start-requires : tie.Need-node-start-requires Inv-loop μ-loop
-node-start-requires c κs = search needs
-
-add-second : tie.Need-add-second Inv-loop μ-loop
-add-second c = search needs
-
 returns : tie.Need-returns Inv-loop μ-loop
 returns c =
     let e = c .before in
@@ -54,9 +42,6 @@ apart-requires c κs =
     let s = start e in
     let inside = s .pre .0 .shape .node (s .args .k) (s .pre .1) .run in
     (s .pre .0, (e .before .before .node-first .ensures .1, omega (arith, inside, c .if1 .left, e .before .node-end .ensures)))
-
-add-p : tie.Need-add-p Inv-loop μ-loop
-add-p c = search needs
 
 loop-holds : tie.Need-loop-holds Inv-loop μ-loop
 loop-holds c =
@@ -73,18 +58,6 @@ apart-requires-2 c κs =
     let s = start e in
     let inside = s .pre .0 .shape .node (s .args .k) (s .pre .1) .run in
     (s .pre .0, (e .before .before .node-first .ensures .1, omega (arith, inside, c .loop-test .taken, e .before .node-end .ensures)))
-
-larger-requires : tie.Need-larger-requires Inv-loop μ-loop
-larger-requires c κs = search needs
-
-smaller-requires : tie.Need-smaller-requires Inv-loop μ-loop
-smaller-requires c κs = search needs
-
-add-p-2 : tie.Need-add-p-2 Inv-loop μ-loop
-add-p-2 c = search needs
-
-loop-less : tie.Need-loop-less Inv-loop μ-loop
-loop-less c = search needs
 
 loop-again : tie.Need-loop-again Inv-loop μ-loop
 loop-again c =
@@ -108,18 +81,18 @@ reaches-spec =
     (tie.spec
     Inv-loop
     μ-loop
-    node-first-requires
-    node-end-requires
-    node-start-requires
-    add-second
+    (λ c κs. search needs)
+    (λ c κs. search needs)
+    (λ c κs. search needs)
+    (λ c. search needs)
     returns
     apart-requires
-    add-p
+    (λ c. search needs)
     loop-holds
     apart-requires-2
-    larger-requires
-    smaller-requires
-    add-p-2
-    loop-less
+    (λ c κs. search needs)
+    (λ c κs. search needs)
+    (λ c. search needs)
+    (λ c. search needs)
     loop-again
     returns-2)

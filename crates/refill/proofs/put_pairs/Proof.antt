@@ -46,46 +46,10 @@ ends e =
     let run = s .pre .0 .node (s .args .v) (s .pre .1 .there) .run in
     (omega (arith, run, e .node-end .ensures, a .pair-at .ensures, s .pre .0 .whole .words), omega (arith, run, e .node-end .ensures))
 
-node-start-requires : tie.Need-node-start-requires
-node-start-requires c κs = search needs
-
-node-count-requires : tie.Need-node-count-requires
-node-count-requires c κs = search needs
-
-add-count : tie.Need-add-count
-add-count c = search needs
-
-pair-at-requires : tie.Need-pair-at-requires
-pair-at-requires c κs = search needs
-
-mul-copy-words : tie.Need-mul-copy-words
-mul-copy-words c = search needs
-
-sub-copy-words : tie.Need-sub-copy-words
-sub-copy-words c = search needs
-
-part-copy-words-start : tie.Need-part-copy-words-start
-part-copy-words-start c = search needs
-
-part-copy-words-end : tie.Need-part-copy-words-end
-part-copy-words-end c = search needs
-
-mul-copy-words-2 : tie.Need-mul-copy-words-2
-mul-copy-words-2 c = search needs
-
 copy-words-requires : tie.Need-copy-words-requires
 copy-words-requires c κs =
     let a = c .before .before in
     (omega (arith, lies a .1), omega (arith, lies a .0, mid-long (a .pair-at .result) (start a .args .index .now)))
-
-mul-at : tie.Need-mul-at
-mul-at c = search needs
-
-mul-from : tie.Need-mul-from
-mul-from c = search needs
-
-mul-put-positions : tie.Need-mul-put-positions
-mul-put-positions c = search needs
 
 sub-put-positions : tie.Need-sub-put-positions
 sub-put-positions c = omega (arith, lies (c .before .before .before .before .before) .1)
@@ -93,20 +57,11 @@ sub-put-positions c = omega (arith, lies (c .before .before .before .before .bef
 part-put-positions-start : tie.Need-part-put-positions-start
 part-put-positions-start c = omega (arith, lies (c .before .before .before .before .before) .1)
 
-part-put-positions-end : tie.Need-part-put-positions-end
-part-put-positions-end c = search needs
-
-mul-put-positions-2 : tie.Need-mul-put-positions-2
-mul-put-positions-2 c = search needs
-
 sub-put-positions-2 : tie.Need-sub-put-positions-2
 sub-put-positions-2 c = omega (arith, lies (c .before .before .before .before .before .before) .2)
 
 part-put-positions-start-2 : tie.Need-part-put-positions-start-2
 part-put-positions-start-2 c = omega (arith, lies (c .before .before .before .before .before .before) .2)
-
-part-put-positions-end-2 : tie.Need-part-put-positions-end-2
-part-put-positions-end-2 c = search needs
 
 put-positions-requires : tie.Need-put-positions-requires
 put-positions-requires c κs =
@@ -116,35 +71,11 @@ put-positions-requires c κs =
       omega (arith, lies a .2, mid-long (3 * from a) (start a .args .work .now)),
     )
 
-node-end-requires : tie.Need-node-end-requires
-node-end-requires c κs = search needs
-
-add-tail : tie.Need-add-tail
-add-tail c = search needs
-
-mul-tail : tie.Need-mul-tail
-mul-tail c = search needs
-
-mul-behind : tie.Need-mul-behind
-mul-behind c = search needs
-
-add-behind : tie.Need-add-behind
-add-behind c = search needs
-
-mul-copy-words-3 : tie.Need-mul-copy-words-3
-mul-copy-words-3 c = search needs
-
 sub-copy-words-2 : tie.Need-sub-copy-words-2
 sub-copy-words-2 c = omega (arith, lies (c .before .before .before .before .before .before .before .before .before .before .before) .1)
 
 part-copy-words-start-2 : tie.Need-part-copy-words-start-2
 part-copy-words-start-2 c = omega (arith, lies (c .before .before .before .before .before .before .before .before .before .before .before) .1)
-
-part-copy-words-end-2 : tie.Need-part-copy-words-end-2
-part-copy-words-end-2 c = search needs
-
-mul-copy-words-4 : tie.Need-mul-copy-words-4
-mul-copy-words-4 c = search needs
 
 sub-copy-words-3 : tie.Need-sub-copy-words-3
 sub-copy-words-3 c = omega (arith, ends (c .before) .0)
@@ -152,17 +83,8 @@ sub-copy-words-3 c = omega (arith, ends (c .before) .0)
 part-copy-words-start-3 : tie.Need-part-copy-words-start-3
 part-copy-words-start-3 c = omega (arith, ends (c .before) .0)
 
-part-copy-words-end-3 : tie.Need-part-copy-words-end-3
-part-copy-words-end-3 c = search needs
-
-rows-requires : tie.Need-rows-requires
-rows-requires c κs = search needs
-
 sub-copy-words-4 : tie.Need-sub-copy-words-4
 sub-copy-words-4 c = omega (arith, ends (c .before .before .before) .1, c .rows .ensures .0)
-
-mul-copy-words-5 : tie.Need-mul-copy-words-5
-mul-copy-words-5 c = search needs
 
 copy-words-requires-2 : tie.Need-copy-words-requires-2
 copy-words-requires-2 c κs =
@@ -177,9 +99,6 @@ copy-words-requires-2 c κs =
     let l : length new ≡ length (s .args .part .now) = search needs in
     tail-fits (s .pre .0) (s .pre .1) {s = from a} {count = many a} {base = a .pair-at .result} (a .before .before .node-start .ensures .0)
     (omega (arith, a .before .node-count .ensures .0)) (a .pair-at .ensures) (e .node-end .ensures) (c .rows .ensures .0) new l
-
-same-length : tie.Need-same-length
-same-length c = search needs
 
 returns : tie.Need-returns
 returns c =
@@ -198,43 +117,43 @@ pub put-pairs-spec : {M : Type 1} → statement M
 put-pairs-spec =
     tie.close
     (tie.spec
-    node-start-requires
-    node-count-requires
-    add-count
-    pair-at-requires
-    mul-copy-words
-    sub-copy-words
-    part-copy-words-start
-    part-copy-words-end
-    mul-copy-words-2
+    (λ c κs. search needs)
+    (λ c κs. search needs)
+    (λ c. search needs)
+    (λ c κs. search needs)
+    (λ c. search needs)
+    (λ c. search needs)
+    (λ c. search needs)
+    (λ c. search needs)
+    (λ c. search needs)
     copy-words-requires
-    mul-at
-    mul-from
-    mul-put-positions
+    (λ c. search needs)
+    (λ c. search needs)
+    (λ c. search needs)
     sub-put-positions
     part-put-positions-start
-    part-put-positions-end
-    mul-put-positions-2
+    (λ c. search needs)
+    (λ c. search needs)
     sub-put-positions-2
     part-put-positions-start-2
-    part-put-positions-end-2
+    (λ c. search needs)
     put-positions-requires
-    node-end-requires
-    add-tail
-    mul-tail
-    mul-behind
-    add-behind
-    mul-copy-words-3
+    (λ c κs. search needs)
+    (λ c. search needs)
+    (λ c. search needs)
+    (λ c. search needs)
+    (λ c. search needs)
+    (λ c. search needs)
     sub-copy-words-2
     part-copy-words-start-2
-    part-copy-words-end-2
-    mul-copy-words-4
+    (λ c. search needs)
+    (λ c. search needs)
     sub-copy-words-3
     part-copy-words-start-3
-    part-copy-words-end-3
-    rows-requires
+    (λ c. search needs)
+    (λ c κs. search needs)
     sub-copy-words-4
-    mul-copy-words-5
+    (λ c. search needs)
     copy-words-requires-2
-    same-length
+    (λ c. search needs)
     returns)

@@ -8,24 +8,6 @@ use Rattle.refill.proofs.refill.Tie as tie
 use borrow.Author.Needs.{needs}
 use native.Mathlib.Omega.{arith}
 
-regrow-requires : tie.Need-regrow-requires
-regrow-requires c κs = search needs
-
-centres-requires : tie.Need-centres-requires
-centres-requires c κs = search needs
-
-leaf-size-requires : tie.Need-leaf-size-requires
-leaf-size-requires c κs = search needs
-
-rows-requires : tie.Need-rows-requires
-rows-requires c κs = search needs
-
-add-n : tie.Need-add-n
-add-n c = search needs
-
-columns-requires : tie.Need-columns-requires
-columns-requires c κs = search needs
-
 put-header-requires : tie.Need-put-header-requires
 put-header-requires c κs =
     let n = c .before .before .before in
@@ -72,9 +54,6 @@ part-put-pairs-start c =
     let g = k .before .before .before .before .before .before .before .pre in
     omega (arith, k .regrow .ensures g .few, g .space, g .change .rows)
 
-part-put-pairs-end : tie.Need-part-put-pairs-end
-part-put-pairs-end c = search needs
-
 put-pairs-requires : tie.Need-put-pairs-requires
 put-pairs-requires c κs =
     let h = c .before .before .before .before in
@@ -88,12 +67,6 @@ put-pairs-requires c κs =
         entries = omega (arith, g .halves);
       },
     )
-
-same-length : tie.Need-same-length
-same-length c = search needs
-
-same-length-2 : tie.Need-same-length-2
-same-length-2 c = search needs
 
 returns : tie.Need-returns
 returns c =
@@ -111,20 +84,20 @@ pub refill-spec : {M : Type 1} → statement M
 refill-spec =
     tie.close
     (tie.spec
-    regrow-requires
-    centres-requires
-    leaf-size-requires
-    rows-requires
-    add-n
-    columns-requires
+    (λ c κs. search needs)
+    (λ c κs. search needs)
+    (λ c κs. search needs)
+    (λ c κs. search needs)
+    (λ c. search needs)
+    (λ c κs. search needs)
     put-header-requires
     mul-at
     add-at
     mul-put-pairs
     sub-put-pairs
     part-put-pairs-start
-    part-put-pairs-end
+    (λ c. search needs)
     put-pairs-requires
-    same-length
-    same-length-2
+    (λ c. search needs)
+    (λ c. search needs)
     returns)

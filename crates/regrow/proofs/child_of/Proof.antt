@@ -8,11 +8,8 @@ use borrow.Author.Needs.{needs}
 returns : tie.Need-returns
 returns c = (child-none _ _ _ (c .if1 .taken), search needs)
 
-node-child-requires : tie.Need-node-child-requires
-node-child-requires c κs = search needs
-
 returns-2 : tie.Need-returns-2
 returns-2 c = (child-old _ _ _ (c .before .if1 .left) (c .node-child .ensures .0), search needs)
 
 pub child-of-spec : {M : Type 1} → statement M
-child-of-spec = tie.close (tie.spec returns node-child-requires returns-2)
+child-of-spec = tie.close (tie.spec returns (λ c κs. search needs) returns-2)

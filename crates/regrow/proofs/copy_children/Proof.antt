@@ -21,9 +21,6 @@ Inv-loop table index p room₀ child made m i₀ room i =
 abbrev μ-loop : tie.MeasureT-loop
 μ-loop table index p room₀ child made m i₀ room i = m - i
 
-centres-requires : tie.Need-centres-requires Inv-loop μ-loop
-centres-requires c κs = search needs
-
 loop-holds : tie.Need-loop-holds Inv-loop μ-loop
 loop-holds c =
     let a = c .before .before .before .before .args in
@@ -32,21 +29,6 @@ loop-holds c =
       search needs,
       copies-start copy (a .child) (a .room .now) (a .made),
     )
-
-add-copied-node : tie.Need-add-copied-node Inv-loop μ-loop
-add-copied-node c = search needs
-
-add-copied-node-2 : tie.Need-add-copied-node-2 Inv-loop μ-loop
-add-copied-node-2 c = search needs
-
-copied-node-requires : tie.Need-copied-node-requires Inv-loop μ-loop
-copied-node-requires c κs = search needs
-
-add-i : tie.Need-add-i Inv-loop μ-loop
-add-i c = search needs
-
-loop-less : tie.Need-loop-less Inv-loop μ-loop
-loop-less c = search needs
 
 loop-again : tie.Need-loop-again Inv-loop μ-loop
 loop-again c =
@@ -58,9 +40,6 @@ loop-again c =
       copies-step copy (a .child) (a .room .now) (a .made)
           (l .loop .i) (omega arith) (l .loop .inv .2) (c .before .before .copied-node .ensures),
     )
-
-same-length : tie.Need-same-length Inv-loop μ-loop
-same-length c = search needs
 
 returns : tie.Need-returns Inv-loop μ-loop
 returns c =
@@ -76,13 +55,13 @@ copy-children-spec =
     (tie.spec
     Inv-loop
     μ-loop
-    centres-requires
+    (λ c κs. search needs)
     loop-holds
-    add-copied-node
-    add-copied-node-2
-    copied-node-requires
-    add-i
-    loop-less
+    (λ c. search needs)
+    (λ c. search needs)
+    (λ c κs. search needs)
+    (λ c. search needs)
+    (λ c. search needs)
     loop-again
-    same-length
+    (λ c. search needs)
     returns)

@@ -6,15 +6,6 @@ use Rattle.regrow.proofs.count_of.Tie as tie
 use borrow.Author.Needs.{needs}
 use native.Mathlib.Omega.{arith}
 
-node-count-requires : tie.Need-node-count-requires
-node-count-requires c κs = search needs
-
-holds-run-requires : tie.Need-holds-run-requires
-holds-run-requires c κs = search needs
-
-add-result : tie.Need-add-result
-add-result c = search needs
-
 returns : tie.Need-returns
 returns c =
     let s = c .before .before .before .before in
@@ -31,4 +22,4 @@ returns-2 c =
 
 pub count-of-spec : {M : Type 1} → statement M
 count-of-spec =
-    tie.close (tie.spec node-count-requires holds-run-requires add-result returns returns-2)
+    tie.close (tie.spec (λ c κs. search needs) (λ c κs. search needs) (λ c. search needs) returns returns-2)

@@ -5,20 +5,8 @@ use Rattle.regrow.proofs.holds_run.Statement.{statement}
 use Rattle.regrow.proofs.holds_run.Tie as tie
 use borrow.Author.Needs.{needs}
 
-node-start-requires : tie.Need-node-start-requires
-node-start-requires c κs = search needs
-
-node-start-requires-2 : tie.Need-node-start-requires-2
-node-start-requires-2 c κs = search needs
-
 returns : tie.Need-returns
 returns c = holds-not _ _ _ (c .before .before .node-start .ensures .0) (c .before .node-start2 .ensures .0) (c .if1 .taken)
-
-node-end-requires : tie.Need-node-end-requires
-node-end-requires c κs = search needs
-
-node-end-requires-2 : tie.Need-node-end-requires-2
-node-end-requires-2 c κs = search needs
 
 returns-2 : tie.Need-returns-2
 returns-2 c =
@@ -31,9 +19,9 @@ pub holds-run-spec : {M : Type 1} → statement M
 holds-run-spec =
     tie.close
     (tie.spec
-    node-start-requires
-    node-start-requires-2
+    (λ c κs. search needs)
+    (λ c κs. search needs)
     returns
-    node-end-requires
-    node-end-requires-2
+    (λ c κs. search needs)
+    (λ c κs. search needs)
     returns-2)

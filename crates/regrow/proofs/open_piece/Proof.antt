@@ -9,30 +9,6 @@ use borrow.Author.Needs.{needs}
 use lib.ListN.{length, length-set, set}
 use mathlib.Core.Path.{_∙_, _≡_}
 
-mul-word : tie.Need-mul-word
-mul-word c = search needs
-
-add-word : tie.Need-add-word
-add-word c = search needs
-
-add-word-2 : tie.Need-add-word-2
-add-word-2 c = search needs
-
-word-requires : tie.Need-word-requires
-word-requires c κs = search needs
-
-centres-requires : tie.Need-centres-requires
-centres-requires c κs = search needs
-
-columns-requires : tie.Need-columns-requires
-columns-requires c κs = search needs
-
-rows-requires : tie.Need-rows-requires
-rows-requires c κs = search needs
-
-add-open-node : tie.Need-add-open-node
-add-open-node c = search needs
-
 open-node-requires : tie.Need-open-node-requires
 open-node-requires c κs =
     let r = c .before .before .before in
@@ -42,12 +18,6 @@ open-node-requires c κs =
     let n = m .before in
     let s = n .before .before .before .before .before .before in
     splits-ready (s .pre) (n .word .ensures .0) (m .centres .ensures .0) (i .if1 .taken) (k .columns .ensures .0) (r .rows .ensures .0)
-
-same-length : tie.Need-same-length
-same-length c = search needs
-
-same-length-2 : tie.Need-same-length-2
-same-length-2 c = search needs
 
 returns : tie.Need-returns
 returns c =
@@ -61,24 +31,6 @@ returns c =
     splits-done (s .pre) (n .word .ensures .0) (m .centres .ensures .0) (i .if1 .taken) (k .columns .ensures .0) (r .rows .ensures .0)
     (o .open-node .ensures)
 
-cast-room : tie.Need-cast-room
-cast-room c = search needs
-
-mul-room : tie.Need-mul-room
-mul-room c = search needs
-
-add-room : tie.Need-add-room
-add-room c = search needs
-
-add-room-2 : tie.Need-add-room-2
-add-room-2 c = search needs
-
-mul-room-2 : tie.Need-mul-room-2
-mul-room-2 c = search needs
-
-slice-write-room : tie.Need-slice-write-room
-slice-write-room c = search needs
-
 copy-children-requires : tie.Need-copy-children-requires
 copy-children-requires c κs =
     let i = c .before in
@@ -86,9 +38,6 @@ copy-children-requires c κs =
     let n = m .before in
     let s = n .before .before .before .before .before .before in
     (s .pre .change, copies-ready (s .pre) (n .word .ensures .0) (m .centres .ensures .0) (i .if1 .left))
-
-add-result : tie.Need-add-result
-add-result c = search needs
 
 same-length-3 : tie.Need-same-length-3
 same-length-3 c =
@@ -109,25 +58,25 @@ pub open-piece-spec : {M : Type 1} → statement M
 open-piece-spec =
     tie.close
     (tie.spec
-    mul-word
-    add-word
-    add-word-2
-    word-requires
-    centres-requires
-    columns-requires
-    rows-requires
-    add-open-node
+    (λ c. search needs)
+    (λ c. search needs)
+    (λ c. search needs)
+    (λ c κs. search needs)
+    (λ c κs. search needs)
+    (λ c κs. search needs)
+    (λ c κs. search needs)
+    (λ c. search needs)
     open-node-requires
-    same-length
-    same-length-2
+    (λ c. search needs)
+    (λ c. search needs)
     returns
-    cast-room
-    mul-room
-    add-room
-    add-room-2
-    mul-room-2
-    slice-write-room
+    (λ c. search needs)
+    (λ c. search needs)
+    (λ c. search needs)
+    (λ c. search needs)
+    (λ c. search needs)
+    (λ c. search needs)
     copy-children-requires
-    add-result
+    (λ c. search needs)
     same-length-3
     returns-2)

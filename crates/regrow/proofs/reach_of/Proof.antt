@@ -7,16 +7,10 @@ use borrow.Author.Needs.{needs}
 use borrow.Author.Tests.{not-false, not-true}
 use native.Mathlib.Omega.{arith}
 
-node-radius-requires : tie.Need-node-radius-requires
-node-radius-requires c κs = search needs
-
 node-inner-requires : tie.Need-node-inner-requires
 node-inner-requires c κs =
     let s = c .before .before .before in
     (s .pre .0 .shape .whole, (s .pre .1, s .pre .0 .edition))
-
-holds-run-requires : tie.Need-holds-run-requires
-holds-run-requires c κs = search needs
 
 returns : tie.Need-returns
 returns c =
@@ -31,30 +25,12 @@ returns-2 c =
     reach-none _ _ _ _ _ (h .before .before .node-radius .ensures) (h .before .node-inner .ensures) (h .holds-run .ensures)
     (not-false _ (i .if1 .left)) (omega arith)
 
-columns-requires : tie.Need-columns-requires
-columns-requires c κs = search needs
-
-node-first-requires : tie.Need-node-first-requires
-node-first-requires c κs = search needs
-
-rows-requires : tie.Need-rows-requires
-rows-requires c κs = search needs
-
 row-distance-requires : tie.Need-row-distance-requires
 row-distance-requires c κs =
     let f = c .before in
     let k = f .before in
     let s = k .before .before .before .before .before .before .before .before .before in
     measurable (s .pre .0) (k .columns .ensures .0) (c .rows .ensures .0) (omega (arith, f .node-first .ensures .1)) (k .before .if2 .left)
-
-greater-requires : tie.Need-greater-requires
-greater-requires c κs = search needs
-
-node-count-requires : tie.Need-node-count-requires
-node-count-requires c κs = search needs
-
-least-of-requires : tie.Need-least-of-requires
-least-of-requires c κs = search needs
 
 returns-3 : tie.Need-returns-3
 returns-3 c =
@@ -74,16 +50,16 @@ pub reach-of-spec : {M : Type 1} → statement M
 reach-of-spec =
     tie.close
     (tie.spec
-    node-radius-requires
+    (λ c κs. search needs)
     node-inner-requires
-    holds-run-requires
+    (λ c κs. search needs)
     returns
     returns-2
-    columns-requires
-    node-first-requires
-    rows-requires
+    (λ c κs. search needs)
+    (λ c κs. search needs)
+    (λ c κs. search needs)
     row-distance-requires
-    greater-requires
-    node-count-requires
-    least-of-requires
+    (λ c κs. search needs)
+    (λ c κs. search needs)
+    (λ c κs. search needs)
     returns-3)

@@ -6,15 +6,6 @@ use Rattle.regrow.proofs.start_of.Tie as tie
 use borrow.Author.Needs.{needs}
 use native.Mathlib.Omega.{arith}
 
-node-start-requires : tie.Need-node-start-requires
-node-start-requires c κs = search needs
-
-node-end-requires : tie.Need-node-end-requires
-node-end-requires c κs = search needs
-
-add-result : tie.Need-add-result
-add-result c = search needs
-
 returns : tie.Need-returns
 returns c =
     let s = c .before .before .before .before in
@@ -31,4 +22,4 @@ returns-2 c =
 
 pub start-of-spec : {M : Type 1} → statement M
 start-of-spec =
-    tie.close (tie.spec node-start-requires node-end-requires add-result returns returns-2)
+    tie.close (tie.spec (λ c κs. search needs) (λ c κs. search needs) (λ c. search needs) returns returns-2)

@@ -6,28 +6,10 @@ use Rattle.sheet.proofs.begin.Tie as tie
 use borrow.Author.Needs.{needs}
 use mathlib.Core.Path.{_∙_, ap, sym}
 
-mark-byte-requires : tie.Need-mark-byte-requires
-mark-byte-requires c κs = search needs
-
-add-stay : tie.Need-add-stay
-add-stay c = search needs
-
-stay-requires : tie.Need-stay-requires
-stay-requires c κs = search needs
-
 returns : tie.Need-returns
 returns c =
     let e = marking-next _ _ _ _ (c .before .before .before .mark-byte .ensures) (c .before .before .if1 .taken) in
     (c .stay .ensures ∙ sym (ap (λ s. s .0) e), sym (ap (λ s. s .1) e))
-
-unmark-requires : tie.Need-unmark-requires
-unmark-requires c κs = search needs
-
-read-byte-requires : tie.Need-read-byte-requires
-read-byte-requires c κs = search needs
-
-same-length : tie.Need-same-length
-same-length c = search needs
 
 returns-2 : tie.Need-returns-2
 returns-2 c =
@@ -38,11 +20,11 @@ pub begin-spec : {M : Type 1} → statement M
 begin-spec =
     tie.close
     (tie.spec
-    mark-byte-requires
-    add-stay
-    stay-requires
+    (λ c κs. search needs)
+    (λ c. search needs)
+    (λ c κs. search needs)
     returns
-    unmark-requires
-    read-byte-requires
-    same-length
+    (λ c κs. search needs)
+    (λ c κs. search needs)
+    (λ c. search needs)
     returns-2)

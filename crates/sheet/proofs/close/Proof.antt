@@ -6,28 +6,10 @@ use Rattle.sheet.proofs.close.Tie as tie
 use borrow.Author.Needs.{needs}
 use mathlib.Core.Path.{_∙_, ap, sym}
 
-is-bare-requires : tie.Need-is-bare-requires
-is-bare-requires c κs = search needs
-
-first-blank-requires : tie.Need-first-blank-requires
-first-blank-requires c κs = search needs
-
-go-onward-requires : tie.Need-go-onward-requires
-go-onward-requires c κs = search needs
-
 returns : tie.Need-returns
 returns c =
     let e = closed-bare _ _ _ (c .before .first-blank .ensures) (sym (c .before .before .before .is-bare .ensures) ∙ c .before .before .if1 .taken) in
     (c .go-onward .ensures ∙ sym (ap (λ s. s .0) e), sym (ap (λ s. s .1) e))
-
-settle-requires : tie.Need-settle-requires
-settle-requires c κs = search needs
-
-judge-requires : tie.Need-judge-requires
-judge-requires c κs = search needs
-
-same-length : tie.Need-same-length
-same-length c = search needs
 
 returns-2 : tie.Need-returns-2
 returns-2 c =
@@ -38,11 +20,11 @@ pub close-spec : {M : Type 1} → statement M
 close-spec =
     tie.close
     (tie.spec
-    is-bare-requires
-    first-blank-requires
-    go-onward-requires
+    (λ c κs. search needs)
+    (λ c κs. search needs)
+    (λ c κs. search needs)
     returns
-    settle-requires
-    judge-requires
-    same-length
+    (λ c κs. search needs)
+    (λ c κs. search needs)
+    (λ c. search needs)
     returns-2)

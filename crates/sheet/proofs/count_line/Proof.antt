@@ -6,9 +6,6 @@ use Rattle.sheet.specs.Closing.{counted}
 use borrow.Author.Needs.{needs}
 use borrow.Author.Tests.{le-ltb, lt-ltb}
 
-add-result : tie.Need-add-result
-add-result c = search needs
-
 returns : tie.Need-returns
 unfolding counted
 returns c = rw (lt-ltb _ _ (c .if1 .taken))
@@ -18,4 +15,4 @@ unfolding counted
 returns-2 c = rw (le-ltb _ _ (c .if1 .left))
 
 pub count-line-spec : {M : Type 1} → statement M
-count-line-spec = tie.close (tie.spec add-result returns returns-2)
+count-line-spec = tie.close (tie.spec (λ c. search needs) returns returns-2)

@@ -7,22 +7,10 @@ use borrow.Author.Needs.{needs}
 use mathlib.Core.Path.{_∙_, ap, sym}
 use native.Mathlib.Omega.{arith}
 
-line-trouble-requires : tie.Need-line-trouble-requires
-line-trouble-requires c κs = search needs
-
-fail-requires : tie.Need-fail-requires
-fail-requires c κs = search needs
-
 returns : tie.Need-returns
 returns c =
     let e = decided-failed _ _ _ _ (c .before .before .before .line-trouble .ensures) (c .before .if1 .taken) in
     (c .fail .ensures ∙ sym (ap (λ s. s .0) e), sym (ap (λ s. s .1) e))
-
-has-titles-requires : tie.Need-has-titles-requires
-has-titles-requires c κs = search needs
-
-go-onward-requires : tie.Need-go-onward-requires
-go-onward-requires c κs = search needs
 
 returns-2 : tie.Need-returns-2
 returns-2 c =
@@ -39,9 +27,6 @@ take-row-requires c κs =
     let f = line-fits _ _ _ _ (c .before .before .before .before .before .before .before .before .before .line-trouble .ensures) (c .before .before .before .before .before .before .before .if1 .left) (sym (c .before .before .before .before .before .before .has-titles .ensures) ∙ c .before .before .before .before .before .if2 .left) in
     (omega (arith, f .few), f .space)
 
-same-length : tie.Need-same-length
-same-length c = search needs
-
 returns-3 : tie.Need-returns-3
 returns-3 c =
     let e = decided-taken _ _ _ _ (c .before .before .before .before .before .before .before .before .before .before .line-trouble .ensures) (c .before .before .before .before .before .before .before .before .if1 .left) (sym (c .before .before .before .before .before .before .before .has-titles .ensures) ∙ c .before .before .before .before .before .before .if2 .left) in
@@ -51,13 +36,13 @@ pub decide-spec : {M : Type 1} → statement M
 decide-spec =
     tie.close
     (tie.spec
-    line-trouble-requires
-    fail-requires
+    (λ c κs. search needs)
+    (λ c κs. search needs)
     returns
-    has-titles-requires
-    go-onward-requires
+    (λ c κs. search needs)
+    (λ c κs. search needs)
     returns-2
     put-row-requires
     take-row-requires
-    same-length
+    (λ c. search needs)
     returns-3)

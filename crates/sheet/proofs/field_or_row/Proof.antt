@@ -10,12 +10,9 @@ returns : tie.Need-returns
 unfolding orRow
 returns c = rw (ne-eqb _ _ (c .if1 .taken))
 
-row-trouble-requires : tie.Need-row-trouble-requires
-row-trouble-requires c κs = search needs
-
 returns-2 : tie.Need-returns-2
 unfolding orRow
 returns-2 c = rw (eq-eqb _ _ (c .before .if1 .left)) (c .row-trouble .ensures)
 
 pub field-or-row-spec : {M : Type 1} → statement M
-field-or-row-spec = tie.close (tie.spec returns row-trouble-requires returns-2)
+field-or-row-spec = tie.close (tie.spec returns (λ c κs. search needs) returns-2)

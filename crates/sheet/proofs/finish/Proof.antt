@@ -5,33 +5,15 @@ use Rattle.sheet.proofs.finish.Statement.{statement}
 use Rattle.sheet.proofs.finish.Tie as tie
 use borrow.Author.Needs.{needs}
 
-step-requires : tie.Need-step-requires
-step-requires c κs = search needs
-
-same-length : tie.Need-same-length
-same-length c = search needs
-
 returns : tie.Need-returns
 returns c =
     let last = c .before .before .before .before .step .ensures in
     (finish-fault _ _ (last .0) (c .if1 .taken), finish-table _ _ (last .0) _ (last .1))
 
-same-length-2 : tie.Need-same-length-2
-same-length-2 c = search needs
-
 returns-2 : tie.Need-returns-2
 returns-2 c =
     let last = c .before .before .before .before .before .before .step .ensures in
     (finish-rows _ _ (last .0) (c .before .before .if1 .left) (c .if2 .taken), finish-table _ _ (last .0) _ (last .1))
-
-first-blank-requires : tie.Need-first-blank-requires
-first-blank-requires c κs = search needs
-
-fail-requires : tie.Need-fail-requires
-fail-requires c κs = search needs
-
-same-length-3 : tie.Need-same-length-3
-same-length-3 c = search needs
 
 returns-3 : tie.Need-returns-3
 returns-3 c =
@@ -42,12 +24,12 @@ pub finish-spec : {M : Type 1} → statement M
 finish-spec =
     tie.close
     (tie.spec
-    step-requires
-    same-length
+    (λ c κs. search needs)
+    (λ c. search needs)
     returns
-    same-length-2
+    (λ c. search needs)
     returns-2
-    first-blank-requires
-    fail-requires
-    same-length-3
+    (λ c κs. search needs)
+    (λ c κs. search needs)
+    (λ c. search needs)
     returns-3)

@@ -10,12 +10,9 @@ returns : tie.Need-returns
 unfolding bare
 returns c = rw (ne-eqb _ _ (c .if1 .taken))
 
-may-begin-requires : tie.Need-may-begin-requires
-may-begin-requires c κs = search needs
-
 returns-2 : tie.Need-returns-2
 unfolding bare
 returns-2 c = rw (eq-eqb _ _ (c .before .if1 .left)) (c .may-begin .ensures)
 
 pub is-bare-spec : {M : Type 1} → statement M
-is-bare-spec = tie.close (tie.spec returns may-begin-requires returns-2)
+is-bare-spec = tie.close (tie.spec returns (λ c κs. search needs) returns-2)

@@ -6,19 +6,10 @@ use Rattle.sheet.proofs.judge.Tie as tie
 use borrow.Author.Needs.{needs}
 use mathlib.Core.Path.{_∙_, ap, sym}
 
-fail-requires : tie.Need-fail-requires
-fail-requires c κs = search needs
-
 returns : tie.Need-returns
 returns c =
     let e = judged-blank _ _ _ (c .before .if1 .taken) in
     (c .fail .ensures ∙ sym (ap (λ s. s .0) e), sym (ap (λ s. s .1) e))
-
-decide-requires : tie.Need-decide-requires
-decide-requires c κs = search needs
-
-same-length : tie.Need-same-length
-same-length c = search needs
 
 returns-2 : tie.Need-returns-2
 returns-2 c =
@@ -29,8 +20,8 @@ pub judge-spec : {M : Type 1} → statement M
 judge-spec =
     tie.close
     (tie.spec
-    fail-requires
+    (λ c κs. search needs)
     returns
-    decide-requires
-    same-length
+    (λ c κs. search needs)
+    (λ c. search needs)
     returns-2)

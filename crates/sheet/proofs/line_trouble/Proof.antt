@@ -6,18 +6,9 @@ use Rattle.sheet.specs.Closing.{endTrouble}
 use borrow.Author.Needs.{needs}
 use mathlib.Core.Path.{_∙_, sym}
 
-has-titles-requires : tie.Need-has-titles-requires
-has-titles-requires c κs = search needs
-
-name-or-wide-requires : tie.Need-name-or-wide-requires
-name-or-wide-requires c κs = search needs
-
 returns : tie.Need-returns
 unfolding endTrouble
 returns c = rw (sym (c .before .before .before .has-titles .ensures) ∙ c .before .before .if1 .taken) (c .name-or-wide .ensures)
-
-field-or-row-requires : tie.Need-field-or-row-requires
-field-or-row-requires c κs = search needs
 
 returns-2 : tie.Need-returns-2
 unfolding endTrouble
@@ -26,4 +17,4 @@ returns-2 c = rw (sym (c .before .before .before .has-titles .ensures) ∙ c .be
 pub line-trouble-spec : {M : Type 1} → statement M
 line-trouble-spec =
     tie.close
-    (tie.spec has-titles-requires name-or-wide-requires returns field-or-row-requires returns-2)
+    (tie.spec (λ c κs. search needs) (λ c κs. search needs) returns (λ c κs. search needs) returns-2)

@@ -10,19 +10,13 @@ returns : tie.Need-returns
 unfolding orWide
 returns c = rw (ne-eqb _ _ (c .if1 .taken))
 
-add-t4 : tie.Need-add-t4
-add-t4 c = search needs
-
 returns-2 : tie.Need-returns-2
 unfolding orWide
 returns-2 c = rw (eq-eqb _ _ (c .before .if1 .left), lt-ltb _ _ (c .if2 .taken))
-
-no-trouble-requires : tie.Need-no-trouble-requires
-no-trouble-requires c κs = search needs
 
 returns-3 : tie.Need-returns-3
 unfolding orWide
 returns-3 c = rw (eq-eqb _ _ (c .before .before .if1 .left), le-ltb _ _ (c .before .if2 .left)) (c .no-trouble .ensures)
 
 pub name-or-wide-spec : {M : Type 1} → statement M
-name-or-wide-spec = tie.close (tie.spec returns add-t4 returns-2 no-trouble-requires returns-3)
+name-or-wide-spec = tie.close (tie.spec returns (λ c. search needs) returns-2 (λ c κs. search needs) returns-3)

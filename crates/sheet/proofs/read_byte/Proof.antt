@@ -6,36 +6,15 @@ use Rattle.sheet.proofs.read_byte.Tie as tie
 use borrow.Author.Needs.{needs}
 use mathlib.Core.Path.{_∙_, ap, sym}
 
-close-requires : tie.Need-close-requires
-close-requires c κs = search needs
-
-same-length : tie.Need-same-length
-same-length c = search needs
-
 returns : tie.Need-returns
 returns c =
     let e = read-newline _ _ _ (c .before .before .before .before .if1 .taken) in
     (c .before .before .close .ensures .0 ∙ sym (ap (λ s. s .0) e), c .before .before .close .ensures .1 ∙ sym (ap (λ s. s .1) e))
 
-release-requires : tie.Need-release-requires
-release-requires c κs = search needs
-
-stay-requires : tie.Need-stay-requires
-stay-requires c κs = search needs
-
 returns-2 : tie.Need-returns-2
 returns-2 c =
     let e = read-return _ _ _ _ (c .before .before .release .ensures) (c .before .before .before .if1 .left) (c .before .if2 .taken) in
     (c .stay .ensures ∙ sym (ap (λ s. s .0) e), sym (ap (λ s. s .1) e))
-
-kind-of-requires : tie.Need-kind-of-requires
-kind-of-requires c κs = search needs
-
-along-requires : tie.Need-along-requires
-along-requires c κs = search needs
-
-stay-requires-2 : tie.Need-stay-requires-2
-stay-requires-2 c κs = search needs
 
 returns-3 : tie.Need-returns-3
 returns-3 c =
@@ -46,13 +25,13 @@ pub read-byte-spec : {M : Type 1} → statement M
 read-byte-spec =
     tie.close
     (tie.spec
-    close-requires
-    same-length
+    (λ c κs. search needs)
+    (λ c. search needs)
     returns
-    release-requires
-    stay-requires
+    (λ c κs. search needs)
+    (λ c κs. search needs)
     returns-2
-    kind-of-requires
-    along-requires
-    stay-requires-2
+    (λ c κs. search needs)
+    (λ c κs. search needs)
+    (λ c κs. search needs)
     returns-3)

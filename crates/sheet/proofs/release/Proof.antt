@@ -5,9 +5,6 @@ use Rattle.sheet.proofs.release.Tie as tie
 use Rattle.sheet.specs.Reading.{released}
 use borrow.Author.Needs.{needs}
 
-along-requires : tie.Need-along-requires
-along-requires c κs = search needs
-
 returns : tie.Need-returns
 unfolding released
 returns c = rw (c .before .if1 .taken) (c .along .ensures)
@@ -17,4 +14,4 @@ unfolding released
 returns-2 c = rw (c .before .if1 .left)
 
 pub release-spec : {M : Type 1} → statement M
-release-spec = tie.close (tie.spec along-requires returns returns-2)
+release-spec = tie.close (tie.spec (λ c κs. search needs) returns returns-2)

@@ -7,18 +7,9 @@ use borrow.Author.Needs.{needs}
 use borrow.Author.Tests.{le-leb, le-ltb, lt-leb, lt-ltb}
 use mathlib.Core.Path.{_∙_, sym}
 
-add-t7 : tie.Need-add-t7
-add-t7 c = search needs
-
 returns : tie.Need-returns
 unfolding rowTrouble
 returns c = rw (lt-ltb _ _ (c .if1 .taken))
-
-uneven-requires : tie.Need-uneven-requires
-uneven-requires c κs = search needs
-
-uneven-column-requires : tie.Need-uneven-column-requires
-uneven-column-requires c κs = search needs
 
 returns-2 : tie.Need-returns-2
 unfolding rowTrouble
@@ -28,15 +19,9 @@ returns-3 : tie.Need-returns-3
 unfolding rowTrouble
 returns-3 c = rw (le-ltb _ _ (c .before .before .before .if1 .left), sym (c .before .before .uneven .ensures) ∙ c .before .if2 .left, le-leb _ _ (c .if3 .taken))
 
-lacks-requires : tie.Need-lacks-requires
-lacks-requires c κs = search needs
-
 returns-4 : tie.Need-returns-4
 unfolding rowTrouble
 returns-4 c = rw (le-ltb _ _ (c .before .before .before .before .before .if1 .left), sym (c .before .before .before .before .uneven .ensures) ∙ c .before .before .before .if2 .left, lt-leb _ _ (c .before .before .if3 .left), sym (c .before .lacks .ensures) ∙ c .if4 .taken)
-
-no-trouble-requires : tie.Need-no-trouble-requires
-no-trouble-requires c κs = search needs
 
 returns-5 : tie.Need-returns-5
 unfolding rowTrouble
@@ -46,13 +31,13 @@ pub row-trouble-spec : {M : Type 1} → statement M
 row-trouble-spec =
     tie.close
     (tie.spec
-    add-t7
+    (λ c. search needs)
     returns
-    uneven-requires
-    uneven-column-requires
+    (λ c κs. search needs)
+    (λ c κs. search needs)
     returns-2
     returns-3
-    lacks-requires
+    (λ c κs. search needs)
     returns-4
-    no-trouble-requires
+    (λ c κs. search needs)
     returns-5)

@@ -5,12 +5,9 @@ use Rattle.sheet.proofs.start.Tie as tie
 use Rattle.sheet.specs.Reading.{begun}
 use borrow.Author.Needs.{needs}
 
-fresh-requires : tie.Need-fresh-requires
-fresh-requires c κs = search needs
-
 returns : tie.Need-returns
 unfolding begun
 returns c = cc
 
 pub start-spec : {M : Type 1} → statement M
-start-spec = tie.close (tie.spec fresh-requires returns)
+start-spec = tie.close (tie.spec (λ c κs. search needs) returns)

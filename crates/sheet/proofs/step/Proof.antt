@@ -9,22 +9,10 @@ use mathlib.Core.Path.{_∙_, ap, sym}
 returns : tie.Need-returns
 returns c = let e = next-stays _ _ _ (c .if1 .taken) in (sym (ap (λ s. s .0) e), sym (ap (λ s. s .1) e))
 
-read-byte-requires : tie.Need-read-byte-requires
-read-byte-requires c κs = search needs
-
-same-length : tie.Need-same-length
-same-length c = search needs
-
 returns-2 : tie.Need-returns-2
 returns-2 c =
     let e = next-read _ _ _ (c .before .before .before .before .before .before .if1 .left) (c .before .before .before .before .if2 .taken) in
     (c .before .before .read-byte .ensures .0 ∙ sym (ap (λ s. s .0) e), c .before .before .read-byte .ensures .1 ∙ sym (ap (λ s. s .1) e))
-
-begin-requires : tie.Need-begin-requires
-begin-requires c κs = search needs
-
-same-length-2 : tie.Need-same-length-2
-same-length-2 c = search needs
 
 returns-3 : tie.Need-returns-3
 returns-3 c =
@@ -36,9 +24,9 @@ step-spec =
     tie.close
     (tie.spec
     returns
-    read-byte-requires
-    same-length
+    (λ c κs. search needs)
+    (λ c. search needs)
     returns-2
-    begin-requires
-    same-length-2
+    (λ c κs. search needs)
+    (λ c. search needs)
     returns-3)

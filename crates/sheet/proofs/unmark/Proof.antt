@@ -6,22 +6,13 @@ use Rattle.sheet.specs.Reading.{unmarking}
 use borrow.Author.Needs.{needs}
 use borrow.Author.Tests.{eq-eqb, ne-eqb}
 
-stay-requires : tie.Need-stay-requires
-stay-requires c κs = search needs
-
 returns : tie.Need-returns
 unfolding unmarking
 returns c = rw (eq-eqb _ _ (c .before .if1 .taken)) (c .stay .ensures)
-
-along-requires : tie.Need-along-requires
-along-requires c κs = search needs
-
-stay-requires-2 : tie.Need-stay-requires-2
-stay-requires-2 c κs = search needs
 
 returns-2 : tie.Need-returns-2
 unfolding unmarking
 returns-2 c = rw (ne-eqb _ _ (c .before .before .if1 .left)) (cc)
 
 pub unmark-spec : {M : Type 1} → statement M
-unmark-spec = tie.close (tie.spec stay-requires returns along-requires stay-requires-2 returns-2)
+unmark-spec = tie.close (tie.spec (λ c κs. search needs) returns (λ c κs. search needs) (λ c κs. search needs) returns-2)

@@ -7,14 +7,8 @@ use Rattle.text.specs.Reading.{begun}
 use borrow.Author.Needs.{needs}
 use mathlib.Core.Path.{_∙_, sym}
 
-is-within-requires : tie.Need-is-within-requires
-is-within-requires c κs = search needs
-
 sub-t4 : tie.Need-sub-t4
 sub-t4 c = within-both _ _ _ (sym (c .before .is-within .ensures) ∙ c .if1 .taken) .0
-
-cast-t5 : tie.Need-cast-t5
-cast-t5 c = search needs
 
 returns : tie.Need-returns
 unfolding begun
@@ -25,4 +19,4 @@ unfolding begun
 returns-2 c = rw (sym (c .before .is-within .ensures) ∙ c .if1 .left)
 
 pub begin-spec : {M : Type 1} → statement M
-begin-spec = tie.close (tie.spec is-within-requires sub-t4 cast-t5 returns returns-2)
+begin-spec = tie.close (tie.spec (λ c κs. search needs) sub-t4 (λ c. search needs) returns returns-2)

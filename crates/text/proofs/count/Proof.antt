@@ -25,20 +25,8 @@ abbrev μ-loop : tie.MeasureT-loop
 loop-holds : tie.Need-loop-holds Inv-loop μ-loop
 loop-holds c = counted-start _
 
-shared-slice-read-b : tie.Need-shared-slice-read-b Inv-loop μ-loop
-shared-slice-read-b c = search needs
-
-ended-requires : tie.Need-ended-requires Inv-loop μ-loop
-ended-requires c κs = search needs
-
 add-count : tie.Need-add-count Inv-loop μ-loop
 add-count c = omega (arith, ended-few _ _ (c .ended .ensures))
-
-step-requires : tie.Need-step-requires Inv-loop μ-loop
-step-requires c κs = search needs
-
-add-i : tie.Need-add-i Inv-loop μ-loop
-add-i c = search needs
 
 loop-less : tie.Need-loop-less Inv-loop μ-loop
 loop-less c = omega arith
@@ -48,14 +36,8 @@ loop-again c =
     let turn = c .before .before .before in
     counted-step _ _ _ _ (turn .before .loop .inv) _ _ (turn .loop-test .taken) (c .step .ensures) (c .before .ended .ensures)
 
-ended-requires-2 : tie.Need-ended-requires-2 Inv-loop μ-loop
-ended-requires-2 c κs = search needs
-
 add-count-2 : tie.Need-add-count-2 Inv-loop μ-loop
 add-count-2 c = omega (arith, ended-few _ _ (c .ended2 .ensures))
-
-may-end-requires : tie.Need-may-end-requires Inv-loop μ-loop
-may-end-requires c κs = search needs
 
 -- behind the loop all of the text is counted, and the place is the one behind it
 abbrev text : tie.After-ended2 Inv-loop μ-loop → List ℕ
@@ -67,9 +49,6 @@ whole c = counted-done _ _ _ _ (c .before .before .loop .inv) _ (c .before .loop
 
 returns : tie.Need-returns Inv-loop μ-loop
 returns c = none-counted _ (ap ends (sym (whole (c .before .before) .1)) ∙ no (c .before .may-end .ensures) (c .if1 .taken))
-
-is-within-requires : tie.Need-is-within-requires Inv-loop μ-loop
-is-within-requires c κs = search needs
 
 returns-2 : tie.Need-returns-2 Inv-loop μ-loop
 returns-2 c =
@@ -90,17 +69,17 @@ count-spec =
     Inv-loop
     μ-loop
     loop-holds
-    shared-slice-read-b
-    ended-requires
+    (λ c. search needs)
+    (λ c κs. search needs)
     add-count
-    step-requires
-    add-i
+    (λ c κs. search needs)
+    (λ c. search needs)
     loop-less
     loop-again
-    ended-requires-2
+    (λ c κs. search needs)
     add-count-2
-    may-end-requires
+    (λ c κs. search needs)
     returns
-    is-within-requires
+    (λ c κs. search needs)
     returns-2
     returns-3)

@@ -6,14 +6,8 @@ use Rattle.text.proofs.ended.Statement.{statement}
 use Rattle.text.proofs.ended.Tie as tie
 use borrow.Author.Needs.{needs}
 
-parts-requires : tie.Need-parts-requires
-parts-requires c κs = search needs
-
 returns : tie.Need-returns
 returns c = rw (not-parted _ _ (no (c .before .parts .ensures) (c .if1 .taken)))
-
-enum-told : tie.Need-enum-told
-enum-told c = search needs
 
 returns-2 : tie.Need-returns-2
 returns-2 c =
@@ -26,4 +20,4 @@ returns-3 : tie.Need-returns-3
 returns-3 c = rw (parted _ _ (yes (c .before .before .before .parts .ensures) (c .before .before .if1 .left))) (cc)
 
 pub ended-spec : {M : Type 1} → statement M
-ended-spec = tie.close (tie.spec parts-requires returns enum-told returns-2 returns-3)
+ended-spec = tie.close (tie.spec (λ c κs. search needs) returns (λ c. search needs) returns-2 returns-3)

@@ -16,14 +16,8 @@ returns-2 : tie.Need-returns-2
 unfolding onward
 returns-2 c = rw (ne-eqb _ _ (c .before .if1 .left), eq-eqb _ _ (c .if2 .taken))
 
-is-within-requires : tie.Need-is-within-requires
-is-within-requires c κs = search needs
-
 sub-grow : tie.Need-sub-grow
 sub-grow c = within-both _ _ _ (sym (c .before .is-within .ensures) ∙ c .if3 .taken) .0
-
-grow-requires : tie.Need-grow-requires
-grow-requires c κs = search needs
 
 returns-3 : tie.Need-returns-3
 unfolding onward
@@ -48,4 +42,4 @@ returns-4 c =
 pub go-on-spec : {M : Type 1} → statement M
 go-on-spec =
     tie.close
-    (tie.spec returns returns-2 is-within-requires sub-grow grow-requires returns-3 returns-4)
+    (tie.spec returns returns-2 (λ c κs. search needs) sub-grow (λ c κs. search needs) returns-3 returns-4)

@@ -10,15 +10,6 @@ returns : tie.Need-returns
 unfolding grown
 returns c = rw (lt-leb _ _ (c .if1 .taken))
 
-mul-grown : tie.Need-mul-grown
-mul-grown c = search needs
-
-add-grown : tie.Need-add-grown
-add-grown c = search needs
-
-cast-t8 : tie.Need-cast-t8
-cast-t8 c = search needs
-
 returns-2 : tie.Need-returns-2
 unfolding grown
 returns-2 c = rw (le-leb _ _ (c .before .if1 .left), le-leb _ _ (c .if2 .taken))
@@ -28,4 +19,4 @@ unfolding grown
 returns-3 c = rw (le-leb _ _ (c .before .if1 .left), lt-leb _ _ (c .if2 .left))
 
 pub grow-spec : {M : Type 1} → statement M
-grow-spec = tie.close (tie.spec returns mul-grown add-grown cast-t8 returns-2 returns-3)
+grow-spec = tie.close (tie.spec returns (λ c. search needs) (λ c. search needs) (λ c. search needs) returns-2 returns-3)

@@ -10,23 +10,14 @@ use borrow.Author.Needs.{needs}
 use mathlib.Core.List.{[], _∷_}
 use mathlib.Core.Path.{_∙_, _≡_}
 
-parts-requires : tie.Need-parts-requires
-parts-requires c κs = search needs
-
 returns : tie.Need-returns
 returns c = put-none _ _ _ (not-parted _ _ (no (c .before .parts .ensures) (c .if1 .taken)))
-
-enum-known-place : tie.Need-enum-known-place
-enum-known-place c = search needs
 
 returns-2 : tie.Need-returns-2
 returns-2 c =
     put-none _ _ _
     (parted _ _ (yes (c .before .before .parts .ensures) (c .before .if1 .left))
     ∙ none-inside (c .before .before .before .before .args .place) (c .match .keys2))
-
-mul-room : tie.Need-mul-room
-mul-room c = search needs
 
 -- the start, and the number that ends here
 abbrev start : tie.After-known-told → tie.Start
@@ -41,16 +32,10 @@ one c = parted _ _ (yes (c .before .before .before .before .parts .ensures) (c .
 slice-write-room : tie.Need-slice-write-room
 slice-write-room c = fits-one _ _ (value c) _ (one c) (start c .pre)
 
-add-result : tie.Need-add-result
-add-result c = search needs
-
-same-length : tie.Need-same-length
-same-length c = search needs
-
 returns-3 : tie.Need-returns-3
 returns-3 c = put-one _ _ _ (value c) (one c) (fits-one _ _ (value c) _ (one c) (start c .pre))
 
 pub put-ended-spec : {M : Type 1} → statement M
 put-ended-spec =
     tie.close
-    (tie.spec parts-requires returns enum-known-place returns-2 mul-room slice-write-room add-result same-length returns-3)
+    (tie.spec (λ c κs. search needs) returns (λ c. search needs) returns-2 (λ c. search needs) slice-write-room (λ c. search needs) (λ c. search needs) returns-3)

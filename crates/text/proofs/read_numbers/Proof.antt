@@ -7,9 +7,6 @@ use borrow.Author.Needs.{needs}
 use mathlib.Core.Path.{_∙_, sym}
 use native.Mathlib.Omega.{arith}
 
-count-requires : tie.Need-count-requires
-count-requires c κs = search needs
-
 returns : tie.Need-returns
 returns c = refused-text _ _ (unread _ (sym (c .before .count .ensures) ∙ c .if1 .taken))
 
@@ -21,9 +18,6 @@ returns-2 c =
 fill-requires : tie.Need-fill-requires
 fill-requires c κs = omega (arith, read _ (c .before .before .before .count .ensures) (c .before .before .if1 .left) .1, c .before .if2 .left)
 
-same-length : tie.Need-same-length
-same-length c = search needs
-
 returns-3 : tie.Need-returns-3
 returns-3 c =
     let k = read _ (c .before .before .before .before .before .before .count .ensures) (c .before .before .before .before .before .if1 .left) in
@@ -31,4 +25,4 @@ returns-3 c =
 
 pub read-numbers-spec : {M : Type 1} → statement M
 read-numbers-spec =
-    tie.close (tie.spec count-requires returns returns-2 fill-requires same-length returns-3)
+    tie.close (tie.spec (λ c κs. search needs) returns returns-2 fill-requires (λ c. search needs) returns-3)

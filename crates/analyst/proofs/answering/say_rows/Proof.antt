@@ -16,18 +16,6 @@ Inv-loop table c query n how text₀ at₀ i₀ text at i = (i ≤ n) × (4096 �
 abbrev μ-loop : tie.MeasureT-loop
 μ-loop table c query n how text₀ at₀ i₀ text at i = n - i
 
-buffer-requires : tie.Need-buffer-requires Inv-loop μ-loop
-buffer-requires c κs = search needs
-
-loop-holds : tie.Need-loop-holds Inv-loop μ-loop
-loop-holds c = search needs
-
-shared-slice-read-put-marked : tie.Need-shared-slice-read-put-marked Inv-loop μ-loop
-shared-slice-read-put-marked c = search needs
-
-slice-aggregate-put-marked : tie.Need-slice-aggregate-put-marked Inv-loop μ-loop
-slice-aggregate-put-marked c = search needs
-
 put-marked-requires : tie.Need-put-marked-requires Inv-loop μ-loop
 put-marked-requires c κs =
     let turn = c .before .before in
@@ -40,26 +28,8 @@ put-marked-requires c κs =
       search needs,
     )
 
-add-i : tie.Need-add-i Inv-loop μ-loop
-add-i c = search needs
-
-loop-less : tie.Need-loop-less Inv-loop μ-loop
-loop-less c = search needs
-
-loop-again : tie.Need-loop-again Inv-loop μ-loop
-loop-again c = search needs
-
-array-share-prefix-text : tie.Need-array-share-prefix-text Inv-loop μ-loop
-array-share-prefix-text c = search needs
-
 slice-aggregate-say : tie.Need-slice-aggregate-say Inv-loop μ-loop
 slice-aggregate-say c = sym (length-take-le _ _ (omega arith))
-
-say-requires : tie.Need-say-requires Inv-loop μ-loop
-say-requires c κs = search needs
-
-returns : tie.Need-returns Inv-loop μ-loop
-returns c = search needs
 
 pub say-rows-spec : {M : Type 1} → statement M
 say-rows-spec =
@@ -67,15 +37,15 @@ say-rows-spec =
     (tie.spec
     Inv-loop
     μ-loop
-    buffer-requires
-    loop-holds
-    shared-slice-read-put-marked
-    slice-aggregate-put-marked
+    (λ c κs. search needs)
+    (λ c. search needs)
+    (λ c. search needs)
+    (λ c. search needs)
     put-marked-requires
-    add-i
-    loop-less
-    loop-again
-    array-share-prefix-text
+    (λ c. search needs)
+    (λ c. search needs)
+    (λ c. search needs)
+    (λ c. search needs)
     slice-aggregate-say
-    say-requires
-    returns)
+    (λ c κs. search needs)
+    (λ c. search needs))

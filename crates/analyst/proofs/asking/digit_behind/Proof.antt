@@ -8,23 +8,11 @@ use Rattle.limits.proofs.Ranges.{within-both}
 use borrow.Author.Needs.{needs}
 use native.Mathlib.Omega.{arith}
 
-is-within-requires : tie.Need-is-within-requires
-is-within-requires c κs = search needs
-
 returns : tie.Need-returns
 returns c = (behind-other _ _ (no (c .before .is-within .ensures) (c .if1 .taken)), omega arith)
 
-mul-grown : tie.Need-mul-grown
-mul-grown c = search needs
-
 sub-grown : tie.Need-sub-grown
 sub-grown c = within-both _ _ _ (yes (c .before .is-within .ensures) (c .if1 .left)) .0
-
-cast-grown : tie.Need-cast-grown
-cast-grown c = search needs
-
-add-grown : tie.Need-add-grown
-add-grown c = search needs
 
 returns-2 : tie.Need-returns-2
 returns-2 c = (behind-most _ _ (yes (c .before .before .is-within .ensures) (c .before .if1 .left)) (c .if2 .taken), omega arith)
@@ -36,11 +24,11 @@ pub digit-behind-spec : {M : Type 1} → statement M
 digit-behind-spec =
     tie.close
     (tie.spec
-    is-within-requires
+    (λ c κs. search needs)
     returns
-    mul-grown
+    (λ c. search needs)
     sub-grown
-    cast-grown
-    add-grown
+    (λ c. search needs)
+    (λ c. search needs)
     returns-2
     returns-3)

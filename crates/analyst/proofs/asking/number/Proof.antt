@@ -20,18 +20,6 @@ returns c = (none-worth (c .before .before .args .word .now) (c .if1 .taken), om
 loop-holds : tie.Need-loop-holds Inv-loop μ-loop
 loop-holds c = counted-start _
 
-shared-slice-read-digit-behind : tie.Need-shared-slice-read-digit-behind Inv-loop μ-loop
-shared-slice-read-digit-behind c = search needs
-
-digit-behind-requires : tie.Need-digit-behind-requires Inv-loop μ-loop
-digit-behind-requires c κs = search needs
-
-add-i : tie.Need-add-i Inv-loop μ-loop
-add-i c = search needs
-
-loop-less : tie.Need-loop-less Inv-loop μ-loop
-loop-less c = search needs
-
 loop-again : tie.Need-loop-again Inv-loop μ-loop
 loop-again c =
     let read = c .digit-behind .ensures in
@@ -50,9 +38,9 @@ number-spec =
     μ-loop
     returns
     loop-holds
-    shared-slice-read-digit-behind
-    digit-behind-requires
-    add-i
-    loop-less
+    (λ c. search needs)
+    (λ c κs. search needs)
+    (λ c. search needs)
+    (λ c. search needs)
     loop-again
     returns-2)

@@ -22,12 +22,6 @@ abbrev μ-loop : tie.MeasureT-loop
 abbrev start : tie.At-loop Inv-loop μ-loop → tie.Start Inv-loop μ-loop
 start l = l .before .before .before .before .before
 
-nodes-requires : tie.Need-nodes-requires Inv-loop μ-loop
-nodes-requires c κs = search needs
-
-rows-requires : tie.Need-rows-requires Inv-loop μ-loop
-rows-requires c κs = search needs
-
 loop-holds : tie.Need-loop-holds Inv-loop μ-loop
 loop-holds c =
     let a = c .before .before .before .before .args in
@@ -35,15 +29,6 @@ loop-holds c =
 
 leaf-wrong-requires : tie.Need-leaf-wrong-requires Inv-loop μ-loop
 leaf-wrong-requires c κs = (start (c .before) .pre, omega arith)
-
-lesser-requires : tie.Need-lesser-requires Inv-loop μ-loop
-lesser-requires c κs = search needs
-
-add-k : tie.Need-add-k Inv-loop μ-loop
-add-k c = search needs
-
-loop-less : tie.Need-loop-less Inv-loop μ-loop
-loop-less c = search needs
 
 loop-again : tie.Need-loop-again Inv-loop μ-loop
 loop-again c =
@@ -66,12 +51,12 @@ first-wrong-distance-spec =
     (tie.spec
     Inv-loop
     μ-loop
-    nodes-requires
-    rows-requires
+    (λ c κs. search needs)
+    (λ c κs. search needs)
     loop-holds
     leaf-wrong-requires
-    lesser-requires
-    add-k
-    loop-less
+    (λ c κs. search needs)
+    (λ c. search needs)
+    (λ c. search needs)
     loop-again
     returns)

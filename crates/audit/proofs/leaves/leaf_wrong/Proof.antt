@@ -43,12 +43,6 @@ run-inside : (s : tie.Start Inv-loop μ-loop)
     → start# (s .args .index .now) (s .args .k) + count# (s .args .index .now) (s .args .k) ≤ n# (s .args .index .now)
 run-inside s = s .pre .0 .shape .node (s .args .k) (s .pre .1) .run
 
-rows-requires : tie.Need-rows-requires Inv-loop μ-loop
-rows-requires c κs = search needs
-
-node-child-requires : tie.Need-node-child-requires Inv-loop μ-loop
-node-child-requires c κs = search needs
-
 returns : tie.Need-returns Inv-loop μ-loop
 returns c =
     let s = c .before .before .before .before .before in
@@ -56,15 +50,6 @@ returns c =
     let k = s .args .k in
     rw (c .before .before .rows .ensures .0)
     (first-none _ 0 _ (omega arith) (none-inner (dist s) w k (inner-yes w k (c .before .node-child .ensures .0) (c .if1 .taken))))
-
-node-first-requires : tie.Need-node-first-requires Inv-loop μ-loop
-node-first-requires c κs = search needs
-
-node-end-requires : tie.Need-node-end-requires Inv-loop μ-loop
-node-end-requires c κs = search needs
-
-node-start-requires : tie.Need-node-start-requires Inv-loop μ-loop
-node-start-requires c κs = search needs
 
 loop-holds : tie.Need-loop-holds Inv-loop μ-loop
 loop-holds c = (omega arith, rw (c .node-start .ensures .0) (search-start _ _))
@@ -88,12 +73,6 @@ returns-2 c =
     leaf-stop (dist s) (s .args .index .now) (s .args .k) (l .loop .p) (l .loop .inv .1) (is-leaf e) (omega arith)
     (l .before .before .before .node-first .ensures .0) (c .before .before .stored-at .ensures) (c .before .apart .ensures) (run-inside s)
     (c .if2 .taken)
-
-add-p : tie.Need-add-p Inv-loop μ-loop
-add-p c = search needs
-
-loop-less : tie.Need-loop-less Inv-loop μ-loop
-loop-less c = search needs
 
 loop-again : tie.Need-loop-again Inv-loop μ-loop
 loop-again c =
@@ -119,17 +98,17 @@ leaf-wrong-spec =
     (tie.spec
     Inv-loop
     μ-loop
-    rows-requires
-    node-child-requires
+    (λ c κs. search needs)
+    (λ c κs. search needs)
     returns
-    node-first-requires
-    node-end-requires
-    node-start-requires
+    (λ c κs. search needs)
+    (λ c κs. search needs)
+    (λ c κs. search needs)
     loop-holds
     stored-at-requires
     apart-requires
     returns-2
-    add-p
-    loop-less
+    (λ c. search needs)
+    (λ c. search needs)
     loop-again
     returns-3)

@@ -52,9 +52,6 @@ kid c =
 inside : (c : tie.After-node-child Inv-loop μ-loop) → start# (words c) (own c) + count# (words c) (own c) ≤ n# (words c)
 inside c = start c .pre .0 .shape .node (own c) (kid c .node) .run
 
-node-child-requires : tie.Need-node-child-requires Inv-loop μ-loop
-node-child-requires c κs = search needs
-
 add-j : tie.Need-add-j Inv-loop μ-loop
 add-j c = omega (arith, kid c .node, start c .pre .0 .shape .whole .words)
 
@@ -94,12 +91,6 @@ returns c =
     (kid-stop (dist n) (words n) (a .k) (own n) (l .loop .p) (l .loop .inv .1) (omega arith) (f .node-first .ensures .0)
     (c .before .before .apart .ensures) e (c .before .closer-to-other .ensures) (kid n .low) (kid n .high) (c .if1 .taken))
 
-add-p : tie.Need-add-p Inv-loop μ-loop
-add-p c = search needs
-
-loop-less : tie.Need-loop-less Inv-loop μ-loop
-loop-less c = search needs
-
 loop-again : tie.Need-loop-again Inv-loop μ-loop
 loop-again c =
     let l = c .before .before .before .before in
@@ -109,9 +100,6 @@ loop-again c =
       kid-on (dist n) (words n) (start n .args .k) (own n) (l .loop .p) (l .loop .inv .1) (omega arith) (f .node-first .ensures .0)
           (c .before .before .apart .ensures) (n .node-child .ensures .0) (c .before .closer-to-other .ensures) (c .if1 .left),
     )
-
-node-end-requires-2 : tie.Need-node-end-requires-2 Inv-loop μ-loop
-node-end-requires-2 c κs = search needs
 
 returns-2 : tie.Need-returns-2 Inv-loop μ-loop
 returns-2 c =
@@ -128,7 +116,7 @@ child-stray-spec =
     (tie.spec
     Inv-loop
     μ-loop
-    node-child-requires
+    (λ c κs. search needs)
     add-j
     node-first-requires
     node-end-requires
@@ -137,8 +125,8 @@ child-stray-spec =
     apart-requires
     closer-to-other-requires
     returns
-    add-p
-    loop-less
+    (λ c. search needs)
+    (λ c. search needs)
     loop-again
-    node-end-requires-2
+    (λ c κs. search needs)
     returns-2)

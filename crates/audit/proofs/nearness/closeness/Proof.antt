@@ -28,19 +28,10 @@ start l = l .before .before .before .before
 abbrev dist : tie.Start Inv-loop μ-loop → ℕ → ℕ → ℕ
 dist s = between (s .args .table .now) (s .args .c)
 
-nodes-requires : tie.Need-nodes-requires Inv-loop μ-loop
-nodes-requires c κs = search needs
-
 loop-holds : tie.Need-loop-holds Inv-loop μ-loop
 loop-holds c =
     let s = c .before .before .before in
     (c .nodes .ensures .0, omega arith, nodes-start (dist s) (s .args .index .now))
-
-first-stray-requires : tie.Need-first-stray-requires Inv-loop μ-loop
-first-stray-requires c κs = search needs
-
-node-end-requires : tie.Need-node-end-requires Inv-loop μ-loop
-node-end-requires c κs = search needs
 
 returns : tie.Need-returns Inv-loop μ-loop
 returns c =
@@ -48,12 +39,6 @@ returns c =
     let s = start l in
     let f = c .before .before .first-stray in
     sym (l .loop .inv .2 ∙ nodes-stop (dist s) (s .args .index .now) (l .loop .k) (omega arith) (f .result) (omega arith) (f .ensures))
-
-add-k : tie.Need-add-k Inv-loop μ-loop
-add-k c = search needs
-
-loop-less : tie.Need-loop-less Inv-loop μ-loop
-loop-less c = search needs
 
 loop-again : tie.Need-loop-again Inv-loop μ-loop
 loop-again c =
@@ -75,12 +60,12 @@ closeness-spec =
     (tie.spec
     Inv-loop
     μ-loop
-    nodes-requires
+    (λ c κs. search needs)
     loop-holds
-    first-stray-requires
-    node-end-requires
+    (λ c κs. search needs)
+    (λ c κs. search needs)
     returns
-    add-k
-    loop-less
+    (λ c. search needs)
+    (λ c. search needs)
     loop-again
     returns-2)

@@ -41,9 +41,6 @@ tested c =
     c .is-closer .ensures
     ∙ closer-is (between (s .args .table .now) (s .args .c)) (s .args .index .now) (s .args .p) (s .args .x) (s .args .child + l .loop .i) here
 
-centres-requires : tie.Need-centres-requires Inv-loop μ-loop
-centres-requires c κs = search needs
-
 loop-holds : tie.Need-loop-holds Inv-loop μ-loop
 loop-holds c =
     let s = c .before .before .before in
@@ -72,12 +69,6 @@ returns c =
     let F = search-stop f (a .child) (a .child + m) (a .child + l .loop .i) (l .loop .inv .2) (omega arith) here in
     sym (any-first f (a .child) m (a .child + l .loop .i) F (omega arith))
 
-add-i : tie.Need-add-i Inv-loop μ-loop
-add-i c = search needs
-
-loop-less : tie.Need-loop-less Inv-loop μ-loop
-loop-less c = search needs
-
 loop-again : tie.Need-loop-again Inv-loop μ-loop
 loop-again c =
     let l = c .before .before .before .before in
@@ -101,13 +92,13 @@ closer-to-other-spec =
     (tie.spec
     Inv-loop
     μ-loop
-    centres-requires
+    (λ c κs. search needs)
     loop-holds
     mul-is-closer
     element-copy-out-is-closer
     is-closer-requires
     returns
-    add-i
-    loop-less
+    (λ c. search needs)
+    (λ c. search needs)
     loop-again
     returns-2)

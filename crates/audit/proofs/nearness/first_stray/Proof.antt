@@ -33,21 +33,12 @@ start e = e .before .before .before .before .before
 is-inner : (e : tie.Else1 Inv-loop μ-loop) → inner (start e .args .index .now) (start e .args .k) ≡ true
 is-inner e = inner-yes (start e .args .index .now) (start e .args .k) (e .before .node-child .ensures .0) (e .if1 .left)
 
-node-end-requires : tie.Need-node-end-requires Inv-loop μ-loop
-node-end-requires c κs = search needs
-
-node-child-requires : tie.Need-node-child-requires Inv-loop μ-loop
-node-child-requires c κs = search needs
-
 returns : tie.Need-returns Inv-loop μ-loop
 returns c =
     let a = c .before .before .before .before .before .args in
     let w = a .index .now in
     rw (c .before .before .node-end .ensures)
     (near-leaf (between (a .table .now) (a .c)) w (a .k) (inner-no w (a .k) (c .before .node-child .ensures .0) (c .if1 .taken)))
-
-centres-requires : tie.Need-centres-requires Inv-loop μ-loop
-centres-requires c κs = search needs
 
 firsts-requires : tie.Need-firsts-requires Inv-loop μ-loop
 firsts-requires c κs =
@@ -69,15 +60,6 @@ child-stray-requires c κs =
     let fs = l .before .firsts in
     let kids = subst (λ (i : ℕ). Firsts (s .args .index .now) i (fs .result)) (e .before .node-child .ensures .0) (fs .ensures) in
     (s .pre .0, (s .pre .1, is-inner e, omega arith, kids))
-
-lesser-requires : tie.Need-lesser-requires Inv-loop μ-loop
-lesser-requires c κs = search needs
-
-add-a : tie.Need-add-a Inv-loop μ-loop
-add-a c = search needs
-
-loop-less : tie.Need-loop-less Inv-loop μ-loop
-loop-less c = search needs
 
 loop-again : tie.Need-loop-again Inv-loop μ-loop
 loop-again c =
@@ -101,15 +83,15 @@ first-stray-spec =
     (tie.spec
     Inv-loop
     μ-loop
-    node-end-requires
-    node-child-requires
+    (λ c κs. search needs)
+    (λ c κs. search needs)
     returns
-    centres-requires
+    (λ c κs. search needs)
     firsts-requires
     loop-holds
     child-stray-requires
-    lesser-requires
-    add-a
-    loop-less
+    (λ c κs. search needs)
+    (λ c. search needs)
+    (λ c. search needs)
     loop-again
     returns-2)

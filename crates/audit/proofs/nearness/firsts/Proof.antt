@@ -23,25 +23,13 @@ centres-requires c κs = omega (arith, c .before .pre .0 .whole .words)
 loop-holds : tie.Need-loop-holds Inv-loop μ-loop
 loop-holds c = (omega arith, c .centres .ensures .0, refl, λ j h. absurd (omega arith))
 
-add-node-first : tie.Need-add-node-first Inv-loop μ-loop
-add-node-first c = search needs
-
 node-first-requires : tie.Need-node-first-requires Inv-loop μ-loop
 node-first-requires c κs =
     let s = c .before .before .before .before in
     (s .pre .0, omega (arith, s .pre .1, c .before .loop .inv .1))
 
-mul-fs : tie.Need-mul-fs Inv-loop μ-loop
-mul-fs c = search needs
-
 array-write-fs : tie.Need-array-write-fs Inv-loop μ-loop
 array-write-fs c = omega (arith, c .before .before .loop .inv, c .before .before .before .before .before .pre .0 .whole .fan)
-
-add-i : tie.Need-add-i Inv-loop μ-loop
-add-i c = search needs
-
-loop-less : tie.Need-loop-less Inv-loop μ-loop
-loop-less c = search needs
 
 loop-again : tie.Need-loop-again Inv-loop μ-loop
 loop-again c =
@@ -72,11 +60,11 @@ firsts-spec =
     μ-loop
     centres-requires
     loop-holds
-    add-node-first
+    (λ c. search needs)
     node-first-requires
-    mul-fs
+    (λ c. search needs)
     array-write-fs
-    add-i
-    loop-less
+    (λ c. search needs)
+    (λ c. search needs)
     loop-again
     returns)

@@ -18,25 +18,13 @@ Inv-loop table c index total k₀ k = First (wrongReach (between table c) index)
 abbrev μ-loop : tie.MeasureT-loop
 μ-loop table c index total k₀ k = total - k
 
-nodes-requires : tie.Need-nodes-requires Inv-loop μ-loop
-nodes-requires c κs = search needs
-
 loop-holds : tie.Need-loop-holds Inv-loop μ-loop
 loop-holds c = (search-start _ 0, c .nodes .ensures .0, omega arith)
-
-wrong-reach-requires : tie.Need-wrong-reach-requires Inv-loop μ-loop
-wrong-reach-requires c κs = search needs
 
 returns : tie.Need-returns Inv-loop μ-loop
 returns c =
     let l = c .before .before .before .loop in
     search-stop _ 0 _ (l .k) (l .inv .0) (omega arith) (sym (c .before .wrong-reach .ensures) ∙ c .if1 .taken)
-
-add-k : tie.Need-add-k Inv-loop μ-loop
-add-k c = search needs
-
-loop-less : tie.Need-loop-less Inv-loop μ-loop
-loop-less c = search needs
 
 loop-again : tie.Need-loop-again Inv-loop μ-loop
 loop-again c =
@@ -52,11 +40,11 @@ first-wrong-reach-spec =
     (tie.spec
     Inv-loop
     μ-loop
-    nodes-requires
+    (λ c κs. search needs)
     loop-holds
-    wrong-reach-requires
+    (λ c κs. search needs)
     returns
-    add-k
-    loop-less
+    (λ c. search needs)
+    (λ c. search needs)
     loop-again
     returns-2)

@@ -20,20 +20,11 @@ passed c = c .before .before .before
 abbrev dist : tie.Start → ℕ → ℕ → ℕ
 dist s = between (s .args .table .now) (s .args .c)
 
-reaches-requires : tie.Need-reaches-requires
-reaches-requires c κs = search needs
-
-node-radius-requires : tie.Need-node-radius-requires
-node-radius-requires c κs = search needs
-
 returns : tie.Need-returns
 returns c =
     let r = c .before .before .before in
     let s = start r in
     reach-far (dist s) (s .args .index .now) (s .args .k) (r .reaches .ensures) (c .before .before .node-radius .ensures) (λ e. omega arith)
-
-node-inner-requires : tie.Need-node-inner-requires
-node-inner-requires c κs = search needs
 
 returns-2 : tie.Need-returns-2
 returns-2 c =
@@ -45,4 +36,4 @@ returns-2 c =
     (i .node-inner .ensures)
 
 pub wrong-reach-spec : {M : Type 1} → statement M
-wrong-reach-spec = tie.close (tie.spec reaches-requires node-radius-requires returns node-inner-requires returns-2)
+wrong-reach-spec = tie.close (tie.spec (λ c κs. search needs) (λ c κs. search needs) returns (λ c κs. search needs) returns-2)

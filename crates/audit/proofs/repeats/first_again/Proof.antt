@@ -28,9 +28,6 @@ fits c =
     let l = c .before .before in
     row-marked (start l .pre .0) (l .loop .inv .1) (omega arith) (c .row-at .ensures .0)
 
-rows-requires : tie.Need-rows-requires Inv-loop μ-loop
-rows-requires c κs = search needs
-
 loop-holds : tie.Need-loop-holds Inv-loop μ-loop
 loop-holds c = (c .rows .ensures .0, marks-start _ _ (c .before .before .before .pre .1))
 
@@ -42,9 +39,6 @@ mul-if1 c = omega (arith, fits c)
 
 slice-read-if1 : tie.Need-slice-read-if1 Inv-loop μ-loop
 slice-read-if1 c = fits (c .before)
-
-same-length : tie.Need-same-length Inv-loop μ-loop
-same-length c = search needs
 
 returns : tie.Need-returns Inv-loop μ-loop
 returns c =
@@ -58,20 +52,11 @@ mul-work c = omega (arith, fits (c .before .before))
 slice-write-work : tie.Need-slice-write-work Inv-loop μ-loop
 slice-write-work c = fits (c .before .before)
 
-add-p : tie.Need-add-p Inv-loop μ-loop
-add-p c = search needs
-
-loop-less : tie.Need-loop-less Inv-loop μ-loop
-loop-less c = search needs
-
 loop-again : tie.Need-loop-again Inv-loop μ-loop
 loop-again c =
     let l = c .before .before .before .before in
     let M = l .loop .inv .1 in
     (l .loop .inv .0, marks-more (start l .pre .0) M (omega arith) (c .before .before .row-at .ensures .0) (c .if1 .left))
-
-same-length-2 : tie.Need-same-length-2 Inv-loop μ-loop
-same-length-2 c = search needs
 
 returns-2 : tie.Need-returns-2 Inv-loop μ-loop
 returns-2 c =
@@ -84,17 +69,17 @@ first-again-spec =
     (tie.spec
     Inv-loop
     μ-loop
-    rows-requires
+    (λ c κs. search needs)
     loop-holds
     row-at-requires
     mul-if1
     slice-read-if1
-    same-length
+    (λ c. search needs)
     returns
     mul-work
     slice-write-work
-    add-p
-    loop-less
+    (λ c. search needs)
+    (λ c. search needs)
     loop-again
-    same-length-2
+    (λ c. search needs)
     returns-2)

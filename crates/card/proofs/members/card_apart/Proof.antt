@@ -8,9 +8,6 @@ use borrow.Author.Needs.{needs}
 use mathlib.Core.Path.{_∙_, ap}
 use native.Mathlib.Omega.{arith}
 
-card-row-requires : tie.Need-card-row-requires
-card-row-requires c κs = search needs
-
 row-distance-requires : tie.Need-row-distance-requires
 row-distance-requires c κs =
     let s = c .before .before .before in
@@ -29,4 +26,4 @@ returns c =
     c .row-distance .ensures .0 ∙ ap (between (a .table .now) (a .c) (a .f)) (c .before .card-row .ensures .0)
 
 pub card-apart-spec : {M : Type 1} → statement M
-card-apart-spec = tie.close (tie.spec card-row-requires row-distance-requires returns)
+card-apart-spec = tie.close (tie.spec (λ c κs. search needs) row-distance-requires returns)

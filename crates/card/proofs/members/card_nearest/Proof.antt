@@ -56,18 +56,6 @@ first-low c =
     let inside : p < n# (words s) = omega (arith, node s .run, node s .some, e .before .card-start .ensures .0) in
     omega (arith, s .pre .0 .over .shape .place p inside .row, c .card-row .ensures .0)
 
-card-start-requires : tie.Need-card-start-requires Inv-loop μ-loop
-card-start-requires c κs = search needs
-
-card-count-requires : tie.Need-card-count-requires Inv-loop μ-loop
-card-count-requires c κs = search needs
-
-add-end : tie.Need-add-end Inv-loop μ-loop
-add-end c = search needs
-
-add-second : tie.Need-add-second Inv-loop μ-loop
-add-second c = search needs
-
 returns : tie.Need-returns Inv-loop μ-loop
 returns c =
     let e = c .before in
@@ -88,9 +76,6 @@ card-apart-requires c κs =
     let low = e .before .card-start .ensures .0 in
     (s .pre .0, (first-low c, omega (arith, node s .run, c .before .if1 .left, e .card-count .ensures .0, low)))
 
-add-p : tie.Need-add-p Inv-loop μ-loop
-add-p c = search needs
-
 loop-holds : tie.Need-loop-holds Inv-loop μ-loop
 loop-holds c =
     let r = c .before in
@@ -107,15 +92,6 @@ card-apart-requires-2 c κs =
     let s = start e in
     let low = e .before .card-start .ensures .0 in
     (s .pre .0, (first-low r, omega (arith, node s .run, c .loop-test .taken, e .card-count .ensures .0, low)))
-
-smaller-requires : tie.Need-smaller-requires Inv-loop μ-loop
-smaller-requires c κs = search needs
-
-add-p-2 : tie.Need-add-p-2 Inv-loop μ-loop
-add-p-2 c = search needs
-
-loop-less : tie.Need-loop-less Inv-loop μ-loop
-loop-less c = search needs
 
 loop-again : tie.Need-loop-again Inv-loop μ-loop
 loop-again c =
@@ -141,18 +117,18 @@ card-nearest-spec =
     (tie.spec
     Inv-loop
     μ-loop
-    card-start-requires
-    card-count-requires
-    add-end
-    add-second
+    (λ c κs. search needs)
+    (λ c κs. search needs)
+    (λ c. search needs)
+    (λ c. search needs)
     returns
     card-row-requires
     card-apart-requires
-    add-p
+    (λ c. search needs)
     loop-holds
     card-apart-requires-2
-    smaller-requires
-    add-p-2
-    loop-less
+    (λ c κs. search needs)
+    (λ c. search needs)
+    (λ c. search needs)
     loop-again
     returns-2)

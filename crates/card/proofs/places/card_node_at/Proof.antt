@@ -15,9 +15,6 @@ product : (c : tie.After-card-width)
     ≡ width (edition# (cardWords (c .before .before .args .image .now))) * c .before .before .args .k
 product c = ap (λ (z : ℕ). z * c .before .before .args .k) (c .card-width .ensures)
 
-card-width-requires : tie.Need-card-width-requires
-card-width-requires c κs = search needs
-
 mul-result : tie.Need-mul-result
 mul-result c = omega (arith, product c, c .before .before .pre .1, c .before .before .pre .0 .inside, c .before .before .good)
 
@@ -28,4 +25,4 @@ returns : tie.Need-returns
 returns c = omega (arith, product c)
 
 pub card-node-at-spec : {M : Type 1} → statement M
-card-node-at-spec = tie.close (tie.spec card-width-requires mul-result add-result returns)
+card-node-at-spec = tie.close (tie.spec (λ c κs. search needs) mul-result add-result returns)

@@ -15,14 +15,8 @@ end : (c : tie.After-card-nodes)
     ≡ nodeAt (cardWords (c .before .before .args .image .now)) (N# (cardWords (c .before .before .args .image .now)))
 end c = ap (nodeAt (cardWords (c .before .before .args .image .now))) (c .card-nodes .ensures .0)
 
-card-nodes-requires : tie.Need-card-nodes-requires
-card-nodes-requires c κs = search needs
-
 card-node-at-requires : tie.Need-card-node-at-requires
 card-node-at-requires c κs = (c .before .before .pre .0, omega (arith, end c, c .before .before .pre .1))
-
-mul-result : tie.Need-mul-result
-mul-result c = search needs
 
 add-result : tie.Need-add-result
 add-result c =
@@ -33,4 +27,4 @@ returns : tie.Need-returns
 returns c = ap (λ (z : ℕ). z + 2 * c .before .before .before .args .p) (c .card-node-at .ensures ∙ end (c .before))
 
 pub card-pair-at-spec : {M : Type 1} → statement M
-card-pair-at-spec = tie.close (tie.spec card-nodes-requires card-node-at-requires mul-result add-result returns)
+card-pair-at-spec = tie.close (tie.spec (λ c κs. search needs) card-node-at-requires (λ c. search needs) add-result returns)

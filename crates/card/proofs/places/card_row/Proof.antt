@@ -7,16 +7,10 @@ use Rattle.words.specs.Words.{at}
 use borrow.Author.Needs.{needs}
 use mathlib.Core.Path.{_∙_, ap}
 
-card-pair-at-requires : tie.Need-card-pair-at-requires
-card-pair-at-requires c κs = search needs
-
-card-word-requires : tie.Need-card-word-requires
-card-word-requires c κs = search needs
-
 returns : tie.Need-returns
 returns c =
     let w = cardWords (c .before .before .before .args .image .now) in
     (c .card-word .ensures .0 ∙ ap (at w) (c .before .card-pair-at .ensures), c .card-word .ensures .1)
 
 pub card-row-spec : {M : Type 1} → statement M
-card-row-spec = tie.close (tie.spec card-pair-at-requires card-word-requires returns)
+card-row-spec = tie.close (tie.spec (λ c κs. search needs) (λ c κs. search needs) returns)

@@ -8,19 +8,10 @@ use Rattle.words.specs.Words.{at}
 use borrow.Author.Needs.{needs}
 use mathlib.Core.Path.{_∙_, ap}
 
-card-pair-at-requires : tie.Need-card-pair-at-requires
-card-pair-at-requires c κs = search needs
-
-add-held-word : tie.Need-add-held-word
-add-held-word c = search needs
-
-held-word-requires : tie.Need-held-word-requires
-held-word-requires c κs = search needs
-
 returns : tie.Need-returns
 returns c =
     let w = cardWords (c .before .before .before .args .image .now) in
     c .held-word .ensures ∙ ap (λ (z : ℕ). at w (z + 1)) (c .before .card-pair-at .ensures)
 
 pub card-stored-spec : {M : Type 1} → statement M
-card-stored-spec = tie.close (tie.spec card-pair-at-requires add-held-word held-word-requires returns)
+card-stored-spec = tie.close (tie.spec (λ c κs. search needs) (λ c. search needs) (λ c κs. search needs) returns)

@@ -11,9 +11,6 @@ use native.Mathlib.Omega.{arith}
 card-rows-requires : tie.Need-card-rows-requires
 card-rows-requires c κs = card-held _ (c .before .before .pre .0)
 
-div-if1 : tie.Need-div-if1
-div-if1 c = search needs
-
 returns : tie.Need-returns
 returns c = eight-rows _ _ _ (λ e. omega (arith, c .if1 .taken, c .before .card-rows .ensures .0, e))
 
@@ -22,9 +19,6 @@ card-columns-requires c κs = card-held _ (c .before .before .before .before .pr
 
 returns-2 : tie.Need-returns-2
 returns-2 c = eight-columns _ _ _ (λ e. omega (arith, c .if2 .taken, c .before .card-columns .ensures .0, e))
-
-card-shape-ok-requires : tie.Need-card-shape-ok-requires
-card-shape-ok-requires c κs = search needs
 
 returns-3 : tie.Need-returns-3
 returns-3 c =
@@ -45,10 +39,10 @@ card-number-spec =
     tie.close
     (tie.spec
     card-rows-requires
-    div-if1
+    (λ c. search needs)
     returns
     card-columns-requires
     returns-2
-    card-shape-ok-requires
+    (λ c κs. search needs)
     returns-3
     returns-4)

@@ -6,16 +6,10 @@ use Rattle.card.proofs.reading.put_index.Tie as tie
 use borrow.Author.Needs.{needs}
 use native.Mathlib.Omega.{arith}
 
-card-word-requires : tie.Need-card-word-requires
-card-word-requires c κs = search needs
-
 widen-card-requires : tie.Need-widen-card-requires
 widen-card-requires c κs =
     let s = c .before .before .before .before .before .before in
     (s .pre .0, omega (arith, s .pre .1 .0, s .pre .1 .1, total-wide (s .args .image .now)))
-
-same-length : tie.Need-same-length
-same-length c = search needs
 
 returns : tie.Need-returns
 returns c =
@@ -38,9 +32,6 @@ get-words-requires c κs =
       s .pre .1 .1,
     )
 
-same-length-2 : tie.Need-same-length-2
-same-length-2 c = search needs
-
 returns-2 : tie.Need-returns-2
 returns-2 c =
     let g = c .before .before in
@@ -53,10 +44,10 @@ pub put-index-spec : {M : Type 1} → statement M
 put-index-spec =
     tie.close
     (tie.spec
-    card-word-requires
+    (λ c κs. search needs)
     widen-card-requires
-    same-length
+    (λ c. search needs)
     returns
     get-words-requires
-    same-length-2
+    (λ c. search needs)
     returns-2)

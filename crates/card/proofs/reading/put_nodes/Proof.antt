@@ -26,61 +26,10 @@ start l = l .before .before .before .before .before
 abbrev dist : tie.Start Inv-loop μ-loop → ℕ → ℕ → ℕ
 dist s = between (s .args .table .now) (s .args .c)
 
-card-nodes-requires : tie.Need-card-nodes-requires Inv-loop μ-loop
-card-nodes-requires c κs = search needs
-
 loop-holds : tie.Need-loop-holds Inv-loop μ-loop
 loop-holds c =
     let a = c .before .before .before .before .args in
     (noded-start (between (a .table .now) (a .c)) (cardWords (a .image .now)) (a .part .now), c .card-nodes .ensures .0, omega arith)
-
-card-start-requires : tie.Need-card-start-requires Inv-loop μ-loop
-card-start-requires c κs = search needs
-
-cast-start : tie.Need-cast-start Inv-loop μ-loop
-cast-start c = search needs
-
-card-count-requires : tie.Need-card-count-requires Inv-loop μ-loop
-card-count-requires c κs = search needs
-
-cast-count : tie.Need-cast-count Inv-loop μ-loop
-cast-count c = search needs
-
-card-child-requires : tie.Need-card-child-requires Inv-loop μ-loop
-card-child-requires c κs = search needs
-
-cast-child : tie.Need-cast-child Inv-loop μ-loop
-cast-child c = search needs
-
-card-radius-requires : tie.Need-card-radius-requires Inv-loop μ-loop
-card-radius-requires c κs = search needs
-
-card-nearest-requires : tie.Need-card-nearest-requires Inv-loop μ-loop
-card-nearest-requires c κs = search needs
-
-mul-at : tie.Need-mul-at Inv-loop μ-loop
-mul-at c = search needs
-
-mul-put-node : tie.Need-mul-put-node Inv-loop μ-loop
-mul-put-node c = search needs
-
-sub-put-node : tie.Need-sub-put-node Inv-loop μ-loop
-sub-put-node c = search needs
-
-part-put-node-start : tie.Need-part-put-node-start Inv-loop μ-loop
-part-put-node-start c = search needs
-
-part-put-node-end : tie.Need-part-put-node-end Inv-loop μ-loop
-part-put-node-end c = search needs
-
-put-node-requires : tie.Need-put-node-requires Inv-loop μ-loop
-put-node-requires c κs = search needs
-
-add-k : tie.Need-add-k Inv-loop μ-loop
-add-k c = search needs
-
-loop-less : tie.Need-loop-less Inv-loop μ-loop
-loop-less c = search needs
 
 loop-again : tie.Need-loop-again Inv-loop μ-loop
 loop-again c =
@@ -97,9 +46,6 @@ loop-again c =
       omega arith,
     )
 
-same-length : tie.Need-same-length Inv-loop μ-loop
-same-length c = search needs
-
 returns : tie.Need-returns Inv-loop μ-loop
 returns c =
     let l = c .before in
@@ -112,24 +58,24 @@ put-nodes-spec =
     (tie.spec
     Inv-loop
     μ-loop
-    card-nodes-requires
+    (λ c κs. search needs)
     loop-holds
-    card-start-requires
-    cast-start
-    card-count-requires
-    cast-count
-    card-child-requires
-    cast-child
-    card-radius-requires
-    card-nearest-requires
-    mul-at
-    mul-put-node
-    sub-put-node
-    part-put-node-start
-    part-put-node-end
-    put-node-requires
-    add-k
-    loop-less
+    (λ c κs. search needs)
+    (λ c. search needs)
+    (λ c κs. search needs)
+    (λ c. search needs)
+    (λ c κs. search needs)
+    (λ c. search needs)
+    (λ c κs. search needs)
+    (λ c κs. search needs)
+    (λ c. search needs)
+    (λ c. search needs)
+    (λ c. search needs)
+    (λ c. search needs)
+    (λ c. search needs)
+    (λ c κs. search needs)
+    (λ c. search needs)
+    (λ c. search needs)
     loop-again
-    same-length
+    (λ c. search needs)
     returns)

@@ -24,9 +24,6 @@ abbrev μ-loop : tie.MeasureT-loop
 abbrev start : tie.At-loop Inv-loop μ-loop → tie.Start Inv-loop μ-loop
 start l = l .before .before .before .before .before
 
-card-rows-requires : tie.Need-card-rows-requires Inv-loop μ-loop
-card-rows-requires c κs = search needs
-
 card-pair-at-requires : tie.Need-card-pair-at-requires Inv-loop μ-loop
 card-pair-at-requires c κs =
     let H = c .before .before .before .pre .0 in
@@ -36,9 +33,6 @@ loop-holds : tie.Need-loop-holds Inv-loop μ-loop
 loop-holds c =
     let a = c .before .before .before .before .args in
     (placed-start (cardWords (a .image .now)) (a .part .now), c .before .card-rows .ensures .0, c .card-pair-at .ensures, omega arith)
-
-mul-at : tie.Need-mul-at Inv-loop μ-loop
-mul-at c = search needs
 
 add-held-word : tie.Need-add-held-word Inv-loop μ-loop
 add-held-word c = omega (arith, few _ (start (c .before) .pre .0))
@@ -55,26 +49,8 @@ add-held-word-3 c = omega (arith, few _ (start (c .before .before) .pre .0))
 held-word-requires-2 : tie.Need-held-word-requires-2 Inv-loop μ-loop
 held-word-requires-2 c κs = (start (c .before .before) .pre .0, omega (arith, start (c .before .before) .pre .0 .whole .words))
 
-mul-part : tie.Need-mul-part Inv-loop μ-loop
-mul-part c = search needs
-
-slice-write-part : tie.Need-slice-write-part Inv-loop μ-loop
-slice-write-part c = search needs
-
-add-part : tie.Need-add-part Inv-loop μ-loop
-add-part c = search needs
-
-mul-part-2 : tie.Need-mul-part-2 Inv-loop μ-loop
-mul-part-2 c = search needs
-
 slice-write-part-2 : tie.Need-slice-write-part-2 Inv-loop μ-loop
 slice-write-part-2 c = simp length-set (omega arith)
-
-add-p : tie.Need-add-p Inv-loop μ-loop
-add-p c = search needs
-
-loop-less : tie.Need-loop-less Inv-loop μ-loop
-loop-less c = search needs
 
 loop-again : tie.Need-loop-again Inv-loop μ-loop
 loop-again c =
@@ -89,9 +65,6 @@ loop-again c =
       omega arith,
     )
 
-same-length : tie.Need-same-length Inv-loop μ-loop
-same-length c = search needs
-
 returns : tie.Need-returns Inv-loop μ-loop
 returns c =
     let l = c .before in
@@ -103,22 +76,22 @@ put-pairs-spec =
     (tie.spec
     Inv-loop
     μ-loop
-    card-rows-requires
+    (λ c κs. search needs)
     card-pair-at-requires
     loop-holds
-    mul-at
+    (λ c. search needs)
     add-held-word
     held-word-requires
     add-held-word-2
     add-held-word-3
     held-word-requires-2
-    mul-part
-    slice-write-part
-    add-part
-    mul-part-2
+    (λ c. search needs)
+    (λ c. search needs)
+    (λ c. search needs)
+    (λ c. search needs)
     slice-write-part-2
-    add-p
-    loop-less
+    (λ c. search needs)
+    (λ c. search needs)
     loop-again
-    same-length
+    (λ c. search needs)
     returns)

@@ -5,15 +5,6 @@ use Rattle.card.proofs.reading.put_top.Statement.{statement}
 use Rattle.card.proofs.reading.put_top.Tie as tie
 use borrow.Author.Needs.{needs}
 
-get-words-requires : tie.Need-get-words-requires
-get-words-requires c κs = search needs
-
-slice-write-room : tie.Need-slice-write-room
-slice-write-room c = search needs
-
-same-length : tie.Need-same-length
-same-length c = search needs
-
 returns : tie.Need-returns
 returns c =
     let g = c .before .before in
@@ -21,4 +12,4 @@ returns c =
     top-put (s .args .image .now) (s .pre .0) (s .args .room .now) (g .get-words .ensures)
 
 pub put-top-spec : {M : Type 1} → statement M
-put-top-spec = tie.close (tie.spec get-words-requires slice-write-room same-length returns)
+put-top-spec = tie.close (tie.spec (λ c κs. search needs) (λ c. search needs) (λ c. search needs) returns)

@@ -8,22 +8,10 @@ use Rattle.limits.proofs.Sized.{sized}
 use borrow.Author.Needs.{needs}
 use mathlib.Core.Path.{_∙_, sym}
 
-table-number-requires : tie.Need-table-number-requires
-table-number-requires c κs = search needs
-
-refused-requires : tie.Need-refused-requires
-refused-requires c κs = search needs
-
 returns : tie.Need-returns
 returns c =
     let t = c .before .before in
     by-table _ _ _ _ (t .table-number .ensures) (c .before .if1 .taken) (c .refused .ensures .0) (c .refused .ensures .1) (c .refused .ensures .2)
-
-check-image-requires : tie.Need-check-image-requires
-check-image-requires c κs = search needs
-
-refused-requires-2 : tie.Need-refused-requires-2
-refused-requires-2 c κs = search needs
 
 returns-2 : tie.Need-returns-2
 returns-2 c =
@@ -40,9 +28,6 @@ card-number-requires c κs =
       sized _ _ (sym (t .table-number .ensures) ∙ m .before .if1 .left) .some,
     )
 
-refused-requires-3 : tie.Need-refused-requires-3
-refused-requires-3 c κs = search needs
-
 returns-3 : tie.Need-returns-3
 returns-3 c =
     let k = c .before .before in
@@ -55,9 +40,6 @@ card-total-requires : tie.Need-card-total-requires
 card-total-requires c κs =
     let m = c .before .before .before .before in
     card-held _ (image-right _ (m .check-image .ensures) (c .before .before .if2 .left))
-
-refused-requires-4 : tie.Need-refused-requires-4
-refused-requires-4 c κs = search needs
 
 returns-4 : tie.Need-returns-4
 returns-4 c =
@@ -82,16 +64,16 @@ pub refusal-of-spec : {M : Type 1} → statement M
 refusal-of-spec =
     tie.close
     (tie.spec
-    table-number-requires
-    refused-requires
+    (λ c κs. search needs)
+    (λ c κs. search needs)
     returns
-    check-image-requires
-    refused-requires-2
+    (λ c κs. search needs)
+    (λ c κs. search needs)
     returns-2
     card-number-requires
-    refused-requires-3
+    (λ c κs. search needs)
     returns-3
     card-total-requires
-    refused-requires-4
+    (λ c κs. search needs)
     returns-4
     returns-5)

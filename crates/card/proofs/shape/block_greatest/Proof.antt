@@ -35,50 +35,14 @@ inside c =
     let s = start l in
     pair-inside (s .args .image .now) (s .pre .0) (s .pre .1 .0) (l .loop .q) (l .loop .inv .from) (c .loop-test .taken)
 
-mul-from : tie.Need-mul-from Inv-loop μ-loop
-mul-from c = search needs
-
-mul-from-2 : tie.Need-mul-from-2 Inv-loop μ-loop
-mul-from-2 c = search needs
-
-add-from : tie.Need-add-from Inv-loop μ-loop
-add-from c = search needs
-
 loop-holds : tie.Need-loop-holds Inv-loop μ-loop
 loop-holds c = record { from = search needs; to = search needs; found = c .before .pre .1 .1 }
-
-mul-get-word : tie.Need-mul-get-word Inv-loop μ-loop
-mul-get-word c = search needs
-
-add-get-word : tie.Need-add-get-word Inv-loop μ-loop
-add-get-word c = search needs
 
 get-word-requires : tie.Need-get-word-requires Inv-loop μ-loop
 get-word-requires c κs = omega (arith, inside c)
 
-greater-requires : tie.Need-greater-requires Inv-loop μ-loop
-greater-requires c κs = search needs
-
-mul-get-word-2 : tie.Need-mul-get-word-2 Inv-loop μ-loop
-mul-get-word-2 c = search needs
-
-add-get-word-2 : tie.Need-add-get-word-2 Inv-loop μ-loop
-add-get-word-2 c = search needs
-
-add-get-word-3 : tie.Need-add-get-word-3 Inv-loop μ-loop
-add-get-word-3 c = search needs
-
 get-word-requires-2 : tie.Need-get-word-requires-2 Inv-loop μ-loop
 get-word-requires-2 c κs = omega (arith, inside (c .before .before))
-
-greater-requires-2 : tie.Need-greater-requires-2 Inv-loop μ-loop
-greater-requires-2 c κs = search needs
-
-add-q : tie.Need-add-q Inv-loop μ-loop
-add-q c = search needs
-
-loop-less : tie.Need-loop-less Inv-loop μ-loop
-loop-less c = search needs
 
 loop-again : tie.Need-loop-again Inv-loop μ-loop
 loop-again c =
@@ -109,20 +73,20 @@ block-greatest-spec =
     (tie.spec
     Inv-loop
     μ-loop
-    mul-from
-    mul-from-2
-    add-from
+    (λ c. search needs)
+    (λ c. search needs)
+    (λ c. search needs)
     loop-holds
-    mul-get-word
-    add-get-word
+    (λ c. search needs)
+    (λ c. search needs)
     get-word-requires
-    greater-requires
-    mul-get-word-2
-    add-get-word-2
-    add-get-word-3
+    (λ c κs. search needs)
+    (λ c. search needs)
+    (λ c. search needs)
+    (λ c. search needs)
     get-word-requires-2
-    greater-requires-2
-    add-q
-    loop-less
+    (λ c κs. search needs)
+    (λ c. search needs)
+    (λ c. search needs)
     loop-again
     returns)

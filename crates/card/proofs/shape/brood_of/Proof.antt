@@ -7,16 +7,10 @@ use Rattle.words.proofs.Fits.{brood-inner, brood-leaf}
 use borrow.Author.Needs.{needs}
 use mathlib.Core.Path.{_∙_, sym}
 
-card-child-requires : tie.Need-card-child-requires
-card-child-requires c κs = search needs
-
 returns : tie.Need-returns
 returns c =
     let a = c .before .before .before .args in
     brood-leaf (cardWords (a .image .now)) (a .k) (sym (c .before .card-child .ensures .0) ∙ c .if1 .taken)
-
-card-centres-requires : tie.Need-card-centres-requires
-card-centres-requires c κs = search needs
 
 returns-2 : tie.Need-returns-2
 returns-2 c =
@@ -25,4 +19,4 @@ returns-2 c =
     ∙ brood-inner (cardWords (a .image .now)) (a .k) (λ e. c .before .if1 .left (c .before .before .card-child .ensures .0 ∙ e))
 
 pub brood-of-spec : {M : Type 1} → statement M
-brood-of-spec = tie.close (tie.spec card-child-requires returns card-centres-requires returns-2)
+brood-of-spec = tie.close (tie.spec (λ c κs. search needs) returns (λ c κs. search needs) returns-2)

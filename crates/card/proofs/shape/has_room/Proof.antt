@@ -7,22 +7,10 @@ use Rattle.words.proofs.Fits.{room-inner, room-leaf}
 use borrow.Author.Needs.{needs}
 use mathlib.Core.Path.{_∙_, sym}
 
-card-child-requires : tie.Need-card-child-requires
-card-child-requires c κs = search needs
-
 returns : tie.Need-returns
 returns c =
     let a = c .before .before .before .args in
     room-leaf (cardWords (a .image .now)) (a .k) (a .next) (sym (c .before .card-child .ensures .0) ∙ c .if1 .taken)
-
-card-centres-requires : tie.Need-card-centres-requires
-card-centres-requires c κs = search needs
-
-add-result : tie.Need-add-result
-add-result c = search needs
-
-card-nodes-requires : tie.Need-card-nodes-requires
-card-nodes-requires c κs = search needs
 
 returns-2 : tie.Need-returns-2
 returns-2 c =
@@ -34,4 +22,4 @@ returns-2 c =
 pub has-room-spec : {M : Type 1} → statement M
 has-room-spec =
     tie.close
-    (tie.spec card-child-requires returns card-centres-requires add-result card-nodes-requires returns-2)
+    (tie.spec (λ c κs. search needs) returns (λ c κs. search needs) (λ c. search needs) (λ c κs. search needs) returns-2)

@@ -58,22 +58,10 @@ many : (c : tie.Else5)
 many c = omega (arith, c .if5 .left, c .before .card-leaf-size .ensures .0, read (c .before .before) .before .card-count .ensures .0)
 
 -- ---- the needs
-has-room-requires : tie.Need-has-room-requires
-has-room-requires c κs = search needs
-
 returns : tie.Need-returns
 returns c =
     let a = c .before .before .before .args in
     fit-crowd (cardWords (a .image .now)) (a .k) (a .next) (a .depth) (no (c .before .has-room .ensures) (c .if1 .taken))
-
-card-start-requires : tie.Need-card-start-requires
-card-start-requires c κs = search needs
-
-card-count-requires : tie.Need-card-count-requires
-card-count-requires c κs = search needs
-
-card-child-requires : tie.Need-card-child-requires
-card-child-requires c κs = search needs
 
 returns-2 : tie.Need-returns-2
 returns-2 c =
@@ -81,26 +69,17 @@ returns-2 c =
     let a = start e .args in
     fit-empty (words e) (a .k) (a .next) (a .depth) (room e) (omega arith)
 
-card-radius-requires : tie.Need-card-radius-requires
-card-radius-requires c κs = search needs
-
 returns-3 : tie.Need-returns-3
 returns-3 c =
     let e = past (c .before .before .before) in
     let a = start e .args in
     fit-far (words e) (a .k) (a .next) (a .depth) (room e) (omega arith)
 
-card-inner-requires : tie.Need-card-inner-requires
-card-inner-requires c κs = search needs
-
 returns-4 : tie.Need-returns-4
 returns-4 c =
     let e = past (c .before .before .before .before .before) in
     let a = start e .args in
     fit-wide (words e) (a .k) (a .next) (a .depth) (room e) (omega (arith, c .if4 .taken, c .before .card-inner .ensures))
-
-card-leaf-size-requires : tie.Need-card-leaf-size-requires
-card-leaf-size-requires c κs = search needs
 
 returns-5 : tie.Need-returns-5
 returns-5 c =
@@ -133,12 +112,6 @@ returns-7 c =
     fit-other (words e) (a .k) (a .next) (a .depth) (room e) (some (e3 .before .before)) (near e3) (nearer e4) (many e5)
     (omega (arith, c .before .if6 .left)) (λ q. c .if7 .taken (read e4 .card-child .ensures .0 ∙ q))
 
-card-centres-requires : tie.Need-card-centres-requires
-card-centres-requires c κs = search needs
-
-add-tiles : tie.Need-add-tiles
-add-tiles c = search needs
-
 tiles-requires : tie.Need-tiles-requires
 tiles-requires c κs =
     let e7 = c .before in
@@ -169,21 +142,21 @@ pub node-fits-spec : {M : Type 1} → statement M
 node-fits-spec =
     tie.close
     (tie.spec
-    has-room-requires
+    (λ c κs. search needs)
     returns
-    card-start-requires
-    card-count-requires
-    card-child-requires
+    (λ c κs. search needs)
+    (λ c κs. search needs)
+    (λ c κs. search needs)
     returns-2
-    card-radius-requires
+    (λ c κs. search needs)
     returns-3
-    card-inner-requires
+    (λ c κs. search needs)
     returns-4
-    card-leaf-size-requires
+    (λ c κs. search needs)
     returns-5
     returns-6
     returns-7
-    card-centres-requires
-    add-tiles
+    (λ c κs. search needs)
+    (λ c. search needs)
     tiles-requires
     returns-8)

@@ -39,50 +39,20 @@ next c =
     (c .before .held-word2 .ensures ∙ dist-word w (at .result) (l .loop .p) (at .ensures))
     (c .before .before .greater .ensures) (c .greater2 .ensures)
 
-card-rows-requires : tie.Need-card-rows-requires Inv-loop μ-loop
-card-rows-requires c κs = search needs
-
 returns : tie.Need-returns Inv-loop μ-loop
 returns c = rw (sym (c .before .card-rows .ensures .0) ∙ c .if1 .taken)
-
-card-pair-at-requires : tie.Need-card-pair-at-requires Inv-loop μ-loop
-card-pair-at-requires c κs = search needs
 
 loop-holds : tie.Need-loop-holds Inv-loop μ-loop
 loop-holds c = (search needs, greatest-start (cardWords (c .before .before .before .before .args .image .now)))
 
-mul-held-word : tie.Need-mul-held-word Inv-loop μ-loop
-mul-held-word c = search needs
-
 add-held-word : tie.Need-add-held-word Inv-loop μ-loop
 add-held-word c = omega (arith, small (c .before))
-
-held-word-requires : tie.Need-held-word-requires Inv-loop μ-loop
-held-word-requires c κs = search needs
-
-greater-requires : tie.Need-greater-requires Inv-loop μ-loop
-greater-requires c κs = search needs
-
-mul-held-word-2 : tie.Need-mul-held-word-2 Inv-loop μ-loop
-mul-held-word-2 c = search needs
 
 add-held-word-2 : tie.Need-add-held-word-2 Inv-loop μ-loop
 add-held-word-2 c = omega (arith, small (c .before .before .before))
 
 add-held-word-3 : tie.Need-add-held-word-3 Inv-loop μ-loop
 add-held-word-3 c = omega (arith, small (c .before .before .before))
-
-held-word-requires-2 : tie.Need-held-word-requires-2 Inv-loop μ-loop
-held-word-requires-2 c κs = search needs
-
-greater-requires-2 : tie.Need-greater-requires-2 Inv-loop μ-loop
-greater-requires-2 c κs = search needs
-
-add-p : tie.Need-add-p Inv-loop μ-loop
-add-p c = search needs
-
-mul-b : tie.Need-mul-b Inv-loop μ-loop
-mul-b c = search needs
 
 add-b : tie.Need-add-b Inv-loop μ-loop
 add-b c = omega (arith, small (c .before .before .before .before .before))
@@ -115,9 +85,6 @@ loop-less c = omega (arith, c .before .block-stop .ensures .0, c .before .block-
 loop-again : tie.Need-loop-again Inv-loop μ-loop
 loop-again c = (omega (arith, c .before .block-stop .ensures .1), c .block-greatest .ensures)
 
-cast-if2 : tie.Need-cast-if2 Inv-loop μ-loop
-cast-if2 c = search needs
-
 returns-2 : tie.Need-returns-2 Inv-loop μ-loop
 returns-2 c =
     let l = c .before .before in
@@ -140,26 +107,26 @@ positions-fit-spec =
     (tie.spec
     Inv-loop
     μ-loop
-    card-rows-requires
+    (λ c κs. search needs)
     returns
-    card-pair-at-requires
+    (λ c κs. search needs)
     loop-holds
-    mul-held-word
+    (λ c. search needs)
     add-held-word
-    held-word-requires
-    greater-requires
-    mul-held-word-2
+    (λ c κs. search needs)
+    (λ c κs. search needs)
+    (λ c. search needs)
     add-held-word-2
     add-held-word-3
-    held-word-requires-2
-    greater-requires-2
-    add-p
-    mul-b
+    (λ c κs. search needs)
+    (λ c κs. search needs)
+    (λ c. search needs)
+    (λ c. search needs)
     add-b
     block-stop-requires
     block-greatest-requires
     loop-less
     loop-again
-    cast-if2
+    (λ c. search needs)
     returns-2
     returns-3)

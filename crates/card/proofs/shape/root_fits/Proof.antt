@@ -7,17 +7,8 @@ use Rattle.words.proofs.Fits.{root-off, root-on}
 use borrow.Author.Needs.{needs}
 use mathlib.Core.Path.{_∙_, sym}
 
-card-start-requires : tie.Need-card-start-requires
-card-start-requires c κs = search needs
-
 returns : tie.Need-returns
 returns c = root-off (cardWords (c .before .before .before .args .image .now)) (λ e. c .if1 .taken (c .before .card-start .ensures .0 ∙ e))
-
-card-count-requires : tie.Need-card-count-requires
-card-count-requires c κs = search needs
-
-card-rows-requires : tie.Need-card-rows-requires
-card-rows-requires c κs = search needs
 
 returns-2 : tie.Need-returns-2
 returns-2 c =
@@ -27,4 +18,4 @@ returns-2 c =
 
 pub root-fits-spec : {M : Type 1} → statement M
 root-fits-spec =
-    tie.close (tie.spec card-start-requires returns card-count-requires card-rows-requires returns-2)
+    tie.close (tie.spec (λ c κs. search needs) returns (λ c κs. search needs) (λ c κs. search needs) returns-2)

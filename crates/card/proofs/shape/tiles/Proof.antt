@@ -21,12 +21,6 @@ loop-holds c =
     let a = c .before .args in
     (search needs, search needs, tile-start (cardWords (a .image .now)) (a .j) (a .m) (a .s) (a .e))
 
-add-card-start : tie.Need-add-card-start Inv-loop μ-loop
-add-card-start c = search needs
-
-card-start-requires : tie.Need-card-start-requires Inv-loop μ-loop
-card-start-requires c κs = search needs
-
 returns : tie.Need-returns Inv-loop μ-loop
 returns c =
     let at-loop = c .before .before .before in
@@ -34,21 +28,6 @@ returns c =
     sym (at-loop .loop .inv .2
     ∙ sym (tile-stop (cardWords (a .image .now)) (a .j) (at-loop .loop .i) (a .m) (at-loop .loop .at) (a .e) (c .before .before .loop-test .taken)
     (λ e. c .if1 .taken (c .before .card-start .ensures .0 ∙ e))))
-
-add-card-count : tie.Need-add-card-count Inv-loop μ-loop
-add-card-count c = search needs
-
-card-count-requires : tie.Need-card-count-requires Inv-loop μ-loop
-card-count-requires c κs = search needs
-
-add-at : tie.Need-add-at Inv-loop μ-loop
-add-at c = search needs
-
-add-i : tie.Need-add-i Inv-loop μ-loop
-add-i c = search needs
-
-loop-less : tie.Need-loop-less Inv-loop μ-loop
-loop-less c = search needs
 
 loop-again : tie.Need-loop-again Inv-loop μ-loop
 loop-again c =
@@ -78,13 +57,13 @@ tiles-spec =
     Inv-loop
     μ-loop
     loop-holds
-    add-card-start
-    card-start-requires
+    (λ c. search needs)
+    (λ c κs. search needs)
     returns
-    add-card-count
-    card-count-requires
-    add-at
-    add-i
-    loop-less
+    (λ c. search needs)
+    (λ c κs. search needs)
+    (λ c. search needs)
+    (λ c. search needs)
+    (λ c. search needs)
     loop-again
     returns-2)

@@ -18,14 +18,8 @@ Inv-loop image total next₀ edge₀ depth₀ k₀ next edge depth k = Going (ca
 abbrev μ-loop : tie.MeasureT-loop
 μ-loop image total next₀ edge₀ depth₀ k₀ next edge depth k = total - k
 
-card-nodes-requires : tie.Need-card-nodes-requires Inv-loop μ-loop
-card-nodes-requires c κs = search needs
-
 returns : tie.Need-returns Inv-loop μ-loop
 returns c = ends-empty (cardWords (c .before .before .before .args .image .now)) (sym (c .before .card-nodes .ensures .0) ∙ c .if1 .taken)
-
-root-fits-requires : tie.Need-root-fits-requires Inv-loop μ-loop
-root-fits-requires c κs = search needs
 
 returns-2 : tie.Need-returns-2 Inv-loop μ-loop
 returns-2 c =
@@ -43,9 +37,6 @@ returns-3 c =
     let w = cardWords (at-loop .before .before .before .before .before .before .args .image .now) in
     going-orphan w (at-loop .loop .inv) (c .before .loop-test .taken) (c .if3 .taken)
 
-node-fits-requires : tie.Need-node-fits-requires Inv-loop μ-loop
-node-fits-requires c κs = search needs
-
 returns-4 : tie.Need-returns-4 Inv-loop μ-loop
 returns-4 c =
     let at3 = c .before .before in
@@ -53,24 +44,12 @@ returns-4 c =
     let w = cardWords (at-loop .before .before .before .before .before .before .args .image .now) in
     going-unfit w (at-loop .loop .inv) (at3 .before .loop-test .taken) (at3 .if3 .left) (no (c .before .node-fits .ensures) (c .if4 .taken))
 
-brood-of-requires : tie.Need-brood-of-requires Inv-loop μ-loop
-brood-of-requires c κs = search needs
-
 add-next : tie.Need-add-next Inv-loop μ-loop
 add-next c =
     let at-loop = c .before .before .before .before .before in
     let start = at-loop .before .before .before .before .before .before in
     let few = brood-few (cardWords (start .args .image .now)) (at-loop .loop .k) (start .pre .whole .fan .1) in
     omega (arith, few, c .brood-of .ensures, at-loop .loop .inv .next-low)
-
-add-k : tie.Need-add-k Inv-loop μ-loop
-add-k c = search needs
-
-add-depth : tie.Need-add-depth Inv-loop μ-loop
-add-depth c = search needs
-
-loop-less : tie.Need-loop-less Inv-loop μ-loop
-loop-less c = search needs
 
 loop-again : tie.Need-loop-again Inv-loop μ-loop
 loop-again c =
@@ -80,9 +59,6 @@ loop-again c =
     let start = at-loop .before .before .before .before .before .before in
     going-turn (cardWords (start .args .image .now)) (at-loop .loop .inv) (at3 .before .loop-test .taken) (at3 .if3 .left) (start .pre .whole .fan .1)
     (yes (at4 .before .node-fits .ensures) (at4 .if4 .left)) (c .before .brood-of .ensures) (c .if5 .taken)
-
-loop-less-2 : tie.Need-loop-less-2 Inv-loop μ-loop
-loop-less-2 c = search needs
 
 loop-again-2 : tie.Need-loop-again-2 Inv-loop μ-loop
 loop-again-2 c =
@@ -106,20 +82,20 @@ tree-fits-spec =
     (tie.spec
     Inv-loop
     μ-loop
-    card-nodes-requires
+    (λ c κs. search needs)
     returns
-    root-fits-requires
+    (λ c κs. search needs)
     returns-2
     loop-holds
     returns-3
-    node-fits-requires
+    (λ c κs. search needs)
     returns-4
-    brood-of-requires
+    (λ c κs. search needs)
     add-next
-    add-k
-    add-depth
-    loop-less
+    (λ c. search needs)
+    (λ c. search needs)
+    (λ c. search needs)
     loop-again
-    loop-less-2
+    (λ c. search needs)
     loop-again-2
     returns-5)

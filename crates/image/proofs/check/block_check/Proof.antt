@@ -19,33 +19,9 @@ abbrev μ-loop : tie.MeasureT-loop
 abbrev start : tie.At-loop Inv-loop μ-loop → tie.Start Inv-loop μ-loop
 start l = l .before .before .before
 
-mul-from : tie.Need-mul-from Inv-loop μ-loop
-mul-from c = search needs
-
-check-start-requires : tie.Need-check-start-requires Inv-loop μ-loop
-check-start-requires c κs = search needs
-
 loop-holds : tie.Need-loop-holds Inv-loop μ-loop
 unfolding checkFrom wordsAt
 loop-holds c = search needs
-
-mul-get-word : tie.Need-mul-get-word Inv-loop μ-loop
-mul-get-word c = search needs
-
-add-get-word : tie.Need-add-get-word Inv-loop μ-loop
-add-get-word c = search needs
-
-get-word-requires : tie.Need-get-word-requires Inv-loop μ-loop
-get-word-requires c κs = search needs
-
-stepped-requires : tie.Need-stepped-requires Inv-loop μ-loop
-stepped-requires c κs = search needs
-
-add-i : tie.Need-add-i Inv-loop μ-loop
-add-i c = search needs
-
-loop-less : tie.Need-loop-less Inv-loop μ-loop
-loop-less c = search needs
 
 loop-again : tie.Need-loop-again Inv-loop μ-loop
 loop-again c =
@@ -67,14 +43,14 @@ block-check-spec =
     (tie.spec
     Inv-loop
     μ-loop
-    mul-from
-    check-start-requires
+    (λ c. search needs)
+    (λ c κs. search needs)
     loop-holds
-    mul-get-word
-    add-get-word
-    get-word-requires
-    stepped-requires
-    add-i
-    loop-less
+    (λ c. search needs)
+    (λ c. search needs)
+    (λ c κs. search needs)
+    (λ c κs. search needs)
+    (λ c. search needs)
+    (λ c. search needs)
     loop-again
     returns)

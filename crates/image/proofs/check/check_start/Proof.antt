@@ -5,14 +5,8 @@ use Rattle.image.proofs.check.check_start.Tie as tie
 use borrow.Author.Needs.{needs}
 use native.Mathlib.Omega.{arith}
 
-add-result : tie.Need-add-result
-add-result c = search needs
-
-cast-result : tie.Need-cast-result
-cast-result c = search needs
-
 returns : tie.Need-returns
 returns c = omega arith
 
 pub check-start-spec : {M : Type 1} → statement M
-check-start-spec = tie.close (tie.spec add-result cast-result returns)
+check-start-spec = tie.close (tie.spec (λ c. search needs) (λ c. search needs) returns)

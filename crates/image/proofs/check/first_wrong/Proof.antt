@@ -24,21 +24,12 @@ start l = l .before .before
 loop-holds : tie.Need-loop-holds Inv-loop μ-loop
 loop-holds c = (search needs, search-start (wrongAt (c .before .args .image .now)) 0)
 
-block-good-requires : tie.Need-block-good-requires Inv-loop μ-loop
-block-good-requires c κs = search needs
-
 returns : tie.Need-returns Inv-loop μ-loop
 returns c =
     let l = c .before .before .before in
     let a = start l .args in
     let wrong = ap not (sym (c .before .block-good .ensures)) ∙ c .if1 .taken in
     sym (lowest-is (a .image .now) (a .blocks) _ (search-stop _ 0 _ _ (l .loop .inv .1) (c .before .before .loop-test .taken) wrong))
-
-add-b : tie.Need-add-b Inv-loop μ-loop
-add-b c = search needs
-
-loop-less : tie.Need-loop-less Inv-loop μ-loop
-loop-less c = search needs
 
 loop-again : tie.Need-loop-again Inv-loop μ-loop
 loop-again c =
@@ -59,9 +50,9 @@ first-wrong-spec =
     Inv-loop
     μ-loop
     loop-holds
-    block-good-requires
+    (λ c κs. search needs)
     returns
-    add-b
-    loop-less
+    (λ c. search needs)
+    (λ c. search needs)
     loop-again
     returns-2)

@@ -6,15 +6,9 @@ use Rattle.words.specs.Image.{rotate}
 use borrow.Author.Needs.{needs}
 use native.Mathlib.Omega.{arith}
 
-mul-result : tie.Need-mul-result
-mul-result c = search needs
-
-add-result : tie.Need-add-result
-add-result c = search needs
-
 returns : tie.Need-returns
 unfolding rotate
 returns c = omega arith
 
 pub rotated-spec : {M : Type 1} → statement M
-rotated-spec = tie.close (tie.spec mul-result add-result returns)
+rotated-spec = tie.close (tie.spec (λ c. search needs) (λ c. search needs) returns)

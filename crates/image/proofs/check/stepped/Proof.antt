@@ -5,15 +5,9 @@ use Rattle.image.proofs.check.stepped.Tie as tie
 use Rattle.words.specs.Image.{step}
 use borrow.Author.Needs.{needs}
 
-rotated-requires : tie.Need-rotated-requires
-rotated-requires c κs = search needs
-
-wrapping-add-u32-requires : tie.Need-wrapping-add-u32-requires
-wrapping-add-u32-requires c κs = search needs
-
 returns : tie.Need-returns
 unfolding step
 returns c = search needs
 
 pub stepped-spec : {M : Type 1} → statement M
-stepped-spec = tie.close (tie.spec rotated-requires wrapping-add-u32-requires returns)
+stepped-spec = tie.close (tie.spec (λ c κs. search needs) (λ c κs. search needs) returns)

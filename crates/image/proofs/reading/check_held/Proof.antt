@@ -39,18 +39,6 @@ count c = sym (c .if2 .left) ∙ needed (c .before)
 zeros : (c : tie.After-rest-zero) → c .rest-zero .result ≡ restZero (I (W (c .before .before .before))) (imageTotal (I (W (c .before .before .before))))
 zeros c = c .rest-zero .ensures ∙ ap (restZero (I (W (c .before .before .before)))) (total (c .before .before .before))
 
-header-of-requires : tie.Need-header-of-requires
-header-of-requires c κs = search needs
-
-slice-aggregate-card-ok : tie.Need-slice-aggregate-card-ok
-slice-aggregate-card-ok c = search needs
-
-card-ok-requires : tie.Need-card-ok-requires
-card-ok-requires c κs = search needs
-
-refused-requires : tie.Need-refused-requires
-refused-requires c κs = search needs
-
 returns : tie.Need-returns
 returns c =
     let ho = c .before .before in
@@ -58,17 +46,8 @@ returns c =
     let e = no (ho .card-ok .ensures ∙ ap cardOk (ho .before .before .header-of .ensures)) (c .before .if1 .taken) in
     sound-refused _ _ _ _ _ 16 0 (λ q. omega arith) (sixteen-header (I (ho .before .before)) e) (r .0) (r .1) (r .2)
 
-slice-aggregate-words-of : tie.Need-slice-aggregate-words-of
-slice-aggregate-words-of c = search needs
-
 words-of-requires : tie.Need-words-of-requires
 words-of-requires c κs = (search needs, yes (c .before .before .card-ok .ensures) (c .before .if1 .left))
-
-blocks-for-requires : tie.Need-blocks-for-requires
-blocks-for-requires c κs = search needs
-
-refused-requires-2 : tie.Need-refused-requires-2
-refused-requires-2 c κs = search needs
 
 returns-2 : tie.Need-returns-2
 returns-2 c =
@@ -76,12 +55,6 @@ returns-2 c =
     let r = c .refused2 .ensures in
     sound-refused _ _ _ _ _ 16 0 (λ q. omega arith)
     (sixteen-count (I (W (bf .before))) (λ e. c .before .if2 .taken (needed bf ∙ sym e))) (r .0) (r .1) (r .2)
-
-rest-zero-requires : tie.Need-rest-zero-requires
-rest-zero-requires c κs = search needs
-
-refused-requires-3 : tie.Need-refused-requires-3
-refused-requires-3 c κs = search needs
 
 returns-3 : tie.Need-returns-3
 returns-3 c =
@@ -104,17 +77,17 @@ pub check-held-spec : {M : Type 1} → statement M
 check-held-spec =
     tie.close
     (tie.spec
-    header-of-requires
-    slice-aggregate-card-ok
-    card-ok-requires
-    refused-requires
+    (λ c κs. search needs)
+    (λ c. search needs)
+    (λ c κs. search needs)
+    (λ c κs. search needs)
     returns
-    slice-aggregate-words-of
+    (λ c. search needs)
     words-of-requires
-    blocks-for-requires
-    refused-requires-2
+    (λ c κs. search needs)
+    (λ c κs. search needs)
     returns-2
-    rest-zero-requires
-    refused-requires-3
+    (λ c κs. search needs)
+    (λ c κs. search needs)
     returns-3
     returns-4)

@@ -11,27 +11,15 @@ use lib.ListN.{length}
 use mathlib.Core.Path.{subst, sym}
 use native.Mathlib.Omega.{arith}
 
-refused-requires : tie.Need-refused-requires
-refused-requires c κs = search needs
-
 returns : tie.Need-returns
 returns c =
     let r = c .refused .ensures in
     sound-refused _ _ _ _ _ 14 0 (λ q. omega arith) (fourteen-empty _ (c .before .if1 .taken)) (r .0) (r .1) (r .2)
 
-refused-requires-2 : tie.Need-refused-requires-2
-refused-requires-2 c κs = search needs
-
 returns-2 : tie.Need-returns-2
 returns-2 c =
     let r = c .refused2 .ensures in
     sound-refused _ _ _ _ _ 14 0 (λ q. omega arith) (fourteen-ragged _ (c .before .if2 .taken)) (r .0) (r .1) (r .2)
-
-first-wrong-requires : tie.Need-first-wrong-requires
-first-wrong-requires c κs = search needs
-
-refused-requires-3 : tie.Need-refused-requires-3
-refused-requires-3 c κs = search needs
 
 returns-3 : tie.Need-returns-3
 returns-3 c =
@@ -41,9 +29,6 @@ returns-3 c =
     sound-refused _ _ _ _ _ 15 (fw .first-wrong .result) (λ q. omega arith)
     (rw (fw .first-wrong .ensures) (fifteen _ (e2 .before .if1 .left) (e2 .if2 .left) (rw (← fw .first-wrong .ensures) (c .before .if3 .taken))))
     (r .0) (r .1) (r .2)
-
-check-held-requires : tie.Need-check-held-requires
-check-held-requires c κs = search needs
 
 returns-4 : tie.Need-returns-4
 returns-4 c =
@@ -59,12 +44,12 @@ pub check-image-spec : {M : Type 1} → statement M
 check-image-spec =
     tie.close
     (tie.spec
-    refused-requires
+    (λ c κs. search needs)
     returns
-    refused-requires-2
+    (λ c κs. search needs)
     returns-2
-    first-wrong-requires
-    refused-requires-3
+    (λ c κs. search needs)
+    (λ c κs. search needs)
     returns-3
-    check-held-requires
+    (λ c κs. search needs)
     returns-4)

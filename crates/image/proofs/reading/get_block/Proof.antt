@@ -30,12 +30,6 @@ abbrev μ-loop : tie.MeasureT-loop
 abbrev start : tie.At-loop Inv-loop μ-loop → tie.Start Inv-loop μ-loop
 start l = l .before .before .before
 
-mul-checks : tie.Need-mul-checks Inv-loop μ-loop
-mul-checks c = search needs
-
-mul-j : tie.Need-mul-j Inv-loop μ-loop
-mul-j c = search needs
-
 loop-holds : tie.Need-loop-holds Inv-loop μ-loop
 loop-holds c =
     let s = c .before .before in
@@ -48,28 +42,10 @@ loop-holds c =
       read = sym (take-append-drop (127 * b) room) ∙ ap (λ (x : List ℕ). x ++ drop (127 * b) room) (s .pre .1);
     }
 
-mul-get-word : tie.Need-mul-get-word Inv-loop μ-loop
-mul-get-word c = search needs
-
-add-get-word : tie.Need-add-get-word Inv-loop μ-loop
-add-get-word c = search needs
-
 get-word-requires : tie.Need-get-word-requires Inv-loop μ-loop
 get-word-requires c κs =
     let l = c .before in
     inside-block (start l .args .b) (l .loop .j) _ (omega arith) (omega arith) (omega arith)
-
-mul-room : tie.Need-mul-room Inv-loop μ-loop
-mul-room c = search needs
-
-slice-write-room : tie.Need-slice-write-room Inv-loop μ-loop
-slice-write-room c = search needs
-
-add-j : tie.Need-add-j Inv-loop μ-loop
-add-j c = search needs
-
-loop-less : tie.Need-loop-less Inv-loop μ-loop
-loop-less c = search needs
 
 loop-again : tie.Need-loop-again Inv-loop μ-loop
 loop-again c =
@@ -89,9 +65,6 @@ loop-again c =
           ∙ rw (image-more image j, ← word);
     }
 
-same-length : tie.Need-same-length Inv-loop μ-loop
-same-length c = search needs
-
 returns : tie.Need-returns Inv-loop μ-loop
 returns c =
     let l = c .before in
@@ -105,16 +78,16 @@ get-block-spec =
     (tie.spec
     Inv-loop
     μ-loop
-    mul-checks
-    mul-j
+    (λ c. search needs)
+    (λ c. search needs)
     loop-holds
-    mul-get-word
-    add-get-word
+    (λ c. search needs)
+    (λ c. search needs)
     get-word-requires
-    mul-room
-    slice-write-room
-    add-j
-    loop-less
+    (λ c. search needs)
+    (λ c. search needs)
+    (λ c. search needs)
+    (λ c. search needs)
     loop-again
-    same-length
+    (λ c. search needs)
     returns)

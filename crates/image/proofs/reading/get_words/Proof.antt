@@ -31,9 +31,6 @@ loop-holds : tie.Need-loop-holds Inv-loop μ-loop
 unfolding imageWords
 loop-holds c = record { bound = omega arith; long = refl; read = refl }
 
-block-end-requires : tie.Need-block-end-requires Inv-loop μ-loop
-block-end-requires c κs = search needs
-
 get-block-requires : tie.Need-get-block-requires Inv-loop μ-loop
 get-block-requires c κs =
     let l = c .before .before .before in
@@ -43,12 +40,6 @@ get-block-requires c κs =
       (omega arith, omega arith, omega arith, omega (arith, i .long)),
       subst (λ (j : ℕ). take j (l .loop .room) ≡ imageWords (a .image .now) j) e (front-read (a .image .now) (a .room .now) (l .loop .room) (l .loop .j) (i .read)),
     )
-
-add-b : tie.Need-add-b Inv-loop μ-loop
-add-b c = search needs
-
-loop-less : tie.Need-loop-less Inv-loop μ-loop
-loop-less c = search needs
 
 loop-again : tie.Need-loop-again Inv-loop μ-loop
 loop-again c =
@@ -62,9 +53,6 @@ loop-again c =
       long = search needs;
       read = read-on (a .image .now) (a .room .now) (l .loop .room) (l .loop .j) (i .read) (end .result) (omega arith) (block .ensures);
     }
-
-same-length : tie.Need-same-length Inv-loop μ-loop
-same-length c = search needs
 
 returns : tie.Need-returns Inv-loop μ-loop
 returns c =
@@ -80,10 +68,10 @@ get-words-spec =
     Inv-loop
     μ-loop
     loop-holds
-    block-end-requires
+    (λ c κs. search needs)
     get-block-requires
-    add-b
-    loop-less
+    (λ c. search needs)
+    (λ c. search needs)
     loop-again
-    same-length
+    (λ c. search needs)
     returns)

@@ -7,14 +7,8 @@ use borrow.Author.Needs.{needs}
 use mathlib.Core.List.{append-nil}
 use mathlib.Core.Path.{_∙_}
 
-slice-aggregate-get-words : tie.Need-slice-aggregate-get-words
-slice-aggregate-get-words c = search needs
-
-get-words-requires : tie.Need-get-words-requires
-get-words-requires c κs = search needs
-
 returns : tie.Need-returns
 returns c = c .before .get-words .ensures ∙ append-nil (imageWords (c .before .before .before .before .args .image .now) 8)
 
 pub header-of-spec : {M : Type 1} → statement M
-header-of-spec = tie.close (tie.spec slice-aggregate-get-words get-words-requires returns)
+header-of-spec = tie.close (tie.spec (λ c. search needs) (λ c κs. search needs) returns)

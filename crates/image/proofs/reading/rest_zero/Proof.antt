@@ -24,9 +24,6 @@ abbrev μ-loop : tie.MeasureT-loop
 abbrev zero : tie.At-loop Inv-loop μ-loop → ℕ → Bool
 zero l j = eqb (imageWord (l .before .before .args .image .now) j) 0
 
-mul-end : tie.Need-mul-end Inv-loop μ-loop
-mul-end c = search needs
-
 loop-holds : tie.Need-loop-holds Inv-loop μ-loop
 loop-holds c = refl
 
@@ -38,12 +35,6 @@ returns c =
     let l = c .before .before .before in
     let other = ne-eqb _ 0 (λ e. c .if1 .taken (c .before .image-word .ensures ∙ e)) in
     all-stop (zero l) _ _ (c .before .before .loop-test .taken) other ∙ sym (l .loop .inv)
-
-add-j : tie.Need-add-j Inv-loop μ-loop
-add-j c = search needs
-
-loop-less : tie.Need-loop-less Inv-loop μ-loop
-loop-less c = search needs
 
 loop-again : tie.Need-loop-again Inv-loop μ-loop
 loop-again c =
@@ -62,11 +53,11 @@ rest-zero-spec =
     (tie.spec
     Inv-loop
     μ-loop
-    mul-end
+    (λ c. search needs)
     loop-holds
     image-word-requires
     returns
-    add-j
-    loop-less
+    (λ c. search needs)
+    (λ c. search needs)
     loop-again
     returns-2)

@@ -5,12 +5,9 @@ use Rattle.image.proofs.word.blocks_for.Tie as tie
 use Rattle.words.specs.Image.{blocksFor}
 use borrow.Author.Needs.{needs}
 
-add-result : tie.Need-add-result
-add-result c = search needs
-
 returns : tie.Need-returns
 unfolding blocksFor
 returns c = search needs
 
 pub blocks-for-spec : {M : Type 1} → statement M
-blocks-for-spec = tie.close (tie.spec add-result returns)
+blocks-for-spec = tie.close (tie.spec (λ c. search needs) returns)

@@ -8,32 +8,11 @@ use borrow.Author.Needs.{needs}
 use lib.ListN.{length-set}
 use native.Mathlib.Omega.{arith}
 
-cast-part : tie.Need-cast-part
-cast-part c = search needs
-
-slice-write-part : tie.Need-slice-write-part
-slice-write-part c = search needs
-
-cast-part-2 : tie.Need-cast-part-2
-cast-part-2 c = search needs
-
 slice-write-part-2 : tie.Need-slice-write-part-2
 slice-write-part-2 c = simp length-set (omega arith)
 
-cast-part-3 : tie.Need-cast-part-3
-cast-part-3 c = search needs
-
 slice-write-part-3 : tie.Need-slice-write-part-3
 slice-write-part-3 c = simp length-set (omega arith)
-
-cast-part-4 : tie.Need-cast-part-4
-cast-part-4 c = search needs
-
-slice-write-part-4 : tie.Need-slice-write-part-4
-slice-write-part-4 c = search needs
-
-same-length : tie.Need-same-length
-same-length c = search needs
 
 returns : tie.Need-returns
 unfolding bytes
@@ -43,13 +22,13 @@ pub put-word-spec : {M : Type 1} → statement M
 put-word-spec =
     tie.close
     (tie.spec
-    cast-part
-    slice-write-part
-    cast-part-2
+    (λ c. search needs)
+    (λ c. search needs)
+    (λ c. search needs)
     slice-write-part-2
-    cast-part-3
+    (λ c. search needs)
     slice-write-part-3
-    cast-part-4
-    slice-write-part-4
-    same-length
+    (λ c. search needs)
+    (λ c. search needs)
+    (λ c. search needs)
     returns)

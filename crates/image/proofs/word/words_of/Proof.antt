@@ -15,23 +15,11 @@ product : (c : tie.After-nodes)
     × (c .before .width .result * c .nodes .result ≤ 5 * c .nodes .result)
 product c = nodes-words (c .before .before .before .args .header .now) (c .before .before .before .pre .1) (c .before .width .ensures .0) (c .nodes .ensures .0)
 
-width-requires : tie.Need-width-requires
-width-requires c κs = search needs
-
-nodes-requires : tie.Need-nodes-requires
-nodes-requires c κs = search needs
-
 mul-result : tie.Need-mul-result
 mul-result c = omega (arith, product c .1, c .nodes .ensures .1)
 
 add-result : tie.Need-add-result
 add-result c = omega (arith, product c .1, c .nodes .ensures .1)
-
-rows-requires : tie.Need-rows-requires
-rows-requires c κs = search needs
-
-mul-result-2 : tie.Need-mul-result-2
-mul-result-2 c = search needs
 
 add-result-2 : tie.Need-add-result-2
 add-result-2 c = omega (arith, product (c .before) .1, c .before .nodes .ensures .1, c .rows .ensures .1)
@@ -46,11 +34,11 @@ pub words-of-spec : {M : Type 1} → statement M
 words-of-spec =
     tie.close
     (tie.spec
-    width-requires
-    nodes-requires
+    (λ c κs. search needs)
+    (λ c κs. search needs)
     mul-result
     add-result
-    rows-requires
-    mul-result-2
+    (λ c κs. search needs)
+    (λ c. search needs)
     add-result-2
     returns)

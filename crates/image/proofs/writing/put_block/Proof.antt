@@ -52,45 +52,9 @@ abbrev μ-loop : tie.MeasureT-loop
 abbrev start : tie.At-loop Inv-loop μ-loop → tie.Start Inv-loop μ-loop
 start l = l .before .before .before .before
 
-mul-first : tie.Need-mul-first Inv-loop μ-loop
-mul-first c = search needs
-
-check-start-requires : tie.Need-check-start-requires Inv-loop μ-loop
-check-start-requires c κs = search needs
-
 loop-holds : tie.Need-loop-holds Inv-loop μ-loop
 unfolding checkFrom window
 loop-holds c = search needs
-
-add-word-or-zero : tie.Need-add-word-or-zero Inv-loop μ-loop
-add-word-or-zero c = search needs
-
-word-or-zero-requires : tie.Need-word-or-zero-requires Inv-loop μ-loop
-word-or-zero-requires c κs = search needs
-
-stepped-requires : tie.Need-stepped-requires Inv-loop μ-loop
-stepped-requires c κs = search needs
-
-mul-from : tie.Need-mul-from Inv-loop μ-loop
-mul-from c = search needs
-
-sub-put-word : tie.Need-sub-put-word Inv-loop μ-loop
-sub-put-word c = search needs
-
-part-put-word-start : tie.Need-part-put-word-start Inv-loop μ-loop
-part-put-word-start c = search needs
-
-part-put-word-end : tie.Need-part-put-word-end Inv-loop μ-loop
-part-put-word-end c = search needs
-
-put-word-requires : tie.Need-put-word-requires Inv-loop μ-loop
-put-word-requires c κs = search needs
-
-add-i : tie.Need-add-i Inv-loop μ-loop
-add-i c = search needs
-
-loop-less : tie.Need-loop-less Inv-loop μ-loop
-loop-less c = search needs
 
 loop-again : tie.Need-loop-again Inv-loop μ-loop
 loop-again c =
@@ -114,21 +78,6 @@ loop-again c =
           ∙ rw (window-bytes index first i, four-more i);
     }
 
-sub-put-word-2 : tie.Need-sub-put-word-2 Inv-loop μ-loop
-sub-put-word-2 c = search needs
-
-part-put-word-start-2 : tie.Need-part-put-word-start-2 Inv-loop μ-loop
-part-put-word-start-2 c = search needs
-
-part-put-word-end-2 : tie.Need-part-put-word-end-2 Inv-loop μ-loop
-part-put-word-end-2 c = search needs
-
-put-word-requires-2 : tie.Need-put-word-requires-2 Inv-loop μ-loop
-put-word-requires-2 c κs = search needs
-
-same-length : tie.Need-same-length Inv-loop μ-loop
-same-length c = search needs
-
 returns : tie.Need-returns Inv-loop μ-loop
 returns c =
     let left = c .before .before .before .before in
@@ -143,23 +92,23 @@ put-block-spec =
     (tie.spec
     Inv-loop
     μ-loop
-    mul-first
-    check-start-requires
+    (λ c. search needs)
+    (λ c κs. search needs)
     loop-holds
-    add-word-or-zero
-    word-or-zero-requires
-    stepped-requires
-    mul-from
-    sub-put-word
-    part-put-word-start
-    part-put-word-end
-    put-word-requires
-    add-i
-    loop-less
+    (λ c. search needs)
+    (λ c κs. search needs)
+    (λ c κs. search needs)
+    (λ c. search needs)
+    (λ c. search needs)
+    (λ c. search needs)
+    (λ c. search needs)
+    (λ c κs. search needs)
+    (λ c. search needs)
+    (λ c. search needs)
     loop-again
-    sub-put-word-2
-    part-put-word-start-2
-    part-put-word-end-2
-    put-word-requires-2
-    same-length
+    (λ c. search needs)
+    (λ c. search needs)
+    (λ c. search needs)
+    (λ c κs. search needs)
+    (λ c. search needs)
     returns)

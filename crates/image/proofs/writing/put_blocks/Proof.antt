@@ -41,31 +41,10 @@ loop-holds : tie.Need-loop-holds Inv-loop μ-loop
 unfolding blocks
 loop-holds c = search needs
 
-mul-from : tie.Need-mul-from Inv-loop μ-loop
-mul-from c = search needs
-
-add-to : tie.Need-add-to Inv-loop μ-loop
-add-to c = search needs
-
-sub-put-block : tie.Need-sub-put-block Inv-loop μ-loop
-sub-put-block c = search needs
-
-part-put-block-start : tie.Need-part-put-block-start Inv-loop μ-loop
-part-put-block-start c = search needs
-
-part-put-block-end : tie.Need-part-put-block-end Inv-loop μ-loop
-part-put-block-end c = search needs
-
 put-block-requires : tie.Need-put-block-requires Inv-loop μ-loop
 put-block-requires c κs =
     let l = c .before .before .loop in
     (omega arith, mid-len (512 * l .b) (512 * l .b + 512) (l .image) (omega arith) ∙ block-long (l .b))
-
-add-b : tie.Need-add-b Inv-loop μ-loop
-add-b c = search needs
-
-loop-less : tie.Need-loop-less Inv-loop μ-loop
-loop-less c = search needs
 
 loop-again : tie.Need-loop-again Inv-loop μ-loop
 loop-again c =
@@ -84,9 +63,6 @@ loop-again c =
           ∙ rw (blocks-more index b, block-more b);
     }
 
-same-length : tie.Need-same-length Inv-loop μ-loop
-same-length c = search needs
-
 returns : tie.Need-returns Inv-loop μ-loop
 returns c =
     let l = c .before in
@@ -101,14 +77,14 @@ put-blocks-spec =
     Inv-loop
     μ-loop
     loop-holds
-    mul-from
-    add-to
-    sub-put-block
-    part-put-block-start
-    part-put-block-end
+    (λ c. search needs)
+    (λ c. search needs)
+    (λ c. search needs)
+    (λ c. search needs)
+    (λ c. search needs)
     put-block-requires
-    add-b
-    loop-less
+    (λ c. search needs)
+    (λ c. search needs)
     loop-again
-    same-length
+    (λ c. search needs)
     returns)

@@ -45,20 +45,11 @@ node-first-requires-2 c κs = (c .before .loop .inv .lent .shape, omega (arith, 
 row-distance-requires-2 : tie.Need-row-distance-requires-2 Inv-loop μ-loop
 row-distance-requires-2 c κs = measurable (c .before .before .loop .inv .lent) (c .node-first2 .ensures .1)
 
-add-j : tie.Need-add-j Inv-loop μ-loop
-add-j c = search needs
-
-loop-less : tie.Need-loop-less Inv-loop μ-loop
-loop-less c = search needs
-
 loop-again : tie.Need-loop-again Inv-loop μ-loop
 loop-again c =
     let c2 = c .before .before in
     let c4 = c2 .before .before in
     choosing-moves (c4 .loop .inv) (omega arith) (c2 .node-first2 .ensures .0) (c .before .row-distance2 .ensures .0) (omega arith)
-
-loop-less-2 : tie.Need-loop-less-2 Inv-loop μ-loop
-loop-less-2 c = search needs
 
 loop-again-2 : tie.Need-loop-again-2 Inv-loop μ-loop
 loop-again-2 c =
@@ -83,9 +74,9 @@ closest-child-spec =
     add-node-first
     node-first-requires-2
     row-distance-requires-2
-    add-j
-    loop-less
+    (λ c. search needs)
+    (λ c. search needs)
     loop-again
-    loop-less-2
+    (λ c. search needs)
     loop-again-2
     returns)

@@ -7,9 +7,6 @@ use borrow.Author.Needs.{needs}
 use borrow.Author.Tests.{eq-eqb, ne-eqb}
 use native.Mathlib.Omega.{arith}
 
-share-ok-requires : tie.Need-share-ok-requires
-share-ok-requires c κs = search needs
-
 returns : tie.Need-returns
 returns c = rw (no (c .before .share-ok .ensures) (c .if1 .taken))
 
@@ -24,4 +21,4 @@ returns-3 c =
     rw (yes (e .before .share-ok .ensures) (e .if1 .left), ne-eqb (e .before .before .args .edition) 2 (λ z. omega arith))
 
 pub new-spec : {M : Type 1} → statement M
-new-spec = tie.close (tie.spec share-ok-requires returns returns-2 returns-3)
+new-spec = tie.close (tie.spec (λ c κs. search needs) returns returns-2 returns-3)

@@ -17,23 +17,8 @@ Inv-loop m ds y₀ j₀ y j = (j ≤ m) × (m ≤ 64) × (length ds ≡ 64) × (
 abbrev μ-loop : tie.MeasureT-loop
 μ-loop m ds y₀ j₀ y j = m - j
 
-array-read-y : tie.Need-array-read-y Inv-loop μ-loop
-array-read-y c = search needs
-
 loop-holds : tie.Need-loop-holds Inv-loop μ-loop
 loop-holds c = (omega arith, omega arith, omega arith, refl)
-
-mul-d : tie.Need-mul-d Inv-loop μ-loop
-mul-d c = search needs
-
-array-read-d : tie.Need-array-read-d Inv-loop μ-loop
-array-read-d c = search needs
-
-add-j : tie.Need-add-j Inv-loop μ-loop
-add-j c = search needs
-
-loop-less : tie.Need-loop-less Inv-loop μ-loop
-loop-less c = search needs
 
 loop-again : tie.Need-loop-again Inv-loop μ-loop
 loop-again c =
@@ -52,11 +37,11 @@ least-of-spec =
     (tie.spec
     Inv-loop
     μ-loop
-    array-read-y
+    (λ c. search needs)
     loop-holds
-    mul-d
-    array-read-d
-    add-j
-    loop-less
+    (λ c. search needs)
+    (λ c. search needs)
+    (λ c. search needs)
+    (λ c. search needs)
     loop-again
     returns)

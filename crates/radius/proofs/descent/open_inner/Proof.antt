@@ -58,12 +58,6 @@ low c =
     let at = start# (start (c .before) .args .index .now) (kid (c .before)) in
     omega (arith, first c, l .inv .0 .shape .place at (omega (arith, there (c .before), c .before .node-start .ensures .0)) .row)
 
-centres-requires : tie.Need-centres-requires Inv-loop μ-loop
-centres-requires c κs = search needs
-
-pair-at-requires : tie.Need-pair-at-requires Inv-loop μ-loop
-pair-at-requires c κs = search needs
-
 loop-holds : tie.Need-loop-holds Inv-loop μ-loop
 loop-holds c =
     let s = c .before .before .before .before .before .before in
@@ -81,14 +75,8 @@ loop-holds c =
       marked-none _ _ _ _ refl,
     )
 
-add-node-start : tie.Need-add-node-start Inv-loop μ-loop
-add-node-start c = search needs
-
 node-start-requires : tie.Need-node-start-requires Inv-loop μ-loop
 node-start-requires c κs = (c .before .loop .inv .0 .shape .whole, omega arith)
-
-mul-word : tie.Need-mul-word Inv-loop μ-loop
-mul-word c = search needs
 
 add-word : tie.Need-add-word Inv-loop μ-loop
 add-word c =
@@ -102,18 +90,6 @@ word-requires c κs =
 
 measure-row-requires : tie.Need-measure-row-requires Inv-loop μ-loop
 measure-row-requires c κs = measurable (c .before .before .before .before .loop .inv .0) _ (low (c .before))
-
-mul-ds : tie.Need-mul-ds Inv-loop μ-loop
-mul-ds c = search needs
-
-array-write-ds : tie.Need-array-write-ds Inv-loop μ-loop
-array-write-ds c = search needs
-
-add-j : tie.Need-add-j Inv-loop μ-loop
-add-j c = search needs
-
-loop-less : tie.Need-loop-less Inv-loop μ-loop
-loop-less c = search needs
 
 loop-again : tie.Need-loop-again Inv-loop μ-loop
 loop-again c =
@@ -134,9 +110,6 @@ loop-again c =
       marked-next _ 1 (l .j) _ (l .inv .2) (l .inv .8) (centre-did x _ (s .args .index .now) _ _ (first read) (row .ensures .1)),
     )
 
-same-length : tie.Need-same-length Inv-loop μ-loop
-same-length c = search needs
-
 returns : tie.Need-returns Inv-loop μ-loop
 returns c =
     let l = c .before .loop in
@@ -148,19 +121,19 @@ open-inner-spec =
     (tie.spec
     Inv-loop
     μ-loop
-    centres-requires
-    pair-at-requires
+    (λ c κs. search needs)
+    (λ c κs. search needs)
     loop-holds
-    add-node-start
+    (λ c. search needs)
     node-start-requires
-    mul-word
+    (λ c. search needs)
     add-word
     word-requires
     measure-row-requires
-    mul-ds
-    array-write-ds
-    add-j
-    loop-less
+    (λ c. search needs)
+    (λ c. search needs)
+    (λ c. search needs)
+    (λ c. search needs)
     loop-again
-    same-length
+    (λ c. search needs)
     returns)

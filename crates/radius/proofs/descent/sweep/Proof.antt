@@ -31,46 +31,16 @@ row c =
     let w = c .before .before .before .before .before .before .before .before .args .index .now in
     c .word .ensures .0 ∙ row-word w _ (c .before .before .loop .p) (c .before .before .before .pair-at .ensures)
 
-node-start-requires : tie.Need-node-start-requires Inv-loop μ-loop
-node-start-requires c κs = search needs
-
-node-count-requires : tie.Need-node-count-requires Inv-loop μ-loop
-node-count-requires c κs = search needs
-
-add-end : tie.Need-add-end Inv-loop μ-loop
-add-end c = search needs
-
-pair-at-requires : tie.Need-pair-at-requires Inv-loop μ-loop
-pair-at-requires c κs = search needs
-
-add-p : tie.Need-add-p Inv-loop μ-loop
-add-p c = search needs
-
 loop-holds : tie.Need-loop-holds Inv-loop μ-loop
 loop-holds c =
     let s = c .before .before .before .before .before in
     let nd = s .pre .0 .node (s .args .k) (s .pre .1 .0) in
     (s .pre .0, nd, s .pre .1 .1, refl, omega arith, omega (arith, nd .some), omega arith, marked-none _ _ _ _ (omega arith))
 
-mul-word : tie.Need-mul-word Inv-loop μ-loop
-mul-word c = search needs
-
-add-word : tie.Need-add-word Inv-loop μ-loop
-add-word c = search needs
-
-word-requires : tie.Need-word-requires Inv-loop μ-loop
-word-requires c κs = search needs
-
 slice-write-how : tie.Need-slice-write-how Inv-loop μ-loop
 slice-write-how c =
     let l = c .before .before .loop in
     omega (arith, l .inv .0 .place (l .p) (omega (arith, l .inv .1 .run)), row c)
-
-add-p-2 : tie.Need-add-p-2 Inv-loop μ-loop
-add-p-2 c = search needs
-
-loop-less : tie.Need-loop-less Inv-loop μ-loop
-loop-less c = search needs
 
 loop-again : tie.Need-loop-again Inv-loop μ-loop
 loop-again c =
@@ -85,9 +55,6 @@ loop-again c =
       marked-next _ _ (l .p) _ (l .inv .4) (l .inv .7) (byte-in _ _ ∙ write-one _ 2 _ ∙ ap (λ (i : ℕ). write ((i, 2) ∷ []) (l .how)) (row c)),
     )
 
-same-length : tie.Need-same-length Inv-loop μ-loop
-same-length c = search needs
-
 returns : tie.Need-returns Inv-loop μ-loop
 returns c =
     let l = c .before .loop in
@@ -99,18 +66,18 @@ sweep-spec =
     (tie.spec
     Inv-loop
     μ-loop
-    node-start-requires
-    node-count-requires
-    add-end
-    pair-at-requires
-    add-p
+    (λ c κs. search needs)
+    (λ c κs. search needs)
+    (λ c. search needs)
+    (λ c κs. search needs)
+    (λ c. search needs)
     loop-holds
-    mul-word
-    add-word
-    word-requires
+    (λ c. search needs)
+    (λ c. search needs)
+    (λ c κs. search needs)
     slice-write-how
-    add-p-2
-    loop-less
+    (λ c. search needs)
+    (λ c. search needs)
     loop-again
-    same-length
+    (λ c. search needs)
     returns)

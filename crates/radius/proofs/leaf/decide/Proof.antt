@@ -9,18 +9,12 @@ use borrow.Author.Needs.{needs}
 use borrow.Author.Tests.{le-leb, le-ltb, lt-leb, lt-ltb}
 use native.Mathlib.Omega.{arith}
 
-apart-requires : tie.Need-apart-requires
-apart-requires c κs = search needs
-
 returns : tie.Need-returns
 unfolding decision
 returns c =
     let a = c .before .before .args in
     let h : a .r < gap (a .x) (a .s) = omega arith in
     simp (lt-ltb _ _ h)
-
-add-if2 : tie.Need-add-if2
-add-if2 c = search needs
 
 returns-2 : tie.Need-returns-2
 unfolding decision
@@ -39,4 +33,4 @@ returns-3 c =
     simp (le-ltb _ _ h, lt-leb _ _ k)
 
 pub decide-spec : {M : Type 1} → statement M
-decide-spec = tie.close (tie.spec apart-requires returns add-if2 returns-2 returns-3)
+decide-spec = tie.close (tie.spec (λ c κs. search needs) returns (λ c. search needs) returns-2 returns-3)

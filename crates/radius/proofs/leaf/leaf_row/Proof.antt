@@ -46,48 +46,15 @@ row-low c =
 stored : (s : tie.Start) → at (s .args .index .now) (s .args .base + 2 * s .args .p + 1) ≡ dist# (s .args .index .now) (s .args .p)
 stored s = dist-word (s .args .index .now) (s .args .base) (s .args .p) (s .pre .1 .2)
 
-mul-word : tie.Need-mul-word
-mul-word c = search needs
-
-add-word : tie.Need-add-word
-add-word c = search needs
-
-word-requires : tie.Need-word-requires
-word-requires c κs = search needs
-
-mul-decide : tie.Need-mul-decide
-mul-decide c = search needs
-
-add-decide : tie.Need-add-decide
-add-decide c = search needs
-
-add-decide-2 : tie.Need-add-decide-2
-add-decide-2 c = search needs
-
-mul-decide-2 : tie.Need-mul-decide-2
-mul-decide-2 c = search needs
-
-shared-slice-read-decide : tie.Need-shared-slice-read-decide
-shared-slice-read-decide c = search needs
-
 decide-requires : tie.Need-decide-requires
 decide-requires c κs =
     let s = c .before .before .before .before .before .before in
     (s .pre .1 .1, omega (arith, s .pre .0 .shape .place (s .args .p) (s .pre .1 .0) .near, stored s))
 
-enum-told : tie.Need-enum-told
-enum-told c = search needs
-
-enum-told-2 : tie.Need-enum-told-2
-enum-told-2 c = search needs
-
 slice-write-how : tie.Need-slice-write-how
 slice-write-how c =
     let s = c .before .before .before .before .before .before .before .before .before .before in
     omega (arith, row-low (c .before .before .before .before .before), s .pre .0 .how)
-
-same-length : tie.Need-same-length
-same-length c = search needs
 
 returns : tie.Need-returns
 returns c =
@@ -109,9 +76,6 @@ measure-row-requires c κs =
     let s = c .before .before .before .before .before .before .before .before .before .before in
     measurable (s .pre .0) _ (row-low (c .before .before .before .before .before))
 
-same-length-2 : tie.Need-same-length-2
-same-length-2 c = search needs
-
 returns-3 : tie.Need-returns-3
 returns-3 c =
     let s = c .before .before .before .before .before .before .before .before .before .before .before .before .before in
@@ -124,21 +88,21 @@ pub leaf-row-spec : {M : Type 1} → statement M
 leaf-row-spec =
     tie.close
     (tie.spec
-    mul-word
-    add-word
-    word-requires
-    mul-decide
-    add-decide
-    add-decide-2
-    mul-decide-2
-    shared-slice-read-decide
+    (λ c. search needs)
+    (λ c. search needs)
+    (λ c κs. search needs)
+    (λ c. search needs)
+    (λ c. search needs)
+    (λ c. search needs)
+    (λ c. search needs)
+    (λ c. search needs)
     decide-requires
-    enum-told
-    enum-told-2
+    (λ c. search needs)
+    (λ c. search needs)
     slice-write-how
-    same-length
+    (λ c. search needs)
     returns
     returns-2
     measure-row-requires
-    same-length-2
+    (λ c. search needs)
     returns-3)

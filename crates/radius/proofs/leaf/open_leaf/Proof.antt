@@ -26,21 +26,6 @@ Inv-loop table c index query k x r how₀ start end base p₀ how p =
 abbrev μ-loop : tie.MeasureT-loop
 μ-loop table c index query k x r how₀ start end base p₀ how p = end - p
 
-node-start-requires : tie.Need-node-start-requires Inv-loop μ-loop
-node-start-requires c κs = search needs
-
-node-count-requires : tie.Need-node-count-requires Inv-loop μ-loop
-node-count-requires c κs = search needs
-
-add-end : tie.Need-add-end Inv-loop μ-loop
-add-end c = search needs
-
-pair-at-requires : tie.Need-pair-at-requires Inv-loop μ-loop
-pair-at-requires c κs = search needs
-
-add-p : tie.Need-add-p Inv-loop μ-loop
-add-p c = search needs
-
 loop-holds : tie.Need-loop-holds Inv-loop μ-loop
 loop-holds c =
     let s = c .before .before .before .before .before .before .before in
@@ -51,12 +36,6 @@ leaf-row-requires : tie.Need-leaf-row-requires Inv-loop μ-loop
 leaf-row-requires c κs =
     let l = c .before .before .loop in
     (l .inv .0, (omega (arith, l .inv .1 .run), l .inv .6, c .before .before .before .pair-at .ensures))
-
-add-p-2 : tie.Need-add-p-2 Inv-loop μ-loop
-add-p-2 c = search needs
-
-loop-less : tie.Need-loop-less Inv-loop μ-loop
-loop-less c = search needs
 
 loop-again : tie.Need-loop-again Inv-loop μ-loop
 loop-again c =
@@ -73,9 +52,6 @@ loop-again c =
       marked-next _ _ (l .p) _ (l .inv .3) (l .inv .7) (lr .ensures ∙ write-one _ _ _),
     )
 
-same-length : tie.Need-same-length Inv-loop μ-loop
-same-length c = search needs
-
 returns : tie.Need-returns Inv-loop μ-loop
 returns c =
     let l = c .before .loop in
@@ -87,15 +63,15 @@ open-leaf-spec =
     (tie.spec
     Inv-loop
     μ-loop
-    node-start-requires
-    node-count-requires
-    add-end
-    pair-at-requires
-    add-p
+    (λ c κs. search needs)
+    (λ c κs. search needs)
+    (λ c. search needs)
+    (λ c κs. search needs)
+    (λ c. search needs)
     loop-holds
     leaf-row-requires
-    add-p-2
-    loop-less
+    (λ c. search needs)
+    (λ c. search needs)
     loop-again
-    same-length
+    (λ c. search needs)
     returns)

@@ -6,26 +6,11 @@ use Rattle.radius.proofs.marking.measure_row.Statement.{statement}
 use Rattle.radius.proofs.marking.measure_row.Tie as tie
 use borrow.Author.Needs.{needs}
 
-query-distance-requires : tie.Need-query-distance-requires
-query-distance-requires c κs = search needs
-
-slice-write-how : tie.Need-slice-write-how
-slice-write-how c = search needs
-
-slice-write-how-2 : tie.Need-slice-write-how-2
-slice-write-how-2 c = search needs
-
-same-length : tie.Need-same-length
-same-length c = search needs
-
 returns : tie.Need-returns
 returns c =
     let s = c .before .before .before .before .before in
     let q = c .before .query-distance .ensures in
     (q, byte-near (from (s .args .table .now) (s .args .c) (s .args .query .now)) (s .args .r) (s .args .row) (s .args .how .now) (q .0) (c .if1 .taken))
-
-same-length-2 : tie.Need-same-length-2
-same-length-2 c = search needs
 
 returns-2 : tie.Need-returns-2
 returns-2 c =
@@ -37,10 +22,10 @@ pub measure-row-spec : {M : Type 1} → statement M
 measure-row-spec =
     tie.close
     (tie.spec
-    query-distance-requires
-    slice-write-how
-    slice-write-how-2
-    same-length
+    (λ c κs. search needs)
+    (λ c. search needs)
+    (λ c. search needs)
+    (λ c. search needs)
     returns
-    same-length-2
+    (λ c. search needs)
     returns-2)

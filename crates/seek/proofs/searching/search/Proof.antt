@@ -98,9 +98,6 @@ last-requires c κs =
     let l = turn p in
     omega (arith, p .pop .ensures .outside .same, l .loop .inv .0 .ready .stands .room, counted l .rows .ensures .0, start l .pre .filled)
 
-key-of-requires : tie.Need-key-of-requires Inv-loop μ-loop
-key-of-requires c κs = search needs
-
 same-length : tie.Need-same-length Inv-loop μ-loop
 same-length c = since (turn (c .before .before .before .before .before .before)) .bytes
 
@@ -174,7 +171,7 @@ search-spec =
     pop-requires
     mul-last
     last-requires
-    key-of-requires
+    (λ c κs. search needs)
     same-length
     same-length-2
     returns

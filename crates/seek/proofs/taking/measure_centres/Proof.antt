@@ -15,9 +15,6 @@ Inv-loop table c query index n w how₀ work₀ held a e k₀ j₀ how work k j 
 abbrev μ-loop : tie.MeasureT-loop
 μ-loop table c query index n w how₀ work₀ held a e k₀ j₀ how work k j = e - j
 
-add-j : tie.Need-add-j Inv-loop μ-loop
-add-j c = search needs
-
 loop-holds : tie.Need-loop-holds Inv-loop μ-loop
 loop-holds c =
     let pre = c .before .before .before .before .before .pre in
@@ -34,12 +31,6 @@ measure-row-requires c κs =
     let loop = c .before .before .before .before .loop in
     let node-first = c .before .before .node-first in
     (ready-on _ _ _ _ _ _ _ _ _ _ _ (pre .0) (loop .inv .took .grew .stands), omega (arith, node-first .ensures .1, pre .1 .1))
-
-add-j-2 : tie.Need-add-j-2 Inv-loop μ-loop
-add-j-2 c = search needs
-
-loop-less : tie.Need-loop-less Inv-loop μ-loop
-loop-less c = search needs
 
 loop-again : tie.Need-loop-again Inv-loop μ-loop
 loop-again c =
@@ -63,12 +54,12 @@ measure-centres-spec =
     (tie.spec
     Inv-loop
     μ-loop
-    add-j
+    (λ c. search needs)
     loop-holds
     node-first-requires
     measure-row-requires
-    add-j-2
-    loop-less
+    (λ c. search needs)
+    (λ c. search needs)
     loop-again
     same-length
     same-length-2

@@ -45,17 +45,11 @@ cast-turn c =
     let pre = c .before .before .before .before .before .before .pre in
     omega (arith, pre .0 .stands .small, pre .1)
 
-turn-requires : tie.Need-turn-requires
-turn-requires c κs = search needs
-
 enter-requires : tie.Need-enter-requires
 enter-requires c κs =
     let pre = c .before .before .before .before .before .before .before .pre in
     let query-distance = c .before .before .query-distance in
     room-to-enter _ _ _ _ _ _ (pre .0 .stands) _ (pre .1) _ (query-distance .result) refl
-
-same-length : tie.Need-same-length
-same-length c = search needs
 
 returns : tie.Need-returns
 returns c =
@@ -80,8 +74,8 @@ measure-row-spec =
     slice-write-work
     mul-enter
     cast-turn
-    turn-requires
+    (λ c κs. search needs)
     enter-requires
-    same-length
+    (λ c. search needs)
     same-length-2
     returns)

@@ -31,17 +31,8 @@ row c =
     let s = start (c .before .before) in
     c .word .ensures .0 ∙ row-word (s .args .index .now) (s .args .base) _ (s .pre .1 .1)
 
-id-of-requires : tie.Need-id-of-requires
-id-of-requires c κs = search needs
-
-cast-id : tie.Need-cast-id
-cast-id c = search needs
-
 mul-if1 : tie.Need-mul-if1
 mul-if1 c = omega (arith, start c .pre .1 .0, start c .pre .0 .room .shape .whole .rows)
-
-key-of-requires : tie.Need-key-of-requires
-key-of-requires c κs = search needs
 
 open-node-requires : tie.Need-open-node-requires
 open-node-requires c κs =
@@ -67,9 +58,6 @@ mul-word : tie.Need-mul-word
 mul-word c =
     let pre = start (c .before) .pre in
     omega (arith, pre .1 .0, pre .0 .room .shape .whole .rows)
-
-sub-word : tie.Need-sub-word
-sub-word c = search needs
 
 mul-word-2 : tie.Need-mul-word-2
 mul-word-2 c = omega (arith, there c)
@@ -104,16 +92,16 @@ pub take-item-spec : {M : Type 1} → statement M
 take-item-spec =
     tie.close
     (tie.spec
-    id-of-requires
-    cast-id
+    (λ c κs. search needs)
+    (λ c. search needs)
     mul-if1
-    key-of-requires
+    (λ c κs. search needs)
     open-node-requires
     same-length
     same-length-2
     returns
     mul-word
-    sub-word
+    (λ c. search needs)
     mul-word-2
     add-word
     word-requires

@@ -65,15 +65,6 @@ shared-slice-read-smaller c =
     let r = c .before in
     omega (arith, kept-there (r .before .before .before .before .before .before .before) _ (r .node-first2 .ensures .1))
 
-smaller-requires : tie.Need-smaller-requires Inv-loop μ-loop
-smaller-requires c κs = search needs
-
-add-j-2 : tie.Need-add-j-2 Inv-loop μ-loop
-add-j-2 c = search needs
-
-loop-less : tie.Need-loop-less Inv-loop μ-loop
-loop-less c = search needs
-
 loop-again : tie.Need-loop-again Inv-loop μ-loop
 loop-again c =
     let pre = c .before .before .before .before .before .before .before .before .before .pre in
@@ -106,8 +97,8 @@ nearest-centre-spec =
     add-smaller
     mul-smaller-2
     shared-slice-read-smaller
-    smaller-requires
-    add-j-2
-    loop-less
+    (λ c κs. search needs)
+    (λ c. search needs)
+    (λ c. search needs)
     loop-again
     returns)

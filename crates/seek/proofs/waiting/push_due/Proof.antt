@@ -9,19 +9,10 @@ use native.Mathlib.Omega.{arith}
 returns : tie.Need-returns
 returns c = more-above _ _ _ _ _ (omega arith) (omega arith) (omega arith) (c .before .before .pre .0)
 
-pack-requires : tie.Need-pack-requires
-pack-requires c κs = search needs
-
 push-requires : tie.Need-push-requires
 push-requires c κs =
     let pre = c .before .before .before .before .pre in
     (pre .0, omega (arith, pre .1))
-
-add-result : tie.Need-add-result
-add-result c = search needs
-
-same-length : tie.Need-same-length
-same-length c = search needs
 
 returns-2 : tie.Need-returns-2
 returns-2 c =
@@ -34,8 +25,8 @@ push-due-spec =
     tie.close
     (tie.spec
     returns
-    pack-requires
+    (λ c κs. search needs)
     push-requires
-    add-result
-    same-length
+    (λ c. search needs)
+    (λ c. search needs)
     returns-2)

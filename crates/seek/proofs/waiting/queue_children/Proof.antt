@@ -53,9 +53,6 @@ push-due-requires c κs =
     let loop = c .before .before .before .before .before .loop in
     (loop .inv .more .queue, queued-room _ _ _ _ _ _ _ _ _ (loop .inv) _ _ (pre .0) (omega arith))
 
-add-j : tie.Need-add-j Inv-loop μ-loop
-add-j c = search needs
-
 loop-less : tie.Need-loop-less Inv-loop μ-loop
 loop-less c = omega (arith, c .before .before .before .before .before .before .before .loop-test .taken)
 
@@ -92,7 +89,7 @@ queue-children-spec =
     kid-bound-requires
     cast-push-due
     push-due-requires
-    add-j
+    (λ c. search needs)
     loop-less
     loop-again
     same-length

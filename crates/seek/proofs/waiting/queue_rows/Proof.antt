@@ -25,9 +25,6 @@ stored-at-requires c κs =
     let pre = c .before .before .before .before .pre in
     place-words _ _ (pre .0 .shape) (omega (arith, pre .1 .1, pre .0 .rows))
 
-place-bound-requires : tie.Need-place-bound-requires Inv-loop μ-loop
-place-bound-requires c κs = search needs
-
 mul-push-due : tie.Need-mul-push-due Inv-loop μ-loop
 mul-push-due c =
     let pre = c .before .before .before .before .before .before .before .pre in
@@ -48,9 +45,6 @@ push-due-requires c κs =
     let pre = c .before .before .before .before .before .before .before .pre in
     let loop = c .before .before .before .before .loop in
     (loop .inv .more .queue, queued-room _ _ _ _ _ _ _ _ _ (loop .inv) _ _ (pre .0) (omega arith))
-
-add-p-2 : tie.Need-add-p-2 Inv-loop μ-loop
-add-p-2 c = search needs
 
 loop-less : tie.Need-loop-less Inv-loop μ-loop
 loop-less c = omega (arith, c .before .before .before .before .before .before .loop-test .taken)
@@ -81,12 +75,12 @@ queue-rows-spec =
     add-p
     loop-holds
     stored-at-requires
-    place-bound-requires
+    (λ c κs. search needs)
     mul-push-due
     add-push-due
     cast-push-due
     push-due-requires
-    add-p-2
+    (λ c. search needs)
     loop-less
     loop-again
     same-length

@@ -8,9 +8,6 @@ use borrow.Author.Needs.{needs}
 use borrow.Author.Tests.{eq-eqb, ne-eqb}
 use mathlib.Core.Path.{_∙_, sym}
 
-is-within-requires : tie.Need-is-within-requires
-is-within-requires c κs = search needs
-
 sub-t4 : tie.Need-sub-t4
 sub-t4 c = within-both _ _ _ (sym (c .before .is-within .ensures) ∙ c .if1 .taken) .0
 
@@ -22,15 +19,9 @@ returns-2 : tie.Need-returns-2
 unfolding kindOf
 returns-2 c = rw (sym (c .before .before .is-within .ensures) ∙ c .before .if1 .left, eq-eqb _ _ (c .if2 .taken))
 
-parts-requires : tie.Need-parts-requires
-parts-requires c κs = search needs
-
 returns-3 : tie.Need-returns-3
 unfolding kindOf
 returns-3 c = rw (sym (c .before .before .before .before .is-within .ensures) ∙ c .before .before .before .if1 .left, ne-eqb _ _ (c .before .before .if2 .left), sym (c .before .parts .ensures) ∙ c .if3 .taken)
-
-signs-requires : tie.Need-signs-requires
-signs-requires c κs = search needs
 
 returns-4 : tie.Need-returns-4
 unfolding kindOf
@@ -44,12 +35,12 @@ pub kind-of-spec : {M : Type 1} → statement M
 kind-of-spec =
     tie.close
     (tie.spec
-    is-within-requires
+    (λ c κs. search needs)
     sub-t4
     returns
     returns-2
-    parts-requires
+    (λ c κs. search needs)
     returns-3
-    signs-requires
+    (λ c κs. search needs)
     returns-4
     returns-5)

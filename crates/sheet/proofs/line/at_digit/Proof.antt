@@ -4,30 +4,6 @@ use Rattle.sheet.proofs.line.at_digit.Statement.{statement}
 use Rattle.sheet.proofs.line.at_digit.Tie as tie
 use borrow.Author.Needs.{needs}
 
-enum-told : tie.Need-enum-told
-enum-told c = search needs
-
-grow-requires : tie.Need-grow-requires
-grow-requires c κs = search needs
-
-enum-known-place : tie.Need-enum-known-place
-enum-known-place c = search needs
-
-grow-requires-2 : tie.Need-grow-requires-2
-grow-requires-2 c κs = search needs
-
-enum-told-2 : tie.Need-enum-told-2
-enum-told-2 c = search needs
-
-enum-told-3 : tie.Need-enum-told-3
-enum-told-3 c = search needs
-
-enum-told-4 : tie.Need-enum-told-4
-enum-told-4 c = search needs
-
-grow-requires-3 : tie.Need-grow-requires-3
-grow-requires-3 c κs = search needs
-
 returns : tie.Need-returns
 returns c = cc
 
@@ -47,14 +23,14 @@ pub at-digit-spec : {M : Type 1} → statement M
 at-digit-spec =
     tie.close
     (tie.spec
-    enum-told
-    grow-requires
-    enum-known-place
-    grow-requires-2
-    enum-told-2
-    enum-told-3
-    enum-told-4
-    grow-requires-3
+    (λ c. search needs)
+    (λ c κs. search needs)
+    (λ c. search needs)
+    (λ c κs. search needs)
+    (λ c. search needs)
+    (λ c. search needs)
+    (λ c. search needs)
+    (λ c κs. search needs)
     returns
     returns-2
     returns-3

@@ -5,15 +5,9 @@ use Rattle.sheet.proofs.line.go_on.Tie as tie
 use Rattle.sheet.specs.InLine.{moved}
 use borrow.Author.Needs.{needs}
 
-may-begin-requires : tie.Need-may-begin-requires
-may-begin-requires c κs = search needs
-
-has-figure-requires : tie.Need-has-figure-requires
-has-figure-requires c κs = search needs
-
 returns : tie.Need-returns
 unfolding moved
 returns c = cc
 
 pub go-on-spec : {M : Type 1} → statement M
-go-on-spec = tie.close (tie.spec may-begin-requires has-figure-requires returns)
+go-on-spec = tie.close (tie.spec (λ c κs. search needs) (λ c κs. search needs) returns)

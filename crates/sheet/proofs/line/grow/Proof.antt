@@ -6,15 +6,6 @@ use Rattle.sheet.specs.InLine.{grown}
 use borrow.Author.Needs.{needs}
 use borrow.Author.Tests.{le-leb, lt-leb}
 
-mul-grown : tie.Need-mul-grown
-mul-grown c = search needs
-
-add-grown : tie.Need-add-grown
-add-grown c = search needs
-
-cast-t8 : tie.Need-cast-t8
-cast-t8 c = search needs
-
 returns : tie.Need-returns
 unfolding grown
 returns c = rw (le-leb _ _ (c .if1 .taken))
@@ -24,4 +15,4 @@ unfolding grown
 returns-2 c = rw (lt-leb _ _ (c .if1 .left))
 
 pub grow-spec : {M : Type 1} → statement M
-grow-spec = tie.close (tie.spec mul-grown add-grown cast-t8 returns returns-2)
+grow-spec = tie.close (tie.spec (λ c. search needs) (λ c. search needs) (λ c. search needs) returns returns-2)

@@ -14,25 +14,10 @@ start c = c .before .before .before
 abbrev first : tie.After-pick → tie.After-put-entry
 first c = c .before .before .before .before
 
-mul-put-entry : tie.Need-mul-put-entry
-mul-put-entry c = search needs
-
-sub-put-entry : tie.Need-sub-put-entry
-sub-put-entry c = search needs
-
-part-put-entry-start : tie.Need-part-put-entry-start
-part-put-entry-start c = search needs
-
-part-put-entry-end : tie.Need-part-put-entry-end
-part-put-entry-end c = search needs
-
 put-entry-requires : tie.Need-put-entry-requires
 put-entry-requires c κs =
     let fits = gather-fits (c .before .before .pre) in
     simp (length-take, length-drop) (omega arith)
-
-add-pick : tie.Need-add-pick
-add-pick c = search needs
 
 pick-requires : tie.Need-pick-requires
 pick-requires c κs =
@@ -46,9 +31,6 @@ add-t10 c =
     let got = gather-done (start (first k) .pre) (first k .put-entry .ensures) (k .pick .ensures) in
     search needs
 
-same-length : tie.Need-same-length
-same-length c = search needs
-
 returns : tie.Need-returns
 returns c =
     let k = c .before .before .before in
@@ -58,13 +40,13 @@ pub gather-spec : {M : Type 1} → statement M
 gather-spec =
     tie.close
     (tie.spec
-    mul-put-entry
-    sub-put-entry
-    part-put-entry-start
-    part-put-entry-end
+    (λ c. search needs)
+    (λ c. search needs)
+    (λ c. search needs)
+    (λ c. search needs)
     put-entry-requires
-    add-pick
+    (λ c. search needs)
     pick-requires
     add-t10
-    same-length
+    (λ c. search needs)
     returns)

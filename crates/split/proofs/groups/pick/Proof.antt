@@ -25,33 +25,6 @@ fits c = picks-fits (turn c .loop .inv) (search needs) (search needs)
 loop-holds : tie.Need-loop-holds Inv-loop μ-loop
 loop-holds c = picks-start (c .before .pre)
 
-add-p : tie.Need-add-p Inv-loop μ-loop
-add-p c = search needs
-
-add-if1 : tie.Need-add-if1 Inv-loop μ-loop
-add-if1 c = search needs
-
-mul-if1 : tie.Need-mul-if1 Inv-loop μ-loop
-mul-if1 c = search needs
-
-slice-read-if1 : tie.Need-slice-read-if1 Inv-loop μ-loop
-slice-read-if1 c = search needs
-
-mul-row : tie.Need-mul-row Inv-loop μ-loop
-mul-row c = search needs
-
-slice-read-row : tie.Need-slice-read-row Inv-loop μ-loop
-slice-read-row c = search needs
-
-add-least : tie.Need-add-least Inv-loop μ-loop
-add-least c = search needs
-
-mul-least : tie.Need-mul-least Inv-loop μ-loop
-mul-least c = search needs
-
-slice-read-least : tie.Need-slice-read-least Inv-loop μ-loop
-slice-read-least c = search needs
-
 mul-q : tie.Need-mul-q Inv-loop μ-loop
 mul-q c =
     let room = fits (c .before .before) in
@@ -92,15 +65,6 @@ add-count c =
     let room = fits (c .before .before .before .before .before .before) in
     search needs
 
-greater-requires : tie.Need-greater-requires Inv-loop μ-loop
-greater-requires c κs = search needs
-
-least-of-requires : tie.Need-least-of-requires Inv-loop μ-loop
-least-of-requires c κs = search needs
-
-loop-less : tie.Need-loop-less Inv-loop μ-loop
-loop-less c = search needs
-
 loop-again : tie.Need-loop-again Inv-loop μ-loop
 loop-again c =
     let g = c .before in
@@ -108,15 +72,9 @@ loop-again c =
     let s = turn (e .before .before .before .before) in
     rw (g .greater .ensures, c .least-of .ensures) (picks-take (s .loop .inv) _ (search needs) (search needs) (e .put-entry .ensures))
 
-loop-less-2 : tie.Need-loop-less-2 Inv-loop μ-loop
-loop-less-2 c = search needs
-
 loop-again-2 : tie.Need-loop-again-2 Inv-loop μ-loop
 loop-again-2 c =
     picks-skip (c .before .before .before .loop .inv) (search needs) (c .if1 .left)
-
-same-length : tie.Need-same-length Inv-loop μ-loop
-same-length c = search needs
 
 returns : tie.Need-returns Inv-loop μ-loop
 returns c = picks-done (c .before .loop .inv) (search needs)
@@ -128,15 +86,15 @@ pick-spec =
     Inv-loop
     μ-loop
     loop-holds
-    add-p
-    add-if1
-    mul-if1
-    slice-read-if1
-    mul-row
-    slice-read-row
-    add-least
-    mul-least
-    slice-read-least
+    (λ c. search needs)
+    (λ c. search needs)
+    (λ c. search needs)
+    (λ c. search needs)
+    (λ c. search needs)
+    (λ c. search needs)
+    (λ c. search needs)
+    (λ c. search needs)
+    (λ c. search needs)
     mul-q
     add-q
     mul-put-entry
@@ -145,11 +103,11 @@ pick-spec =
     part-put-entry-end
     put-entry-requires
     add-count
-    greater-requires
-    least-of-requires
-    loop-less
+    (λ c κs. search needs)
+    (λ c κs. search needs)
+    (λ c. search needs)
     loop-again
-    loop-less-2
+    (λ c. search needs)
     loop-again-2
-    same-length
+    (λ c. search needs)
     returns)

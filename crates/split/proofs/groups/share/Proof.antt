@@ -21,64 +21,10 @@ turn c = c .before .before .before .before
 loop-holds : tie.Need-loop-holds Inv-loop μ-loop
 loop-holds c = (c .before .before .pre, sharing-start (c .before .before .pre))
 
-add-first : tie.Need-add-first Inv-loop μ-loop
-add-first c = search needs
-
-mul-first : tie.Need-mul-first Inv-loop μ-loop
-mul-first c = search needs
-
-mul-first-2 : tie.Need-mul-first-2 Inv-loop μ-loop
-mul-first-2 c = search needs
-
-slice-read-first : tie.Need-slice-read-first Inv-loop μ-loop
-slice-read-first c = search needs
-
-add-gather : tie.Need-add-gather Inv-loop μ-loop
-add-gather c = search needs
-
-mul-gather : tie.Need-mul-gather Inv-loop μ-loop
-mul-gather c = search needs
-
-add-gather-2 : tie.Need-add-gather-2 Inv-loop μ-loop
-add-gather-2 c = search needs
-
-mul-gather-2 : tie.Need-mul-gather-2 Inv-loop μ-loop
-mul-gather-2 c = search needs
-
-add-gather-3 : tie.Need-add-gather-3 Inv-loop μ-loop
-add-gather-3 c = search needs
-
-mul-gather-3 : tie.Need-mul-gather-3 Inv-loop μ-loop
-mul-gather-3 c = search needs
-
 gather-requires : tie.Need-gather-requires Inv-loop μ-loop
 gather-requires c κs =
     let s = c .before .before .before .loop .inv in
     sharing-asked (s .0) (s .1) (search needs)
-
-add-node : tie.Need-add-node Inv-loop μ-loop
-add-node c = search needs
-
-mul-node : tie.Need-mul-node Inv-loop μ-loop
-mul-node c = search needs
-
-add-node-2 : tie.Need-add-node-2 Inv-loop μ-loop
-add-node-2 c = search needs
-
-mul-put-node : tie.Need-mul-put-node Inv-loop μ-loop
-mul-put-node c = search needs
-
-sub-put-node : tie.Need-sub-put-node Inv-loop μ-loop
-sub-put-node c = search needs
-
-part-put-node-start : tie.Need-part-put-node-start Inv-loop μ-loop
-part-put-node-start c = search needs
-
-part-put-node-end : tie.Need-part-put-node-end Inv-loop μ-loop
-part-put-node-end c = search needs
-
-cast-put-node : tie.Need-cast-put-node Inv-loop μ-loop
-cast-put-node c = search needs
 
 cast-put-node-2 : tie.Need-cast-put-node-2 Inv-loop μ-loop
 cast-put-node-2 c =
@@ -86,20 +32,11 @@ cast-put-node-2 c =
     let small = sharing-small (turn k .loop .inv .0) (turn k .loop .inv .1) (search needs) (k .gather .ensures) in
     search needs
 
-put-node-requires : tie.Need-put-node-requires Inv-loop μ-loop
-put-node-requires c κs = search needs
-
 add-at : tie.Need-add-at Inv-loop μ-loop
 add-at c =
     let k = c .before .before .before .before .before .before .before .before in
     let small = sharing-small (turn k .loop .inv .0) (turn k .loop .inv .1) (search needs) (k .gather .ensures) in
     search needs
-
-add-t : tie.Need-add-t Inv-loop μ-loop
-add-t c = search needs
-
-loop-less : tie.Need-loop-less Inv-loop μ-loop
-loop-less c = search needs
 
 loop-again : tie.Need-loop-again Inv-loop μ-loop
 loop-again c =
@@ -107,12 +44,6 @@ loop-again c =
     let k = e .before .before .before .before .before in
     let s = turn k .loop .inv in
     (s .0, sharing-step (s .0) (s .1) (search needs) (k .gather .ensures) (e .put-node .ensures) (search needs) (search needs))
-
-same-length : tie.Need-same-length Inv-loop μ-loop
-same-length c = search needs
-
-same-length-2 : tie.Need-same-length-2 Inv-loop μ-loop
-same-length-2 c = search needs
 
 returns : tie.Need-returns Inv-loop μ-loop
 returns c =
@@ -126,31 +57,31 @@ share-spec =
     Inv-loop
     μ-loop
     loop-holds
-    add-first
-    mul-first
-    mul-first-2
-    slice-read-first
-    add-gather
-    mul-gather
-    add-gather-2
-    mul-gather-2
-    add-gather-3
-    mul-gather-3
+    (λ c. search needs)
+    (λ c. search needs)
+    (λ c. search needs)
+    (λ c. search needs)
+    (λ c. search needs)
+    (λ c. search needs)
+    (λ c. search needs)
+    (λ c. search needs)
+    (λ c. search needs)
+    (λ c. search needs)
     gather-requires
-    add-node
-    mul-node
-    add-node-2
-    mul-put-node
-    sub-put-node
-    part-put-node-start
-    part-put-node-end
-    cast-put-node
+    (λ c. search needs)
+    (λ c. search needs)
+    (λ c. search needs)
+    (λ c. search needs)
+    (λ c. search needs)
+    (λ c. search needs)
+    (λ c. search needs)
+    (λ c. search needs)
     cast-put-node-2
-    put-node-requires
+    (λ c κs. search needs)
     add-at
-    add-t
-    loop-less
+    (λ c. search needs)
+    (λ c. search needs)
     loop-again
-    same-length
-    same-length-2
+    (λ c. search needs)
+    (λ c. search needs)
     returns)

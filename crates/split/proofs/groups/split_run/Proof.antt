@@ -12,27 +12,6 @@ start c = c .before .before .before .before .before
 abbrev chosen : tie.After-share → tie.After-choose
 chosen c = c .before .before .before .before .before
 
-mul-lo : tie.Need-mul-lo
-mul-lo c = search needs
-
-mul-hi : tie.Need-mul-hi
-mul-hi c = search needs
-
-add-hi : tie.Need-add-hi
-add-hi c = search needs
-
-mul-choose : tie.Need-mul-choose
-mul-choose c = search needs
-
-sub-choose : tie.Need-sub-choose
-sub-choose c = search needs
-
-part-choose-start : tie.Need-part-choose-start
-part-choose-start c = search needs
-
-part-choose-end : tie.Need-part-choose-end
-part-choose-end c = search needs
-
 choose-requires : tie.Need-choose-requires
 choose-requires c κs =
     let s = c .before .before .before .before in
@@ -43,18 +22,6 @@ share-requires : tie.Need-share-requires
 share-requires c κs =
     let k = c .before .before .before .before in
     share-ready (start k .pre) (search needs) (k .choose .ensures)
-
-mul-copy-back : tie.Need-mul-copy-back
-mul-copy-back c = search needs
-
-copy-back-requires : tie.Need-copy-back-requires
-copy-back-requires c κs = search needs
-
-same-length : tie.Need-same-length
-same-length c = search needs
-
-same-length-2 : tie.Need-same-length-2
-same-length-2 c = search needs
 
 returns : tie.Need-returns
 returns c =
@@ -67,17 +34,17 @@ pub split-run-spec : {M : Type 1} → statement M
 split-run-spec =
     tie.close
     (tie.spec
-    mul-lo
-    mul-hi
-    add-hi
-    mul-choose
-    sub-choose
-    part-choose-start
-    part-choose-end
+    (λ c. search needs)
+    (λ c. search needs)
+    (λ c. search needs)
+    (λ c. search needs)
+    (λ c. search needs)
+    (λ c. search needs)
+    (λ c. search needs)
     choose-requires
     share-requires
-    mul-copy-back
-    copy-back-requires
-    same-length
-    same-length-2
+    (λ c. search needs)
+    (λ c κs. search needs)
+    (λ c. search needs)
+    (λ c. search needs)
     returns)

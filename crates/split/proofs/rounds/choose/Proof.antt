@@ -19,39 +19,15 @@ loop-holds c =
     let s = c .before .before in
     choosing-start _ _ _ (s .args .run .now) (s .pre .1) (s .pre .2) (s .pre .3)
 
-mul-at : tie.Need-mul-at Inv-loop μ-loop
-mul-at c = search needs
-
-mul-round : tie.Need-mul-round Inv-loop μ-loop
-mul-round c = search needs
-
-sub-round : tie.Need-sub-round Inv-loop μ-loop
-sub-round c = search needs
-
-part-round-start : tie.Need-part-round-start Inv-loop μ-loop
-part-round-start c = search needs
-
-part-round-end : tie.Need-part-round-end Inv-loop μ-loop
-part-round-end c = search needs
-
 round-requires : tie.Need-round-requires Inv-loop μ-loop
 round-requires c κs =
     let s = c .before .before in
     let r = choosing-requires (s .loop .inv) (search needs) in
     (s .before .before .before .pre .0, r .0, r .1)
 
-add-r : tie.Need-add-r Inv-loop μ-loop
-add-r c = search needs
-
-loop-less : tie.Need-loop-less Inv-loop μ-loop
-loop-less c = search needs
-
 loop-again : tie.Need-loop-again Inv-loop μ-loop
 loop-again c =
     choosing-step (c .before .before .before .before .before .loop .inv) _ (search needs) (c .before .before .round .ensures)
-
-same-length : tie.Need-same-length Inv-loop μ-loop
-same-length c = search needs
 
 returns : tie.Need-returns Inv-loop μ-loop
 returns c = choosing-done (c .before .loop .inv) (search needs)
@@ -63,14 +39,14 @@ choose-spec =
     Inv-loop
     μ-loop
     loop-holds
-    mul-at
-    mul-round
-    sub-round
-    part-round-start
-    part-round-end
+    (λ c. search needs)
+    (λ c. search needs)
+    (λ c. search needs)
+    (λ c. search needs)
+    (λ c. search needs)
     round-requires
-    add-r
-    loop-less
+    (λ c. search needs)
+    (λ c. search needs)
     loop-again
-    same-length
+    (λ c. search needs)
     returns)

@@ -14,27 +14,12 @@ Inv-loop part p₀ b₀ p b = Seeking part p b
 abbrev μ-loop : tie.MeasureT-loop
 μ-loop part p₀ b₀ p b = p
 
-sub-p : tie.Need-sub-p Inv-loop μ-loop
-sub-p c = search needs
-
 loop-holds : tie.Need-loop-holds Inv-loop μ-loop
 loop-holds c = seeking-start (c .before .args .part .now) (c .before .pre .0) (c .before .pre .1)
-
-sub-p-2 : tie.Need-sub-p-2 Inv-loop μ-loop
-sub-p-2 c = search needs
-
-precedes-requires : tie.Need-precedes-requires Inv-loop μ-loop
-precedes-requires c κs = search needs
-
-loop-less : tie.Need-loop-less Inv-loop μ-loop
-loop-less c = search needs
 
 loop-again : tie.Need-loop-again Inv-loop μ-loop
 loop-again c =
     seeking-step (c .before .before .before .loop .inv) (search needs) true (sym (c .before .precedes .ensures) ∙ c .if1 .taken)
-
-loop-less-2 : tie.Need-loop-less-2 Inv-loop μ-loop
-loop-less-2 c = search needs
 
 loop-again-2 : tie.Need-loop-again-2 Inv-loop μ-loop
 loop-again-2 c =
@@ -49,12 +34,12 @@ farthest-spec =
     (tie.spec
     Inv-loop
     μ-loop
-    sub-p
+    (λ c. search needs)
     loop-holds
-    sub-p-2
-    precedes-requires
-    loop-less
+    (λ c. search needs)
+    (λ c κs. search needs)
+    (λ c. search needs)
     loop-again
-    loop-less-2
+    (λ c. search needs)
     loop-again-2
     returns)

@@ -21,18 +21,6 @@ abbrev μ-loop : tie.MeasureT-loop
 loop-holds : tie.Need-loop-holds Inv-loop μ-loop
 loop-holds c = nearing-start _ _ _ _ (c .before .before .pre .2)
 
-add-e : tie.Need-add-e Inv-loop μ-loop
-add-e c = search needs
-
-mul-nearer-one : tie.Need-mul-nearer-one Inv-loop μ-loop
-mul-nearer-one c = search needs
-
-sub-nearer-one : tie.Need-sub-nearer-one Inv-loop μ-loop
-sub-nearer-one c = search needs
-
-part-nearer-one-start : tie.Need-part-nearer-one-start Inv-loop μ-loop
-part-nearer-one-start c = search needs
-
 part-nearer-one-end : tie.Need-part-nearer-one-end Inv-loop μ-loop
 part-nearer-one-end c =
     let s = c .before in
@@ -50,15 +38,9 @@ nearer-one-requires c κs =
       nearing-row (s .loop .inv) (search needs),
     )
 
-loop-less : tie.Need-loop-less Inv-loop μ-loop
-loop-less c = search needs
-
 loop-again : tie.Need-loop-again Inv-loop μ-loop
 loop-again c =
     nearing-step (c .before .before .before .before .before .loop .inv) _ (search needs) (c .before .before .nearer-one .ensures)
-
-same-length : tie.Need-same-length Inv-loop μ-loop
-same-length c = search needs
 
 returns : tie.Need-returns Inv-loop μ-loop
 returns c = nearing-done (c .before .loop .inv) (search needs)
@@ -70,13 +52,13 @@ nearer-spec =
     Inv-loop
     μ-loop
     loop-holds
-    add-e
-    mul-nearer-one
-    sub-nearer-one
-    part-nearer-one-start
+    (λ c. search needs)
+    (λ c. search needs)
+    (λ c. search needs)
+    (λ c. search needs)
     part-nearer-one-end
     nearer-one-requires
-    loop-less
+    (λ c. search needs)
     loop-again
-    same-length
+    (λ c. search needs)
     returns)

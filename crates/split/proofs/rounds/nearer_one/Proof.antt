@@ -20,33 +20,12 @@ measured c =
     let a = start c .args in
     c .row-distance .ensures .0 ∙ ap₂ (between (a .table .now) (a .c)) (c .before .before .before .wide .ensures) (c .before .wide2 .ensures)
 
-wide-requires : tie.Need-wide-requires
-wide-requires c κs = search needs
-
-slice-read-wide : tie.Need-slice-read-wide
-slice-read-wide c = search needs
-
-wide-requires-2 : tie.Need-wide-requires-2
-wide-requires-2 c κs = search needs
-
 row-distance-requires : tie.Need-row-distance-requires
 row-distance-requires c κs =
     let s = c .before .before .before .before .before in
     let i : c .before .before .wide .result ≡ s .args .centre = c .before .before .wide .ensures in
     let j : c .wide2 .result ≡ getD (s .args .entry .now) 0 0 = c .wide2 .ensures in
     (s .pre .0, rw i (s .pre .1), rw j (s .pre .3))
-
-slice-read-if1 : tie.Need-slice-read-if1
-slice-read-if1 c = search needs
-
-slice-write-entry : tie.Need-slice-write-entry
-slice-write-entry c = search needs
-
-slice-write-entry-2 : tie.Need-slice-write-entry-2
-slice-write-entry-2 c = search needs
-
-same-length : tie.Need-same-length
-same-length c = search needs
 
 returns : tie.Need-returns
 returns c =
@@ -64,13 +43,13 @@ pub nearer-one-spec : {M : Type 1} → statement M
 nearer-one-spec =
     tie.close
     (tie.spec
-    wide-requires
-    slice-read-wide
-    wide-requires-2
+    (λ c κs. search needs)
+    (λ c. search needs)
+    (λ c κs. search needs)
     row-distance-requires
-    slice-read-if1
-    slice-write-entry
-    slice-write-entry-2
-    same-length
+    (λ c. search needs)
+    (λ c. search needs)
+    (λ c. search needs)
+    (λ c. search needs)
     returns
     returns-2)

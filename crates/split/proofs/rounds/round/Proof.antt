@@ -25,27 +25,6 @@ farthest-requires c κs =
     let s = c .before .before .before in
     (s .pre .1, entries-whole _ (s .args .part .now) (s .pre .2))
 
-mul-row : tie.Need-mul-row
-mul-row c = search needs
-
-slice-read-row : tie.Need-slice-read-row
-slice-read-row c = search needs
-
-shift-requires : tie.Need-shift-requires
-shift-requires c κs = search needs
-
-put-entry-requires : tie.Need-put-entry-requires
-put-entry-requires c κs = search needs
-
-sub-nearer : tie.Need-sub-nearer
-sub-nearer c = search needs
-
-part-nearer-start : tie.Need-part-nearer-start
-part-nearer-start c = search needs
-
-part-nearer-end : tie.Need-part-nearer-end
-part-nearer-end c = search needs
-
 nearer-requires : tie.Need-nearer-requires
 nearer-requires c κs =
     let e = c .before .before .before in
@@ -55,9 +34,6 @@ nearer-requires c κs =
     round-requires (s .args .part .now) (f .farthest .result) (s .pre .1) refl (moved e .shift .ensures) (e .put-entry .ensures)
     (InTable (s .args .table .now) (s .args .c)) (s .pre .2) (f .farthest .ensures .2) (f .farthest .ensures .1) in
     (s .pre .0, r .1, r .0)
-
-same-length : tie.Need-same-length
-same-length c = search needs
 
 returns : tie.Need-returns
 returns c =
@@ -72,13 +48,13 @@ round-spec =
     tie.close
     (tie.spec
     farthest-requires
-    mul-row
-    slice-read-row
-    shift-requires
-    put-entry-requires
-    sub-nearer
-    part-nearer-start
-    part-nearer-end
+    (λ c. search needs)
+    (λ c. search needs)
+    (λ c κs. search needs)
+    (λ c κs. search needs)
+    (λ c. search needs)
+    (λ c. search needs)
+    (λ c. search needs)
     nearer-requires
-    same-length
+    (λ c. search needs)
     returns)

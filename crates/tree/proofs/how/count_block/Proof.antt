@@ -24,12 +24,6 @@ abbrev μ-loop : tie.MeasureT-loop
 loop-holds : tie.Need-loop-holds Inv-loop μ-loop
 loop-holds c = (omega arith, c .before .pre, omega arith, omega arith, refl, refl)
 
-shared-slice-read-one-in : tie.Need-shared-slice-read-one-in Inv-loop μ-loop
-shared-slice-read-one-in c = search needs
-
-one-in-requires : tie.Need-one-in-requires Inv-loop μ-loop
-one-in-requires c κs = search needs
-
 add-inside : tie.Need-add-inside Inv-loop μ-loop
 add-inside c =
     omega (
@@ -37,12 +31,6 @@ add-inside c =
       c .one-in .ensures,
       bit-most (leb 2 (getD (c .before .before .before .before .before .args .block .now) (c .before .before .before .loop .i) 0)),
     )
-
-shared-slice-read-one-measured : tie.Need-shared-slice-read-one-measured Inv-loop μ-loop
-shared-slice-read-one-measured c = search needs
-
-one-measured-requires : tie.Need-one-measured-requires Inv-loop μ-loop
-one-measured-requires c κs = search needs
 
 add-measured : tie.Need-add-measured Inv-loop μ-loop
 add-measured c =
@@ -52,12 +40,6 @@ add-measured c =
       bit-most (isMeasured
           (getD (c .before .before .before .before .before .before .before .args .block .now) (c .before .before .before .before .before .loop .i) 0)),
     )
-
-add-i : tie.Need-add-i Inv-loop μ-loop
-add-i c = search needs
-
-loop-less : tie.Need-loop-less Inv-loop μ-loop
-loop-less c = search needs
 
 loop-again : tie.Need-loop-again Inv-loop μ-loop
 loop-again c =
@@ -86,13 +68,13 @@ count-block-spec =
     Inv-loop
     μ-loop
     loop-holds
-    shared-slice-read-one-in
-    one-in-requires
+    (λ c. search needs)
+    (λ c κs. search needs)
     add-inside
-    shared-slice-read-one-measured
-    one-measured-requires
+    (λ c. search needs)
+    (λ c κs. search needs)
     add-measured
-    add-i
-    loop-less
+    (λ c. search needs)
+    (λ c. search needs)
     loop-again
     returns)

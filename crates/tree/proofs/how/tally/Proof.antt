@@ -23,24 +23,6 @@ abbrev μ-loop : tie.MeasureT-loop
 loop-holds : tie.Need-loop-holds Inv-loop μ-loop
 loop-holds c = (omega arith, c .before .pre, refl, refl)
 
-block-end-requires : tie.Need-block-end-requires Inv-loop μ-loop
-block-end-requires c κs = search needs
-
-sub-count-block : tie.Need-sub-count-block Inv-loop μ-loop
-sub-count-block c = search needs
-
-part-count-block-start : tie.Need-part-count-block-start Inv-loop μ-loop
-part-count-block-start c = search needs
-
-part-count-block-end : tie.Need-part-count-block-end Inv-loop μ-loop
-part-count-block-end c = search needs
-
-count-block-requires : tie.Need-count-block-requires Inv-loop μ-loop
-count-block-requires c κs = search needs
-
-cast-inside : tie.Need-cast-inside Inv-loop μ-loop
-cast-inside c = search needs
-
 add-inside : tie.Need-add-inside Inv-loop μ-loop
 add-inside c =
     let l = c .before .before .before .before .before .loop in
@@ -52,9 +34,6 @@ add-inside c =
       tally-take (leb 2) e how,
     )
 
-cast-measured : tie.Need-cast-measured Inv-loop μ-loop
-cast-measured c = search needs
-
 add-measured : tie.Need-add-measured Inv-loop μ-loop
 add-measured c =
     let l = c .before .before .before .before .before .before .loop in
@@ -65,9 +44,6 @@ add-measured c =
       tally-part isMeasured how (l .i) e (omega arith) (l .inv .3) (c .before .before .count-block .ensures .1),
       tally-take isMeasured e how,
     )
-
-loop-less : tie.Need-loop-less Inv-loop μ-loop
-loop-less c = search needs
 
 loop-again : tie.Need-loop-again Inv-loop μ-loop
 loop-again c =
@@ -93,15 +69,15 @@ tally-spec =
     Inv-loop
     μ-loop
     loop-holds
-    block-end-requires
-    sub-count-block
-    part-count-block-start
-    part-count-block-end
-    count-block-requires
-    cast-inside
+    (λ c κs. search needs)
+    (λ c. search needs)
+    (λ c. search needs)
+    (λ c. search needs)
+    (λ c κs. search needs)
+    (λ c. search needs)
     add-inside
-    cast-measured
+    (λ c. search needs)
     add-measured
-    loop-less
+    (λ c. search needs)
     loop-again
     returns)

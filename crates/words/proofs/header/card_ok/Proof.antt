@@ -10,63 +10,27 @@ use borrow.Author.Needs.{needs}
 use mathlib.Core.Path.{_∙_, ap, sym}
 use native.Mathlib.Omega.{arith}
 
-word-requires : tie.Need-word-requires
-word-requires c κs = search needs
-
 returns : tie.Need-returns
 returns c = bad-edition _ (no (c .before .edition-ok .ensures ∙ ap editionOk (c .before .before .word .ensures .0)) (c .if1 .taken))
-
-edition-ok-requires : tie.Need-edition-ok-requires
-edition-ok-requires c κs = search needs
-
-word-requires-2 : tie.Need-word-requires-2
-word-requires-2 c κs = search needs
 
 returns-2 : tie.Need-returns-2
 returns-2 c = bad-rows _ (omega arith)
 
-word-requires-3 : tie.Need-word-requires-3
-word-requires-3 c κs = search needs
-
-columns-ok-requires : tie.Need-columns-ok-requires
-columns-ok-requires c κs = search needs
-
 returns-3 : tie.Need-returns-3
 returns-3 c = bad-columns _ (no (c .before .columns-ok .ensures ∙ ap columnsOk (c .before .before .word3 .ensures .0)) (c .if3 .taken))
-
-word-requires-4 : tie.Need-word-requires-4
-word-requires-4 c κs = search needs
-
-word-requires-5 : tie.Need-word-requires-5
-word-requires-5 c κs = search needs
-
-share-ok-requires : tie.Need-share-ok-requires
-share-ok-requires c κs = search needs
 
 returns-4 : tie.Need-returns-4
 returns-4 c =
     bad-share _ (no-at shareOk (c .before .share-ok .ensures) (c .before .before .before .word4 .ensures .0)
     (c .before .before .word5 .ensures .0) (c .if4 .taken))
 
-word-requires-6 : tie.Need-word-requires-6
-word-requires-6 c κs = search needs
-
-nodes-ok-requires : tie.Need-nodes-ok-requires
-nodes-ok-requires c κs = search needs
-
 returns-5 : tie.Need-returns-5
 returns-5 c =
     let n = c .before .before .before .before .before .before .before .before .before .before .before in
     bad-nodes _ (no-at nodesOk (c .before .nodes-ok .ensures) (n .word2 .ensures .0) (c .before .before .word6 .ensures .0) (c .if5 .taken))
 
-word-requires-7 : tie.Need-word-requires-7
-word-requires-7 c κs = search needs
-
 returns-6 : tie.Need-returns-6
 returns-6 c = bad-kind _ (omega arith)
-
-word-requires-8 : tie.Need-word-requires-8
-word-requires-8 c κs = search needs
 
 returns-7 : tie.Need-returns-7
 returns-7 c =
@@ -89,22 +53,22 @@ pub card-ok-spec : {M : Type 1} → statement M
 card-ok-spec =
     tie.close
     (tie.spec
-    word-requires
-    edition-ok-requires
+    (λ c κs. search needs)
+    (λ c κs. search needs)
     returns
-    word-requires-2
+    (λ c κs. search needs)
     returns-2
-    word-requires-3
-    columns-ok-requires
+    (λ c κs. search needs)
+    (λ c κs. search needs)
     returns-3
-    word-requires-4
-    word-requires-5
-    share-ok-requires
+    (λ c κs. search needs)
+    (λ c κs. search needs)
+    (λ c κs. search needs)
     returns-4
-    word-requires-6
-    nodes-ok-requires
+    (λ c κs. search needs)
+    (λ c κs. search needs)
     returns-5
-    word-requires-7
+    (λ c κs. search needs)
     returns-6
-    word-requires-8
+    (λ c κs. search needs)
     returns-7)

@@ -7,17 +7,11 @@ use borrow.Author.Needs.{needs}
 use mathlib.Core.Path.{_∙_}
 use native.Mathlib.Omega.{arith}
 
-word-requires : tie.Need-word-requires
-word-requires c κs = search needs
-
 returns : tie.Need-returns
 returns c = other-edition _ (λ e. omega arith)
-
-card-ok-requires : tie.Need-card-ok-requires
-card-ok-requires c κs = search needs
 
 returns-2 : tie.Need-returns-2
 returns-2 c = c .card-ok .ensures ∙ edition-two _ (omega arith)
 
 pub header-ok-spec : {M : Type 1} → statement M
-header-ok-spec = tie.close (tie.spec word-requires returns card-ok-requires returns-2)
+header-ok-spec = tie.close (tie.spec (λ c κs. search needs) returns (λ c κs. search needs) returns-2)

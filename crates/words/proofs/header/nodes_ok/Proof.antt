@@ -9,18 +9,9 @@ use mathlib.Core.Path.{_∙_}
 returns : tie.Need-returns
 returns c = nodes-none _ _ (c .if1 .taken)
 
-mul-is-within : tie.Need-mul-is-within
-mul-is-within c = search needs
-
-sub-is-within : tie.Need-sub-is-within
-sub-is-within c = search needs
-
-is-within-requires : tie.Need-is-within-requires
-is-within-requires c κs = search needs
-
 returns-2 : tie.Need-returns-2
 returns-2 c = c .is-within .ensures ∙ nodes-some _ _ (c .before .if1 .left)
 
 pub nodes-ok-spec : {M : Type 1} → statement M
 nodes-ok-spec =
-    tie.close (tie.spec returns mul-is-within sub-is-within is-within-requires returns-2)
+    tie.close (tie.spec returns (λ c. search needs) (λ c. search needs) (λ c κs. search needs) returns-2)

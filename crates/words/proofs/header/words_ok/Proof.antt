@@ -19,29 +19,14 @@ product c =
 returns : tie.Need-returns
 returns c = few-words _ (c .if1 .taken)
 
-header-ok-requires : tie.Need-header-ok-requires
-header-ok-requires c κs = search needs
-
 returns-2 : tie.Need-returns-2
 returns-2 c = bad-header _ (no (c .before .header-ok .ensures) (c .if2 .taken))
-
-width-requires : tie.Need-width-requires
-width-requires c κs = search needs
-
-nodes-requires : tie.Need-nodes-requires
-nodes-requires c κs = search needs
 
 mul-result : tie.Need-mul-result
 mul-result c = omega (arith, product c .1, c .nodes .ensures .1)
 
 add-result : tie.Need-add-result
 add-result c = omega (arith, product c .1, c .nodes .ensures .1)
-
-rows-requires : tie.Need-rows-requires
-rows-requires c κs = search needs
-
-mul-result-2 : tie.Need-mul-result-2
-mul-result-2 c = search needs
 
 add-result-2 : tie.Need-add-result-2
 add-result-2 c = omega (arith, product (c .before) .1, c .before .nodes .ensures .1, c .rows .ensures .1)
@@ -55,13 +40,13 @@ words-ok-spec =
     tie.close
     (tie.spec
     returns
-    header-ok-requires
+    (λ c κs. search needs)
     returns-2
-    width-requires
-    nodes-requires
+    (λ c κs. search needs)
+    (λ c κs. search needs)
     mul-result
     add-result
-    rows-requires
-    mul-result-2
+    (λ c κs. search needs)
+    (λ c. search needs)
     add-result-2
     returns-3)

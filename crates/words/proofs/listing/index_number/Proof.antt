@@ -8,9 +8,6 @@ use Rattle.words.proofs.listing.index_number.Tie as tie
 use borrow.Author.Needs.{needs}
 use mathlib.Core.Path.{_∙_, sym}
 
-words-ok-requires : tie.Need-words-ok-requires
-words-ok-requires c κs = search needs
-
 returns : tie.Need-returns
 returns c =
     let a = c .before .before .before .args in
@@ -63,7 +60,7 @@ pub index-number-spec : {M : Type 1} → statement M
 index-number-spec =
     tie.close
     (tie.spec
-    words-ok-requires
+    (λ c κs. search needs)
     returns
     rows-requires
     returns-2

@@ -32,9 +32,6 @@ right c =
 there : (c : tie.Else3) → InShape (W c) × (K c < N# (W c))
 there c = node-there (W c) (K c) (right c)
 
-words-ok-requires : tie.Need-words-ok-requires
-words-ok-requires c κs = search needs
-
 returns : tie.Need-returns
 returns c =
     let a = c .before .before .before .args in
@@ -70,9 +67,6 @@ node-count-requires c κs =
     let e = c .before .before in
     (there e .0 .whole, there e .1)
 
-mul-t8 : tie.Need-mul-t8
-mul-t8 c = search needs
-
 returns-4 : tie.Need-returns-4
 returns-4 c =
     let e = c .before .before .before in
@@ -82,7 +76,7 @@ pub part-of-spec : {M : Type 1} → statement M
 part-of-spec =
     tie.close
     (tie.spec
-    words-ok-requires
+    (λ c κs. search needs)
     returns
     shape-ok-requires
     returns-2
@@ -91,5 +85,5 @@ part-of-spec =
     node-start-requires
     pair-at-requires
     node-count-requires
-    mul-t8
+    (λ c. search needs)
     returns-4)

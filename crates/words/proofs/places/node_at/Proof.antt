@@ -13,9 +13,6 @@ product : (c : tie.After-width)
     → c .width .result * c .before .before .args .k ≡ width (edition# (c .before .before .args .index .now)) * c .before .before .args .k
 product c = ap (λ (z : ℕ). z * c .before .before .args .k) (c .width .ensures .0)
 
-width-requires : tie.Need-width-requires
-width-requires c κs = search needs
-
 mul-result : tie.Need-mul-result
 mul-result c = omega (arith, product c, c .before .before .pre, c .before .before .good)
 
@@ -26,4 +23,4 @@ returns : tie.Need-returns
 returns c = omega (arith, product c)
 
 pub node-at-spec : {M : Type 1} → statement M
-node-at-spec = tie.close (tie.spec width-requires mul-result add-result returns)
+node-at-spec = tie.close (tie.spec (λ c κs. search needs) mul-result add-result returns)

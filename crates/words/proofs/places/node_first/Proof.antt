@@ -7,9 +7,6 @@ use borrow.Author.Needs.{needs}
 use mathlib.Core.Path.{_∙_, ap}
 use native.Mathlib.Omega.{arith}
 
-node-start-requires : tie.Need-node-start-requires
-node-start-requires c κs = search needs
-
 row-at-requires : tie.Need-row-at-requires
 row-at-requires c κs =
     let start = c .before .before in
@@ -26,4 +23,4 @@ returns c =
     )
 
 pub node-first-spec : {M : Type 1} → statement M
-node-first-spec = tie.close (tie.spec node-start-requires row-at-requires returns)
+node-first-spec = tie.close (tie.spec (λ c κs. search needs) row-at-requires returns)

@@ -18,9 +18,6 @@ nodes-requires c κs = omega (arith, c .before .pre)
 node-at-requires : tie.Need-node-at-requires
 node-at-requires c κs = omega (arith, end c, c .before .before .pre)
 
-mul-result : tie.Need-mul-result
-mul-result c = search needs
-
 add-result : tie.Need-add-result
 add-result c = omega (arith, c .node-at .ensures ∙ end (c .before), c .before .before .before .pre, c .before .before .before .good)
 
@@ -28,4 +25,4 @@ returns : tie.Need-returns
 returns c = ap (λ (z : ℕ). z + 2 * c .before .before .before .args .p) (c .node-at .ensures ∙ end (c .before))
 
 pub pair-at-spec : {M : Type 1} → statement M
-pair-at-spec = tie.close (tie.spec nodes-requires node-at-requires mul-result add-result returns)
+pair-at-spec = tie.close (tie.spec nodes-requires node-at-requires (λ c. search needs) add-result returns)

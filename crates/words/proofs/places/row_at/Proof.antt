@@ -6,16 +6,10 @@ use Rattle.words.specs.Words.{at}
 use borrow.Author.Needs.{needs}
 use mathlib.Core.Path.{_∙_, ap}
 
-pair-at-requires : tie.Need-pair-at-requires
-pair-at-requires c κs = search needs
-
-word-requires : tie.Need-word-requires
-word-requires c κs = search needs
-
 returns : tie.Need-returns
 returns c =
     let w = c .before .before .before .args .index .now in
     (c .word .ensures .0 ∙ ap (at w) (c .before .pair-at .ensures), c .word .ensures .1)
 
 pub row-at-spec : {M : Type 1} → statement M
-row-at-spec = tie.close (tie.spec pair-at-requires word-requires returns)
+row-at-spec = tie.close (tie.spec (λ c κs. search needs) (λ c κs. search needs) returns)

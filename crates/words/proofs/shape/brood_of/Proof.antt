@@ -30,13 +30,10 @@ returns c =
     let a = c .before .before .before .args in
     brood-leaf (a .index .now) (a .k) (sym (child (c .before)) ∙ c .if1 .taken)
 
-centres-requires : tie.Need-centres-requires
-centres-requires c κs = search needs
-
 returns-2 : tie.Need-returns-2
 returns-2 c =
     let a = c .before .before .before .before .args in
     c .centres .ensures .0 ∙ brood-inner (a .index .now) (a .k) (λ e. c .before .if1 .left (child (c .before .before) ∙ e))
 
 pub brood-of-spec : {M : Type 1} → statement M
-brood-of-spec = tie.close (tie.spec add-word word-requires returns centres-requires returns-2)
+brood-of-spec = tie.close (tie.spec add-word word-requires returns (λ c κs. search needs) returns-2)

@@ -6,22 +6,10 @@ use Rattle.words.proofs.shape.has_room.Tie as tie
 use borrow.Author.Needs.{needs}
 use mathlib.Core.Path.{_∙_, sym}
 
-node-child-requires : tie.Need-node-child-requires
-node-child-requires c κs = search needs
-
 returns : tie.Need-returns
 returns c =
     let a = c .before .before .before .args in
     room-leaf (a .index .now) (a .k) (a .next) (sym (c .before .node-child .ensures .0) ∙ c .if1 .taken)
-
-centres-requires : tie.Need-centres-requires
-centres-requires c κs = search needs
-
-add-result : tie.Need-add-result
-add-result c = search needs
-
-nodes-requires : tie.Need-nodes-requires
-nodes-requires c κs = search needs
 
 returns-2 : tie.Need-returns-2
 returns-2 c =
@@ -32,4 +20,4 @@ returns-2 c =
 pub has-room-spec : {M : Type 1} → statement M
 has-room-spec =
     tie.close
-    (tie.spec node-child-requires returns centres-requires add-result nodes-requires returns-2)
+    (tie.spec (λ c κs. search needs) returns (λ c κs. search needs) (λ c. search needs) (λ c κs. search needs) returns-2)

@@ -93,17 +93,11 @@ returns-2 c =
     fit-anyway (a .index .now) (a .k) (a .next) (a .depth) (λ n. refl)
     (λ room. fit-far (a .index .now) (a .k) (a .next) (a .depth) room (omega (arith, c .if2 .taken, radius s)))
 
-node-inner-requires : tie.Need-node-inner-requires
-node-inner-requires c κs = search needs
-
 returns-3 : tie.Need-returns-3
 returns-3 c =
     let a = start (c .before .before .before .before .before) .args in
     fit-anyway (a .index .now) (a .k) (a .next) (a .depth) (λ n. refl)
     (λ room. fit-wide (a .index .now) (a .k) (a .next) (a .depth) room (omega (arith, c .if3 .taken, c .before .node-inner .ensures)))
-
-leaf-size-requires : tie.Need-leaf-size-requires
-leaf-size-requires c κs = search needs
 
 returns-4 : tie.Need-returns-4
 returns-4 c =
@@ -134,9 +128,6 @@ returns-6 c =
     (λ room. fit-other (a .index .now) (a .k) (a .next) (a .depth) room (some e) (near e) (nearer e) many (omega (arith, c .before .if5 .left))
     (λ q. c .if6 .taken (child (read e) ∙ q)))
 
-has-room-requires : tie.Need-has-room-requires
-has-room-requires c κs = search needs
-
 returns-7 : tie.Need-returns-7
 returns-7 c =
     let a = start (read (c .before .before .before .before .before .before)) .args in
@@ -144,12 +135,6 @@ returns-7 c =
 
 word-requires-3 : tie.Need-word-requires-3
 word-requires-3 c κs = omega (arith, there (start (read (c .before .before .before .before .before .before))))
-
-centres-requires : tie.Need-centres-requires
-centres-requires c κs = search needs
-
-add-tiles : tie.Need-add-tiles
-add-tiles c = search needs
 
 tiles-requires : tie.Need-tiles-requires
 tiles-requires c κs =
@@ -190,16 +175,16 @@ node-fits-spec =
     mul-if2
     shared-slice-read-if2
     returns-2
-    node-inner-requires
+    (λ c κs. search needs)
     returns-3
-    leaf-size-requires
+    (λ c κs. search needs)
     returns-4
     returns-5
     returns-6
-    has-room-requires
+    (λ c κs. search needs)
     returns-7
     word-requires-3
-    centres-requires
-    add-tiles
+    (λ c κs. search needs)
+    (λ c. search needs)
     tiles-requires
     returns-8)

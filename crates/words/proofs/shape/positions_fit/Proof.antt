@@ -17,58 +17,13 @@ Inv-loop index n base row₀ far₀ p₀ row far p = (p ≤ n) × (row ≡ mostT
 abbrev μ-loop : tie.MeasureT-loop
 μ-loop index n base row₀ far₀ p₀ row far p = n - p
 
-rows-requires : tie.Need-rows-requires Inv-loop μ-loop
-rows-requires c κs = search needs
-
 returns : tie.Need-returns Inv-loop μ-loop
 returns c = rw (sym (c .before .rows .ensures .0) ∙ c .if1 .taken)
-
-pair-at-requires : tie.Need-pair-at-requires Inv-loop μ-loop
-pair-at-requires c κs = search needs
 
 loop-holds : tie.Need-loop-holds Inv-loop μ-loop
 loop-holds c =
     let w = c .before .before .before .before .args .index .now in
     (search needs, sym (most-none (row# w)), sym (most-none (dist# w)))
-
-mul-greater : tie.Need-mul-greater Inv-loop μ-loop
-mul-greater c = search needs
-
-add-greater : tie.Need-add-greater Inv-loop μ-loop
-add-greater c = search needs
-
-mul-greater-2 : tie.Need-mul-greater-2 Inv-loop μ-loop
-mul-greater-2 c = search needs
-
-shared-slice-read-greater : tie.Need-shared-slice-read-greater Inv-loop μ-loop
-shared-slice-read-greater c = search needs
-
-greater-requires : tie.Need-greater-requires Inv-loop μ-loop
-greater-requires c κs = search needs
-
-mul-greater-3 : tie.Need-mul-greater-3 Inv-loop μ-loop
-mul-greater-3 c = search needs
-
-add-greater-2 : tie.Need-add-greater-2 Inv-loop μ-loop
-add-greater-2 c = search needs
-
-add-greater-3 : tie.Need-add-greater-3 Inv-loop μ-loop
-add-greater-3 c = search needs
-
-mul-greater-4 : tie.Need-mul-greater-4 Inv-loop μ-loop
-mul-greater-4 c = search needs
-
-shared-slice-read-greater-2 : tie.Need-shared-slice-read-greater-2 Inv-loop μ-loop
-shared-slice-read-greater-2 c = search needs
-
-greater-requires-2 : tie.Need-greater-requires-2 Inv-loop μ-loop
-greater-requires-2 c κs = search needs
-
-add-p : tie.Need-add-p Inv-loop μ-loop
-add-p c = search needs
-
-loop-less : tie.Need-loop-less Inv-loop μ-loop
-loop-less c = search needs
 
 loop-again : tie.Need-loop-again Inv-loop μ-loop
 loop-again c =
@@ -82,9 +37,6 @@ loop-again c =
       c .greater2 .ensures ∙ ap₂ max (at-loop .loop .inv .2) (dist-word w (start .pair-at .result) p (start .pair-at .ensures))
           ∙ sym (most-next (dist# w) p),
     )
-
-cast-if2 : tie.Need-cast-if2 Inv-loop μ-loop
-cast-if2 c = search needs
 
 returns-2 : tie.Need-returns-2 Inv-loop μ-loop
 returns-2 c =
@@ -109,24 +61,24 @@ positions-fit-spec =
     (tie.spec
     Inv-loop
     μ-loop
-    rows-requires
+    (λ c κs. search needs)
     returns
-    pair-at-requires
+    (λ c κs. search needs)
     loop-holds
-    mul-greater
-    add-greater
-    mul-greater-2
-    shared-slice-read-greater
-    greater-requires
-    mul-greater-3
-    add-greater-2
-    add-greater-3
-    mul-greater-4
-    shared-slice-read-greater-2
-    greater-requires-2
-    add-p
-    loop-less
+    (λ c. search needs)
+    (λ c. search needs)
+    (λ c. search needs)
+    (λ c. search needs)
+    (λ c κs. search needs)
+    (λ c. search needs)
+    (λ c. search needs)
+    (λ c. search needs)
+    (λ c. search needs)
+    (λ c. search needs)
+    (λ c κs. search needs)
+    (λ c. search needs)
+    (λ c. search needs)
     loop-again
-    cast-if2
+    (λ c. search needs)
     returns-2
     returns-3)

@@ -6,17 +6,8 @@ use Rattle.words.proofs.shape.root_fits.Tie as tie
 use borrow.Author.Needs.{needs}
 use mathlib.Core.Path.{_∙_, sym}
 
-node-start-requires : tie.Need-node-start-requires
-node-start-requires c κs = search needs
-
 returns : tie.Need-returns
 returns c = root-off (c .before .before .before .args .index .now) (λ e. c .if1 .taken (c .before .node-start .ensures .0 ∙ e))
-
-node-count-requires : tie.Need-node-count-requires
-node-count-requires c κs = search needs
-
-rows-requires : tie.Need-rows-requires
-rows-requires c κs = search needs
 
 returns-2 : tie.Need-returns-2
 returns-2 c =
@@ -26,4 +17,4 @@ returns-2 c =
 
 pub root-fits-spec : {M : Type 1} → statement M
 root-fits-spec =
-    tie.close (tie.spec node-start-requires returns node-count-requires rows-requires returns-2)
+    tie.close (tie.spec (λ c κs. search needs) returns (λ c κs. search needs) (λ c κs. search needs) returns-2)

@@ -20,12 +20,6 @@ loop-holds c =
     let a = c .before .args in
     (search needs, search needs, tile-start (a .index .now) (a .j) (a .m) (a .s) (a .e))
 
-add-node-start : tie.Need-add-node-start Inv-loop μ-loop
-add-node-start c = search needs
-
-node-start-requires : tie.Need-node-start-requires Inv-loop μ-loop
-node-start-requires c κs = search needs
-
 returns : tie.Need-returns Inv-loop μ-loop
 returns c =
     let at-loop = c .before .before .before in
@@ -33,21 +27,6 @@ returns c =
     sym (at-loop .loop .inv .2
     ∙ sym (tile-stop (a .index .now) (a .j) (at-loop .loop .i) (a .m) (at-loop .loop .at) (a .e) (c .before .before .loop-test .taken)
     (λ e. c .if1 .taken (c .before .node-start .ensures .0 ∙ e))))
-
-add-node-count : tie.Need-add-node-count Inv-loop μ-loop
-add-node-count c = search needs
-
-node-count-requires : tie.Need-node-count-requires Inv-loop μ-loop
-node-count-requires c κs = search needs
-
-add-at : tie.Need-add-at Inv-loop μ-loop
-add-at c = search needs
-
-add-i : tie.Need-add-i Inv-loop μ-loop
-add-i c = search needs
-
-loop-less : tie.Need-loop-less Inv-loop μ-loop
-loop-less c = search needs
 
 loop-again : tie.Need-loop-again Inv-loop μ-loop
 loop-again c =
@@ -76,13 +55,13 @@ tiles-spec =
     Inv-loop
     μ-loop
     loop-holds
-    add-node-start
-    node-start-requires
+    (λ c. search needs)
+    (λ c κs. search needs)
     returns
-    add-node-count
-    node-count-requires
-    add-at
-    add-i
-    loop-less
+    (λ c. search needs)
+    (λ c κs. search needs)
+    (λ c. search needs)
+    (λ c. search needs)
+    (λ c. search needs)
     loop-again
     returns-2)

@@ -29,22 +29,13 @@ start l = l .before .before .before .before .before .before .before
 ahead : (l : tie.At-loop Inv-loop μ-loop) → l .loop .here + l .before .width .result ≡ nodeAt (start l .args .index .now) (l .loop .k + 1)
 ahead l = omega (arith, node-next (start l .args .index .now) (l .loop .k), l .loop .inv .1, l .loop .inv .2)
 
-nodes-requires : tie.Need-nodes-requires Inv-loop μ-loop
-nodes-requires c κs = search needs
-
 returns : tie.Need-returns Inv-loop μ-loop
 returns c = ends-empty (c .before .before .before .args .index .now) (sym (c .before .nodes .ensures .0) ∙ c .if1 .taken)
-
-root-fits-requires : tie.Need-root-fits-requires Inv-loop μ-loop
-root-fits-requires c κs = search needs
 
 returns-2 : tie.Need-returns-2 Inv-loop μ-loop
 returns-2 c =
     let at1 = c .before .before in
     ends-rootless (at1 .before .before .before .args .index .now) (omega arith) (no (c .before .root-fits .ensures) (c .if2 .taken))
-
-width-requires : tie.Need-width-requires Inv-loop μ-loop
-width-requires c κs = search needs
 
 loop-holds : tie.Need-loop-holds Inv-loop μ-loop
 loop-holds c =
@@ -57,9 +48,6 @@ returns-3 c =
     let at-loop = c .before .before in
     going-orphan (start at-loop .args .index .now) (at-loop .loop .inv .0) (c .before .loop-test .taken) (omega (arith, c .if3 .taken))
 
-node-fits-requires : tie.Need-node-fits-requires Inv-loop μ-loop
-node-fits-requires c κs = search needs
-
 returns-4 : tie.Need-returns-4 Inv-loop μ-loop
 returns-4 c =
     let at3 = c .before .before in
@@ -67,17 +55,11 @@ returns-4 c =
     going-unfit (start at-loop .args .index .now) (at-loop .loop .inv .0) (at3 .before .loop-test .taken) (omega (arith, at3 .if3 .left))
     (no (c .before .node-fits .ensures) (c .if4 .taken))
 
-brood-of-requires : tie.Need-brood-of-requires Inv-loop μ-loop
-brood-of-requires c κs = search needs
-
 add-next : tie.Need-add-next Inv-loop μ-loop
 add-next c =
     let at-loop = c .before .before .before .before .before in
     let s = start at-loop in
     omega (arith, brood-few (s .args .index .now) (at-loop .loop .k) (s .pre .0 .fan .1), c .brood-of .ensures, at-loop .loop .inv .0 .next-low)
-
-add-k : tie.Need-add-k Inv-loop μ-loop
-add-k c = search needs
 
 add-here : tie.Need-add-here Inv-loop μ-loop
 add-here c =
@@ -88,12 +70,6 @@ add-here c =
     let inside = nodes-there (s .args .index .now) (s .pre .0) (k + 1) (omega (arith, at-loop .loop .inv .0, last)) in
     omega (arith, ahead at-loop, inside, s .good)
 
-add-depth : tie.Need-add-depth Inv-loop μ-loop
-add-depth c = search needs
-
-loop-less : tie.Need-loop-less Inv-loop μ-loop
-loop-less c = search needs
-
 loop-again : tie.Need-loop-again Inv-loop μ-loop
 loop-again c =
     let at4 = c .before .before in
@@ -103,9 +79,6 @@ loop-again c =
     let going = going-turn (s .args .index .now) (at-loop .loop .inv .0) (at3 .before .loop-test .taken) (omega (arith, at3 .if3 .left))
     (s .pre .0 .fan .1) (yes (at4 .before .node-fits .ensures) (at4 .if4 .left)) (c .before .brood-of .ensures) (c .if5 .taken) in
     (going, ahead at-loop, at-loop .loop .inv .2)
-
-loop-less-2 : tie.Need-loop-less-2 Inv-loop μ-loop
-loop-less-2 c = search needs
 
 loop-again-2 : tie.Need-loop-again-2 Inv-loop μ-loop
 loop-again-2 c =
@@ -129,22 +102,22 @@ tree-fits-spec =
     (tie.spec
     Inv-loop
     μ-loop
-    nodes-requires
+    (λ c κs. search needs)
     returns
-    root-fits-requires
+    (λ c κs. search needs)
     returns-2
-    width-requires
+    (λ c κs. search needs)
     loop-holds
     returns-3
-    node-fits-requires
+    (λ c κs. search needs)
     returns-4
-    brood-of-requires
+    (λ c κs. search needs)
     add-next
-    add-k
+    (λ c. search needs)
     add-here
-    add-depth
-    loop-less
+    (λ c. search needs)
+    (λ c. search needs)
     loop-again
-    loop-less-2
+    (λ c. search needs)
     loop-again-2
     returns-5)

@@ -7,9 +7,6 @@ use borrow.Author.Needs.{needs}
 use lib.ListN.{length-set}
 use native.Mathlib.Omega.{arith}
 
-slice-write-part : tie.Need-slice-write-part
-slice-write-part c = search needs
-
 slice-write-part-2 : tie.Need-slice-write-part-2
 slice-write-part-2 c = simp length-set (omega arith)
 
@@ -19,12 +16,6 @@ slice-write-part-3 c = simp length-set (omega arith)
 slice-write-part-4 : tie.Need-slice-write-part-4
 slice-write-part-4 c = simp length-set (omega arith)
 
-slice-write-part-5 : tie.Need-slice-write-part-5
-slice-write-part-5 c = search needs
-
-same-length : tie.Need-same-length
-same-length c = search needs
-
 returns : tie.Need-returns
 returns c = five-sets (c .args .part .now) _ _ _ _ _ (c .pre)
 
@@ -32,10 +23,10 @@ pub put-node-spec : {M : Type 1} → statement M
 put-node-spec =
     tie.close
     (tie.spec
-    slice-write-part
+    (λ c. search needs)
     slice-write-part-2
     slice-write-part-3
     slice-write-part-4
-    slice-write-part-5
-    same-length
+    (λ c. search needs)
+    (λ c. search needs)
     returns)
