@@ -1,6 +1,6 @@
 -- The number that a word says, one digit a turn, and the decimal text of a number says it. Assumes nothing.
 use Prim.Native.Nat.{_*_, _+_, _-_, _<_, _≤_, ℕ}
-use Rattle.analyst.specs.Worth.{behind, from, worth}
+use Rattle.asking.specs.Worth.{behind, from, worth}
 use Rattle.limits.proofs.Ranges.{both-within}
 use Rattle.limits.specs.Limits.{within}
 use Rattle.text.specs.Text.{Decimal, digit, followed}

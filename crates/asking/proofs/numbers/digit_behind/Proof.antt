@@ -1,8 +1,8 @@
--- `analyst::asking::digit_behind` meets its contract: each return has its test.
+-- `asking::numbers::digit_behind` meets its contract: each return has its test.
 -- Assumes nothing.
-use Rattle.analyst.proofs.Worths.{behind-digit, behind-most, behind-other}
-use Rattle.analyst.proofs.asking.digit_behind.Statement.{statement}
-use Rattle.analyst.proofs.asking.digit_behind.Tie as tie
+use Rattle.asking.proofs.Worths.{behind-digit, behind-most, behind-other}
+use Rattle.asking.proofs.numbers.digit_behind.Statement.{statement}
+use Rattle.asking.proofs.numbers.digit_behind.Tie as tie
 use Rattle.laws.proofs.Tests.{no, yes}
 use Rattle.limits.proofs.Ranges.{within-both}
 use borrow.Author.Needs.{needs}
