@@ -1,138 +1,151 @@
-// The two questions answered: the rows that are found are written, a line each.
+// The answers, written a line each.
 ghost use Prim.Native.Nat.{_*_, _+_, _<_, _≤_};
 ghost use Rattle.limits.specs.Limits.{maxColumns};
 ghost use lib.ListN.{length};
 ghost use mathlib.Core.Path.{_≡_};
-use crate::rooms::answer_room;
-use crate::rooms::byte_room;
-use crate::rooms::index_room;
-use crate::rooms::workspace;
-use crate::say;
-use crate::say_found;
-use crate::say_refused;
-use finder::find_nearest;
-use finder::mark_like;
+use crate::plan::Plan;
+use crate::plan::needs_lines;
+use crate::plan::parting;
+use crate::saying::say;
 use lines::make_room;
+use lines::put_bytes;
 use lines::put_number;
 use measure::query_distance;
-use measure::row_of;
+use picking::places::label_in;
+use picking::places::line_from;
 
-// A how-byte of 2 or 3 says that the row is in.
-const IN: u8 = 2;
+// How many bytes a line's two numbers take at most.
+const NUMBERS: usize = 42;
 
-// How many bytes a line with two numbers takes at most.
-const LINE: usize = 42;
-
-// Puts one answer into the text: a row and its distance, a line. Gives where that ends.
-fn put_answer(text: &mut [u8], at: usize, row: usize, distance: u32) -> usize
-    requires { ⌜ (at ≤ length (now text)) × (42 ≤ length (now text)) ⌝ }
-    ensures { λ r. ⌜ r ≤ length (now (text .entry)) ⌝ }
+// Puts the label and the line behind the two numbers of an answer, as they are asked for.
+fn put_behind(plan: Plan, line: &[u8], out: &mut [u8], at: usize) -> usize
+    requires { ⌜ (at ≤ length (now out)) × (42 ≤ length (now out)) ⌝ }
+    ensures { λ r. ⌜ r ≤ length (now (out .entry)) ⌝ }
 {
-    let from = make_room(text, at, LINE);
-    let middle = put_number(text, from, row as u64, b' ');
-    put_number(text, middle, distance as u64, b'\n')
+    let mut end = at;
+    if plan.label != 0 {
+        let mark = if plan.lines { parting(plan) } else { b'\n' };
+        end = put_bytes(plan.out, out, end, label_in(line, plan.label), mark);
+    }
+    if plan.lines {
+        end = put_bytes(plan.out, out, end, line, b'\n');
+    }
+    end
 }
 
-// Puts a row that is marked in, with its distance. The search hands out marks and no distances, so every such row is measured here for the line
-// alone: the count of measured rows is the search's own.
-fn put_marked(
-    table: &[u16],
-    c: usize,
-    query: &[u16],
-    row: usize,
-    mark: u8,
-    text: &mut [u8],
+// Puts one answer: a row and its distance, and what is to be shown with it. Gives where that ends.
+fn put_answer(
+    plan: Plan,
+    text: &[u8],
+    start: u32,
+    row: u32,
+    distance: u32,
+    out: &mut [u8],
     at: usize,
 ) -> usize
-    requires { ⌜ (c ≤ maxColumns) × (c * row + c ≤ length (now table)) × (length (now query) ≡ c) ⌝ }
-    requires { ⌜ (at ≤ length (now text)) × (42 ≤ length (now text)) ⌝ }
-    ensures { λ r. ⌜ r ≤ length (now (text .entry)) ⌝ }
+    requires { ⌜ (at ≤ length (now out)) × (42 ≤ length (now out)) ⌝ }
+    ensures { λ r. ⌜ r ≤ length (now (out .entry)) ⌝ }
 {
-    if mark < IN {
-        return at;
+    let from = make_room(plan.out, out, at, NUMBERS);
+    let middle = put_number(out, from, row as u64, parting(plan));
+    if !needs_lines(plan) {
+        return put_number(out, middle, distance as u64, b'\n');
     }
-    put_answer(text, at, row, query_distance(table, c, query, row))
+    let end = put_number(out, middle, distance as u64, parting(plan));
+    put_behind(plan, line_from(text, start), out, end)
 }
 
-// Writes every row that is marked in.
-fn say_rows(table: &[u16], c: usize, query: &[u16], n: usize, how: &[u8])
-    requires { ⌜ (c ≤ maxColumns) × (c * n ≤ length (now table)) × (length (now query) ≡ c) × (n ≤ length (now how)) ⌝ }
+// Where the line of a row starts, if it was kept.
+fn start_of(starts: &[u32], row: u32) -> u32 {
+    let at = row as usize;
+    if at < starts.len() { starts[at] } else { 0 }
+}
+
+// The first line of an answer that commas part: what each field is.
+pub fn say_head(plan: Plan, names: &[u8]) {
+    if !plan.csv {
+        return;
+    }
+    say(plan.out, b"row,distance");
+    if plan.label != 0 {
+        say(plan.out, b",");
+        say(plan.out, label_in(names, plan.label));
+    }
+    if plan.lines {
+        say(plan.out, b",");
+        say(plan.out, names);
+    }
+    say(plan.out, b"\n");
+}
+
+// The least distance of a row from a query of several.
+pub fn least_distance(table: &[u16], c: usize, queries: &[u16], count: usize, row: usize) -> u32
+    requires { ⌜ (c ≤ maxColumns) × (c * row + c ≤ length (now table)) × (c * count ≤ length (now queries)) ⌝ }
 {
-    let mut text = io::buffer();
-    let mut at = 0;
+    let mut least = 0xffff_ffff;
     let mut i = 0;
-    while i < n {
-        at = put_marked(table, c, query, i, how[i], &mut text, at);
+    while i < count {
+        let at = c * i;
+        let d = query_distance(table, c, &queries[at..at + c], row);
+        least = if d < least { d } else { least };
         i += 1;
     }
-    say(&text[..at]);
+    least
 }
 
-fn wide(x: u32) -> usize {
-    x as usize
-}
-
-// Writes the answers, nearest first.
-fn say_answers(rows: &[u32], distances: &[u32], given: usize)
+// Writes the answers that are given, in their order.
+pub fn say_answers(
+    plan: Plan,
+    text: &[u8],
+    starts: &[u32],
+    rows: &[u32],
+    distances: &[u32],
+    given: usize,
+)
     requires { ⌜ (given ≤ length (now rows)) × (given ≤ length (now distances)) ⌝ }
 {
-    let mut text = io::buffer();
+    let mut out = io::buffer();
     let mut at = 0;
     let mut i = 0;
     while i < given {
-        at = put_answer(&mut text, at, wide(rows[i]), distances[i]);
+        let row = rows[i];
+        at = put_answer(
+            plan,
+            text,
+            start_of(starts, row),
+            row,
+            distances[i],
+            &mut out,
+            at,
+        );
         i += 1;
     }
-    say(&text[..at]);
+    io::write_all(plan.out, &out[..at]);
 }
 
-// Every row within r of row `row` of n, in row order. Gives 0 where they are written.
-pub fn like(table: &[u16], c: usize, n: usize, row: usize, r: u32) -> u32
-    requires { ⌜ (c ≤ maxColumns) × (c * n ≤ length (now table)) × (row < n) × (n ≤ 65536) ⌝ }
-    ensures { λ r. ⌜ r ≤ 1 ⌝ }
+// Keeps the rows that are marked, with their distances, in row order. Gives how many.
+pub fn keep_marked(
+    table: &[u16],
+    c: usize,
+    queries: &[u16],
+    count: usize,
+    marks: &[u8],
+    rows: &mut [u32],
+    distances: &mut [u32],
+) -> usize
+    requires { ⌜ (c ≤ maxColumns) × (c * length (now marks) ≤ length (now table)) × (c * count ≤ length (now queries)) ⌝ }
+    requires { ⌜ (length (now marks) ≤ length (now rows)) × (length (now marks) ≤ length (now distances)) × (length (now marks) ≤ 1048576) ⌝ }
+    ensures { λ r. ⌜ (r ≤ length (now (rows .exit))) × (r ≤ length (now (distances .exit))) ⌝ }
 {
-    let mut room = index_room();
-    let mut work = workspace();
-    let mut how = byte_room();
-    let found = mark_like(table, c, row, r, &mut room, &mut work, &mut how);
-    let number = found.number;
-    if number != 0 {
-        say_refused(number);
-        return 1;
+    let mut kept = 0;
+    let mut i = 0;
+    while i < marks.len() {
+        if marks[i] == 1 {
+            rows[kept] = i as u32;
+            distances[kept] = least_distance(table, c, queries, count, i);
+            kept += 1;
+        }
+        i += 1;
     }
-    let query = row_of(table, c, row);
-    say_rows(table, c, query, n, &how);
-    say_found(found.inside, found.measured, n);
-    0
-}
-
-// The rows nearest to row `row` of n, `wanted` of them, nearest first, and of two as near the lower row. Gives 0 where they are written.
-pub fn closest(table: &[u16], c: usize, n: usize, row: usize, wanted: usize) -> u32
-    requires { ⌜ (c * n ≤ length (now table)) × (row < n) ⌝ }
-    ensures { λ r. ⌜ r ≤ 1 ⌝ }
-{
-    let mut room = index_room();
-    let mut work = workspace();
-    let mut how = byte_room();
-    let mut rows = answer_room();
-    let mut distances = answer_room();
-    let given = find_nearest(
-        table,
-        c,
-        row,
-        wanted,
-        &mut room,
-        &mut work,
-        &mut how,
-        &mut rows,
-        &mut distances,
-    );
-    let number = given.number;
-    if number != 0 {
-        say_refused(number);
-        return 1;
-    }
-    say_answers(&rows, &distances, given.given);
-    say_found(given.given, given.measured, n);
-    0
+    kept
 }

@@ -1,168 +1,604 @@
-// The analyst's program: a text of rows is read into a table, an index is built over it, and one question is answered in lines of numbers.
-// All of it goes to standard output, since a program of the kit has no exit status by which to tell a fault.
+// The analyst's program: a text of rows is read into a table, the columns that count are chosen, an index is built over it, and one question is
+// answered. Answers go to one file, all else to another; the number given back is the status that the program ends with.
 mod answering;
-mod asking;
+mod faults;
+mod plan;
 mod reading;
-mod rooms;
+mod saying;
+mod telling;
 
 ghost use Prim.Native.Nat.{_*_, _≤_};
 ghost use Rattle.limits.specs.Limits.{maxColumns};
 ghost use lib.ListN.{length};
+ghost use mathlib.Core.Bool.{true};
+ghost use mathlib.Core.Path.{_≡_};
+use answering::keep_marked;
 use asking::Question;
-use asking::Way;
-use libc::STDOUT_FILENO;
-use sheet::Reader;
+use asking::pieces::bytes_of;
+use asking::pieces::end_from;
+use asking::pieces::least;
+use asking::pieces::part;
+use finder::find_nearest;
+use finder::mark_near;
+use picking::choosing;
+use picking::choosing::Choice;
+use picking::choosing::column_said;
+use picking::naming;
+use picking::naming::Named;
+use picking::ordering::put_in_order;
+use picking::places;
+use plan::Plan;
+use plan::needs_lines;
+use reading::Sheet;
+use saying::say;
+use saying::say_number;
+use saying::say_quoted;
 
-fn say(text: &[u8]) {
-    io::write_all(STDOUT_FILENO, text);
+// The statuses.
+pub const ANSWERED: u32 = 0;
+
+pub const NOTHING_FOUND: u32 = 1;
+
+pub const ASKED_WRONGLY: u32 = 2;
+
+pub const TEXT_FAULTY: u32 = 3;
+
+pub const NO_ROOM: u32 = 4;
+
+// Where answers go, and where all else.
+pub struct Ends {
+    pub out: i32,
+    pub err: i32,
 }
 
-fn say_number(n: usize) {
-    io::print_decimal(STDOUT_FILENO, n as u64);
-}
-
-// A number with a comma before its last three digits.
-fn say_grouped(n: usize) {
-    if n < 1_000 {
-        say_number(n);
-        return;
+// A file's descriptor, where `-` is standard input.
+fn opened(name: &[u8]) -> i32 {
+    if check::same(name, b"-") {
+        return libc::STDIN_FILENO;
     }
-    say_number(n / 1_000);
-    say(b",");
-    say_number(n % 1_000 / 100);
-    say_number(n % 100 / 10);
-    say_number(n % 10);
+    os::open_read(name)
 }
 
-// A count and its noun.
-fn say_count(n: usize, one: &[u8]) {
-    say_grouped(n);
-    say(b" ");
-    say(one);
-    if n != 1 {
-        say(b"s");
-    }
-}
-
-// The last line: how many rows were found, and how many distances this took.
-fn say_found(found: usize, measured: usize, rows: usize) {
-    say_count(found, b"row");
-    say(b" found, ");
-    say_grouped(measured);
-    say(b" of ");
-    say_grouped(rows);
-    say(b" measured\n");
-}
-
-fn say_refused(number: u32) {
-    say(b"refused ");
-    say_number(number as usize);
-    say(b"\n");
-}
-
-fn say_no_row(row: usize, rows: usize) {
-    say(b"no row ");
-    say_number(row);
-    say(b": the text has ");
-    say_count(rows, b"row");
-    say(b"\n");
-}
-
-// A row that has another count than the rows above, or than the names if it is the first row.
-fn say_uneven(count: usize, columns: usize, rows: usize) {
-    say_count(count, b"number");
-    if rows == 0 {
-        say(b", where there are ");
-        say_count(columns, b"name");
-    } else {
-        say(b", where the rows above have ");
-        say_number(columns);
-    }
-    say(b"\n");
-}
-
-// What is wrong with a line as a row of the table, or with the whole text.
-fn say_row_fault(r: Reader) {
-    if r.fault == sheet::UNEVEN {
-        say_uneven(r.here.count, r.columns, r.rows);
-    } else if r.fault == sheet::TOO_MANY_ROWS {
-        say(b"more than 65,536 rows\n");
-    } else if r.fault == sheet::NO_ROWS {
-        say(b"no rows\n");
-    } else {
-        say(b"too long a text\n");
-    }
-}
-
-// What is wrong with the column that the reader stopped at.
-fn say_line_fault(r: Reader) {
-    if r.fault == sheet::line::NOT_A_NUMBER {
-        say(b"not a number\n");
-    } else if r.fault == sheet::line::TOO_GREAT {
-        say(b"a number above 65,535\n");
-    } else if r.fault == sheet::line::TOO_WIDE {
-        say(b"more than 16 columns\n");
-    } else if r.fault == sheet::line::EMPTY {
-        say(b"empty\n");
-    } else {
-        say_row_fault(r);
-    }
-}
-
-// What is wrong with the text, with the line and the column.
-fn say_fault(r: Reader) {
-    say(b"line ");
-    io::print_decimal(STDOUT_FILENO, r.line);
-    say(b", column ");
-    say_number(r.column);
-    say(b": ");
-    say_line_fault(r);
-}
-
-// Answers a question on the rows that were read. Gives 0 where it is answered, and 1 where a line says why it is not.
-fn answer(question: Question, table: &[u16], c: usize, n: usize) -> u32
-    requires { ⌜ (c ≤ maxColumns) × (c * n ≤ length (now table)) × (n ≤ 65536) ⌝ }
-    ensures { λ r. ⌜ r ≤ 1 ⌝ }
+// The label's column in the first line: 0 where none is asked for, 17 where it is not there just once.
+fn label_column(names: &[u8], q: Question, word: &[u8]) -> usize
+    ensures { λ r. ⌜ r ≤ 17 ⌝ }
 {
-    let row = question.row;
-    if n <= row {
-        say_no_row(row, n);
-        return 1;
+    if !q.label.there {
+        return 0;
     }
-    let way = question.way;
-    match way {
-        Way::Like => answering::like(table, c, n, row, question.amount),
-        Way::Nearest => answering::closest(table, c, n, row, question.amount as usize),
-        Way::Nothing => 1,
+    let column = column_said(names, word, choosing::MOST_COLUMNS);
+    if column == 0 { 17 } else { column }
+}
+
+// The columns that count: those of the list, or all but the label.
+fn choice_of(words: &[u8], q: Question, names: &[u8], c: usize, label: usize) -> Choice
+    ensures { λ r. ⌜ r .k ≤ 16 ⌝ }
+{
+    if q.columns.there {
+        return choosing::choose_list(names, bytes_of(words, q.columns), c, label);
+    }
+    choosing::choose_all(c, label)
+}
+
+// The names of a text, or nothing.
+fn names_of(text: &[u8], names: bool) -> &[u8] {
+    if names {
+        return places::first_line(text);
+    }
+    part(text, 0, 0)
+}
+
+// A number times its factor is too great for the table.
+fn say_product(file: i32, row: usize, names: bool, column: usize) {
+    say(file, b"line ");
+    let line = if names { 2 } else { 1 };
+    if row <= 1_048_576 {
+        say_number(file, row + line);
+    }
+    say(file, b", column ");
+    if column <= 16 {
+        say_number(file, column + 1);
+    }
+    say(file, b": a number times its factor above 65,535\n");
+}
+
+// Puts the row that has a label just once. The places of the rows' lines are kept in `starts`.
+fn put_labelled(
+    text: &[u8],
+    sheet: Sheet,
+    what: &[u8],
+    table: &[u16],
+    k: usize,
+    starts: &mut [u32],
+    queries: &mut [u16],
+) -> Named
+    requires { ⌜ (k * sheet .reader .rows ≤ length (now table)) × (k ≤ maxColumns) × (length (now queries) ≡ 1024) × (sheet .from ≤ length (now text)) ⌝ }
+    ensures { λ r. ⌜ r .count ≤ 64 ⌝ }
+{
+    let n = sheet.reader.rows;
+    let sign = end_from(what, b'=', 0);
+    let column = column_said(names_of(text, sheet.names), &what[..sign], 0);
+    if column == 0 {
+        return naming::named_wrong(naming::NO_LABEL, 0);
+    }
+    if !places::keep_lines(text, sheet.from, starts, n) {
+        return naming::named_wrong(naming::NO_LABEL, 0);
+    }
+    let hits = places::find_label(text, starts, n, column, behind(what, sign));
+    naming::put_only(table, k, n, hits.count, hits.row, queries)
+}
+
+// The bytes behind the one at `at`.
+fn behind(t: &[u8], at: usize) -> &[u8] {
+    if t.len() <= at {
+        return part(t, 0, 0);
+    }
+    &t[at + 1..]
+}
+
+// Puts what is asked about: values behind a sign, a label with a sign in it, or rows.
+fn put_named(
+    text: &[u8],
+    sheet: Sheet,
+    what: &[u8],
+    choice: Choice,
+    table: &[u16],
+    starts: &mut [u32],
+    queries: &mut [u16],
+) -> Named
+    requires { ⌜ (choice .k * sheet .reader .rows ≤ length (now table)) × (choice .k ≤ maxColumns) × (length (now queries) ≡ 1024) × (sheet .from ≤ length (now text)) ⌝ }
+    ensures { λ r. ⌜ r .count ≤ 64 ⌝ }
+{
+    let sign = end_from(what, b'=', 0);
+    let k = choice.k;
+    if what.len() <= sign {
+        return naming::put_rows(table, k, sheet.reader.rows, what, queries);
+    }
+    if sign == 0 {
+        let factors = choice.factors;
+        return naming::put_values(behind(what, 0), factors, k, queries);
+    }
+    put_labelled(text, sheet, what, table, k, starts, queries)
+}
+
+// The numbers of the queries, with their length alone.
+fn query_room() -> [u16; naming::QUERY_ROOM]
+    ensures { λ r. ⌜ 1024 ≡ length r ⌝ }
+{
+    [0; naming::QUERY_ROOM]
+}
+
+// Writes that the library refused, which the rooms that were tested do not meet.
+fn refuse(file: i32, number: u32) -> u32
+    ensures { λ r. ⌜ r ≤ 4 ⌝ }
+{
+    say(file, b"refused ");
+    say_number(file, number as usize);
+    say(file, b"\n");
+    NO_ROOM
+}
+
+// Writes the answers that were given, or their count, and the closing line. Gives the status.
+fn write_given(
+    plan: Plan,
+    text: &[u8],
+    starts: &mut [u32],
+    rows: &[u32],
+    distances: &[u32],
+    given: usize,
+    measured: usize,
+) -> u32
+    requires { ⌜ (given ≤ length (now rows)) × (given ≤ length (now distances)) × (plan .from ≤ length (now text)) ⌝ }
+    ensures { λ r. ⌜ r ≤ 4 ⌝ }
+{
+    if plan.count {
+        say_number(plan.out, given);
+        say(plan.out, b"\n");
+    } else {
+        if needs_lines(plan) {
+            places::keep_lines(text, plan.from, starts, plan.n);
+        }
+        answering::say_head(plan, names_of(text, plan.names));
+        answering::say_answers(plan, text, starts, rows, distances, given);
+    }
+    saying::say_found(plan.err, given, measured, plan.n);
+    if given == 0 { NOTHING_FOUND } else { ANSWERED }
+}
+
+// Every row within a distance of one of the queries.
+fn answer_like(
+    plan: Plan,
+    text: &[u8],
+    table: &[u16],
+    queries: &[u16],
+    room: &mut [u32],
+    work: &mut [u32],
+    how: &mut [u8],
+    marks: &mut [u8],
+    rows: &mut [u32],
+    distances: &mut [u32],
+) -> u32
+    requires { ⌜ (plan .k ≤ maxColumns) × (plan .k * plan .n ≤ length (now table)) × (plan .k * plan .queries ≤ length (now queries)) ⌝ }
+    requires { ⌜ (plan .n ≤ length (now marks)) × (plan .n ≤ length (now rows)) × (plan .n ≤ length (now distances)) ⌝ }
+    requires { ⌜ (plan .n ≤ 1048576) × (plan .from ≤ length (now text)) ⌝ }
+    ensures { λ r. ⌜ r ≤ 4 ⌝ }
+{
+    let n = plan.n;
+    let found = mark_near(table, plan.k, queries, plan.number, room, work, how, marks);
+    let number = found.number;
+    if number != 0 {
+        return refuse(plan.err, number);
+    }
+    let kept = keep_marked(
+        table,
+        plan.k,
+        queries,
+        plan.queries,
+        &marks[..n],
+        rows,
+        distances,
+    );
+    if plan.by_distance {
+        put_in_order(rows, distances, kept, work);
+    }
+    write_given(plan, text, room, rows, distances, kept, found.measured)
+}
+
+// The rows nearest to the query.
+fn answer_nearest(
+    plan: Plan,
+    text: &[u8],
+    table: &[u16],
+    query: &[u16],
+    room: &mut [u32],
+    work: &mut [u32],
+    how: &mut [u8],
+    rows: &mut [u32],
+    distances: &mut [u32],
+) -> u32
+    requires { ⌜ plan .from ≤ length (now text) ⌝ }
+    ensures { λ r. ⌜ r ≤ 4 ⌝ }
+{
+    let wanted = plan.number as usize;
+    let found = find_nearest(
+        table,
+        plan.k,
+        query,
+        wanted,
+        room,
+        work,
+        how,
+        rows,
+        distances,
+    );
+    let number = found.number;
+    if number != 0 {
+        return refuse(plan.err, number);
+    }
+    let given = least(found.given, least(rows.len(), distances.len()));
+    write_given(plan, text, room, rows, distances, given, found.measured)
+}
+
+// The plan of a question about a text that was read.
+fn plan_of(q: Question, ends: Ends, sheet: Sheet, label: usize, k: usize, queries: usize) -> Plan
+    ensures { λ r. ⌜ (r .k ≡ k) × (r .n ≡ sheet .reader .rows) × (r .from ≡ sheet .from) × (r .queries ≡ queries) ⌝ }
+{
+    Plan {
+        out: ends.out,
+        err: ends.err,
+        asks: q.asks,
+        number: q.number,
+        by_distance: q.by_distance,
+        count: q.count,
+        csv: q.csv,
+        lines: q.lines,
+        label,
+        from: sheet.from,
+        names: sheet.names,
+        k,
+        n: sheet.reader.rows,
+        queries,
     }
 }
 
-// Reads the text and answers the question. Gives 0 where it is answered, and 1 where a line says why it is not.
-fn run_in(question: Question, table: &mut [u16]) -> u32
-    ensures { λ r. ⌜ r ≤ 1 ⌝ }
+// Whether there is room for n marks and n answers.
+fn has_rooms(n: usize, marks: usize, rows: usize, distances: usize) -> bool
+    ensures { λ r. ⌜ (r ≡ true → (n ≤ marks) × (n ≤ rows) × (n ≤ distances)) ⌝ }
 {
-    let came = reading::read_rows(question.file, table);
-    if !came.whole {
-        say(b"the text can't be read\n");
-        return 1;
+    if marks < n {
+        return false;
     }
-    let reader = came.reader;
+    if rows < n {
+        return false;
+    }
+    if distances < n {
+        return false;
+    }
+    true
+}
+
+// Answers by the plan, over the table of the chosen columns.
+fn answer(
+    plan: Plan,
+    text: &[u8],
+    table: &[u16],
+    queries: &[u16],
+    room: &mut [u32],
+    work: &mut [u32],
+    how: &mut [u8],
+    marks: &mut [u8],
+    rows: &mut [u32],
+    distances: &mut [u32],
+) -> u32
+    requires { ⌜ (plan .k ≤ maxColumns) × (plan .k * plan .n ≤ length (now table)) × (plan .k * plan .queries ≤ length (now queries)) ⌝ }
+    requires { ⌜ (plan .n ≤ 1048576) × (plan .from ≤ length (now text)) ⌝ }
+    ensures { λ r. ⌜ r ≤ 4 ⌝ }
+{
+    if !has_rooms(plan.n, marks.len(), rows.len(), distances.len()) {
+        return refuse(plan.err, 5);
+    }
+    if plan.asks == asking::LIKE {
+        return answer_like(
+            plan,
+            text,
+            table,
+            queries,
+            room,
+            work,
+            how,
+            marks,
+            rows,
+            distances,
+        );
+    }
+    if plan.queries != 1 {
+        telling::say_named_wrong(
+            plan.err,
+            naming::TOO_MANY_ROWS,
+            0,
+            part(text, 0, 0),
+            plan.n,
+            plan.k,
+        );
+        return ASKED_WRONGLY;
+    }
+    answer_nearest(plan, text, table, queries, room, work, how, rows, distances)
+}
+
+// Asks about the rows of a text that has been read and whose columns are chosen.
+fn ask_rows(
+    what: &[u8],
+    plan: Plan,
+    sheet: Sheet,
+    choice: Choice,
+    text: &[u8],
+    table: &[u16],
+    room: &mut [u32],
+    work: &mut [u32],
+    how: &mut [u8],
+    marks: &mut [u8],
+    rows: &mut [u32],
+    distances: &mut [u32],
+) -> u32
+    requires { ⌜ (choice .k ≤ maxColumns) × (choice .k * sheet .reader .rows ≤ length (now table)) × (sheet .from ≤ length (now text)) ⌝ }
+    requires { ⌜ (sheet .reader .rows ≤ 1048576) × (plan .k ≡ choice .k) × (plan .n ≡ sheet .reader .rows) × (plan .from ≡ sheet .from) ⌝ }
+    ensures { λ r. ⌜ r ≤ 4 ⌝ }
+{
+    let mut queries = query_room();
+    let named = put_named(text, sheet, what, choice, table, room, &mut queries);
+    if named.wrong != 0 {
+        telling::say_named_wrong(plan.err, named.wrong, named.more, what, plan.n, plan.k);
+        return ASKED_WRONGLY;
+    }
+    let mut full = plan;
+    full.queries = named.count;
+    let end = plan.k * named.count;
+    answer(
+        full,
+        text,
+        table,
+        &queries[..end],
+        room,
+        work,
+        how,
+        marks,
+        rows,
+        distances,
+    )
+}
+
+// Answers a question about a text.
+fn ask_text(
+    words: &[u8],
+    q: Question,
+    ends: Ends,
+    text: &[u8],
+    table: &mut [u16],
+    room: &mut [u32],
+    work: &mut [u32],
+    how: &mut [u8],
+    marks: &mut [u8],
+    rows: &mut [u32],
+    distances: &mut [u32],
+) -> u32
+    ensures { λ r. ⌜ r ≤ 4 ⌝ }
+{
+    let label = label_column(places::first_line(text), q, bytes_of(words, q.label));
+    if choosing::MOST_COLUMNS < label {
+        telling::say_columns_wrong(
+            ends.err,
+            choosing::NO_COLUMN,
+            bytes_of(words, q.label),
+            places::first_line(text),
+        );
+        return ASKED_WRONGLY;
+    }
+    let sheet = reading::read_rows(text, label, table);
+    let reader = sheet.reader;
     if reader.fault != 0 {
-        say_fault(reader);
-        return 1;
+        faults::say_fault(ends.err, reader);
+        return faults::status_of(reader.fault);
     }
-    let put = reader.put;
-    answer(question, &table[..put], reader.columns, reader.rows)
+    let choice = choice_of(words, q, names_of(text, sheet.names), reader.columns, label);
+    if choice.wrong != 0 {
+        let list = bytes_of(words, q.columns);
+        telling::say_columns_wrong(
+            ends.err,
+            choice.wrong,
+            part(list, choice.start, choice.end),
+            places::first_line(text),
+        );
+        return ASKED_WRONGLY;
+    }
+    let chosen = choice.chosen;
+    let factors = choice.factors;
+    let chose = columns::choose(
+        table,
+        reader.columns,
+        reader.rows,
+        chosen,
+        factors,
+        choice.k,
+    );
+    if chose.number != 0 {
+        return say_unchosen(ends.err, chose.number, chose.row, sheet.names, chosen_at(choice, chose.column));
+    }
+    let plan = plan_of(q, ends, sheet, label, choice.k, 0);
+    ask_rows(
+        bytes_of(words, q.what),
+        plan,
+        sheet,
+        choice,
+        text,
+        table,
+        room,
+        work,
+        how,
+        marks,
+        rows,
+        distances,
+    )
 }
 
-// The whole program. Gives 0 where the question is answered, and 1 where a line says why it is not.
-pub fn run() -> u32
-    ensures { λ r. ⌜ r ≤ 1 ⌝ }
+// Column j of the chosen, by its number in the text from 0 on.
+fn chosen_at(choice: Choice, j: usize) -> usize {
+    if j < choosing::MOST_COLUMNS { choice.chosen[j] } else { 0 }
+}
+
+// The columns could not be chosen: a product is too great, or there are more or fewer columns than can be.
+fn say_unchosen(file: i32, number: u32, row: usize, names: bool, column: usize) -> u32
+    ensures { λ r. ⌜ r ≤ 4 ⌝ }
 {
-    let question = asking::ask();
-    if question.file < 0 {
-        return 1;
+    if number == 2 {
+        say_product(file, row, names, column);
+        return TEXT_FAULTY;
     }
-    let mut table = rooms::table_room();
-    run_in(question, &mut table)
+    say(
+        file,
+        b"as many columns can be chosen as the text has, and one at least\n",
+    );
+    ASKED_WRONGLY
+}
+
+// Reads the text of an open file, and answers. The file is closed before.
+fn ask_file(
+    words: &[u8],
+    q: Question,
+    ends: Ends,
+    file: i32,
+    text: &mut [u8],
+    table: &mut [u16],
+    room: &mut [u32],
+    work: &mut [u32],
+    how: &mut [u8],
+    marks: &mut [u8],
+    rows: &mut [u32],
+    distances: &mut [u32],
+) -> u32
+    ensures { λ r. ⌜ r ≤ 4 ⌝ }
+{
+    let came = reading::read_whole(file, text);
+    libc::close(file);
+    if !came.whole {
+        say_quoted(ends.err, b"", bytes_of(words, q.file), b" can't be read");
+        return ASKED_WRONGLY;
+    }
+    if !came.fits {
+        say(ends.err, b"the text is longer than ");
+        saying::say_grouped(ends.err, text.len());
+        say(ends.err, b" bytes\n");
+        return NO_ROOM;
+    }
+    let length = came.length;
+    ask_text(
+        words,
+        q,
+        ends,
+        &text[..length],
+        table,
+        room,
+        work,
+        how,
+        marks,
+        rows,
+        distances,
+    )
+}
+
+// Help or the version is asked for, and told.
+pub fn tells(words: &[u8], out: i32) -> bool {
+    if asking::has_word(words, b"--help") {
+        telling::say_help(out);
+        return true;
+    }
+    if asking::has_word(words, b"--version") {
+        telling::say_version(out);
+        return true;
+    }
+    false
+}
+
+// The whole program: the words of its arguments, each ended by a zero byte; the rooms that it works in; and where answers and all else go.
+// Gives the status.
+pub fn run(
+    words: &[u8],
+    ends: Ends,
+    text: &mut [u8],
+    table: &mut [u16],
+    room: &mut [u32],
+    work: &mut [u32],
+    how: &mut [u8],
+    marks: &mut [u8],
+    rows: &mut [u32],
+    distances: &mut [u32],
+) -> u32
+    ensures { λ r. ⌜ r ≤ 4 ⌝ }
+{
+    if tells(words, ends.out) {
+        return ANSWERED;
+    }
+    let q = asking::ask(words);
+    if q.wrong != 0 {
+        telling::say_asked_wrong(ends.err, words, q);
+        return ASKED_WRONGLY;
+    }
+    let file = opened(bytes_of(words, q.file));
+    if file < 0 {
+        say_quoted(ends.err, b"can't open ", bytes_of(words, q.file), b"");
+        return ASKED_WRONGLY;
+    }
+    ask_file(
+        words,
+        q,
+        ends,
+        file,
+        text,
+        table,
+        room,
+        work,
+        how,
+        marks,
+        rows,
+        distances,
+    )
 }

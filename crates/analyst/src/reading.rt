@@ -1,41 +1,62 @@
-// A file or standard input, read whole into the table.
+// A file or standard input, read whole into the lent text; and the text, read into the table.
+ghost use Prim.Native.Nat.{_≤_};
 ghost use Rattle.sheet.specs.Tidy.{Tidy};
 ghost use lib.ListN.{length};
+use picking::places::next_line;
+use picking::places::text_start;
 use sheet::Reader;
 
-// What came of the reading: it may have failed before the text's end.
+// What came of the reading: it may have failed before the text's end, and the text may be longer than its room.
 pub struct Came {
     pub whole: bool,
-    pub reader: Reader,
+    pub fits: bool,
+    pub length: usize,
 }
 
-// Reads to the end of the file.
-pub fn read_rows(file: i32, table: &mut [u16]) -> Came
-    ensures { λ r. ⌜ Tidy (length (now (table .exit))) (r .reader) ⌝ }
+// Reads to the end of the file. A byte that comes behind the end, or behind the room, is one too many.
+pub fn read_whole(file: i32, text: &mut [u8]) -> Came
+    ensures { λ r. ⌜ r .length ≤ length (now (text .exit)) ⌝ }
 {
-    let mut reader = sheet::start();
-    let mut left: u64 = 0xffff_ffff_ffff_ffff;
-    while 0 < left {
-        let mut chunk = io::buffer();
-        let got = libc::read(file, &mut chunk);
-        if got < 0 {
-            return Came {
-                whole: false,
-                reader,
-            };
-        }
-        let n = io::count(got, &chunk);
-        if n == 0 {
-            return Came {
-                whole: true,
-                reader: sheet::finish(reader, table),
-            };
-        }
-        reader = sheet::feed(reader, &chunk[..n], table);
-        left -= 1;
-    }
+    let length = io::read_full(file, text);
+    let mut more = io::buffer();
+    let got = libc::read(file, &mut more);
     Came {
-        whole: false,
-        reader,
+        whole: 0 <= got,
+        fits: got <= 0,
+        length,
     }
+}
+
+// A text that was read: the reader at its end, whether its first line is names, and where its first line and its first row start.
+pub struct Sheet {
+    pub reader: Reader,
+    pub names: bool,
+    pub top: usize,
+    pub from: usize,
+}
+
+// Reads the whole text, with its label in column `label` (0 for none). The first line is fed alone: if it ends and gives no row, it is names.
+pub fn read_rows(t: &[u8], label: usize, table: &mut [u16]) -> Sheet
+    ensures { λ r. ⌜ Tidy (length (now (table .exit))) (r .reader) × (r .top ≤ length (now (t .entry))) × (r .from ≤ length (now (t .entry))) ⌝ }
+{
+    let top = text_start(t);
+    let second = next_line(t, 0);
+    let first = sheet::feed(sheet::start(label), &t[..second], table);
+    let all = sheet::feed(first, &t[second..], table);
+    let reader = sheet::finish(all, table);
+    let names = is_names(first.rows, second, t.len());
+    Sheet {
+        reader,
+        names,
+        top,
+        from: if names { second } else { top },
+    }
+}
+
+// The first line gave no row, and there is text behind it.
+fn is_names(rows: usize, second: usize, length: usize) -> bool {
+    if rows != 0 {
+        return false;
+    }
+    second < length
 }

@@ -1,5 +1,4 @@
-// Numbers as text. They are put into a lent buffer, which is written to standard output where the next may not fit, so that many numbers take
-// few writes.
+// Numbers as text. They are put into a lent buffer, which is written to a file where the next may not fit, so that many numbers take few writes.
 ghost use Prim.Native.Nat.{_+_, _≤_};
 ghost use Rattle.lines.specs.Told.{Told};
 ghost use lib.ListN.{length};
@@ -36,15 +35,33 @@ pub fn put_number(text: &mut [u8], at: usize, n: u64, mark: u8) -> usize
 }
 
 // Makes room for `need` bytes behind the first `at`, which are written where fewer are left. Gives where the room starts: behind them, if it can.
-pub fn make_room(text: &[u8], at: usize, need: usize) -> usize
+pub fn make_room(file: i32, text: &[u8], at: usize, need: usize) -> usize
     requires { ⌜ (at ≤ length (now text)) × (need ≤ length (now text)) ⌝ }
     ensures { λ r. ⌜ (r + need ≤ length (now (text .entry))) × (at + need ≤ length (now (text .entry)) → r ≡ at) ⌝ }
 {
     if need <= text.len() - at {
         return at;
     }
-    io::write_all(STDOUT_FILENO, &text[..at]);
+    io::write_all(file, &text[..at]);
     0
+}
+
+// Puts some bytes into the text, and `mark` behind them; bytes that not even the empty text has room for are written at once. Gives where that ends.
+pub fn put_bytes(file: i32, text: &mut [u8], at: usize, from: &[u8], mark: u8) -> usize
+    requires { ⌜ (at ≤ length (now text)) × (1 ≤ length (now text)) ⌝ }
+    ensures { λ r. ⌜ r ≤ length (now (text .entry)) ⌝ }
+{
+    let n = from.len();
+    if text.len() <= n {
+        io::write_all(file, &text[..at]);
+        io::write_all(file, from);
+        text[0] = mark;
+        return 1;
+    }
+    let to = make_room(file, text, at, n + 1);
+    copy(from, text, to);
+    text[to + n] = mark;
+    to + n + 1
 }
 
 // Puts a word into the text, if its place in the line is below `shown`, and behind it a space, or a newline behind the last. Gives where that ends.
@@ -52,7 +69,7 @@ fn put_word(text: &mut [u8], at: usize, word: u32, place: usize, shown: usize) -
     requires { ⌜ (at ≤ length (now text)) × (21 ≤ length (now text)) ⌝ }
     ensures { λ r. ⌜ r ≤ length (now (text .entry)) ⌝ }
 {
-    let from = make_room(text, at, MOST);
+    let from = make_room(STDOUT_FILENO, text, at, MOST);
     if shown <= place {
         return from;
     }

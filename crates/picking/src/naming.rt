@@ -1,0 +1,182 @@
+// What is asked about, as the numbers of one query or of several: rows, values, or the row that has a label.
+ghost use Prim.Native.Nat.{_*_, _+_, _≤_};
+ghost use Rattle.limits.specs.Limits.{maxColumns};
+ghost use lib.ListN.{length};
+ghost use mathlib.Core.Path.{_≡_};
+use crate::choosing::MOST_COLUMNS;
+use asking::numbers::NO_NUMBER;
+use asking::numbers::number;
+use asking::pieces::end_from;
+use asking::pieces::piece_at;
+use measure::row_of;
+
+// As many queries as a question may have, and the numbers that these are at most.
+pub const MOST_QUERIES: usize = 64;
+
+pub const QUERY_ROOM: usize = 1_024;
+
+// What is wrong with the rows or the values.
+pub const NO_ROW: u32 = 21;
+
+pub const NOT_A_ROW: u32 = 22;
+
+pub const TOO_MANY_ROWS: u32 = 23;
+
+pub const NOT_A_VALUE: u32 = 24;
+
+pub const TOO_FEW_VALUES: u32 = 25;
+
+pub const NOT_ONE: u32 = 26;
+
+pub const NO_LABEL: u32 = 27;
+
+// How many queries were put, or what is wrong, and a number that says more of it.
+pub struct Named {
+    pub wrong: u32,
+    pub more: usize,
+    pub count: usize,
+}
+
+pub fn named_wrong(wrong: u32, more: usize) -> Named
+    ensures { λ r. ⌜ r .count ≤ 64 ⌝ }
+{
+    Named {
+        wrong,
+        more,
+        count: 0,
+    }
+}
+
+// Puts the numbers of a row of c columns at query i.
+pub fn put_row(table: &[u16], c: usize, row: usize, queries: &mut [u16], i: usize)
+    requires { ⌜ (c * row + c ≤ length (now table)) × (c * i + c ≤ length (now queries)) ⌝ }
+{
+    let from = row_of(table, c, row);
+    let at = c * i;
+    let mut j = 0;
+    while j < c {
+        queries[at + j] = from[j];
+        j += 1;
+    }
+}
+
+// Puts the row that a word says at query i.
+fn put_said(table: &[u16], c: usize, n: usize, word: &[u8], queries: &mut [u16], i: usize) -> Named
+    requires { ⌜ (c * n ≤ length (now table)) × (c ≤ maxColumns) × (length (now queries) ≡ 1024) × (i ≤ 63) ⌝ }
+    ensures { λ r. ⌜ r .count ≤ 64 ⌝ }
+{
+    let said = number(word);
+    if NO_NUMBER <= said {
+        return named_wrong(NOT_A_ROW, 0);
+    }
+    let row = said as usize;
+    if n <= row {
+        return named_wrong(NO_ROW, row);
+    }
+    put_row(table, c, row, queries, i);
+    Named {
+        wrong: 0,
+        more: row,
+        count: i + 1,
+    }
+}
+
+// Puts the rows of a list, parted by commas.
+pub fn put_rows(table: &[u16], c: usize, n: usize, list: &[u8], queries: &mut [u16]) -> Named
+    requires { ⌜ (c * n ≤ length (now table)) × (c ≤ maxColumns) × (length (now queries) ≡ 1024) ⌝ }
+    ensures { λ r. ⌜ r .count ≤ 64 ⌝ }
+{
+    let mut named = named_wrong(0, 0);
+    let mut i = 0;
+    while i < MOST_QUERIES {
+        let item = piece_at(list, b',', i);
+        if !item.there {
+            return named;
+        }
+        let start = item.start;
+        let end = item.end;
+        named = put_said(table, c, n, &list[start..end], queries, i);
+        if named.wrong != 0 {
+            return named;
+        }
+        i += 1;
+    }
+    if piece_at(list, b',', MOST_QUERIES).there {
+        return named_wrong(TOO_MANY_ROWS, 0);
+    }
+    named
+}
+
+// A value times its factor, 65,536 where that is more than a table can hold.
+fn times(value: u32, factor: u32) -> u32
+    requires { ⌜ value ≤ 10000000 ⌝ }
+    ensures { λ r. ⌜ r ≤ 65536 ⌝ }
+{
+    if 65_535 < value {
+        return 65_536;
+    }
+    if 65_535 < factor {
+        return 65_536;
+    }
+    let product = (value as u64) * (factor as u64);
+    if 65_535 < product {
+        return 65_536;
+    }
+    product as u32
+}
+
+// Puts the values of a list, parted by commas, each times its factor: one for each of the k chosen columns.
+pub fn put_values(list: &[u8], factors: [u32; MOST_COLUMNS], k: usize, queries: &mut [u16]) -> Named
+    requires { ⌜ (k ≤ maxColumns) × (length (now queries) ≡ 1024) ⌝ }
+    ensures { λ r. ⌜ r .count ≤ 64 ⌝ }
+{
+    let mut i = 0;
+    while i < k {
+        let item = piece_at(list, b',', i);
+        if !item.there {
+            return named_wrong(TOO_FEW_VALUES, i);
+        }
+        let start = item.start;
+        let end = item.end;
+        let value = times(number(&list[start..end]), factors[i]);
+        if 65_535 < value {
+            return named_wrong(NOT_A_VALUE, i + 1);
+        }
+        queries[i] = value as u16;
+        i += 1;
+    }
+    if piece_at(list, b',', k).there {
+        return named_wrong(TOO_FEW_VALUES, k + 1);
+    }
+    Named {
+        wrong: 0,
+        more: 0,
+        count: 1,
+    }
+}
+
+// Puts the row that was found, if it is the only one.
+pub fn put_only(
+    table: &[u16],
+    c: usize,
+    n: usize,
+    hits: usize,
+    row: usize,
+    queries: &mut [u16],
+) -> Named
+    requires { ⌜ (c * n ≤ length (now table)) × (c ≤ maxColumns) × (length (now queries) ≡ 1024) ⌝ }
+    ensures { λ r. ⌜ r .count ≤ 64 ⌝ }
+{
+    if hits != 1 {
+        return named_wrong(NOT_ONE, hits);
+    }
+    if n <= row {
+        return named_wrong(NO_ROW, row);
+    }
+    put_row(table, c, row, queries, 0);
+    Named {
+        wrong: 0,
+        more: row,
+        count: 1,
+    }
+}
