@@ -1,7 +1,7 @@
 /* What the listing program and the analyst's program should write, reckoned by the naive implementation:
      expected list                        the text of standard input as c, m, l and rows (01, The five-row table)
-     expected minutes like ROW R          rows of standard input, a line each, after a line of names if there is one
-     expected minutes nearest ROW W
+     expected minutes FILE like WHAT R [OPTION ..]       the question of the analyst's program, over a text that is known to be good
+     expected minutes FILE nearest WHAT W [OPTION ..]
    host/expected.sh holds the files crates/NAME/stdout to it. */
 #include <ctype.h>
 #include <stdio.h>
@@ -15,8 +15,11 @@ enum {
     MOST_NUMBERS = 1 << 20,
     EDITION = 2,  /* what both programs build */
     NODE_WORDS = 5,
-    CENTRES = 16, /* what the analyst's program builds with */
-    LEAF = 128
+    CENTRES = 4, /* what the analyst's program builds with */
+    LEAF = 1024,
+    MOST_ROWS = 1 << 16,
+    MOST_FIELDS = 16,
+    MOST_QUERIES = 64
 };
 
 static char text[MOST_TEXT + 1];
@@ -96,24 +99,158 @@ static int list(void)
 
 /* ---- The analyst's program ---- */
 
-/* The rows of a text that is known to be good; gives how many, and how many numbers a row has. */
-static size_t read_rows(uint32_t *c)
+static char *line[MOST_ROWS + 1];     /* the rows' lines, and behind the last nothing */
+static char *names;                   /* the line of names, or NULL */
+static size_t rows;                   /* how many rows there are */
+static size_t order[MOST_ROWS];       /* the answers, by row number */
+static uint32_t away[MOST_ROWS];      /* the distance of each row */
+
+static const struct { const char *name; int takes; } options[] = {
+    { "--columns", 1 }, { "--label", 1 }, { "--by", 1 }, { "--count", 0 }, { "--csv", 0 }, { "--lines", 0 }
+};
+enum { COLUMNS, LABEL, BY, COUNT, CSV, LINES, OPTIONS };
+
+static char *plain[4], *given[OPTIONS]; /* FILE, the way, WHAT, the amount; the options' values, "" for those without */
+
+static void take_words(int count, char **word)
 {
-    size_t rows = 0, count = 0;
-    read_text();
-    for (char *line = strtok(text, "\n"); line != NULL; line = strtok(NULL, "\n")) {
-        if (strpbrk(line, "0123456789") == NULL)
-            continue;
-        size_t before = count;
-        for (char *at = line; *at != 0;)
-            if (isdigit((unsigned char)*at))
-                number[count++] = (uint16_t)strtoul(at, &at, 10);
-            else
-                at++;
-        *c = (uint32_t)(count - before);
-        rows++;
+    int at = 0;
+    for (int i = 0; i < count; i++) {
+        int known = 0;
+        for (int k = 0; k < OPTIONS && !known; k++)
+            if (strcmp(word[i], options[k].name) == 0) {
+                given[k] = options[k].takes ? word[++i] : "";
+                known = 1;
+            }
+        if (!known && at < 4)
+            plain[at++] = word[i];
     }
-    return rows;
+}
+
+/* The lines of a good text, without the mark, carriage returns and blank lines at the end. */
+static void read_lines(const char *path)
+{
+    FILE *file = fopen(path, "rb");
+    if (file == NULL)
+        exit(2);
+    size_t length = fread(text, 1, MOST_TEXT, file);
+    fclose(file);
+    text[length] = 0;
+    char *at = memcmp(text, "\xef\xbb\xbf", 3) == 0 ? text + 3 : text;
+    while (*at != 0) {
+        char *end = at + strcspn(at, "\n"), *next = *end == 0 ? end : end + 1;
+        *end = 0;
+        if (end > at && end[-1] == '\r')
+            end[-1] = 0;
+        if (rows == 0 && names == NULL && isalpha((unsigned char)*at))
+            names = at;
+        else if (strspn(at, " ") != strlen(at))
+            line[rows++] = at;
+        at = next;
+    }
+}
+
+/* Field j of a line, from 0 on, and its length; NULL where there is none. */
+static const char *field(const char *at, size_t j, size_t *length)
+{
+    static const char parting[] = ",;\t ";
+    at += strspn(at, parting);
+    for (size_t k = 0; *at != 0; k++) {
+        *length = strcspn(at, parting);
+        if (k == j)
+            return at;
+        at += *length;
+        at += strspn(at, parting);
+    }
+    return NULL;
+}
+
+static size_t field_count(const char *at)
+{
+    size_t length, count = 0;
+    while (field(at, count, &length) != NULL)
+        count++;
+    return count;
+}
+
+/* A column by number from 1 or by name, as a number from 0. */
+static size_t column_of(const char *word, size_t length)
+{
+    size_t j, other;
+    if (isdigit((unsigned char)*word))
+        return strtoul(word, NULL, 10) - 1;
+    for (j = 0; names != NULL && j < field_count(names); j++) {
+        const char *name = field(names, j, &other);
+        if (other == length && memcmp(name, word, length) == 0)
+            return j;
+    }
+    exit(2);
+}
+
+static size_t chosen[MOST_FIELDS];
+static unsigned long factor[MOST_FIELDS];
+
+/* The columns of the list, or all but the label; how many. */
+static uint32_t choose(const char *list, size_t label)
+{
+    uint32_t k = 0;
+    if (list == NULL) {
+        for (size_t j = 0; j < field_count(line[0]); j++)
+            if (j != label) {
+                chosen[k] = j;
+                factor[k++] = 1;
+            }
+        return k;
+    }
+    for (;; list++) {
+        size_t length = strcspn(list, ",*");
+        chosen[k] = column_of(list, length);
+        list += length;
+        factor[k++] = *list == '*' ? strtoul(list + 1, (char **)&list, 10) : 1;
+        if (*list == 0)
+            return k;
+    }
+}
+
+static void fill_table(uint32_t k)
+{
+    size_t length;
+    for (size_t i = 0; i < rows; i++)
+        for (uint32_t j = 0; j < k; j++)
+            number[i * k + j] = (uint16_t)(strtoul(field(line[i], chosen[j], &length), NULL, 10) * factor[j]);
+}
+
+/* The queries of WHAT; how many. */
+static size_t fill_queries(const char *what, uint32_t k, uint16_t *query)
+{
+    size_t count = 0, length;
+    const char *sign = strchr(what, '=');
+    if (sign == what) {
+        const char *at = what;
+        for (uint32_t j = 0; j < k; j++)
+            query[j] = (uint16_t)(strtoul(at + 1, (char **)&at, 10) * factor[j]);
+        return 1;
+    }
+    if (sign != NULL) {
+        size_t j = column_of(what, (size_t)(sign - what));
+        for (size_t i = 0; i < rows; i++) {
+            const char *here = field(line[i], j, &length);
+            if (length == strlen(sign + 1) && memcmp(here, sign + 1, length) == 0)
+                memcpy(query, number + i * k, k * sizeof *query);
+        }
+        return 1;
+    }
+    for (;; what++) {
+        memcpy(query + k * count++, number + strtoul(what, (char **)&what, 10) * k, k * sizeof *query);
+        if (*what == 0)
+            return count;
+    }
+}
+
+static int by_distance(const void *a, const void *b)
+{
+    size_t i = *(const size_t *)a, j = *(const size_t *)b;
+    return away[i] != away[j] ? (away[i] < away[j] ? -1 : 1) : i < j ? -1 : i > j;
 }
 
 static void print_grouped(size_t n)
@@ -124,38 +261,92 @@ static void print_grouped(size_t n)
         printf("%zu,%03zu", n / 1000, n % 1000);
 }
 
-static void print_found(size_t found, size_t measured, size_t rows)
+static void print_found(size_t found, size_t measured)
 {
     print_grouped(found);
-    printf(" row%s found, ", found == 1 ? "" : "s");
+    printf(" minute%s", found == 1 ? "" : "s");
+    if (found >= 60)
+        printf(", %zu h %zu min", found / 60, found % 60);
+    fputs("; ", stdout);
     print_grouped(measured);
     fputs(" of ", stdout);
     print_grouped(rows);
     puts(" measured");
 }
 
-static int minutes(const char *way, size_t row, uint32_t amount)
+static void print_field(const char *at, size_t j, char before)
 {
-    uint32_t c = 0;
-    size_t n = read_rows(&c);
-    struct naive_table table = { number, n * c, c };
-    struct naive_room room = { room_for(12 * n + 8, 4), 12 * n + 8 }, work = { room_for(6 * n, 4), 6 * n };
-    struct naive_room rows = { room_for(n, 4), n }, distances = { room_for(n, 4), n };
-    struct naive_bytes how = { room_for(n, 1), n };
-    struct naive_index index = { room.words, naive_build(table, CENTRES, LEAF, EDITION, room, work).one };
-    struct naive_query query = { number + row * c, c };
-    if (strcmp(way, "like") == 0) {
-        struct naive_says says = naive_radius(table, index, query, amount, how);
-        for (size_t i = 0; i < n; i++)
-            if (naive_distance(query.columns, number + i * c, c) <= amount)
-                printf("%zu %u\n", i, naive_distance(query.columns, number + i * c, c));
-        print_found(says.one, says.two, n);
-    } else {
-        struct naive_says says = naive_nearest(table, index, query, amount, rows, distances, how, work);
-        for (size_t i = 0; i < says.one; i++)
-            printf("%u %u\n", rows.words[i], distances.words[i]);
-        print_found(says.one, says.two, n);
+    size_t length;
+    const char *here = field(at, j, &length);
+    printf("%c%.*s", before, (int)length, here);
+}
+
+static void print_answers(size_t found, size_t label)
+{
+    char parting = given[CSV] != NULL ? ',' : ' ';
+    if (given[CSV] != NULL) {
+        fputs("row,distance", stdout);
+        if (given[LABEL] != NULL)
+            print_field(names, label, parting);
+        if (given[LINES] != NULL)
+            printf("%c%s", parting, names == NULL ? "" : names);
+        puts("");
     }
+    for (size_t i = 0; i < found; i++) {
+        printf("%zu%c%u", order[i], parting, away[order[i]]);
+        if (given[LABEL] != NULL)
+            print_field(line[order[i]], label, parting);
+        if (given[LINES] != NULL)
+            printf("%c%s", parting, line[order[i]]);
+        puts("");
+    }
+}
+
+/* How many distances the searches measure, by the naive index and searches. */
+static size_t measured_by(uint32_t k, const uint16_t *query, size_t queries, int like, uint32_t amount)
+{
+    struct naive_table table = { number, rows * k, k };
+    struct naive_room room = { room_for(12 * rows + 8, 4), 12 * rows + 8 }, work = { room_for(6 * rows, 4), 6 * rows };
+    struct naive_room answers = { room_for(rows, 4), rows }, distances = { room_for(rows, 4), rows };
+    struct naive_bytes how = { room_for(rows, 1), rows };
+    struct naive_index index = { room.words, naive_build(table, CENTRES, LEAF, EDITION, room, work).one };
+    size_t measured = 0;
+    for (size_t i = 0; i < queries; i++) {
+        struct naive_query asked = { query + i * k, k };
+        measured += like ? naive_radius(table, index, asked, amount, how).two : naive_nearest(table, index, asked, amount, answers, distances, how, work).two;
+    }
+    return measured;
+}
+
+static int minutes(int count, char **word)
+{
+    static uint16_t query[MOST_QUERIES * MOST_FIELDS];
+    take_words(count, word);
+    read_lines(plain[0]);
+    size_t label = given[LABEL] == NULL ? MOST_FIELDS : column_of(given[LABEL], strlen(given[LABEL])), found = 0;
+    uint32_t k = choose(given[COLUMNS], label), amount = (uint32_t)strtoul(plain[3], NULL, 10);
+    fill_table(k);
+    size_t queries = fill_queries(plain[2], k, query);
+    int like = strcmp(plain[1], "like") == 0;
+    for (size_t i = 0; i < rows; i++) {
+        away[i] = UINT32_MAX;
+        for (size_t j = 0; j < queries; j++) {
+            uint32_t d = naive_distance(query + j * k, number + i * k, k);
+            away[i] = d < away[i] ? d : away[i];
+        }
+        if (!like || away[i] <= amount)
+            order[found++] = i;
+    }
+    if (!like || given[BY] != NULL)
+        qsort(order, found, sizeof *order, by_distance);
+    if (!like && found > amount)
+        found = amount;
+    if (given[COUNT] != NULL)
+        printf("%zu\n", found);
+    else
+        print_answers(found, label);
+    print_found(found, measured_by(k, query, queries, like, amount));
+    printf("status %d\n", found == 0);
     return 0;
 }
 
@@ -163,8 +354,8 @@ int main(int count, char **word)
 {
     if (count == 2 && strcmp(word[1], "list") == 0)
         return list();
-    if (count == 5 && strcmp(word[1], "minutes") == 0)
-        return minutes(word[2], strtoul(word[3], NULL, 10), (uint32_t)strtoul(word[4], NULL, 10));
-    fputs("usage: expected list | expected minutes like ROW R | expected minutes nearest ROW W\n", stderr);
+    if (count >= 6 && strcmp(word[1], "minutes") == 0)
+        return minutes(count - 2, word + 2);
+    fputs("usage: expected list | expected minutes FILE like WHAT R [OPTION ..] | expected minutes FILE nearest WHAT W [OPTION ..]\n", stderr);
     return 2;
 }

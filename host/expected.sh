@@ -30,16 +30,18 @@ for name in $(grep -v '^[0-9]' "$want" | grep -v '^refused'); do
 done >"$out/list_cases.want"
 hold "$out/list_cases.want"
 [ "$(grep -c -v -e '^[0-9]' -e '^refused' "$want")" = $(($(ls "$cases/data" | wc -l) + 1)) ] || { wrong=$((wrong + 1)); echo "a text of $cases/data is not run"; }
-for crate in crates/minutes_like crates/minutes_nearest; do
-    text=$crate/stdin
-    want=$crate/stdout
-    compare minutes "$(sed -n 2p "$crate/args")" "$(sed -n 3p "$crate/args")" "$(sed -n 4p "$crate/args")"
-done
-# The first line of this one says what is asked.
-text=crates/minutes/data/season.csv
-want=$out/minutes.want
-tail -n +2 crates/minutes/stdout >"$want"
-compare minutes like 1046 300
+# Each question of the analyst's program that is answered (status 0 or 1), behind its line; what is said to the others is not reckoned here.
+cases=crates/minutes_cases
+want=$out/minutes_cases.want
+cmp crates/minutes/data/season.csv "$cases/data/season.csv" || wrong=$((wrong + 1))
+awk '/^\?/ { question = $0; block = ""; next } { block = block $0 "\n" } /^status [01]$/ { if (question !~ /--version/) { print question; printf "%s", block } }' \
+    "$cases/stdout" >"$want"
+grep '^?' "$want" | while read -r mark words; do
+    echo "$mark $words"
+    # shellcheck disable=SC2086
+    (cd "$cases/data" && "../../../$out/expected" minutes $words)
+done >"$out/minutes_cases.out"
+hold "$out/minutes_cases.out"
 
 echo "$same expected outputs are the naive implementation's, $wrong differ"
 [ "$wrong" = 0 ]

@@ -20,6 +20,7 @@ use asking::pieces::least;
 use asking::pieces::part;
 use finder::find_nearest;
 use finder::mark_near;
+use lines::put_bytes;
 use picking::choosing;
 use picking::choosing::Choice;
 use picking::choosing::column_said;
@@ -44,6 +45,9 @@ pub const ASKED_WRONGLY: u32 = 2;
 pub const TEXT_FAULTY: u32 = 3;
 
 pub const NO_ROOM: u32 = 4;
+
+// Where the launcher listens for the status: a program of the kit has no exit status.
+const STATUS_FILE: i32 = 3;
 
 // Where answers go, and where all else.
 pub struct Ends {
@@ -117,7 +121,7 @@ fn put_labelled(
 {
     let n = sheet.reader.rows;
     let sign = end_from(what, b'=', 0);
-    let column = column_said(names_of(text, sheet.names), &what[..sign], 0);
+    let column = column_said(names_of(text, sheet.names), part(what, 0, sign), 0);
     if column == 0 {
         return naming::named_wrong(naming::NO_LABEL, 0);
     }
@@ -205,6 +209,16 @@ fn write_given(
     if given == 0 { NOTHING_FOUND } else { ANSWERED }
 }
 
+// Puts the answers in the order that is asked for.
+fn order(by_distance: bool, rows: &mut [u32], distances: &mut [u32], count: usize, work: &mut [u32])
+    requires { ⌜ (count ≤ length (now rows)) × (count ≤ length (now distances)) ⌝ }
+{
+    if !by_distance {
+        return;
+    }
+    put_in_order(rows, distances, count, work);
+}
+
 // Every row within a distance of one of the queries.
 fn answer_like(
     plan: Plan,
@@ -238,9 +252,7 @@ fn answer_like(
         rows,
         distances,
     );
-    if plan.by_distance {
-        put_in_order(rows, distances, kept, work);
-    }
+    order(plan.by_distance, rows, distances, kept, work);
     write_given(plan, text, room, rows, distances, kept, found.measured)
 }
 
@@ -301,22 +313,6 @@ fn plan_of(q: Question, ends: Ends, sheet: Sheet, label: usize, k: usize, querie
     }
 }
 
-// Whether there is room for n marks and n answers.
-fn has_rooms(n: usize, marks: usize, rows: usize, distances: usize) -> bool
-    ensures { λ r. ⌜ (r ≡ true → (n ≤ marks) × (n ≤ rows) × (n ≤ distances)) ⌝ }
-{
-    if marks < n {
-        return false;
-    }
-    if rows < n {
-        return false;
-    }
-    if distances < n {
-        return false;
-    }
-    true
-}
-
 // Answers by the plan, over the table of the chosen columns.
 fn answer(
     plan: Plan,
@@ -334,7 +330,14 @@ fn answer(
     requires { ⌜ (plan .n ≤ 1048576) × (plan .from ≤ length (now text)) ⌝ }
     ensures { λ r. ⌜ r ≤ 4 ⌝ }
 {
-    if !has_rooms(plan.n, marks.len(), rows.len(), distances.len()) {
+    let n = plan.n;
+    if marks.len() < n {
+        return refuse(plan.err, 5);
+    }
+    if rows.len() < n {
+        return refuse(plan.err, 5);
+    }
+    if distances.len() < n {
         return refuse(plan.err, 5);
     }
     if plan.asks == asking::LIKE {
@@ -365,6 +368,17 @@ fn answer(
     answer_nearest(plan, text, table, queries, room, work, how, rows, distances)
 }
 
+// The library's limit.
+const MOST_ROWS: usize = 1_048_576;
+
+// How many numbers n rows of k columns are.
+fn product(k: usize, n: usize) -> usize
+    requires { ⌜ (k ≤ 16) × (n ≤ 1048576) ⌝ }
+    ensures { λ r. ⌜ r ≡ k * n ⌝ }
+{
+    k * n
+}
+
 // Asks about the rows of a text that has been read and whose columns are chosen.
 fn ask_rows(
     what: &[u8],
@@ -392,7 +406,7 @@ fn ask_rows(
     }
     let mut full = plan;
     full.queries = named.count;
-    let end = plan.k * named.count;
+    let end = product(plan.k, named.count);
     answer(
         full,
         text,
@@ -433,7 +447,7 @@ fn ask_text(
         );
         return ASKED_WRONGLY;
     }
-    let sheet = reading::read_rows(text, label, table);
+    let sheet = reading::read_rows(text, table);
     let reader = sheet.reader;
     if reader.fault != 0 {
         faults::say_fault(ends.err, reader);
@@ -461,16 +475,30 @@ fn ask_text(
         choice.k,
     );
     if chose.number != 0 {
-        return say_unchosen(ends.err, chose.number, chose.row, sheet.names, chosen_at(choice, chose.column));
+        return say_unchosen(
+            ends.err,
+            chose.number,
+            chose.row,
+            sheet.names,
+            chosen_at(choice, chose.column),
+        );
     }
     let plan = plan_of(q, ends, sheet, label, choice.k, 0);
+    let n = reader.rows;
+    if MOST_ROWS < n {
+        return refuse(ends.err, 4);
+    }
+    let used = product(choice.k, n);
+    if table.len() < used {
+        return refuse(ends.err, 5);
+    }
     ask_rows(
         bytes_of(words, q.what),
         plan,
         sheet,
         choice,
         text,
-        table,
+        &table[..used],
         room,
         work,
         how,
@@ -482,7 +510,11 @@ fn ask_text(
 
 // Column j of the chosen, by its number in the text from 0 on.
 fn chosen_at(choice: Choice, j: usize) -> usize {
-    if j < choosing::MOST_COLUMNS { choice.chosen[j] } else { 0 }
+    if j < choosing::MOST_COLUMNS {
+        choice.chosen[j]
+    } else {
+        0
+    }
 }
 
 // The columns could not be chosen: a product is too great, or there are more or fewer columns than can be.
@@ -534,7 +566,7 @@ fn ask_file(
         words,
         q,
         ends,
-        &text[..length],
+        part(text, 0, length),
         table,
         room,
         work,
@@ -601,4 +633,54 @@ pub fn run(
         rows,
         distances,
     )
+}
+
+// The words of the program's arguments: whether all of them fit, and how many bytes they are.
+pub struct Words {
+    pub whole: bool,
+    pub length: usize,
+}
+
+// Puts the arguments behind the program's name into a room, each ended by a zero byte.
+pub fn arguments(room: &mut [u8]) -> Words
+    ensures { λ r. ⌜ r .length ≤ length (now (room .exit)) ⌝ }
+{
+    let count = os::arg_count();
+    let mut length = 0;
+    let mut i = 1;
+    while i < count {
+        let mut word = io::buffer();
+        let k = os::arg(i, &mut word);
+        if os::errno() != 0 {
+            return Words {
+                whole: false,
+                length: 0,
+            };
+        }
+        if room.len() - length <= k {
+            return Words {
+                whole: false,
+                length: 0,
+            };
+        }
+        length = put_bytes(libc::STDERR_FILENO, room, length, &word[..k], 0);
+        i += 1;
+    }
+    Words {
+        whole: true,
+        length,
+    }
+}
+
+// The arguments are longer than their room.
+pub fn refuse_words(err: i32) -> u32
+    ensures { λ r. ⌜ r ≤ 4 ⌝ }
+{
+    say(err, b"the arguments are too long\n");
+    ASKED_WRONGLY
+}
+
+// Hands the status to the launcher, which listens at descriptor 3; where nobody does, nothing is written.
+pub fn hand_status(status: u32) {
+    io::print_decimal(STATUS_FILE, status as u64);
 }

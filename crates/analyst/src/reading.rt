@@ -1,7 +1,7 @@
 // A file or standard input, read whole into the lent text; and the text, read into the table.
-ghost use Prim.Native.Nat.{_≤_};
-ghost use Rattle.sheet.specs.Tidy.{Tidy};
+ghost use Prim.Native.Nat.{_≤_, max};
 ghost use lib.ListN.{length};
+use asking::pieces::part;
 use picking::places::next_line;
 use picking::places::text_start;
 use sheet::Reader;
@@ -27,30 +27,11 @@ pub fn read_whole(file: i32, text: &mut [u8]) -> Came
     }
 }
 
-// A text that was read: the reader at its end, whether its first line is names, and where its first line and its first row start.
+// A text that was read: the reader at its end, whether its first line is names, and where its first row's line starts.
 pub struct Sheet {
     pub reader: Reader,
     pub names: bool,
-    pub top: usize,
     pub from: usize,
-}
-
-// Reads the whole text, with its label in column `label` (0 for none). The first line is fed alone: if it ends and gives no row, it is names.
-pub fn read_rows(t: &[u8], label: usize, table: &mut [u16]) -> Sheet
-    ensures { λ r. ⌜ Tidy (length (now (table .exit))) (r .reader) × (r .top ≤ length (now (t .entry))) × (r .from ≤ length (now (t .entry))) ⌝ }
-{
-    let top = text_start(t);
-    let second = next_line(t, 0);
-    let first = sheet::feed(sheet::start(label), &t[..second], table);
-    let all = sheet::feed(first, &t[second..], table);
-    let reader = sheet::finish(all, table);
-    let names = is_names(first.rows, second, t.len());
-    Sheet {
-        reader,
-        names,
-        top,
-        from: if names { second } else { top },
-    }
 }
 
 // The first line gave no row, and there is text behind it.
@@ -59,4 +40,29 @@ fn is_names(rows: usize, second: usize, length: usize) -> bool {
         return false;
     }
     second < length
+}
+
+// The first row's line is the second line where the first is names.
+fn first_row(names: bool, second: usize, top: usize) -> usize
+    ensures { λ r. ⌜ r ≤ max second top ⌝ }
+{
+    if names { second } else { top }
+}
+
+// Reads the whole text. The first line is fed alone: if it ends and gives no row, it is names.
+pub fn read_rows(t: &[u8], table: &mut [u16]) -> Sheet
+    ensures { λ r. ⌜ r .from ≤ length (now (t .entry)) ⌝ }
+{
+    let top = text_start(t);
+    let second = next_line(t, 0);
+    let first = sheet::feed(sheet::start(), part(t, 0, second), table);
+    let all = sheet::feed(first, part(t, second, t.len()), table);
+    let reader = sheet::finish(all, table);
+    let names = is_names(first.rows, second, t.len());
+    let from = first_row(names, second, top);
+    Sheet {
+        reader,
+        names,
+        from,
+    }
 }

@@ -1,15 +1,19 @@
 -- The pieces of a text that one byte parts: the items of a list, the words of the arguments. Assumes nothing.
 use Prim.Native.Nat.{_+_, _-_, _≤_, suc, zero, ℕ}
-use Rattle.bytes.specs.Bytes.{indexOf}
-use lib.Dec.{leb}
+use lib.Dec.{eqb, leb}
 use lib.ListN.{drop, length, take}
-use mathlib.Core.Bool.{Bool, true}
-use mathlib.Core.List.{List}
+use mathlib.Core.Bool.{Bool, cond, true}
+use mathlib.Core.List.{List, [], _∷_}
 use mathlib.Core.Path.{_≡_}
+
+-- where the byte b stands first in t; t's length where it does not
+unfoldable pub firstOf : ℕ → List ℕ → ℕ
+firstOf b [] = 0
+firstOf b (x ∷ t) = cond (eqb x b) 0 (suc (firstOf b t))
 
 -- where the byte b stands first in t from place `at` on; t's end where it does not
 unfoldable pub endAt : ℕ → List ℕ → ℕ → ℕ
-endAt b t at = at + indexOf b (drop at t)
+endAt b t at = at + firstOf b (drop at t)
 
 -- where piece i begins: behind the end of the piece before it
 unfoldable pub beginOf : ℕ → List ℕ → ℕ → ℕ

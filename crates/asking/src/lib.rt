@@ -300,6 +300,12 @@ pub fn ask(words: &[u8]) -> Question {
     if q.wrong != 0 {
         return q;
     }
+    let beyond = piece_at(words, 0, MOST_WORDS);
+    if beyond.end < words.len() {
+        if beyond.there {
+            return wrong_at(q, ONE_MORE, beyond);
+        }
+    }
     if q.awaits != 0 {
         let place = q.place;
         return wrong_at(q, NO_VALUE, place);

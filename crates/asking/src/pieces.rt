@@ -33,7 +33,14 @@ pub fn end_from(t: &[u8], b: u8, at: usize) -> usize
     requires { ⌜ at ≤ length (now t) ⌝ }
     ensures { λ r. ⌜ (r ≡ endAt b (now (t .entry)) at) × (at ≤ r) × (r ≤ length (now (t .entry))) ⌝ }
 {
-    bytes::scan::find(t, at, t.len(), b)
+    let mut i = at;
+    while i < t.len() {
+        if t[i] == b {
+            return i;
+        }
+        i += 1;
+    }
+    i
 }
 
 // Piece i of the text, from 0 on.

@@ -1,11 +1,13 @@
 // The columns that are asked for, each with its factor.
 ghost use Prim.Native.Nat.{_≤_};
 ghost use lib.ListN.{length};
+use crate::fields::column_of;
 use asking::numbers::NO_NUMBER;
 use asking::numbers::number;
+use asking::pieces::Piece;
 use asking::pieces::end_from;
+use asking::pieces::part;
 use asking::pieces::piece_at;
-use columns::column_of;
 
 pub const MOST_COLUMNS: usize = 16;
 
@@ -141,7 +143,7 @@ fn with_item(
     }
     let item = &list[start..end];
     let star = end_from(item, b'*', 0);
-    let column = column_said(names, &item[..star], c);
+    let column = column_said(names, part(item, 0, star), c);
     let factor = factor_said(item, star);
     let wrong = column_trouble(column, factor, label);
     if wrong != 0 {
@@ -153,6 +155,24 @@ fn with_item(
     with_column(choice, column - 1, factor)
 }
 
+// The choice with an item that is there; one that is not changes nothing.
+fn with_piece(
+    choice: Choice,
+    names: &[u8],
+    list: &[u8],
+    item: Piece,
+    c: usize,
+    label: usize,
+) -> Choice
+    requires { ⌜ (choice .k ≤ 16) × (item .start ≤ item .end) × (item .end ≤ length (now list)) ⌝ }
+    ensures { λ r. ⌜ r .k ≤ 16 ⌝ }
+{
+    if !item.there {
+        return choice;
+    }
+    with_item(choice, names, list, item.start, item.end, c, label)
+}
+
 // The columns of a list: names or numbers from 1, parted by commas, each with a factor behind a star if it has one.
 pub fn choose_list(names: &[u8], list: &[u8], c: usize, label: usize) -> Choice
     ensures { λ r. ⌜ r .k ≤ 16 ⌝ }
@@ -161,12 +181,21 @@ pub fn choose_list(names: &[u8], list: &[u8], c: usize, label: usize) -> Choice
     let mut i = 0;
     while i <= MOST_COLUMNS {
         let item = piece_at(list, b',', i);
-        if item.there {
-            choice = with_item(choice, names, list, item.start, item.end, c, label);
-        }
+        choice = with_piece(choice, names, list, item, c, label);
         i += 1;
     }
     choice
+}
+
+// The choice with one column more, by its number from 1, if that is not the label.
+fn with_other(choice: Choice, column: usize, label: usize) -> Choice
+    requires { ⌜ (choice .k ≤ 16) × (1 ≤ column) ⌝ }
+    ensures { λ r. ⌜ r .k ≤ 16 ⌝ }
+{
+    if column == label {
+        return choice;
+    }
+    with_column(choice, column - 1, 1)
 }
 
 // All columns but the label.
@@ -176,10 +205,8 @@ pub fn choose_all(c: usize, label: usize) -> Choice
     let mut choice = none_chosen();
     let mut i = 0;
     while i < c {
-        if i + 1 != label {
-            choice = with_column(choice, i, 1);
-        }
         i += 1;
+        choice = with_other(choice, i, label);
     }
     choice
 }

@@ -1,7 +1,9 @@
 // What is asked about, as the numbers of one query or of several: rows, values, or the row that has a label.
-ghost use Prim.Native.Nat.{_*_, _+_, _≤_};
+ghost use Prim.Native.Nat.{_*_, _+_, _<_, _≤_};
 ghost use Rattle.limits.specs.Limits.{maxColumns};
+ghost use Rattle.measure.specs.Table.{row as Table·row};
 ghost use lib.ListN.{length};
+ghost use lib.Seq.{paste};
 ghost use mathlib.Core.Path.{_≡_};
 use crate::choosing::MOST_COLUMNS;
 use asking::numbers::NO_NUMBER;
@@ -47,17 +49,25 @@ pub fn named_wrong(wrong: u32, more: usize) -> Named
     }
 }
 
+// Copies some numbers to place `at` of the queries.
+fn copy(from: &[u16], queries: &mut [u16], at: usize)
+    requires { ⌜ at + length (now from) ≤ length (now queries) ⌝ }
+    ensures { λ _. ⌜ now (queries .exit) ≡ paste (now (queries .entry)) at (now (from .entry)) (length (now (from .entry))) ⌝ }
+{
+    let mut i = 0;
+    while i < from.len() {
+        queries[at + i] = from[i];
+        i += 1;
+    }
+}
+
 // Puts the numbers of a row of c columns at query i.
-pub fn put_row(table: &[u16], c: usize, row: usize, queries: &mut [u16], i: usize)
-    requires { ⌜ (c * row + c ≤ length (now table)) × (c * i + c ≤ length (now queries)) ⌝ }
+fn put_row(table: &[u16], c: usize, n: usize, row: usize, queries: &mut [u16], i: usize)
+    requires { ⌜ (row < n) × (c * n ≤ length (now table)) × (c ≤ maxColumns) × (i ≤ 63) × (length (now queries) ≡ 1024) ⌝ }
+    ensures { λ _. ⌜ now (queries .exit) ≡ paste (now (queries .entry)) (c * i) (Table·row (now (table .entry)) c row) c ⌝ }
 {
     let from = row_of(table, c, row);
-    let at = c * i;
-    let mut j = 0;
-    while j < c {
-        queries[at + j] = from[j];
-        j += 1;
-    }
+    copy(from, queries, c * i);
 }
 
 // Puts the row that a word says at query i.
@@ -73,7 +83,7 @@ fn put_said(table: &[u16], c: usize, n: usize, word: &[u8], queries: &mut [u16],
     if n <= row {
         return named_wrong(NO_ROW, row);
     }
-    put_row(table, c, row, queries, i);
+    put_row(table, c, n, row, queries, i);
     Named {
         wrong: 0,
         more: row,
@@ -173,7 +183,7 @@ pub fn put_only(
     if n <= row {
         return named_wrong(NO_ROW, row);
     }
-    put_row(table, c, row, queries, 0);
+    put_row(table, c, n, row, queries, 0);
     Named {
         wrong: 0,
         more: row,

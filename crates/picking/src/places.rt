@@ -1,11 +1,10 @@
 // Where the lines of the rows stand in the text, and what stands in them.
-ghost use Prim.Native.Nat.{_<_, _≤_};
+ghost use Prim.Native.Nat.{_+_, _<_, _≤_};
 ghost use lib.ListN.{length};
-ghost use mathlib.Core.Bool.{true};
-ghost use mathlib.Core.Path.{_≡_};
+use crate::fields::field_of;
 use asking::pieces::end_from;
+use asking::pieces::least;
 use asking::pieces::part;
-use columns::field_of;
 
 // Behind the mark EF BB BF, if the text begins with it.
 pub fn text_start(t: &[u8]) -> usize
@@ -95,27 +94,35 @@ fn is_hit(t: &[u8], start: u32, column: usize, label: &[u8]) -> bool {
     check::same(label_in(line_from(t, start), column), label)
 }
 
-// Looks in the lines that start at these places for a label in a column.
-pub fn find_label(t: &[u8], starts: &[u32], n: usize, column: usize, label: &[u8]) -> Hits
-    requires { ⌜ n ≤ length (now starts) ⌝ }
+// One row more, if it is a hit.
+fn with_row(hits: Hits, hit: bool, row: usize) -> Hits
+    requires { ⌜ (hits .count ≤ row) × (row < 18446744073709551615) ⌝ }
+    ensures { λ r. ⌜ r .count ≤ row + 1 ⌝ }
 {
-    let mut count = 0;
-    let mut row = 0;
+    if !hit {
+        return hits;
+    }
+    Hits {
+        count: hits.count + 1,
+        row,
+    }
+}
+
+// Looks in the lines that start at these places for a label in a column.
+pub fn find_label(t: &[u8], starts: &[u32], n: usize, column: usize, label: &[u8]) -> Hits {
+    let last = least(n, starts.len());
+    let mut hits = Hits { count: 0, row: 0 };
     let mut i = 0;
-    while i < n {
-        if is_hit(t, starts[i], column, label) {
-            count += 1;
-            row = i;
-        }
+    while i < last {
+        hits = with_row(hits, is_hit(t, starts[i], column, label), i);
         i += 1;
     }
-    Hits { count, row }
+    hits
 }
 
 // Puts where each of n lines from `from` on starts, if there is room for that.
 pub fn keep_lines(t: &[u8], from: usize, starts: &mut [u32], n: usize) -> bool
     requires { ⌜ from ≤ length (now t) ⌝ }
-    ensures { λ r. ⌜ (r ≡ true → n ≤ length (now (starts .exit))) ⌝ }
 {
     if LONGEST < t.len() {
         return false;

@@ -1,0 +1,233 @@
+// The analyst's program on the texts of data/: each question behind a question mark, what is written to either file, and the status.
+mod rooms;
+
+use analyst::Ends;
+use libc::STDOUT_FILENO;
+
+fn say(text: &[u8]) {
+    io::write_all(STDOUT_FILENO, text);
+}
+
+// Writes the words of a question with a blank before each.
+fn say_words(words: &[u8]) {
+    let mut i = 0;
+    while i < 32 {
+        let word = asking::pieces::piece_at(words, 0, i);
+        if word.end < words.len() {
+            if word.there {
+                say(b" ");
+                say(asking::pieces::bytes_of(words, word));
+            }
+        }
+        i += 1;
+    }
+}
+
+// Answers in rooms of its own.
+fn answer(words: &[u8]) -> u32 {
+    let mut text = rooms::text_room();
+    let mut table = rooms::table_room();
+    let mut room = rooms::index_room();
+    let mut work = rooms::workspace();
+    let mut how = rooms::byte_room();
+    let mut marks = rooms::byte_room();
+    let mut rows = rooms::answer_room();
+    let mut distances = rooms::answer_room();
+    analyst::run(
+        words,
+        Ends {
+            out: STDOUT_FILENO,
+            err: STDOUT_FILENO,
+        },
+        &mut text,
+        &mut table,
+        &mut room,
+        &mut work,
+        &mut how,
+        &mut marks,
+        &mut rows,
+        &mut distances,
+    )
+}
+
+// Each word of a question is ended by a zero byte.
+fn ask(words: &[u8]) {
+    say(b"?");
+    say_words(words);
+    say(b"\n");
+    let status = answer(words);
+    say(b"status ");
+    io::print_decimal(STDOUT_FILENO, status as u64);
+    say(b"\n");
+}
+
+fn the_season() {
+    ask(
+        b"season.csv\x00like\x001046\x0012\x00--columns\x00speed,shaft_turns,fan_pressure,tender_distance\x00",
+    );
+    ask(b"season.csv\x00like\x001046\x00300\x00");
+    ask(
+        b"season.csv\x00nearest\x001046\x0010\x00--columns\x00speed,shaft_turns,fan_pressure,tender_distance\x00",
+    );
+    ask(
+        b"season.csv\x00like\x001046,899\x0012\x00--columns\x00speed,shaft_turns,fan_pressure,tender_distance\x00--count\x00",
+    );
+    ask(
+        b"season.csv\x00like\x00=0,0,88,4\x0012\x00--columns\x00speed,shaft_turns,fan_pressure,tender_distance\x00--count\x00",
+    );
+    ask(b"season.csv\x00like\x001046\x004\x00--by\x00distance\x00--columns\x001,2,4,6\x00");
+}
+
+fn more_of_the_season() {
+    ask(
+        b"season.csv\x00--csv\x00like\x00--columns\x00speed,fan_pressure*2\x001046\x003\x00--lines\x00",
+    );
+    ask(b"season.csv\x00nearest\x00=400,300,1500,95,900,3000\x005\x00--lines\x00");
+    ask(b"season.csv\x00like\x001046,899,1046\x00300\x00--by\x00distance\x00--csv\x00");
+    ask(b"season.csv\x00like\x00=65535,0,0,0,0,0\x0010\x00");
+    ask(b"season.csv\x00nearest\x001046\x003\x00--count\x00");
+    ask(b"season.csv\x00like\x000\x000\x00--columns\x006*3,1\x00");
+}
+
+fn labels() {
+    ask(b"labels.csv\x00like\x00time=2026-04-12T07:31\x0012\x00--label\x00time\x00");
+    ask(b"labels.csv\x00nearest\x002\x003\x00--label\x001\x00--csv\x00--lines\x00");
+    ask(
+        b"labels.csv\x00like\x00=0,88\x009\x00--label\x00time\x00--columns\x00speed,fan_pressure\x00",
+    );
+    ask(b"labels.csv\x00like\x001\x0012\x00--label\x00time\x00--by\x00distance\x00--lines\x00");
+    ask(b"labels.csv\x00like\x00time=2026-04-12T07:34\x0012\x00--label\x00time\x00");
+    ask(b"labels.csv\x00like\x00time=noon\x0012\x00--label\x00time\x00");
+    ask(b"labels.csv\x00like\x00when=noon\x0012\x00--label\x00time\x00");
+    ask(b"labels.csv\x00like\x00fan_pressure=60001\x0012\x00--label\x00time\x00");
+    ask(b"labels.csv\x00like\x001\x0012\x00");
+}
+
+fn asked_wrongly() {
+    ask(b"");
+    ask(b"season.csv\x00");
+    ask(b"season.csv\x00like\x001046\x00");
+    ask(b"season.csv\x00like\x001046\x0012\x0013\x00");
+    ask(b"season.csv\x00unlike\x001046\x0012\x00");
+    ask(b"season.csv\x00like\x001046\x0012.5\x00");
+    ask(b"season.csv\x00nearest\x001046\x000\x00");
+    ask(b"season.csv\x00like\x001046\x0010000000\x00");
+    ask(b"season.csv\x00like\x001046\x0012\x00--colums\x00speed\x00");
+    ask(b"season.csv\x00like\x001046\x0012\x00--columns\x00");
+}
+
+fn options_wrong() {
+    ask(b"season.csv\x00like\x001046\x0012\x00--columns\x00--csv\x00");
+    ask(b"season.csv\x00like\x001046\x0012\x00--columns\x00speed\x00--columns\x00heading\x00");
+    ask(b"season.csv\x00like\x001046\x0012\x00--by\x00row\x00");
+    ask(b"season.csv\x00like\x001046\x0012\x00--columns\x00wind\x00");
+    ask(b"season.csv\x00like\x001046\x0012\x00--columns\x007\x00");
+    ask(b"season.csv\x00like\x001046\x0012\x00--columns\x00speed,,heading\x00");
+    ask(b"season.csv\x00like\x001046\x0012\x00--columns\x00speed*0\x00");
+    ask(b"season.csv\x00like\x001046\x0012\x00--columns\x00speed*x\x00");
+    ask(b"season.csv\x00like\x001046\x0012\x00--columns\x00heading*20\x00");
+    ask(b"season.csv\x00like\x001046\x0012\x00--label\x00time\x00");
+}
+
+fn rows_wrong() {
+    ask(b"season.csv\x00like\x003000\x0012\x00");
+    ask(b"season.csv\x00like\x001046,\x0012\x00");
+    ask(b"season.csv\x00like\x00row\x0012\x00");
+    ask(b"season.csv\x00nearest\x001046,899\x0012\x00");
+    ask(b"season.csv\x00like\x00=1,2,3\x0012\x00");
+    ask(b"season.csv\x00like\x00=1,2,3,4,5,6,7\x0012\x00");
+    ask(b"season.csv\x00like\x00=1,2,3,4,5,70000\x0012\x00");
+    ask(b"season.csv\x00like\x00=1,2,3,4,5,x\x0012\x00");
+    ask(b"season.csv\x00like\x00=1,2\x0012\x00--columns\x00speed*40000,heading\x00");
+    ask(b"labels.csv\x00like\x001\x0012\x00--label\x00time\x00--columns\x00time\x00");
+}
+
+fn other_files() {
+    ask(b"like_400\x00like\x0037\x0012\x00");
+    ask(b"seven\x00nearest\x000\x004\x00");
+    ask(b"three\x00nearest\x0070000\x003\x00");
+    ask(b"strange\x00like\x000\x009\x00");
+    ask(b"uneven\x00like\x000\x009\x00");
+    ask(b"missing\x00like\x000\x009\x00");
+    ask(b".\x00like\x000\x009\x00");
+    ask(b"--version\x00");
+}
+
+fn odd_1() {
+    ask(b"nothing\x00like\x000\x009\x00");
+    ask(b"names_alone\x00like\x000\x009\x00");
+    ask(b"blank_lines\x00like\x000\x009\x00");
+    ask(b"returns\x00like\x000\x009\x00--lines\x00");
+    ask(b"tabs\x00like\x000\x009\x00--lines\x00");
+    ask(b"semicolons\x00like\x000\x009\x00");
+    ask(b"mark\x00like\x000\x009\x00--lines\x00");
+    ask(b"half_mark\x00like\x000\x009\x00");
+}
+
+fn odd_2() {
+    ask(b"empty_place\x00like\x000\x009\x00");
+    ask(b"empty_before\x00like\x000\x009\x00");
+    ask(b"empty_behind\x00like\x000\x009\x00");
+    ask(b"comma_alone\x00like\x000\x009\x00");
+    ask(b"blank_between\x00like\x000\x009\x00");
+    ask(b"blank_end\x00like\x000\x009\x00");
+    ask(b"point\x00like\x000\x009\x00");
+    ask(b"sign\x00like\x000\x009\x00");
+}
+
+fn odd_3() {
+    ask(b"decimal_comma\x00like\x000\x009\x00");
+    ask(b"quotes\x00like\x000\x009\x00");
+    ask(b"names_below\x00like\x000\x009\x00");
+    ask(b"empty_name\x00like\x000\x009\x00");
+    ask(b"columns_17\x00like\x000\x009\x00");
+    ask(b"names_17\x00like\x000\x009\x00");
+    ask(b"number_70000\x00like\x000\x009\x00");
+    ask(b"zeros\x00like\x000\x009\x00");
+}
+
+fn odd_4() {
+    ask(b"minus_4\x00like\x000\x009\x00");
+    ask(b"point_12\x00like\x000\x009\x00");
+    ask(b"number_missing\x00like\x000\x009\x00");
+    ask(b"number_too_many\x00like\x000\x009\x00");
+    ask(b"return_inside\x00like\x000\x009\x00");
+    ask(b"bytes\x00like\x000\x009\x00");
+    ask(b"table_full\x00like\x000\x009\x00");
+    ask(b"rows_full\x00like\x000\x009\x00");
+}
+
+// A text that is fed in pieces is read as the whole: its fault, line and column, rows and columns.
+fn in_pieces() {
+    let mut table = [0; 32];
+    let first = sheet::feed(sheet::start(0), b"\xef\xbb", &mut table);
+    let second = sheet::feed(first, b"\xbf1,2\r", &mut table);
+    let third = sheet::feed(second, b"\n3,", &mut table);
+    let r = sheet::finish(third, &mut table);
+    say(b"in pieces: ");
+    io::print_decimal(STDOUT_FILENO, r.fault as u64);
+    say(b" ");
+    io::print_decimal(STDOUT_FILENO, r.line);
+    say(b" ");
+    io::print_decimal(STDOUT_FILENO, r.column as u64);
+    say(b" ");
+    io::print_decimal(STDOUT_FILENO, r.rows as u64);
+    say(b" ");
+    io::print_decimal(STDOUT_FILENO, r.columns as u64);
+    say(b"\n");
+}
+
+fn main() {
+    the_season();
+    more_of_the_season();
+    labels();
+    asked_wrongly();
+    options_wrong();
+    rows_wrong();
+    other_files();
+    odd_1();
+    odd_2();
+    odd_3();
+    odd_4();
+    in_pieces();
+}

@@ -1,4 +1,0 @@
-// The four nearest, in a text with every freedom that a line has.
-fn main() {
-    analyst::run();
-}

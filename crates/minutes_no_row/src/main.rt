@@ -1,4 +1,0 @@
-// A row that the text has not.
-fn main() {
-    analyst::run();
-}

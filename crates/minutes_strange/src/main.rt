@@ -1,4 +1,0 @@
-// A number has no sign.
-fn main() {
-    analyst::run();
-}

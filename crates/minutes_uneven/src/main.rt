@@ -1,4 +1,0 @@
-// Line 17 has a number too few, and line 18 a strange byte.
-fn main() {
-    analyst::run();
-}

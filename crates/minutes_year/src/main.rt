@@ -1,0 +1,49 @@
+// The analyst's program, for 1,048,576 rows. It needs 320 MB of stack, which bin/minutes sets; help and the version need little.
+mod rooms;
+
+use analyst::Ends;
+
+// Answers in rooms of its own.
+fn answer(words: &[u8]) -> u32 {
+    let mut text = rooms::text_room();
+    let mut table = rooms::table_room();
+    let mut room = rooms::index_room();
+    let mut work = rooms::workspace();
+    let mut how = rooms::byte_room();
+    let mut marks = rooms::byte_room();
+    let mut rows = rooms::answer_room();
+    let mut distances = rooms::answer_room();
+    analyst::run(
+        words,
+        Ends {
+            out: libc::STDOUT_FILENO,
+            err: libc::STDERR_FILENO,
+        },
+        &mut text,
+        &mut table,
+        &mut room,
+        &mut work,
+        &mut how,
+        &mut marks,
+        &mut rows,
+        &mut distances,
+    )
+}
+
+// The status of the whole. Help and the version are told without the rooms.
+fn status_of(words: &[u8], whole: bool) -> u32 {
+    if !whole {
+        return analyst::refuse_words(libc::STDERR_FILENO);
+    }
+    if analyst::tells(words, libc::STDOUT_FILENO) {
+        return analyst::ANSWERED;
+    }
+    answer(words)
+}
+
+fn main() {
+    let mut room = io::large_buffer();
+    let words = analyst::arguments(&mut room);
+    let length = words.length;
+    analyst::hand_status(status_of(&room[..length], words.whole));
+}

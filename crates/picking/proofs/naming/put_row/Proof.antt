@@ -1,0 +1,30 @@
+use borrow.Author.Needs.{needs}
+use Rattle.picking.proofs.naming.put_row.Statement.{statement}
+use Rattle.picking.proofs.naming.put_row.Tie as tie
+use Rattle.picking.proofs.naming.put_row.Reads as reads
+use Rattle.picking.proofs.naming.put_row.Lts as lts
+use Rattle.measure.proofs.row_of.Reads as row-of-reads
+use Rattle.picking.proofs.naming.copy.Reads as copy-reads
+
+-- src/naming.rt:69:9
+row-of-requires : tie.Need-row-of-requires
+row-of-requires c κs = search needs
+
+-- src/naming.rt:70:25
+mul-copy : tie.Need-mul-copy
+mul-copy c = search needs
+
+-- src/naming.rt:70:5
+copy-requires : tie.Need-copy-requires
+copy-requires c κs = search needs
+
+-- src/naming.rt:65:1
+same-length : tie.Need-same-length
+same-length c = search needs
+
+-- src/naming.rt:65:1
+returns : tie.Need-returns
+returns c = search needs
+
+pub put-row-spec : {M : Type 1} → statement M
+put-row-spec = tie.close (tie.spec row-of-requires mul-copy copy-requires same-length returns)

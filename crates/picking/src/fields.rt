@@ -1,0 +1,85 @@
+// The fields of a line: what stands between commas, semicolons, tabs and blanks. In a line that was read, no field is empty.
+ghost use Prim.Native.Nat.{_≤_};
+ghost use lib.ListN.{length};
+use asking::pieces::part;
+
+// Where a field stands; both are 0 where there is none.
+pub struct Span {
+    pub start: usize,
+    pub end: usize,
+}
+
+// More columns than this no line has.
+const MOST_FIELDS: usize = 16;
+
+// A byte between two fields.
+fn parts(b: u8) -> bool {
+    if b == b',' {
+        return true;
+    }
+    if b == b';' {
+        return true;
+    }
+    if b == b'\t' {
+        return true;
+    }
+    b == b' '
+}
+
+// The first place from `at` on whose byte parts fields, or does not, as `parting` says; the line's end where there is none.
+fn pass(line: &[u8], at: usize, parting: bool) -> usize
+    requires { ⌜ at ≤ length (now line) ⌝ }
+    ensures { λ r. ⌜ (at ≤ r) × (r ≤ length (now (line .entry))) ⌝ }
+{
+    let mut i = at;
+    while i < line.len() {
+        if parts(line[i]) == parting {
+            return i;
+        }
+        i += 1;
+    }
+    i
+}
+
+// Where field `column` stands in the line, from 1 on.
+pub fn field_of(line: &[u8], column: usize) -> Span
+    ensures { λ r. ⌜ (r .start ≤ r .end) × (r .end ≤ length (now (line .entry))) ⌝ }
+{
+    let mut start = pass(line, 0, false);
+    let mut end = pass(line, start, true);
+    let mut k = 1;
+    while k < column {
+        start = pass(line, end, false);
+        end = pass(line, start, true);
+        k += 1;
+    }
+    Span { start, end }
+}
+
+// The column found so far, or this one, if its field is the name: 17 where two are.
+fn with_field(line: &[u8], name: &[u8], found: usize, column: usize) -> usize
+    requires { ⌜ (found ≤ 17) × (column ≤ 16) ⌝ }
+    ensures { λ r. ⌜ r ≤ 17 ⌝ }
+{
+    let spot = field_of(line, column);
+    if spot.end <= spot.start {
+        return found;
+    }
+    if !check::same(part(line, spot.start, spot.end), name) {
+        return found;
+    }
+    if found == 0 { column } else { 17 }
+}
+
+// The column, from 1 on, whose field is just these bytes: 0 if there is none, 17 if there are two or more.
+pub fn column_of(line: &[u8], name: &[u8]) -> usize
+    ensures { λ r. ⌜ r ≤ 17 ⌝ }
+{
+    let mut found = 0;
+    let mut column = 1;
+    while column <= MOST_FIELDS {
+        found = with_field(line, name, found, column);
+        column += 1;
+    }
+    found
+}
