@@ -1,56 +1,25 @@
 // The answers, written a line each.
-ghost use Prim.Native.Nat.{_*_, _+_, _<_, _≤_};
-ghost use Rattle.limits.specs.Limits.{maxColumns};
+ghost use Prim.Native.Nat.{_≤_};
 ghost use lib.ListN.{length};
-ghost use mathlib.Core.Path.{_≡_};
 use crate::plan::Plan;
-use crate::plan::needs_lines;
 use crate::plan::parting;
 use crate::saying::say;
+use asking::pieces::least;
 use lines::make_room;
 use lines::put_bytes;
 use lines::put_number;
-use measure::query_distance;
-use measure::row_of;
-use picking::places::label_in;
+use measure::distance;
+use picking::naming::numbers_part;
 use picking::places::line_from;
+
+// No distance is as great.
+const FAR: u32 = 0xffff_ffff;
+
+// The library's limit.
+const MOST_ROWS: usize = 1_048_576;
 
 // How many bytes a line's two numbers take at most.
 const NUMBERS: usize = 42;
-
-// What stands behind the label: the line, or nothing.
-fn behind_label(plan: Plan) -> u8 {
-    if plan.lines { parting(plan) } else { b'\n' }
-}
-
-// Puts the label of the answer's line, if it is asked for.
-fn put_label(plan: Plan, line: &[u8], out: &mut [u8], at: usize) -> usize
-    requires { ⌜ (at ≤ length (now out)) × (42 ≤ length (now out)) ⌝ }
-    ensures { λ r. ⌜ r ≤ length (now (out .entry)) ⌝ }
-{
-    if plan.label == 0 {
-        return at;
-    }
-    put_bytes(
-        plan.out,
-        out,
-        at,
-        label_in(line, plan.label),
-        behind_label(plan),
-    )
-}
-
-// Puts the label and the line behind the two numbers of an answer, as they are asked for.
-fn put_behind(plan: Plan, line: &[u8], out: &mut [u8], at: usize) -> usize
-    requires { ⌜ (at ≤ length (now out)) × (42 ≤ length (now out)) ⌝ }
-    ensures { λ r. ⌜ r ≤ length (now (out .entry)) ⌝ }
-{
-    let end = put_label(plan, line, out, at);
-    if !plan.lines {
-        return end;
-    }
-    put_bytes(plan.out, out, end, line, b'\n')
-}
 
 // Puts one answer: a row and its distance, and what is to be shown with it. Gives where that ends.
 fn put_answer(
@@ -67,11 +36,11 @@ fn put_answer(
 {
     let from = make_room(plan.out, out, at, NUMBERS);
     let middle = put_number(out, from, row as u64, parting(plan));
-    if !needs_lines(plan) {
+    if !plan.lines {
         return put_number(out, middle, distance as u64, b'\n');
     }
     let end = put_number(out, middle, distance as u64, parting(plan));
-    put_behind(plan, line_from(text, start), out, end)
+    put_bytes(plan.out, out, end, line_from(text, start), b'\n')
 }
 
 // Where the line of a row starts, if it was kept.
@@ -86,10 +55,6 @@ pub fn say_head(plan: Plan, names: &[u8]) {
         return;
     }
     say(plan.out, b"row,distance");
-    if plan.label != 0 {
-        say(plan.out, b",");
-        say(plan.out, label_in(names, plan.label));
-    }
     if plan.lines {
         say(plan.out, b",");
         say(plan.out, names);
@@ -101,15 +66,37 @@ fn lesser(a: u32, b: u32) -> u32 {
     if a < b { a } else { b }
 }
 
-// The least distance of a row from a query of several.
-fn least_distance(table: &[u16], c: usize, queries: &[u16], count: usize, row: usize) -> u32
-    requires { ⌜ (c ≤ maxColumns) × (c * row + c ≤ length (now table)) × (c * count ≤ length (now queries)) ⌝ }
+// The distance of two rows of the same columns.
+fn apart(a: &[u16], b: &[u16]) -> u32 {
+    if a.len() != b.len() {
+        return FAR;
+    }
+    if 16 < a.len() {
+        return FAR;
+    }
+    distance(a, b)
+}
+
+// Where the row of c columns behind place `at` ends; the end where there is none.
+fn row_end(length: usize, at: usize, c: usize) -> usize
+    requires { ⌜ at ≤ length ⌝ }
+    ensures { λ r. ⌜ (at ≤ r) × (r ≤ length) ⌝ }
 {
-    let mut least = 0xffff_ffff;
+    if length - at < c {
+        return length;
+    }
+    at + c
+}
+
+// The least distance of a row from the queries, one of c numbers after the other.
+fn least_distance(row: &[u16], c: usize, queries: &[u16], count: usize) -> u32 {
+    let mut least = FAR;
+    let mut at = 0;
     let mut i = 0;
     while i < count {
-        let query = row_of(queries, c, i);
-        least = lesser(least, query_distance(table, c, query, row));
+        let end = row_end(queries.len(), at, c);
+        least = lesser(least, apart(row, numbers_part(queries, at, end)));
+        at = end;
         i += 1;
     }
     least
@@ -145,31 +132,41 @@ pub fn say_answers(
     io::write_all(plan.out, &out[..at]);
 }
 
-// Keeps a row with its distance behind those that are kept, if it is marked. Gives how many are kept then.
+// Keeps a row with its distance behind those that are kept, if it is marked and there is room. Gives how many are kept then.
 fn keep_row(
-    table: &[u16],
-    c: usize,
-    queries: &[u16],
-    count: usize,
-    mark: u8,
     row: usize,
+    mark: u8,
+    distance: u32,
     rows: &mut [u32],
     distances: &mut [u32],
     kept: usize,
 ) -> usize
-    requires { ⌜ (c ≤ maxColumns) × (c * row + c ≤ length (now table)) × (c * count ≤ length (now queries)) ⌝ }
-    requires { ⌜ (kept < length (now rows)) × (kept < length (now distances)) × (row ≤ 1048576) ⌝ }
-    ensures { λ r. ⌜ r ≤ kept + 1 ⌝ }
+    requires { ⌜ (kept ≤ length (now rows)) × (kept ≤ length (now distances)) × (row ≤ 1048576) ⌝ }
+    ensures { λ r. ⌜ (r ≤ length (now (rows .entry))) × (r ≤ length (now (distances .entry))) ⌝ }
 {
     if mark != 1 {
         return kept;
     }
+    if rows.len() <= kept {
+        return kept;
+    }
+    if distances.len() <= kept {
+        return kept;
+    }
     rows[kept] = row as u32;
-    distances[kept] = least_distance(table, c, queries, count, row);
+    distances[kept] = distance;
     kept + 1
 }
 
-// Keeps the rows that are marked, with their distances, in row order. Gives how many.
+// The distance of a row that is marked; another is not measured.
+fn marked_distance(mark: u8, row: &[u16], c: usize, queries: &[u16], count: usize) -> u32 {
+    if mark != 1 {
+        return FAR;
+    }
+    least_distance(row, c, queries, count)
+}
+
+// Keeps the rows of c columns that are marked, with their distances, in row order. Gives how many.
 pub fn keep_marked(
     table: &[u16],
     c: usize,
@@ -179,14 +176,18 @@ pub fn keep_marked(
     rows: &mut [u32],
     distances: &mut [u32],
 ) -> usize
-    requires { ⌜ (c ≤ maxColumns) × (c * length (now marks) ≤ length (now table)) × (c * count ≤ length (now queries)) ⌝ }
-    requires { ⌜ (length (now marks) ≤ length (now rows)) × (length (now marks) ≤ length (now distances)) × (length (now marks) ≤ 1048576) ⌝ }
     ensures { λ r. ⌜ (r ≤ length (now (rows .entry))) × (r ≤ length (now (distances .entry))) ⌝ }
 {
+    let last = least(marks.len(), MOST_ROWS);
     let mut kept = 0;
+    let mut at = 0;
     let mut i = 0;
-    while i < marks.len() {
-        kept = keep_row(table, c, queries, count, marks[i], i, rows, distances, kept);
+    while i < last {
+        let end = row_end(table.len(), at, c);
+        let mark = marks[i];
+        let away = marked_distance(mark, numbers_part(table, at, end), c, queries, count);
+        kept = keep_row(i, mark, away, rows, distances, kept);
+        at = end;
         i += 1;
     }
     kept

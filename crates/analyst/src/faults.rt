@@ -33,10 +33,7 @@ fn say_row_fault(file: i32, r: Reader) {
 // What is wrong with the column that the reader stopped at.
 fn say_line_fault(file: i32, r: Reader) {
     if r.fault == sheet::line::NOT_A_NUMBER {
-        say(
-            file,
-            b"not a number (--label NAME takes one column that is not numbers)\n",
-        );
+        say(file, b"not a number\n");
     } else if r.fault == sheet::line::TOO_GREAT {
         say(file, b"a number above 65,535\n");
     } else if r.fault == sheet::line::TOO_WIDE {

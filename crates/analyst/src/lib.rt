@@ -26,10 +26,11 @@ use picking::choosing::Choice;
 use picking::choosing::column_said;
 use picking::naming;
 use picking::naming::Named;
+use picking::naming::numbers_part;
+use picking::naming::product;
 use picking::ordering::put_in_order;
 use picking::places;
 use plan::Plan;
-use plan::needs_lines;
 use reading::Sheet;
 use saying::say;
 use saying::say_number;
@@ -63,25 +64,14 @@ fn opened(name: &[u8]) -> i32 {
     os::open_read(name)
 }
 
-// The label's column in the first line: 0 where none is asked for, 17 where it is not there just once.
-fn label_column(names: &[u8], q: Question, word: &[u8]) -> usize
-    ensures { λ r. ⌜ r ≤ 17 ⌝ }
-{
-    if !q.label.there {
-        return 0;
-    }
-    let column = column_said(names, word, choosing::MOST_COLUMNS);
-    if column == 0 { 17 } else { column }
-}
-
-// The columns that count: those of the list, or all but the label.
-fn choice_of(words: &[u8], q: Question, names: &[u8], c: usize, label: usize) -> Choice
+// The columns that count: those of the list, or all.
+fn choice_of(words: &[u8], q: Question, names: &[u8], c: usize) -> Choice
     ensures { λ r. ⌜ r .k ≤ 16 ⌝ }
 {
     if q.columns.there {
-        return choosing::choose_list(names, bytes_of(words, q.columns), c, label);
+        return choosing::choose_list(names, bytes_of(words, q.columns), c);
     }
-    choosing::choose_all(c, label)
+    choosing::choose_all(c)
 }
 
 // The names of a text, or nothing.
@@ -116,7 +106,7 @@ fn put_labelled(
     starts: &mut [u32],
     queries: &mut [u16],
 ) -> Named
-    requires { ⌜ (k * sheet .reader .rows ≤ length (now table)) × (k ≤ maxColumns) × (length (now queries) ≡ 1024) × (sheet .from ≤ length (now text)) ⌝ }
+    requires { ⌜ (k * sheet .reader .rows ≤ length (now table)) × (k ≤ maxColumns) × (length (now queries) ≡ 1024) ⌝ }
     ensures { λ r. ⌜ r .count ≤ 64 ⌝ }
 {
     let n = sheet.reader.rows;
@@ -150,7 +140,7 @@ fn put_named(
     starts: &mut [u32],
     queries: &mut [u16],
 ) -> Named
-    requires { ⌜ (choice .k * sheet .reader .rows ≤ length (now table)) × (choice .k ≤ maxColumns) × (length (now queries) ≡ 1024) × (sheet .from ≤ length (now text)) ⌝ }
+    requires { ⌜ (choice .k * sheet .reader .rows ≤ length (now table)) × (choice .k ≤ maxColumns) × (length (now queries) ≡ 1024) ⌝ }
     ensures { λ r. ⌜ r .count ≤ 64 ⌝ }
 {
     let sign = end_from(what, b'=', 0);
@@ -192,14 +182,14 @@ fn write_given(
     given: usize,
     measured: usize,
 ) -> u32
-    requires { ⌜ (given ≤ length (now rows)) × (given ≤ length (now distances)) × (plan .from ≤ length (now text)) ⌝ }
+    requires { ⌜ (given ≤ length (now rows)) × (given ≤ length (now distances)) ⌝ }
     ensures { λ r. ⌜ r ≤ 4 ⌝ }
 {
     if plan.count {
         say_number(plan.out, given);
         say(plan.out, b"\n");
     } else {
-        if needs_lines(plan) {
+        if plan.lines {
             places::keep_lines(text, plan.from, starts, plan.n);
         }
         answering::say_head(plan, names_of(text, plan.names));
@@ -232,12 +222,8 @@ fn answer_like(
     rows: &mut [u32],
     distances: &mut [u32],
 ) -> u32
-    requires { ⌜ (plan .k ≤ maxColumns) × (plan .k * plan .n ≤ length (now table)) × (plan .k * plan .queries ≤ length (now queries)) ⌝ }
-    requires { ⌜ (plan .n ≤ length (now marks)) × (plan .n ≤ length (now rows)) × (plan .n ≤ length (now distances)) ⌝ }
-    requires { ⌜ (plan .n ≤ 1048576) × (plan .from ≤ length (now text)) ⌝ }
     ensures { λ r. ⌜ r ≤ 4 ⌝ }
 {
-    let n = plan.n;
     let found = mark_near(table, plan.k, queries, plan.number, room, work, how, marks);
     let number = found.number;
     if number != 0 {
@@ -248,7 +234,7 @@ fn answer_like(
         plan.k,
         queries,
         plan.queries,
-        &marks[..n],
+        part(marks, 0, plan.n),
         rows,
         distances,
     );
@@ -268,7 +254,6 @@ fn answer_nearest(
     rows: &mut [u32],
     distances: &mut [u32],
 ) -> u32
-    requires { ⌜ plan .from ≤ length (now text) ⌝ }
     ensures { λ r. ⌜ r ≤ 4 ⌝ }
 {
     let wanted = plan.number as usize;
@@ -292,9 +277,7 @@ fn answer_nearest(
 }
 
 // The plan of a question about a text that was read.
-fn plan_of(q: Question, ends: Ends, sheet: Sheet, label: usize, k: usize, queries: usize) -> Plan
-    ensures { λ r. ⌜ (r .k ≡ k) × (r .n ≡ sheet .reader .rows) × (r .from ≡ sheet .from) × (r .queries ≡ queries) ⌝ }
-{
+fn plan_of(q: Question, ends: Ends, sheet: Sheet, k: usize, queries: usize) -> Plan {
     Plan {
         out: ends.out,
         err: ends.err,
@@ -304,7 +287,6 @@ fn plan_of(q: Question, ends: Ends, sheet: Sheet, label: usize, k: usize, querie
         count: q.count,
         csv: q.csv,
         lines: q.lines,
-        label,
         from: sheet.from,
         names: sheet.names,
         k,
@@ -326,18 +308,10 @@ fn answer(
     rows: &mut [u32],
     distances: &mut [u32],
 ) -> u32
-    requires { ⌜ (plan .k ≤ maxColumns) × (plan .k * plan .n ≤ length (now table)) × (plan .k * plan .queries ≤ length (now queries)) ⌝ }
-    requires { ⌜ (plan .n ≤ 1048576) × (plan .from ≤ length (now text)) ⌝ }
     ensures { λ r. ⌜ r ≤ 4 ⌝ }
 {
     let n = plan.n;
-    if marks.len() < n {
-        return refuse(plan.err, 5);
-    }
-    if rows.len() < n {
-        return refuse(plan.err, 5);
-    }
-    if distances.len() < n {
+    if least(rows.len(), distances.len()) < n {
         return refuse(plan.err, 5);
     }
     if plan.asks == asking::LIKE {
@@ -354,29 +328,28 @@ fn answer(
             distances,
         );
     }
-    if plan.queries != 1 {
-        telling::say_named_wrong(
-            plan.err,
-            naming::TOO_MANY_ROWS,
-            0,
-            part(text, 0, 0),
-            plan.n,
-            plan.k,
-        );
-        return ASKED_WRONGLY;
-    }
     answer_nearest(plan, text, table, queries, room, work, how, rows, distances)
 }
 
-// The library's limit.
-const MOST_ROWS: usize = 1_048_576;
+// The plan with so many queries.
+fn with_queries(plan: Plan, queries: usize) -> Plan {
+    let mut full = plan;
+    full.queries = queries;
+    full
+}
 
-// How many numbers n rows of k columns are.
-fn product(k: usize, n: usize) -> usize
-    requires { ⌜ (k ≤ 16) × (n ≤ 1048576) ⌝ }
-    ensures { λ r. ⌜ r ≡ k * n ⌝ }
-{
-    k * n
+// What is wrong with what is asked about: also several queries where one is needed.
+fn trouble_of(asks: u32, named: Named) -> u32 {
+    if named.wrong != 0 {
+        return named.wrong;
+    }
+    if asks == asking::LIKE {
+        return 0;
+    }
+    if named.count != 1 {
+        return naming::TOO_MANY_ROWS;
+    }
+    0
 }
 
 // Asks about the rows of a text that has been read and whose columns are chosen.
@@ -394,24 +367,33 @@ fn ask_rows(
     rows: &mut [u32],
     distances: &mut [u32],
 ) -> u32
-    requires { ⌜ (choice .k ≤ maxColumns) × (choice .k * sheet .reader .rows ≤ length (now table)) × (sheet .from ≤ length (now text)) ⌝ }
-    requires { ⌜ (sheet .reader .rows ≤ 1048576) × (plan .k ≡ choice .k) × (plan .n ≡ sheet .reader .rows) × (plan .from ≡ sheet .from) ⌝ }
     ensures { λ r. ⌜ r ≤ 4 ⌝ }
 {
+    let k = choice.k;
+    let n = sheet.reader.rows;
+    if choosing::MOST_COLUMNS < k {
+        return refuse(plan.err, 1);
+    }
+    if MOST_ROWS < n {
+        return refuse(plan.err, 4);
+    }
+    let used = product(k, n);
+    if table.len() < used {
+        return refuse(plan.err, 5);
+    }
     let mut queries = query_room();
     let named = put_named(text, sheet, what, choice, table, room, &mut queries);
-    if named.wrong != 0 {
-        telling::say_named_wrong(plan.err, named.wrong, named.more, what, plan.n, plan.k);
+    let wrong = trouble_of(plan.asks, named);
+    if wrong != 0 {
+        telling::say_named_wrong(plan.err, wrong, named.more, what, n, k);
         return ASKED_WRONGLY;
     }
-    let mut full = plan;
-    full.queries = named.count;
-    let end = product(plan.k, named.count);
+    let end = product(k, named.count);
     answer(
-        full,
+        with_queries(plan, named.count),
         text,
-        table,
-        &queries[..end],
+        numbers_part(table, 0, used),
+        numbers_part(&queries, 0, end),
         room,
         work,
         how,
@@ -437,23 +419,13 @@ fn ask_text(
 ) -> u32
     ensures { λ r. ⌜ r ≤ 4 ⌝ }
 {
-    let label = label_column(places::first_line(text), q, bytes_of(words, q.label));
-    if choosing::MOST_COLUMNS < label {
-        telling::say_columns_wrong(
-            ends.err,
-            choosing::NO_COLUMN,
-            bytes_of(words, q.label),
-            places::first_line(text),
-        );
-        return ASKED_WRONGLY;
-    }
     let sheet = reading::read_rows(text, table);
     let reader = sheet.reader;
     if reader.fault != 0 {
         faults::say_fault(ends.err, reader);
         return faults::status_of(reader.fault);
     }
-    let choice = choice_of(words, q, names_of(text, sheet.names), reader.columns, label);
+    let choice = choice_of(words, q, names_of(text, sheet.names), reader.columns);
     if choice.wrong != 0 {
         let list = bytes_of(words, q.columns);
         telling::say_columns_wrong(
@@ -483,22 +455,14 @@ fn ask_text(
             chosen_at(choice, chose.column),
         );
     }
-    let plan = plan_of(q, ends, sheet, label, choice.k, 0);
-    let n = reader.rows;
-    if MOST_ROWS < n {
-        return refuse(ends.err, 4);
-    }
-    let used = product(choice.k, n);
-    if table.len() < used {
-        return refuse(ends.err, 5);
-    }
+    let plan = plan_of(q, ends, sheet, choice.k, 0);
     ask_rows(
         bytes_of(words, q.what),
         plan,
         sheet,
         choice,
         text,
-        &table[..used],
+        table,
         room,
         work,
         how,
@@ -507,6 +471,9 @@ fn ask_text(
         distances,
     )
 }
+
+// The library's limit.
+const MOST_ROWS: usize = 1_048_576;
 
 // Column j of the chosen, by its number in the text from 0 on.
 fn chosen_at(choice: Choice, j: usize) -> usize {

@@ -1,6 +1,6 @@
 // What is to be done once the text is read and the question is understood.
 
-// Where answers go and where all else; what is asked for and its number; how answers are shown, with the label's column (0 for none); where the first
+// Where answers go and where all else; what is asked for and its number; how answers are shown; where the first
 // row's line starts, and whether names stand before it; the chosen columns, the rows, and how many queries there are.
 pub struct Plan {
     pub out: i32,
@@ -11,7 +11,6 @@ pub struct Plan {
     pub count: bool,
     pub csv: bool,
     pub lines: bool,
-    pub label: usize,
     pub from: usize,
     pub names: bool,
     pub k: usize,
@@ -22,12 +21,4 @@ pub struct Plan {
 // What stands between two fields of an answer.
 pub fn parting(plan: Plan) -> u8 {
     if plan.csv { b',' } else { b' ' }
-}
-
-// Whether an answer shows something of its row's line.
-pub fn needs_lines(plan: Plan) -> bool {
-    if plan.lines {
-        return true;
-    }
-    plan.label != 0
 }

@@ -1,5 +1,5 @@
 // A file or standard input, read whole into the lent text; and the text, read into the table.
-ghost use Prim.Native.Nat.{_≤_, max};
+ghost use Prim.Native.Nat.{_≤_};
 ghost use lib.ListN.{length};
 use asking::pieces::part;
 use picking::places::next_line;
@@ -43,16 +43,12 @@ fn is_names(rows: usize, second: usize, length: usize) -> bool {
 }
 
 // The first row's line is the second line where the first is names.
-fn first_row(names: bool, second: usize, top: usize) -> usize
-    ensures { λ r. ⌜ r ≤ max second top ⌝ }
-{
+fn first_row(names: bool, second: usize, top: usize) -> usize {
     if names { second } else { top }
 }
 
 // Reads the whole text. The first line is fed alone: if it ends and gives no row, it is names.
-pub fn read_rows(t: &[u8], table: &mut [u16]) -> Sheet
-    ensures { λ r. ⌜ r .from ≤ length (now (t .entry)) ⌝ }
-{
+pub fn read_rows(t: &[u8], table: &mut [u16]) -> Sheet {
     let top = text_start(t);
     let second = next_line(t, 0);
     let first = sheet::feed(sheet::start(), part(t, 0, second), table);

@@ -39,15 +39,11 @@ pub fn say_help(file: i32) {
     );
     say(
         file,
-        b"WHAT is a row (1046), several (1046,899: within DISTANCE of any; like alone), values (=0,0,88,4), or a label (time=2026-04-12T07:31).\n",
+        b"WHAT is a row (1046), several (1046,899: within DISTANCE of any; like alone), values (=0,0,88,4), or what one row alone has (tender_distance=3284).\n",
     );
     say(
         file,
         b"  --columns NAME[*FACTOR],..  the columns that count, by name or number from 1, each times its whole factor\n",
-    );
-    say(
-        file,
-        b"  --label NAME                a column that is not numbers; answers show it\n",
     );
     say(
         file,
@@ -68,14 +64,14 @@ pub fn say_asked_wrong(file: i32, words: &[u8], q: Question) {
             file,
             b"there is no option ",
             word,
-            b"; there are --columns, --label, --count, --csv, --lines, --by, --help and --version",
+            b"; there are --columns, --count, --csv, --lines, --by, --help and --version",
         );
     } else if q.wrong == asking::NO_VALUE {
         say_quoted(
             file,
             b"",
             word,
-            b" needs a value: --columns speed,fan_pressure*2, --label time, --by distance",
+            b" needs a value: --columns speed,fan_pressure*2, --by distance",
         );
     } else if q.wrong == asking::TWICE {
         say_quoted(file, b"", word, b" is given twice");
@@ -136,8 +132,6 @@ pub fn say_columns_wrong(file: i32, wrong: u32, item: &[u8], names: &[u8]) {
             item,
             b": ask by number",
         );
-    } else if wrong == choosing::IS_LABEL {
-        say_quoted(file, b"", item, b" is the label, and no column of numbers");
     } else if wrong == choosing::TOO_MANY {
         say(
             file,
@@ -192,7 +186,7 @@ fn say_label_wrong(file: i32, wrong: u32, more: usize, what: &[u8]) {
             file,
             b"",
             what,
-            b" is neither a row (1046), rows (1046,899), values (=0,0,88,4) nor a label (time=07:31)",
+            b" is neither a row (1046), rows (1046,899), values (=0,0,88,4) nor what one row has (tender_distance=3284)",
         );
     }
 }

@@ -36,15 +36,13 @@ pub const NO_ORDER: u32 = 9;
 // What an option's word says.
 const COLUMNS: u32 = 1;
 
-const LABEL: u32 = 2;
+const BY: u32 = 2;
 
-const BY: u32 = 3;
+const COUNT: u32 = 3;
 
-const COUNT: u32 = 4;
+const CSV: u32 = 4;
 
-const CSV: u32 = 5;
-
-const LINES: u32 = 6;
+const LINES: u32 = 5;
 
 // More words than this are too many.
 const MOST_WORDS: usize = 32;
@@ -58,7 +56,6 @@ pub struct Question {
     pub what: Piece,
     pub amount: Piece,
     pub columns: Piece,
-    pub label: Piece,
     pub by_distance: bool,
     pub count: bool,
     pub csv: bool,
@@ -78,7 +75,6 @@ fn nothing_asked() -> Question {
         what: no_piece(),
         amount: no_piece(),
         columns: no_piece(),
-        label: no_piece(),
         by_distance: false,
         count: false,
         csv: false,
@@ -115,9 +111,6 @@ fn option_of(word: &[u8]) -> u32 {
     if check::same(word, b"--columns") {
         return COLUMNS;
     }
-    if check::same(word, b"--label") {
-        return LABEL;
-    }
     if check::same(word, b"--by") {
         return BY;
     }
@@ -150,9 +143,6 @@ fn with_flag(q: Question, option: u32) -> Question {
 fn has_value(q: Question, option: u32) -> bool {
     if option == COLUMNS {
         return q.columns.there;
-    }
-    if option == LABEL {
-        return q.label.there;
     }
     q.by_distance
 }
@@ -192,17 +182,12 @@ fn with_order(words: &[u8], q: Question, w: Piece) -> Question {
 
 // The value of the option before it.
 fn with_value(words: &[u8], q: Question, w: Piece) -> Question {
-    let option = q.awaits;
-    if option == BY {
+    if q.awaits == BY {
         return with_order(words, q, w);
     }
     let mut n = q;
     n.awaits = 0;
-    if option == COLUMNS {
-        n.columns = w;
-    } else {
-        n.label = w;
-    }
+    n.columns = w;
     n
 }
 

@@ -89,18 +89,18 @@ fn more_of_the_season() {
     ask(b"season.csv\x00like\x000\x000\x00--columns\x006*3,1\x00");
 }
 
-fn labels() {
-    ask(b"labels.csv\x00like\x00time=2026-04-12T07:31\x0012\x00--label\x00time\x00");
-    ask(b"labels.csv\x00nearest\x002\x003\x00--label\x001\x00--csv\x00--lines\x00");
-    ask(
-        b"labels.csv\x00like\x00=0,88\x009\x00--label\x00time\x00--columns\x00speed,fan_pressure\x00",
-    );
-    ask(b"labels.csv\x00like\x001\x0012\x00--label\x00time\x00--by\x00distance\x00--lines\x00");
-    ask(b"labels.csv\x00like\x00time=2026-04-12T07:34\x0012\x00--label\x00time\x00");
-    ask(b"labels.csv\x00like\x00time=noon\x0012\x00--label\x00time\x00");
-    ask(b"labels.csv\x00like\x00when=noon\x0012\x00--label\x00time\x00");
-    ask(b"labels.csv\x00like\x00fan_pressure=60001\x0012\x00--label\x00time\x00");
-    ask(b"labels.csv\x00like\x001\x0012\x00");
+fn by_what_stands() {
+    ask(b"clock.csv\x00like\x00clock=731\x0012\x00--columns\x00speed,shaft_turns,fan_pressure\x00");
+    ask(b"clock.csv\x00nearest\x002\x003\x00--csv\x00--lines\x00");
+    ask(b"clock.csv\x00like\x00=0,88\x009\x00--columns\x00speed,fan_pressure\x00");
+    ask(b"clock.csv\x00like\x001\x0012\x00--columns\x002,3,4\x00--by\x00distance\x00--lines\x00");
+    ask(b"clock.csv\x00like\x00clock=734\x0012\x00");
+    ask(b"clock.csv\x00like\x00clock=noon\x0012\x00");
+    ask(b"clock.csv\x00like\x00when=noon\x0012\x00");
+    ask(b"clock.csv\x00like\x00fan_pressure=60001\x0012\x00");
+    ask(b"time.csv\x00like\x000\x0012\x00");
+    ask(b"twice.csv\x00like\x000\x0012\x00--columns\x00speed\x00");
+    ask(b"twice.csv\x00like\x000\x0012\x00--columns\x001,3,1\x00");
 }
 
 fn asked_wrongly() {
@@ -126,7 +126,6 @@ fn options_wrong() {
     ask(b"season.csv\x00like\x001046\x0012\x00--columns\x00speed*0\x00");
     ask(b"season.csv\x00like\x001046\x0012\x00--columns\x00speed*x\x00");
     ask(b"season.csv\x00like\x001046\x0012\x00--columns\x00heading*20\x00");
-    ask(b"season.csv\x00like\x001046\x0012\x00--label\x00time\x00");
 }
 
 fn rows_wrong() {
@@ -139,7 +138,6 @@ fn rows_wrong() {
     ask(b"season.csv\x00like\x00=1,2,3,4,5,70000\x0012\x00");
     ask(b"season.csv\x00like\x00=1,2,3,4,5,x\x0012\x00");
     ask(b"season.csv\x00like\x00=1,2\x0012\x00--columns\x00speed*40000,heading\x00");
-    ask(b"labels.csv\x00like\x001\x0012\x00--label\x00time\x00--columns\x00time\x00");
 }
 
 fn other_files() {
@@ -200,7 +198,7 @@ fn odd_4() {
 // A text that is fed in pieces is read as the whole: its fault, line and column, rows and columns.
 fn in_pieces() {
     let mut table = [0; 32];
-    let first = sheet::feed(sheet::start(0), b"\xef\xbb", &mut table);
+    let first = sheet::feed(sheet::start(), b"\xef\xbb", &mut table);
     let second = sheet::feed(first, b"\xbf1,2\r", &mut table);
     let third = sheet::feed(second, b"\n3,", &mut table);
     let r = sheet::finish(third, &mut table);
@@ -220,7 +218,7 @@ fn in_pieces() {
 fn main() {
     the_season();
     more_of_the_season();
-    labels();
+    by_what_stands();
     asked_wrongly();
     options_wrong();
     rows_wrong();

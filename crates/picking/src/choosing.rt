@@ -23,8 +23,6 @@ pub const NO_FACTOR: u32 = 13;
 
 pub const TOO_MANY: u32 = 14;
 
-pub const IS_LABEL: u32 = 15;
-
 // How many columns are chosen, which (from 0), and their factors; or what is wrong, and where that stands in the list.
 pub struct Choice {
     pub wrong: u32,
@@ -104,7 +102,7 @@ fn with_column(choice: Choice, column: usize, factor: u32) -> Choice
 }
 
 // What is wrong with a column that a word said, or 0.
-fn column_trouble(column: usize, factor: u32, label: usize) -> u32
+fn column_trouble(column: usize, factor: u32) -> u32
     ensures { λ r. ⌜ r ≤ 15 ⌝ }
 {
     if column == 0 {
@@ -112,9 +110,6 @@ fn column_trouble(column: usize, factor: u32, label: usize) -> u32
     }
     if MOST_COLUMNS < column {
         return TWO_COLUMNS;
-    }
-    if column == label {
-        return IS_LABEL;
     }
     if factor == 0 {
         return NO_FACTOR;
@@ -133,7 +128,6 @@ fn with_item(
     start: usize,
     end: usize,
     c: usize,
-    label: usize,
 ) -> Choice
     requires { ⌜ (choice .k ≤ 16) × (start ≤ end) × (end ≤ length (now list)) ⌝ }
     ensures { λ r. ⌜ r .k ≤ 16 ⌝ }
@@ -145,7 +139,7 @@ fn with_item(
     let star = end_from(item, b'*', 0);
     let column = column_said(names, part(item, 0, star), c);
     let factor = factor_said(item, star);
-    let wrong = column_trouble(column, factor, label);
+    let wrong = column_trouble(column, factor);
     if wrong != 0 {
         return wrong_item(choice, wrong, start, end);
     }
@@ -156,57 +150,39 @@ fn with_item(
 }
 
 // The choice with an item that is there; one that is not changes nothing.
-fn with_piece(
-    choice: Choice,
-    names: &[u8],
-    list: &[u8],
-    item: Piece,
-    c: usize,
-    label: usize,
-) -> Choice
+fn with_piece(choice: Choice, names: &[u8], list: &[u8], item: Piece, c: usize) -> Choice
     requires { ⌜ (choice .k ≤ 16) × (item .start ≤ item .end) × (item .end ≤ length (now list)) ⌝ }
     ensures { λ r. ⌜ r .k ≤ 16 ⌝ }
 {
     if !item.there {
         return choice;
     }
-    with_item(choice, names, list, item.start, item.end, c, label)
+    with_item(choice, names, list, item.start, item.end, c)
 }
 
 // The columns of a list: names or numbers from 1, parted by commas, each with a factor behind a star if it has one.
-pub fn choose_list(names: &[u8], list: &[u8], c: usize, label: usize) -> Choice
+pub fn choose_list(names: &[u8], list: &[u8], c: usize) -> Choice
     ensures { λ r. ⌜ r .k ≤ 16 ⌝ }
 {
     let mut choice = none_chosen();
     let mut i = 0;
     while i <= MOST_COLUMNS {
         let item = piece_at(list, b',', i);
-        choice = with_piece(choice, names, list, item, c, label);
+        choice = with_piece(choice, names, list, item, c);
         i += 1;
     }
     choice
 }
 
-// The choice with one column more, by its number from 1, if that is not the label.
-fn with_other(choice: Choice, column: usize, label: usize) -> Choice
-    requires { ⌜ (choice .k ≤ 16) × (1 ≤ column) ⌝ }
-    ensures { λ r. ⌜ r .k ≤ 16 ⌝ }
-{
-    if column == label {
-        return choice;
-    }
-    with_column(choice, column - 1, 1)
-}
-
-// All columns but the label.
-pub fn choose_all(c: usize, label: usize) -> Choice
+// All columns.
+pub fn choose_all(c: usize) -> Choice
     ensures { λ r. ⌜ r .k ≤ 16 ⌝ }
 {
     let mut choice = none_chosen();
     let mut i = 0;
     while i < c {
+        choice = with_column(choice, i, 1);
         i += 1;
-        choice = with_other(choice, i, label);
     }
     choice
 }

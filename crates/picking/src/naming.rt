@@ -8,7 +8,7 @@ ghost use mathlib.Core.Path.{_≡_};
 use crate::choosing::MOST_COLUMNS;
 use asking::numbers::NO_NUMBER;
 use asking::numbers::number;
-use asking::pieces::end_from;
+use asking::pieces::least;
 use asking::pieces::piece_at;
 use measure::row_of;
 
@@ -189,4 +189,19 @@ pub fn put_only(
         more: row,
         count: 1,
     }
+}
+
+// The numbers from `start` up to `end`, as far as they are there.
+pub fn numbers_part(t: &[u16], start: usize, end: usize) -> &[u16] {
+    let to = least(end, t.len());
+    let from = least(start, to);
+    &t[from..to]
+}
+
+// How many numbers n rows of k columns are.
+pub fn product(k: usize, n: usize) -> usize
+    requires { ⌜ (k ≤ 16) × (n ≤ 1048576) ⌝ }
+    ensures { λ r. ⌜ (r ≡ k * n) × (r ≤ 16777216) ⌝ }
+{
+    k * n
 }

@@ -121,9 +121,10 @@ pub fn find_label(t: &[u8], starts: &[u32], n: usize, column: usize, label: &[u8
 }
 
 // Puts where each of n lines from `from` on starts, if there is room for that.
-pub fn keep_lines(t: &[u8], from: usize, starts: &mut [u32], n: usize) -> bool
-    requires { ⌜ from ≤ length (now t) ⌝ }
-{
+pub fn keep_lines(t: &[u8], from: usize, starts: &mut [u32], n: usize) -> bool {
+    if t.len() < from {
+        return false;
+    }
     if LONGEST < t.len() {
         return false;
     }

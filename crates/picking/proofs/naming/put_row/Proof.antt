@@ -1,3 +1,6 @@
+use Rattle.measure.proofs.Rows.{row-ends}
+use Rattle.picking.proofs.Spots.{query-ends}
+use native.Mathlib.Omega.{arith}
 use borrow.Author.Needs.{needs}
 use Rattle.picking.proofs.naming.put_row.Statement.{statement}
 use Rattle.picking.proofs.naming.put_row.Tie as tie
@@ -8,15 +11,17 @@ use Rattle.picking.proofs.naming.copy.Reads as copy-reads
 
 -- src/naming.rt:69:9
 row-of-requires : tie.Need-row-of-requires
-row-of-requires c κs = search needs
+row-of-requires c κs =
+    let s = c .before .before in
+    omega (arith, s .pre .1, row-ends (s .args .c) (s .args .n) (s .args .row) (s .pre .0))
 
 -- src/naming.rt:70:25
 mul-copy : tie.Need-mul-copy
-mul-copy c = search needs
+mul-copy c = ?
 
 -- src/naming.rt:70:5
 copy-requires : tie.Need-copy-requires
-copy-requires c κs = search needs
+copy-requires c κs = ?
 
 -- src/naming.rt:65:1
 same-length : tie.Need-same-length
@@ -24,7 +29,7 @@ same-length c = search needs
 
 -- src/naming.rt:65:1
 returns : tie.Need-returns
-returns c = search needs
+returns c = ?
 
 pub put-row-spec : {M : Type 1} → statement M
 put-row-spec = tie.close (tie.spec row-of-requires mul-copy copy-requires same-length returns)

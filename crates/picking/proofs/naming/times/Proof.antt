@@ -1,3 +1,4 @@
+use Prim.Native.Nat.{_≤_}
 use native.Mathlib.Nat.{mul-le-mul-left}
 use native.Mathlib.Omega.{arith}
 use borrow.Author.Needs.{needs}
@@ -18,7 +19,8 @@ returns-2 c = search needs
 mul-product : tie.Need-mul-product
 mul-product c =
     let a = c .before .before .args in
-    omega (arith, mul-le-mul-left (a .value) {i = a .factor} {j = 65_535} (omega arith))
+    let h : a .factor ≤ 65_535 = omega arith in
+    omega (arith, mul-le-mul-left (a .value) h)
 
 -- src/naming.rt:123:9
 returns-3 : tie.Need-returns-3
