@@ -1,4 +1,3 @@
-pub mod Giving
 pub mod Calls
 pub mod Ranked
 pub mod Cases
