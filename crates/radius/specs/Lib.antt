@@ -1,6 +1,3 @@
-pub mod Written
 pub mod Once
-pub mod Lent
-pub mod Descent
 pub mod Calls
 pub mod Cases
