@@ -10,8 +10,8 @@ use Rattle.limits.specs.Limits.{maxRows}
 use Rattle.measure.proofs.Rows.{row-ends}
 use Rattle.measure.specs.Table.{from, row, rowsOf}
 use Rattle.radius.proofs.How.{written-is, written-length}
-use Rattle.radius.specs.Lent.{Lent}
-use Rattle.radius.specs.Written.{write}
+use Rattle.marking.specs.Lent.{Lent}
+use Rattle.marking.specs.Written.{write}
 use Rattle.tree.specs.Grove.{treeOf}
 use Rattle.tree.specs.Nearest.{isMeasured, measured}
 use Rattle.tree.specs.Radius.{marks as marksOf}

@@ -3,7 +3,7 @@ use Prim.Native.Nat.{_%_, _*_, _/_, _≤_, suc, zero, ℕ}
 use Rattle.laws.specs.Upto.{sumTo}
 use Rattle.limits.specs.Limits.{maxColumns, maxRows, within}
 use Rattle.measure.specs.Table.{from, row, rowsOf}
-use Rattle.radius.specs.Written.{write}
+use Rattle.marking.specs.Written.{write}
 use Rattle.tree.specs.Grove.{treeOf}
 use Rattle.tree.specs.Nearest.{measured}
 use Rattle.tree.specs.Radius.{marks}
