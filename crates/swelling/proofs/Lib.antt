@@ -1,3 +1,5 @@
 pub mod Parting
 pub mod Swelling
 pub mod Swollen
+pub mod Agreeing
+pub mod Turns
