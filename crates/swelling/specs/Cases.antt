@@ -31,16 +31,21 @@ pub data Case : Type 0 where
 abbrev pub atOnce : List ℕ → List ℕ → List ℕ
 atOnce T w = encode 2 1 (m# w) (l# w) (swollenTree (between T 1) (m# w) (l# w) (range (n# w) (rowsOf T 1 - n# w)) (treeOf w))
 
+-- the index of a table that is built
+unfoldable pub base : List ℕ → List ℕ
+unfolding sumTo l1 between treeAt treeOf family broods levelNodes nodes numbered encode choose split grow build
+base us = build us 1 2 2 2
+
 -- a case comes out as it says
 unfoldable pub right : Case → Bool
-unfolding sumTo l1 between treeAt treeOf family broods levelNodes nodes numbered encode choose split grow build appended join lodge lowestAt joins appendedRows inTurn parts swell lodges swollen
+unfolding base appended join lodge lowestAt joins appendedRows inTurn parts swell lodges swollen
 right (built us vs w) =
-    let old = build us 1 2 2 2 in
+    let old = base us in
     same (appendedRows (us ++ vs) 1 old) w && same (inTurn (us ++ vs) 1 (length vs) old) w && same (atOnce (us ++ vs) old) w
-right (begun vs w) = let old = build [] 1 2 2 2 in same (appendedRows vs 1 old) w && same (inTurn vs 1 (length vs) old) w
+right (begun vs w) = let old = base [] in same (appendedRows vs 1 old) w && same (inTurn vs 1 (length vs) old) w
 right (order us vs is N) =
-    let w = atOnce (us ++ vs) (build us 1 2 2 2) in
-    same (map (row# w) (range 0 (n# w))) is && eqb (N# w) N && same (appendedRows (us ++ vs) 1 (build us 1 2 2 2)) w
+    let w = atOnce (us ++ vs) (base us) in
+    same (map (row# w) (range 0 (n# w))) is && eqb (N# w) N && same (appendedRows (us ++ vs) 1 (base us)) w
 right (given T w w′) = same (appendedRows T 1 w) w′ && same (atOnce T w) w′
 
 -- rows for several leaves
@@ -71,6 +76,17 @@ several =
     ∷ 0 ∷ 2 ∷ 0 ∷ 1 ∷ 1
     ∷ 2 ∷ 1 ∷ 0 ∷ 0 ∷ 0
     ∷ 0 ∷ 0 ∷ 1 ∷ 1 ∷ 6 ∷ 0 ∷ 2 ∷ 0 ∷ 4 ∷ 0 ∷ 5 ∷ 5 ∷ 3 ∷ 0 ∷ 7 ∷ 0 ∷ []
+    )
+    ∷ built five (9 ∷ 6 ∷ []) (
+    2 ∷ 7 ∷ 1 ∷ 2 ∷ 2 ∷ 7 ∷ 1 ∷ 0
+    ∷ 0 ∷ 7 ∷ 1 ∷ 20 ∷ 1
+    ∷ 0 ∷ 5 ∷ 3 ∷ 10 ∷ 1
+    ∷ 5 ∷ 2 ∷ 0 ∷ 9 ∷ 9
+    ∷ 0 ∷ 2 ∷ 0 ∷ 1 ∷ 1
+    ∷ 2 ∷ 3 ∷ 5 ∷ 4 ∷ 1
+    ∷ 2 ∷ 2 ∷ 0 ∷ 1 ∷ 1
+    ∷ 4 ∷ 1 ∷ 0 ∷ 0 ∷ 0
+    ∷ 0 ∷ 0 ∷ 1 ∷ 1 ∷ 2 ∷ 0 ∷ 5 ∷ 1 ∷ 6 ∷ 0 ∷ 4 ∷ 0 ∷ 3 ∷ 9 ∷ []
     )
     ∷ []
 
@@ -176,4 +192,6 @@ unbuilt =
 
 -- equal rows down to depth 24, and three more
 abbrev pub deepest : Case
-deepest = order (map (λ i. 7) (range 0 26)) (7 ∷ 7 ∷ 6 ∷ []) (0 ∷ 25 ∷ 26 ∷ 27 ∷ 28 ∷ 24 ∷ 23 ∷ 22 ∷ 21 ∷ 20 ∷ 19 ∷ 18 ∷ 17 ∷ 16 ∷ 15 ∷ 14 ∷ 13 ∷ 12 ∷ 11 ∷ 10 ∷ 9 ∷ 8 ∷ 7 ∷ 6 ∷ 5 ∷ 4 ∷ 3 ∷ 2 ∷ 1 ∷ []) 49
+deepest = order (map (λ i. 7) (range 0 26)) (7 ∷ 7 ∷ 6 ∷ []) (
+    0 ∷ 25 ∷ 26 ∷ 27 ∷ 28 ∷ 24 ∷ 23 ∷ 22 ∷ 21 ∷ 20 ∷ 19 ∷ 18 ∷ 17 ∷ 16 ∷ 15 ∷ 14 ∷ 13 ∷ 12 ∷ 11 ∷ 10 ∷ 9 ∷ 8 ∷ 7 ∷ 6 ∷ 5 ∷ 4 ∷ 3 ∷ 2 ∷ 1 ∷ []
+    ) 49
