@@ -1,3 +1,4 @@
+pub mod Numbers
 pub mod Once
 pub mod Calls
 pub mod Cases

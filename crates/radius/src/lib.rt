@@ -1,6 +1,6 @@
 // The radius call: what is refused, the search, and its counts.
 ghost use Rattle.radius.specs.Calls.{Searched};
-ghost use Rattle.tree.specs.Calls.{saidRadius};
+ghost use Rattle.radius.specs.Numbers.{saidRadius};
 ghost use mathlib.Core.Path.{_≡_};
 use descent::search;
 use tree::how::tally;
