@@ -1,8 +1,8 @@
--- `audit::nearness::firsts` meets its contract: after i turns the first i places hold the firsts. The measure is what is left of the nodes.
+-- `nearness::firsts` meets its contract: after i turns the first i places hold the firsts. The measure is what is left of the nodes.
 -- Assumes nothing.
 use Prim.Native.Nat.{_+_, _-_, _≤_, ℕ}
-use Rattle.audit.proofs.nearness.firsts.Statement.{statement}
-use Rattle.audit.proofs.nearness.firsts.Tie as tie
+use Rattle.nearness.proofs.firsts.Statement.{statement}
+use Rattle.nearness.proofs.firsts.Tie as tie
 use Rattle.laws.proofs.Gathered.{Holds, holds-more}
 use Rattle.words.specs.Words.{first#, m#, n#}
 use borrow.Author.Needs.{needs}

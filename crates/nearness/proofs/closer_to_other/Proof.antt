@@ -1,10 +1,10 @@
--- `audit::nearness::closer_to_other` meets its contract: no centre passed is closer. The measure is what is left of the centres.
+-- `nearness::closer_to_other` meets its contract: no centre passed is closer. The measure is what is left of the centres.
 -- Assumes nothing.
 use Prim.Native.Nat.{_+_, _-_, _≤_, ℕ}
-use Rattle.audit.proofs.Strays.{closer-is}
-use Rattle.audit.proofs.nearness.closer_to_other.Statement.{statement}
-use Rattle.audit.proofs.nearness.closer_to_other.Tie as tie
-use Rattle.audit.specs.Passes.{closer}
+use Rattle.nearness.proofs.Strays.{closer-is}
+use Rattle.nearness.proofs.closer_to_other.Statement.{statement}
+use Rattle.nearness.proofs.closer_to_other.Tie as tie
+use Rattle.nearness.specs.Strays.{closer}
 use Rattle.laws.proofs.First.{any-first, any-lost, search-on, search-start, search-stop}
 use Rattle.laws.specs.First.{First}
 use Rattle.measure.specs.Table.{between}

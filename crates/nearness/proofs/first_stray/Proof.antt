@@ -1,12 +1,12 @@
--- `audit::nearness::first_stray` meets its contract: `low` is the lowest position in the children passed that is closer to another centre.
+-- `nearness::first_stray` meets its contract: `low` is the lowest position in the children passed that is closer to another centre.
 -- The measure is what is left of the children.
 -- Assumes nothing.
 use Prim.Native.Nat.{_-_, _≤_, ℕ}
-use Rattle.audit.proofs.Pairing.{inner-no, inner-yes}
-use Rattle.audit.proofs.Strays.{near-done, near-leaf, near-more, near-start, straysTo}
-use Rattle.audit.proofs.nearness.first_stray.Statement.{statement}
-use Rattle.audit.proofs.nearness.first_stray.Tie as tie
-use Rattle.audit.specs.Passes.{FirstIn, Firsts}
+use Rattle.reach.proofs.Pairing.{inner-no, inner-yes}
+use Rattle.nearness.proofs.Strays.{near-done, near-leaf, near-more, near-start, straysTo}
+use Rattle.nearness.proofs.first_stray.Statement.{statement}
+use Rattle.nearness.proofs.first_stray.Tie as tie
+use Rattle.nearness.specs.Strays.{FirstIn, Firsts}
 use Rattle.measure.specs.Table.{between}
 use Rattle.words.specs.Shape.{inner}
 use Rattle.words.specs.Words.{m#}

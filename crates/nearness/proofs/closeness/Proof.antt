@@ -1,11 +1,11 @@
--- `audit::nearness::closeness` meets its contract: the first fault of the nodes left is the first of all. The measure is what is left of
+-- `nearness::closeness` meets its contract: the first fault of the nodes left is the first of all. The measure is what is left of
 -- the nodes.
 -- Assumes nothing.
 use Prim.Native.Nat.{_-_, _≤_, ℕ}
-use Rattle.audit.proofs.Strays.{nodes-on, nodes-over, nodes-start, nodes-stop, saidFrom}
-use Rattle.audit.proofs.nearness.closeness.Statement.{statement}
-use Rattle.audit.proofs.nearness.closeness.Tie as tie
-use Rattle.audit.specs.Passes.{allStrays}
+use Rattle.nearness.proofs.Strays.{nodes-on, nodes-over, nodes-start, nodes-stop, saidFrom}
+use Rattle.nearness.proofs.closeness.Statement.{statement}
+use Rattle.nearness.proofs.closeness.Tie as tie
+use Rattle.nearness.specs.Strays.{allStrays}
 use Rattle.limits.specs.Said.{said}
 use Rattle.measure.specs.Table.{between}
 use Rattle.words.specs.Words.{N#}

@@ -1,27 +1,33 @@
-// 13: a row is closer to the centre of another child.
+// 13 of the full check: a member is closer to the centre of another child of its node.
 ghost use Prim.Native.Nat.{_+_, _<_, _≤_};
-ghost use Rattle.audit.specs.Passes.{FirstIn, Firsts, allStrays, closer, kidStrays, told};
 ghost use Rattle.laws.specs.Lists.{any, range};
 ghost use Rattle.limits.specs.Said.{said};
 ghost use Rattle.measure.specs.Table.{between};
-ghost use Rattle.reach.specs.Runs.{Paired};
+ghost use Rattle.nearness.specs.Strays.{FirstIn, Firsts, allStrays, closer, kidStrays, told};
 ghost use Rattle.tree.specs.Check.{strays};
+ghost use Rattle.tree.specs.Tested.{Tested};
 ghost use Rattle.words.specs.InShape.{InShape};
 ghost use Rattle.words.specs.Shape.{inner};
 ghost use Rattle.words.specs.Words.{N#, child#, m#, n#, row#};
 ghost use lib.Dec.{ltb};
 ghost use mathlib.Core.Bool.{true};
 ghost use mathlib.Core.Path.{_≡_};
-use crate::Checked;
-use crate::lesser;
 use limits::Params;
 use reach::apart;
+use reach::lesser;
 use reach::node_end;
 use words::places::centres;
 use words::places::node_child;
 use words::places::node_first;
 use words::places::node_start;
 use words::places::nodes;
+
+// 13 with the lowest node that has a member closer to another centre and the lowest such position there, or zeros.
+pub struct Stray {
+    pub number: u32,
+    pub node: usize,
+    pub position: usize,
+}
 
 // The firsts of the m nodes from number `child` on.
 fn firsts(index: &[u32], child: usize) -> [usize; Params::MOST_CENTRES]
@@ -42,7 +48,7 @@ fn firsts(index: &[u32], child: usize) -> [usize; Params::MOST_CENTRES]
 
 // The row at p is closer to row f than to row g, from which it is x away. Row g is not measured again.
 fn is_closer(table: &[u16], c: usize, index: &[u32], f: usize, g: usize, x: u32, p: usize) -> bool
-    requires { ⌜ Paired (now table) c (now index) ⌝ }
+    requires { ⌜ Tested (now index) (now table) c ⌝ }
     requires { ⌜ (f < n# (now index)) × (p < n# (now index)) × (x ≡ between (now table) c g (row# (now index) p)) ⌝ }
     ensures { λ r. ⌜ r ≡ ltb (between (now (table .entry)) c f (row# (now (index .entry)) p)) x ⌝ }
 {
@@ -63,7 +69,7 @@ fn closer_to_other(
     x: u32,
     p: usize,
 ) -> bool
-    requires { ⌜ Paired (now table) c (now index) ⌝ }
+    requires { ⌜ Tested (now index) (now table) c ⌝ }
     requires { ⌜ Firsts (now index) child (now fs) × (p < n# (now index)) × (x ≡ between (now table) c g (row# (now index) p)) ⌝ }
     ensures { λ r. ⌜ r ≡ any (closer (between (now (table .entry)) c) (now (index .entry)) p x) (range child (m# (now (index .entry)))) ⌝ }
 {
@@ -88,7 +94,7 @@ fn child_stray(
     k: usize,
     a: usize,
 ) -> usize
-    requires { ⌜ Paired (now table) c (now index) ⌝ }
+    requires { ⌜ Tested (now index) (now table) c ⌝ }
     requires { ⌜ (k < N# (now index)) × (inner (now index) k ≡ true) × (a < m# (now index)) × Firsts (now index) (child# (now index) k) (now fs) ⌝ }
     ensures { λ r. ⌜ FirstIn (now (index .entry)) k (kidStrays (between (now (table .entry)) c) (now (index .entry)) k (child# (now (index .entry)) k + a))
         r ⌝ }
@@ -110,7 +116,7 @@ fn child_stray(
 
 // In node k: the lowest position whose row is closer to another child's centre, or the end of its run.
 fn first_stray(table: &[u16], c: usize, index: &[u32], k: usize) -> usize
-    requires { ⌜ Paired (now table) c (now index) ⌝ }
+    requires { ⌜ Tested (now index) (now table) c ⌝ }
     requires { ⌜ k < N# (now index) ⌝ }
     ensures { λ r. ⌜ FirstIn (now (index .entry)) k (strays (between (now (table .entry)) c) (now (index .entry)) k) r ⌝ }
 {
@@ -129,9 +135,9 @@ fn first_stray(table: &[u16], c: usize, index: &[u32], k: usize) -> usize
     low
 }
 
-// 13 with the lowest node that has such a row and the lowest position there, or 0.
-pub fn closeness(table: &[u16], c: usize, index: &[u32]) -> Checked
-    requires { ⌜ Paired (now table) c (now index) ⌝ }
+// The first member that is closer to another centre: by node, then by position.
+pub fn closeness(table: &[u16], c: usize, index: &[u32]) -> Stray
+    requires { ⌜ Tested (now index) (now table) c ⌝ }
     ensures { λ r. ⌜ told r ≡ said (allStrays (between (now (table .entry)) c) (now (index .entry))) ⌝ }
 {
     let total = nodes(index);
@@ -139,17 +145,17 @@ pub fn closeness(table: &[u16], c: usize, index: &[u32]) -> Checked
     while k < total {
         let p = first_stray(table, c, index, k);
         if p < node_end(index, k) {
-            return Checked {
+            return Stray {
                 number: 13,
-                place: k,
-                second: p,
+                node: k,
+                position: p,
             };
         }
         k += 1;
     }
-    Checked {
+    Stray {
         number: 0,
-        place: 0,
-        second: 0,
+        node: 0,
+        position: 0,
     }
 }

@@ -1,6 +1,6 @@
 -- Searches of nodes' runs: of one run, and of one node's run more. Assumes nothing.
 use Prim.Native.Nat.{_+_, _<_, _≤_, min, ℕ}
-use Rattle.audit.proofs.Pairing.{no-more, not-yet}
+use Rattle.reach.proofs.Pairing.{no-more, not-yet}
 use Rattle.laws.proofs.First.{any-more, first-found, first-lost, first-or, first-same, search-stop}
 use Rattle.laws.specs.First.{First}
 use Rattle.laws.specs.Lists.{any, range}

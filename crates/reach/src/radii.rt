@@ -1,20 +1,20 @@
-// 12: a radius or an inner reach is wrong.
+// 12 of the full check: a radius or an inner reach is wrong.
 ghost use Prim.Native.Nat.{_<_};
 ghost use Rattle.laws.specs.First.{First};
 ghost use Rattle.measure.specs.Table.{between};
-ghost use Rattle.reach.specs.Runs.{Paired};
 ghost use Rattle.tree.specs.Check.{wrongReach};
-ghost use Rattle.words.specs.Words.{N#, edition#};
+ghost use Rattle.tree.specs.Tested.{Tested};
+ghost use Rattle.words.specs.Words.{N#};
 ghost use mathlib.Core.Path.{_≡_};
-use reach::reaches;
+use crate::reaches;
 use words::places::node_inner;
 use words::places::node_radius;
 use words::places::nodes;
 
 // Node k's radius is wrong, or its inner reach.
 fn wrong_reach(table: &[u16], c: usize, index: &[u32], k: usize) -> bool
-    requires { ⌜ Paired (now table) c (now index) ⌝ }
-    requires { ⌜ (k < N# (now index)) × (edition# (now index) ≡ 2) ⌝ }
+    requires { ⌜ Tested (now index) (now table) c ⌝ }
+    requires { ⌜ k < N# (now index) ⌝ }
     ensures { λ r. ⌜ r ≡ wrongReach (between (now (table .entry)) c) (now (index .entry)) k ⌝ }
 {
     let found = reaches(table, c, index, k);
@@ -26,8 +26,7 @@ fn wrong_reach(table: &[u16], c: usize, index: &[u32], k: usize) -> bool
 
 // The lowest node with a wrong radius or a wrong inner reach, or the number of nodes.
 pub fn first_wrong_reach(table: &[u16], c: usize, index: &[u32]) -> usize
-    requires { ⌜ Paired (now table) c (now index) ⌝ }
-    requires { ⌜ edition# (now index) ≡ 2 ⌝ }
+    requires { ⌜ Tested (now index) (now table) c ⌝ }
     ensures { λ r. ⌜ First (wrongReach (between (now (table .entry)) c) (now (index .entry))) 0 (N# (now (index .entry))) r ⌝ }
 {
     let total = nodes(index);

@@ -1,7 +1,7 @@
 -- The pass for 13: in each node, child by child, the least of the firsts. Assumes nothing.
 use Prim.Native.Nat.{_+_, _-_, _<_, _≤_, min, ℕ}
-use Rattle.audit.proofs.Searches.{least-more, run-end, run-stop}
-use Rattle.audit.specs.Passes.{FirstIn, allStrays, closer, kidStrays, nodeStrays}
+use Rattle.reach.proofs.Searches.{least-more, run-end, run-stop}
+use Rattle.nearness.specs.Strays.{FirstIn, allStrays, closer, kidStrays, nodeStrays}
 use Rattle.laws.proofs.First.{first-at-end, first-empty, first-kept, first-none, first-same, range-on, range-over, search-on}
 use Rattle.laws.specs.First.{First}
 use Rattle.laws.specs.Lists.{any, each, keep, range}

@@ -1,8 +1,8 @@
--- `audit::nearness::is_closer` meets its contract: the row is no closer to g than it is, and any other row is measured.
+-- `nearness::is_closer` meets its contract: the row is no closer to g than it is, and any other row is measured.
 -- Assumes nothing.
-use Rattle.audit.proofs.Strays.{closer-own}
-use Rattle.audit.proofs.nearness.is_closer.Statement.{statement}
-use Rattle.audit.proofs.nearness.is_closer.Tie as tie
+use Rattle.nearness.proofs.Strays.{closer-own}
+use Rattle.nearness.proofs.is_closer.Statement.{statement}
+use Rattle.nearness.proofs.is_closer.Tie as tie
 use Rattle.measure.specs.Table.{between}
 
 returns : tie.Need-returns

@@ -1,8 +1,8 @@
--- `audit::radii::first_wrong_reach` meets its contract: no node passed has a wrong reach. The measure is what is left of the nodes.
+-- `reach::radii::first_wrong_reach` meets its contract: no node passed has a wrong reach. The measure is what is left of the nodes.
 -- Assumes nothing.
 use Prim.Native.Nat.{_-_, _≤_}
-use Rattle.audit.proofs.radii.first_wrong_reach.Statement.{statement}
-use Rattle.audit.proofs.radii.first_wrong_reach.Tie as tie
+use Rattle.reach.proofs.radii.first_wrong_reach.Statement.{statement}
+use Rattle.reach.proofs.radii.first_wrong_reach.Tie as tie
 use Rattle.laws.proofs.First.{search-end, search-on, search-start, search-stop}
 use Rattle.laws.specs.First.{First}
 use Rattle.measure.specs.Table.{between}

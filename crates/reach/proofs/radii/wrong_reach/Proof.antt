@@ -1,9 +1,9 @@
--- `audit::radii::wrong_reach` meets its contract: the radius, and the inner reach.
+-- `reach::radii::wrong_reach` meets its contract: the radius, and the inner reach.
 -- Assumes nothing.
 use Prim.Native.Nat.{ℕ}
-use Rattle.audit.proofs.Farthest.{reach-far, reach-near}
-use Rattle.audit.proofs.radii.wrong_reach.Statement.{statement}
-use Rattle.audit.proofs.radii.wrong_reach.Tie as tie
+use Rattle.reach.proofs.Wrong.{reach-far, reach-near}
+use Rattle.reach.proofs.radii.wrong_reach.Statement.{statement}
+use Rattle.reach.proofs.radii.wrong_reach.Tie as tie
 use Rattle.measure.specs.Table.{between}
 use borrow.Author.Needs.{needs}
 use native.Mathlib.Omega.{arith}
@@ -32,7 +32,7 @@ returns-2 c =
     let b = i .before in
     let r = passed b in
     let s = start r in
-    reach-near (dist s) (s .args .index .now) (s .args .k) (r .reaches .ensures) (b .before .before .node-radius .ensures) (omega arith) (s .pre .1 .1)
+    reach-near (dist s) (s .args .index .now) (s .args .k) (r .reaches .ensures) (b .before .before .node-radius .ensures) (omega arith) (s .pre .0 .edition)
     (i .node-inner .ensures)
 
 pub wrong-reach-spec : {M : Type 1} → statement M
