@@ -8,8 +8,8 @@ use Rattle.limits.proofs.Sized.{Sized, sized, table-numbered}
 use Rattle.limits.specs.Said.{Said, fault, said, tableFaults}
 use Rattle.measure.specs.Table.{rowsOf}
 use Rattle.build.specs.Numbers.{roomOf}
-use Rattle.words.proofs.Index.{index-tests}
-use Rattle.words.specs.Calls.{indexFaults}
+use Rattle.words.proofs.Indexes.{index-tests}
+use Rattle.words.specs.Index.{indexFaults}
 use Rattle.words.specs.Shape.{shapeOk}
 use Rattle.words.specs.Words.{c#, n#, wordsOk}
 use borrow.Author.Tests.{eq-eqb, eqb-false, eqb-true, ltb-false, ne-eqb}

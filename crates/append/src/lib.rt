@@ -19,7 +19,7 @@ use limits::table_number;
 use refill::refill;
 use regrow::Growth;
 use split::groups::WIDTH;
-use words::listing::index_number;
+use words::index::index_number;
 use words::places::HEADER;
 use words::places::centres;
 use words::places::leaf_size;

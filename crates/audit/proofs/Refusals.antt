@@ -8,8 +8,8 @@ use Rattle.limits.proofs.Sized.{Sized, sized, sized-none, table-early, table-nu
 use Rattle.limits.specs.Said.{Said, fault, said, tableFaults}
 use Rattle.measure.specs.Table.{rowsOf}
 use Rattle.reach.specs.Runs.{Paired}
-use Rattle.words.proofs.Index.{index-early, index-tests, none-wrong, over}
-use Rattle.words.specs.Calls.{indexFaults}
+use Rattle.words.proofs.Indexes.{index-early, index-tests, none-wrong, over}
+use Rattle.words.specs.Index.{indexFaults}
 use Rattle.words.specs.Shape.{shapeOk}
 use Rattle.words.specs.Words.{wordsOk}
 use borrow.Author.Tests.{le-ltb, lt-ltb, ltb-false}

@@ -22,7 +22,7 @@ use limits::table_number;
 use nearness::closeness;
 use radii::first_wrong_reach;
 use repeats::first_again;
-use words::listing::index_number;
+use words::index::index_number;
 use words::places::nodes;
 use words::places::rows;
 

@@ -17,8 +17,8 @@ use Rattle.nearest.specs.Numbers.{saidNearest}
 use Rattle.radius.specs.Numbers.{saidRadius}
 use Rattle.tree.specs.Nearest.{answers, lastDistance}
 use Rattle.words.proofs.Headers.{whole-words}
-use Rattle.words.proofs.Index.{none-wrong}
-use Rattle.words.specs.Calls.{indexFaults}
+use Rattle.words.proofs.Indexes.{none-wrong}
+use Rattle.words.specs.Index.{indexFaults}
 use Rattle.words.specs.Words.{n#}
 use lib.ListN.{drop, length, length-map, take, take-append-drop}
 use lib.Seq.{take-at}

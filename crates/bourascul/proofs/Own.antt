@@ -9,7 +9,7 @@ use Rattle.audit.specs.Numbers.{saidCheck}
 use Rattle.tree.specs.Check.{faults}
 use Rattle.words.proofs.Headers.{edition-two, good-words, words-whole}
 use Rattle.words.proofs.InShape.{header-possible, in-shape, whole}
-use Rattle.words.specs.Calls.{indexFaults}
+use Rattle.words.specs.Index.{indexFaults}
 use Rattle.words.specs.InShape.{InShape}
 use Rattle.words.specs.Shape.{shapeOk}
 use Rattle.words.specs.Words.{at, c#, cardOk, edition#, headerOk, n#, wordsOf, wordsOk}

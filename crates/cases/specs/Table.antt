@@ -11,7 +11,7 @@ use Rattle.nearest.specs.Numbers.{saidNearest}
 use Rattle.radius.specs.Numbers.{saidRadius}
 use Rattle.tree.specs.Cases.{Case, checked, five, fiveWords, found, grown, near, nearest, old, oldWords, order, radius, right, sought, swept, words}
 use Rattle.tree.specs.Check.{again, faults, strays, wrongDist, wrongInner, wrongRadius}
-use Rattle.words.specs.Calls.{indexFaults}
+use Rattle.words.specs.Index.{indexFaults}
 use Rattle.words.specs.Shape.{born, level, nodeOk, shapeOk, tile}
 use Rattle.words.specs.Words.{cardOk, headerOk, wholeOk, wordsOk}
 use lib.Dec.{eqb}

@@ -8,8 +8,8 @@ use Rattle.limits.specs.Said.{Said, fault, tableFaults}
 use Rattle.measure.specs.Table.{rowsOf}
 use Rattle.nearest.specs.Numbers.{saidNearest}
 use Rattle.radius.specs.Numbers.{saidRadius}
-use Rattle.words.proofs.Index.{index-early}
-use Rattle.words.specs.Calls.{indexFaults}
+use Rattle.words.proofs.Indexes.{index-early}
+use Rattle.words.specs.Index.{indexFaults}
 use lib.Dec.{eqb, ltb}
 use lib.ListN.{length}
 use mathlib.Core.Bool.{Bool, _||_, not}

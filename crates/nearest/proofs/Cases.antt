@@ -17,7 +17,7 @@ use Rattle.tree.specs.Encode.{broods, encode, family, levelNodes, nodes, number
 use Rattle.tree.specs.Grove.{treeAt, treeOf}
 use Rattle.tree.specs.Homes.{homes, homesIn}
 use Rattle.tree.specs.Nearest.{answers, measured, nearHow, passes}
-use Rattle.words.specs.Calls.{indexFaults}
+use Rattle.words.specs.Index.{indexFaults}
 use Rattle.words.specs.Shape.{born, level, nodeOk, shapeOk, tile}
 use Rattle.words.specs.Words.{cardOk, headerOk, wholeOk, wordsOk}
 use lib.ListN.{drop, length}

@@ -8,8 +8,8 @@ use Rattle.measure.specs.Table.{rowsOf}
 use Rattle.nearest.specs.Calls.{Lent}
 use Rattle.nearest.specs.Numbers.{saidNearest}
 use Rattle.words.proofs.Headers.{words-whole}
-use Rattle.words.proofs.Index.{index-tests, over}
-use Rattle.words.specs.Calls.{indexFaults}
+use Rattle.words.proofs.Indexes.{index-tests, over}
+use Rattle.words.specs.Index.{indexFaults}
 use Rattle.words.specs.InShape.{Over}
 use Rattle.words.specs.Words.{edition#, n#}
 use borrow.Author.Tests.{eq-eqb, eqb-false, eqb-true, le-ltb, lt-ltb, ltb-false, ne-eqb, not-false}

@@ -2,7 +2,7 @@
 use Prim.Native.Nat.{_*_, min, ℕ}
 use Rattle.limits.specs.Said.{Said, fault, said, tableFaults}
 use Rattle.measure.specs.Table.{rowsOf}
-use Rattle.words.specs.Calls.{indexFaults}
+use Rattle.words.specs.Index.{indexFaults}
 use lib.Dec.{eqb, ltb}
 use lib.ListN.{length}
 use mathlib.Core.Bool.{_||_, not}

@@ -87,7 +87,7 @@ fn refusal(
     if wanted == 0 {
         return 7;
     }
-    words::listing::index_number(index, n, c)
+    words::index::index_number(index, n, c)
 }
 
 // The rows nearest to the query, as `nearest` gives them, where there is room for so many.
