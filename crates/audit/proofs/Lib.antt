@@ -6,6 +6,5 @@ pub mod Distances
 pub mod Farthest
 pub mod Strays
 pub mod Faults
-pub mod Refusals
 pub mod Contract
 pub mod Theorems

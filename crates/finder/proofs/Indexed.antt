@@ -5,11 +5,12 @@ use Rattle.finder.specs.Answers.{Alike, Closest}
 use Rattle.measure.specs.Table.{between, from, row, rowsOf}
 use Rattle.nearest.proofs.Contract.{same-answers}
 use Rattle.nearest.proofs.Promises.{nearest-exact}
-use Rattle.nearest.proofs.Refusals.{clear, fits}
-use Rattle.nearest.specs.Calls.{Answered, Lent, Settled}
+use Rattle.nearest.proofs.Refusals.{fits, not-refused}
+use Rattle.nearest.specs.Calls.{Answered}
 use Rattle.radius.proofs.Promises.{radius-call-exact}
 use Rattle.radius.proofs.Refusals as within-radius
 use Rattle.radius.specs.Calls.{Searched}
+use Rattle.seek.specs.Found.{Lent, Settled}
 use Rattle.tree.proofs.Answers.{answers-length}
 use Rattle.tree.specs.Build.{build}
 use Rattle.tree.specs.Check.{Accepted}
@@ -44,7 +45,7 @@ module _ {t : List ℕ} {c : ℕ} (i : ℕ) {w : List ℕ} (a : Accepted (betwee
   pub marked-exact : {before after : List ℕ} {r number in# met : ℕ} → Searched t c w (row t c i) r before after number in# met → number ≡ 0
       → Alike t c i r after
   marked-exact {before} {after} {r} x z j h =
-      let rows = within-radius.clear t c w (row t c i) (length before) (sym (x .said) ∙ z) .index .rows in
+      let rows = within-radius.not-refused t c w (row t c i) (length before) (sym (x .said) ∙ z) .rows in
       subst (λ (d : ℕ → ℕ). (2 ≤ getD after j 0) ↔ (d j ≤ r)) (row-query t c i)
       (radius-call-exact x z a j (subst (λ (n : ℕ). j < n) (sym rows) h))
 
@@ -63,7 +64,7 @@ module _ {t : List ℕ} {c : ℕ} (i : ℕ) {w : List ℕ} (a : Accepted (betwee
 
     -- and has as many rows in its index as in its table
     rows-are : n# w ≡ rowsOf t c
-    rows-are = clear t c w (row t c i) wanted (min (length rs) (length ds)) (length how) (length work) (sym (x .said) ∙ z) .index .rows
+    rows-are = not-refused t c w (row t c i) wanted (min (length rs) (length ds)) (length how) (length work) (sym (x .said) ∙ z) .rows
 
     -- its rows, or its distances, are min(wanted, n)
     part-length : (f : ℕ × ℕ → ℕ) → length (map f (answers (between t c i) (n# w) wanted)) ≡ min wanted (n# w)

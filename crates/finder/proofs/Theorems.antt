@@ -8,7 +8,7 @@ use Rattle.finder.specs.Answers.{Alike, Closest}
 use Rattle.finder.specs.Calls.{Finds, FindsBuilt, Marks, MarksBuilt, Missing, There, centres, leafRows, noRow}
 use Rattle.measure.specs.Table.{between, row}
 use Rattle.nearest.proofs.Promises.{nearest-only}
-use Rattle.nearest.proofs.Refusals.{clear}
+use Rattle.nearest.proofs.Refusals.{not-refused}
 use Rattle.nearest.specs.Calls.{Answered}
 use Rattle.radius.proofs.Promises.{radius-only}
 use Rattle.radius.specs.Calls.{Searched}
@@ -182,9 +182,9 @@ module _ {t : List ℕ} {c i w : ℕ} {room work how rs ds room₁ work₁ how�
           record {
             rows =
                 sym
-                (clear t c (take (x .words) room₁) (row t c i) w (min (length rs) (length ds)) (length how) (length (x .cleared))
+                (not-refused t c (take (x .words) room₁) (row t c i) w (min (length rs) (length ds)) (length how) (length (x .cleared))
                 (sym (x .answered z .said) ∙ k)
-                .index .rows);
+                .rows);
             accepted = x .built .accepted z;
             agree = λ j h m. refl;
           }) in
