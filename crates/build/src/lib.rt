@@ -271,13 +271,7 @@ pub fn build(
         (r .number) (r .words) (r .nodes) ⌝ }
 {
     let Chosen::Taken(p) = Params::new(m, l, edition) else {
-        return refused(writer_number(
-            table.len(),
-            c,
-            true,
-            room.len(),
-            work.len(),
-        ));
+        return refused(writer_number(table.len(), c, true, room.len(), work.len()));
     };
     let number = writer_number(table.len(), c, false, room.len(), work.len());
     if number != 0 {

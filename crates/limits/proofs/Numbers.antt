@@ -115,5 +115,12 @@ module _ (a : Asked) where
   pub passed-none : Passed a → 0 ≡ said (numberFaults a) .0
   unfolding numberFaults
   passed-none P =
-      rw (sized-columns (a .length) (a .columns) (P .table), P .fit, eq-eqb (a .length % a .columns) 0 (P .table .whole),
-      le-ltb maxRows (a .length / a .columns) (P .table .rows), P .room, P .like, P .some)
+      rw (
+        sized-columns (a .length) (a .columns) (P .table),
+        P .fit,
+        eq-eqb (a .length % a .columns) 0 (P .table .whole),
+        le-ltb maxRows (a .length / a .columns) (P .table .rows),
+        P .room,
+        P .like,
+        P .some,
+      )
