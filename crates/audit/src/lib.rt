@@ -5,7 +5,7 @@ mod repeats;
 ghost use Prim.Native.Nat.{_*_, _≤_};
 ghost use Rattle.audit.specs.Calls.{Checks};
 ghost use Rattle.audit.specs.Passes.{measuredFaults, told};
-ghost use Rattle.audit.specs.Refusals.{refusals};
+ghost use Rattle.audit.specs.Numbers.{refusals};
 ghost use Rattle.buffers.specs.Wiped.{wiped};
 ghost use Rattle.limits.specs.Said.{said};
 ghost use Rattle.measure.specs.Table.{between};
@@ -16,11 +16,13 @@ ghost use lib.ListN.{length};
 ghost use mathlib.Core.Path.{_≡_};
 use buffers::clear_words;
 use leaves::first_wrong_distance;
-use limits::table_number;
+use limits::Asked;
+use limits::is_short;
+use limits::rows_in;
 use nearness::closeness;
 use reach::radii::first_wrong_reach;
 use repeats::first_again;
-use words::listing::index_number;
+use words::index::refusal;
 use words::places::nodes;
 use words::places::rows;
 
@@ -35,15 +37,16 @@ pub struct Checked {
 fn refusal_of(table: &[u16], c: usize, index: &[u32], room: usize) -> u32
     ensures { λ r. ⌜ r ≡ said (refusals (now (table .entry)) c (now (index .entry)) room) .0 ⌝ }
 {
-    let by_table = table_number(table.len(), c);
-    if by_table != 0 {
-        return by_table;
-    }
-    let n = table.len() / c;
-    if room < 6 * n {
-        return 5;
-    }
-    index_number(index, n, c)
+    let n = rows_in(table.len(), c);
+    let asked = Asked {
+        length: table.len(),
+        columns: c,
+        unfit: false,
+        short: is_short(room, 6, n),
+        unlike: false,
+        none: false,
+    };
+    refusal(asked, index)
 }
 
 // 11 to 13: the first fault that distances show, or 0.

@@ -24,7 +24,7 @@ use Rattle.image.specs.Calls.{Writes}
 use Rattle.image.specs.Changed.{Moved}
 use Rattle.items.specs.Fits.{homeBound}
 use Rattle.laws.specs.Lists.{has, last, range, tally, times}
-use Rattle.limits.proofs.Sized.{Sized, sized-of}
+use Rattle.limits.proofs.Numbers.{Sized, sized-of}
 use Rattle.meaning.proofs.Meaning.{accepted-means}
 use Rattle.meaning.specs.Conditions.{Conditions}
 use Rattle.measure.specs.Table.{between, from, row, rowsOf}

@@ -4,8 +4,8 @@ use Prim.Native.Nat.{_*_, _≤_, min, ℕ}
 use Rattle.audit.proofs.Theorems.{check-exact}
 use Rattle.audit.specs.Calls.{Checks, Passed}
 use Rattle.laws.specs.Lists.{last}
-use Rattle.limits.proofs.Sized.{sized-none, sized-of}
-use Rattle.limits.specs.Said.{said, tableFaults}
+use Rattle.limits.proofs.Numbers.{sized-of}
+use Rattle.limits.specs.Said.{tabled}
 use Rattle.measure.specs.Table.{rowsOf}
 use Rattle.nearest.proofs.Contract.{same-answers}
 use Rattle.nearest.proofs.Refusals as near
@@ -18,8 +18,7 @@ use Rattle.nearest.specs.Numbers.{saidNearest}
 use Rattle.radius.specs.Numbers.{saidRadius}
 use Rattle.tree.specs.Nearest.{answers, lastDistance}
 use Rattle.words.proofs.Headers.{whole-words}
-use Rattle.words.proofs.Index.{none-wrong}
-use Rattle.words.specs.Calls.{indexFaults}
+use Rattle.words.proofs.Indexes.{Clear}
 use Rattle.words.specs.Words.{n#}
 use lib.ListN.{drop, length, length-map, take, take-append-drop}
 use lib.Seq.{take-at}
@@ -35,19 +34,28 @@ module _ {t : List ℕ} {c : ℕ} {w work₀ work₁ : List ℕ} {place second :
   passed = check-exact ok .0 refl
 
   -- no search refuses the table, nor the index
-  table-right : 0 ≡ said (tableFaults (length t) c) .0
-  table-right = sized-none (length t) c (sized-of (length t) c (passed .columns) (passed .multiple) (passed .few))
-
-  -- the index is not refused
-  index-right : 0 ≡ said (indexFaults w (rowsOf t c) c) .0
-  index-right =
-      none-wrong w (rowsOf t c) c (whole-words w (passed .edition) (passed .accepted .words)) (passed .same-rows) (passed .same-columns) (passed .accepted .shape)
+  right : Clear (tabled (length t) c) w
+  right =
+      record {
+        numbers =
+            record {
+              table = sized-of (length t) c (passed .columns) (passed .multiple) (passed .few);
+              fit = refl;
+              room = refl;
+              like = refl;
+              some = refl;
+            };
+        whole = whole-words w (passed .edition) (passed .accepted .words);
+        rows = passed .same-rows;
+        columns = passed .same-columns;
+        shape = passed .accepted .shape;
+      }
 
   -- A RADIUS SEARCH IS NOT REFUSED WHERE THE QUERY HAS c NUMBERS AND THERE IS A HOW-BYTE FOR EACH ROW
   pub radius-taken : {q : List ℕ} {r : ℕ} {before after : List ℕ} {number in# met : ℕ} → Searched t c w q r before after number in# met
       → length q ≡ c → n# w ≤ length before → number ≡ 0
   radius-taken {q} {before = before} s e h =
-      s .said ∙ sym (within-radius.by-index t c w q (length before) table-right refl (omega (arith, passed .same-rows)) e index-right)
+      s .said ∙ sym (within-radius.taken t c w q (length before) right (omega (arith, passed .same-rows)) e)
 
   -- NOR IS A NEAREST SEARCH WHERE SOME ARE WANTED AND THERE IS ROOM FOR THE ANSWERS, THE HOW-BYTES AND 6n WORDS
   pub nearest-taken : {q : List ℕ} {wanted room : ℕ} {rs rs′ ds ds′ how how′ work work′ : List ℕ} {number given met : ℕ}
@@ -55,7 +63,7 @@ module _ {t : List ℕ} {c : ℕ} {w work₀ work₁ : List ℕ} {place second :
       → length q ≡ c → 1 ≤ wanted → min wanted (n# w) ≤ room → n# w ≤ length how → 6 * n# w ≤ length work → number ≡ 0
   nearest-taken {q} {wanted} {room} {how = how} {work = work} s e some a b d =
       let n = passed .same-rows in
-      s .said ∙ sym (near.by-index t c w q wanted room (length how) (length work) table-right refl refl (omega arith) (omega arith) (omega arith) e (λ z. omega arith) index-right)
+      s .said ∙ sym (near.taken t c w q wanted room (length how) (length work) right (omega arith, omega arith, omega arith) e (λ z. omega arith))
 
 -- ---- D
 -- THE LAST DISTANCE GIVEN IS D

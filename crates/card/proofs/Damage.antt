@@ -8,7 +8,7 @@ use Rattle.image.proofs.OneByte.{one-byte-said}
 use Rattle.image.proofs.Wrong.{lowest-le}
 use Rattle.image.specs.Below.{Below}
 use Rattle.image.specs.Changed.{Changed, Moved}
-use Rattle.limits.proofs.Sized.{Sized}
+use Rattle.limits.proofs.Numbers.{Sized}
 use Rattle.limits.specs.Said.{Said, said}
 use Rattle.image.specs.Image.{blockGood, imageFaults}
 use Rattle.words.specs.Words.{at}

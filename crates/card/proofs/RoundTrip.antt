@@ -8,7 +8,7 @@ use Rattle.card.specs.Cards.{cardWords}
 use Rattle.image.proofs.RoundTrip.{image-sound, image-words, written-image, written-ok}
 use Rattle.image.specs.Below.{Below}
 use Rattle.image.specs.Calls.{Writes}
-use Rattle.limits.proofs.Sized.{Sized}
+use Rattle.limits.proofs.Numbers.{Sized}
 use Rattle.limits.specs.Said.{said}
 use Rattle.measure.specs.Table.{rowsOf}
 use Rattle.tree.proofs.Alike.{Alike, shape-alike}

@@ -9,7 +9,7 @@ use Rattle.image.proofs.WrittenBlocks.{written-bytes, written-good}
 use Rattle.image.specs.Below.{Below}
 use Rattle.image.specs.Calls.{Writes}
 use Rattle.image.specs.Changed.{Changed, Moved, blockWord}
-use Rattle.limits.proofs.Sized.{Sized}
+use Rattle.limits.proofs.Numbers.{Sized}
 use Rattle.limits.specs.Said.{Said}
 use Rattle.image.specs.Image.{blockGood, wordAt}
 use lib.ListN.{length, take}

@@ -7,7 +7,7 @@ use Rattle.card.proofs.Writing.{widen-long}
 use Rattle.card.specs.Calls.{Reads, readTotal, readWords}
 use Rattle.card.specs.Cards.{Held, cardWords}
 use Rattle.laws.specs.Every.{Every}
-use Rattle.limits.proofs.Sized.{sized-columns}
+use Rattle.limits.proofs.Numbers.{sized-columns}
 use Rattle.limits.specs.Limits.{maxRows, shareOk}
 use Rattle.limits.specs.Said.{Said}
 use Rattle.measure.proofs.Metric.{query-point}

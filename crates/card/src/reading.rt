@@ -4,7 +4,7 @@ ghost use Rattle.card.specs.Calls.{Tested, cardFaults, readTotal, readWo
 ghost use Rattle.card.specs.Cards.{Carded, Held, cardWords};
 ghost use Rattle.card.specs.Parts.{topOf, wideLong, withNodes, withPairs, withWide};
 ghost use Rattle.card.specs.Tabled.{Tabled};
-ghost use Rattle.limits.specs.Said.{said};
+ghost use Rattle.limits.specs.Said.{numberFaults, said, tabled};
 ghost use Rattle.measure.specs.Table.{between};
 ghost use Rattle.words.specs.Words.{N#, headerWords, n#};
 ghost use lib.ListN.{drop, length};
@@ -25,7 +25,8 @@ use crate::places::held_word;
 use crate::shape::card_shape_ok;
 use image::reading::check_image;
 use image::reading::get_words;
-use limits::table_number;
+use limits::Asked;
+use limits::number_of;
 use words::places::HEADER;
 use words::writing::put_node;
 
@@ -133,6 +134,20 @@ fn refused(number: u32, place: usize) -> Read
         place,
         words: 0,
     }
+}
+
+// What is wrong with a table of this length and c columns: 1, 3, 4, or 0 for nothing.
+fn table_number(length: usize, c: usize) -> u32
+    ensures { λ r. ⌜ r ≡ said (numberFaults (tabled length c)) .0 ⌝ }
+{
+    number_of(Asked {
+        length,
+        columns: c,
+        unfit: false,
+        short: false,
+        unlike: false,
+        none: false,
+    })
 }
 
 // What refuses the call, or how many words are read. `room` is the number of words lent.

@@ -4,14 +4,14 @@ use Rattle.audit.specs.Numbers.{saidCheck}
 use Rattle.build.specs.Numbers.{saidBuild}
 use Rattle.image.specs.Image.{checkFrom, checkWord, rotate, step, window}
 use Rattle.laws.specs.Upto.{sumTo}
-use Rattle.limits.specs.Said.{tableFaults}
+use Rattle.limits.specs.Said.{numberFaults}
 use Rattle.measure.specs.Distance.{l1}
 use Rattle.measure.specs.Table.{between}
 use Rattle.nearest.specs.Numbers.{saidNearest}
 use Rattle.radius.specs.Numbers.{saidRadius}
 use Rattle.tree.specs.Cases.{Case, checked, five, fiveWords, found, grown, near, nearest, old, oldWords, order, radius, right, sought, swept, words}
 use Rattle.tree.specs.Check.{again, faults, strays, wrongDist, wrongInner, wrongRadius}
-use Rattle.words.specs.Calls.{indexFaults}
+use Rattle.words.specs.Index.{callFaults, fitFaults}
 use Rattle.words.specs.Shape.{born, level, nodeOk, shapeOk, tile}
 use Rattle.words.specs.Words.{cardOk, headerOk, wholeOk, wordsOk}
 use lib.Dec.{eqb}
@@ -62,7 +62,7 @@ said (found w k p p′) = checks five w k p p′
 
 -- an entry comes out as it says
 unfoldable pub holds : Entry → Bool
-unfolding sumTo tableFaults l1 between cardOk headerOk wholeOk wordsOk born level tile nodeOk shapeOk indexFaults again wrongDist wrongRadius wrongInner strays faults rotate step checkFrom checkWord window saidBuild saidCheck saidRadius saidNearest right checks said
+unfolding sumTo numberFaults l1 between cardOk headerOk wholeOk wordsOk born level tile nodeOk shapeOk fitFaults callFaults again wrongDist wrongRadius wrongInner strays faults rotate step checkFrom checkWord window saidBuild saidCheck saidRadius saidNearest right checks said
 holds (means k) = right k && said k
 holds (block b ws s) = eqb (checkWord b (window ws 0 127)) s
 holds (check w k p p′) = checks five w k p p′

@@ -5,7 +5,7 @@ use Rattle.finder.specs.Answers.{Closest}
 use Rattle.measure.specs.Table.{between, from, rowsOf}
 use Rattle.nearest.proofs.Contract.{same-answers}
 use Rattle.nearest.proofs.Promises.{nearest-exact}
-use Rattle.nearest.proofs.Refusals.{clear, fits}
+use Rattle.nearest.proofs.Refusals.{fits, not-refused}
 use Rattle.nearest.specs.Calls.{Answered}
 use Rattle.seek.specs.Found.{Lent, Settled}
 use Rattle.tree.proofs.Answers.{answers-length}
@@ -47,7 +47,7 @@ module _ {t : List ℕ} {c : ℕ} (q : List ℕ) {w : List ℕ} (a : Accepted (b
 
     -- and has as many rows in its index as in its table
     rows-are : n# w ≡ rowsOf t c
-    rows-are = clear t c w q wanted (min (length rs) (length ds)) (length how) (length work) (sym (x .said) ∙ z) .index .rows
+    rows-are = not-refused t c w q wanted (min (length rs) (length ds)) (length how) (length work) (sym (x .said) ∙ z) .rows
 
     -- its rows, or its distances, are min(wanted, n)
     part-length : (f : ℕ × ℕ → ℕ) → length (map f (answers (from t c q) (n# w) wanted)) ≡ min wanted (n# w)

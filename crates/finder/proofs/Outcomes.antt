@@ -6,7 +6,7 @@ use Rattle.build.specs.Calls.{Builds}
 use Rattle.finder.proofs.Why.{asked-well}
 use Rattle.finder.specs.Calls.{Finds, Near, centres, leafRows}
 use Rattle.finder.specs.Near.{Asked, Fit, firstOf, markOf, saidNear}
-use Rattle.limits.proofs.Sized.{Sized}
+use Rattle.limits.proofs.Numbers.{Sized}
 use Rattle.measure.specs.Table.{rowsOf}
 use Rattle.nearest.specs.Calls.{Answered}
 use Rattle.words.proofs.InShape.{in-shape}

@@ -11,7 +11,7 @@ use Rattle.laws.specs.Upto.{sumTo}
 use Rattle.measure.proofs.Metric.{query-point}
 use Rattle.measure.specs.Table.{between, from, row, rowsOf}
 use Rattle.nearest.proofs.Promises.{nearest-only}
-use Rattle.nearest.proofs.Refusals.{clear}
+use Rattle.nearest.proofs.Refusals.{not-refused}
 use Rattle.nearest.specs.Calls.{Answered}
 use Rattle.radius.proofs.How.{bytes-are}
 use Rattle.tree.proofs.Accepted.{once-of}
@@ -217,9 +217,9 @@ module _ {t : List ℕ} {c : ℕ} {q : List ℕ} {w : ℕ} {room work how rs ds 
           record {
             rows =
                 sym
-                (clear t c (take (a .words) room₁) q w (min (length rs) (length ds)) (length how) (length (a .cleared))
+                (not-refused t c (take (a .words) room₁) q w (min (length rs) (length ds)) (length how) (length (a .cleared))
                 (sym (a .answered z .said) ∙ k)
-                .index .rows);
+                .rows);
             accepted = a .built .accepted z;
             agree = λ j h m. refl;
           }) in

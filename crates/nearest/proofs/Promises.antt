@@ -12,7 +12,7 @@ use Rattle.measure.proofs.Metric.{query-point}
 use Rattle.measure.specs.Table.{between, from, row, rowsOf}
 use Rattle.nearest.proofs.Contract.{byte-measured, same-answers}
 use Rattle.nearest.proofs.Ranking.{answers-ranked}
-use Rattle.nearest.proofs.Refusals.{clear}
+use Rattle.nearest.proofs.Refusals.{not-refused, rooms}
 use Rattle.nearest.specs.Calls.{Answered, Serves}
 use Rattle.nearest.specs.Ranked.{ahead}
 use Rattle.seek.proofs.HowBytes.{near-length}
@@ -83,7 +83,7 @@ module _ {t : List ℕ} {c : ℕ} {w q : List ℕ} {wanted room : ℕ} {rs rs′
     (s : Answered t c w q wanted room rs rs′ ds ds′ how how′ work work′ number given met) (done : number ≡ 0) where
   -- the table has as many rows as the index
   rows-are : rowsOf t c ≡ n# w
-  rows-are = sym (clear t c w q wanted room (length how) (length work) (sym (s .said) ∙ done) .index .rows)
+  rows-are = sym (not-refused t c w q wanted room (length how) (length work) (sym (s .said) ∙ done) .rows)
 
   module _ (x : ℕ → ℕ) (Z : Settled x w wanted rs rs′ ds ds′ how how′ given) where
     -- as many are given as are wanted or there are
@@ -279,9 +279,10 @@ nearest-small {t} {c} {w} {q} {wanted} {room} {how = how} {how′ = how′} {wor
     go : Dec (number ≡ 0) → (given ≤ maxRows) × (met ≤ maxRows) × (given ≤ room)
     go (no k) = (omega (arith, s .refused k .0), omega (arith, s .refused k .1), omega (arith, s .refused k .0))
     go (yes z) =
-        let C = clear t c w q wanted room (length how) (length work) (sym (s .said) ∙ z) in
-        let n = C .index .shape .whole .rows in (
-          omega (arith, s .sound z .count, n),
-          omega (arith, s .counted z, tally-take isMeasured (n# w) how′, n),
-          omega (arith, s .sound z .count, C .answers, C .index .rows),
+        let C = not-refused t c w q wanted room (length how) (length work) (sym (s .said) ∙ z) in
+        let h = rooms (rowsOf t c) wanted room (length how) (length work) (C .numbers .room) in
+        let n = C .numbers .table .rows in (
+          omega (arith, s .sound z .count, n, C .rows),
+          omega (arith, s .counted z, tally-take isMeasured (n# w) how′, n, C .rows),
+          omega (arith, s .sound z .count, h .0, C .rows),
         )

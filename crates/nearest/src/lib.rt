@@ -4,6 +4,9 @@ ghost use Rattle.nearest.specs.Calls.{Answered};
 ghost use Rattle.nearest.specs.Numbers.{saidNearest};
 ghost use lib.ListN.{length};
 ghost use mathlib.Core.Path.{_≡_};
+use limits::Asked;
+use limits::is_short;
+use limits::rows_in;
 use seek::find;
 use tree::how::tally;
 
@@ -34,27 +37,16 @@ fn refusal(
 ) -> u32
     ensures { λ r. ⌜ r ≡ saidNearest (now (table .entry)) c (now (index .entry)) (now (query .entry)) wanted room how work .0 ⌝ }
 {
-    let number = limits::table_number(table.len(), c);
-    if number != 0 {
-        return number;
-    }
-    let n = table.len() / c;
-    if room < least(wanted, n) {
-        return 5;
-    }
-    if how < n {
-        return 5;
-    }
-    if work < 6 * n {
-        return 5;
-    }
-    if query.len() != c {
-        return 6;
-    }
-    if wanted == 0 {
-        return 7;
-    }
-    words::listing::index_number(index, n, c)
+    let n = rows_in(table.len(), c);
+    let asked = Asked {
+        length: table.len(),
+        columns: c,
+        unfit: false,
+        short: (room < least(wanted, n)) | (how < n) | is_short(work, 6, n),
+        unlike: query.len() != c,
+        none: wanted == 0,
+    };
+    words::index::refusal(asked, index)
 }
 
 // The rows nearest to the query, as `nearest` gives them, where there is room for so many.

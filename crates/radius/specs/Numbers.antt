@@ -1,15 +1,19 @@
 -- What a radius search says: 01, Numbers given back. Assumes nothing.
 use Prim.Native.Nat.{ℕ}
-use Rattle.limits.specs.Said.{Said, fault, said, tableFaults}
+use Rattle.limits.specs.Said.{Said, said}
+use Rattle.limits.specs.declared.Asked.{Asked}
 use Rattle.measure.specs.Table.{rowsOf}
-use Rattle.words.specs.Calls.{indexFaults}
+use Rattle.words.specs.Index.{callFaults}
 use lib.Dec.{eqb, ltb}
 use lib.ListN.{length}
-use mathlib.Core.Bool.{not}
-use mathlib.Core.List.{List, _++_}
+use mathlib.Core.Bool.{false, not}
+use mathlib.Core.List.{List}
 
--- radius: 1, 3, 4, 5, 6, 8, 9. `how` is the number of how-bytes lent
+-- what it asks of numbers: 1, 3, 4, 5 and 6. `how` is the number of how-bytes lent
+abbrev pub radiusAsks : List ℕ → ℕ → List ℕ → ℕ → Asked
+radiusAsks T c q how =
+    record { length = length T; columns = c; unfit = false; short = ltb how (rowsOf T c); unlike = not (eqb (length q) c); none = false }
+
+-- radius: 1, 3, 4, 5, 6, 8, 9
 unfoldable pub saidRadius : List ℕ → ℕ → List ℕ → List ℕ → ℕ → Said
-saidRadius T c w q how =
-    let n = rowsOf T c in
-    said (tableFaults (length T) c ++ fault 5 (ltb how n) ++ fault 6 (not (eqb (length q) c)) ++ indexFaults w n c)
+saidRadius T c w q how = said (callFaults (radiusAsks T c q how) w)

@@ -3,6 +3,8 @@ ghost use Rattle.radius.specs.Calls.{Searched};
 ghost use Rattle.radius.specs.Numbers.{saidRadius};
 ghost use mathlib.Core.Path.{_≡_};
 use descent::search;
+use limits::Asked;
+use limits::rows_in;
 use tree::how::tally;
 use words::places::rows;
 
@@ -17,18 +19,16 @@ pub struct Found {
 fn refusal(table: &[u16], c: usize, index: &[u32], query: &[u16], room: usize) -> u32
     ensures { λ r. ⌜ r ≡ saidRadius (now (table .entry)) c (now (index .entry)) (now (query .entry)) room .0 ⌝ }
 {
-    let number = limits::table_number(table.len(), c);
-    if number != 0 {
-        return number;
-    }
-    let n = table.len() / c;
-    if room < n {
-        return 5;
-    }
-    if query.len() != c {
-        return 6;
-    }
-    words::listing::index_number(index, n, c)
+    let n = rows_in(table.len(), c);
+    let asked = Asked {
+        length: table.len(),
+        columns: c,
+        unfit: false,
+        short: room < n,
+        unlike: query.len() != c,
+        none: false,
+    };
+    words::index::refusal(asked, index)
 }
 
 // Which rows of the table are within r of the query, by the index. Of the first n how-bytes each says whether its row is in (2, 3),

@@ -31,3 +31,4 @@ pub mod Widened
 pub mod WidenedBuild
 pub mod Theorems
 pub mod Tallies
+pub mod Tested

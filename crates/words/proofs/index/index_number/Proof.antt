@@ -1,17 +1,18 @@
--- `words::listing::index_number` meets its contract: each return is one end of the test, in its order.
+-- `words::index::index_number` meets its contract: each return is one end of the test, in its order.
 -- Assumes nothing.
 use Rattle.laws.proofs.Tests.{no, yes}
 use Rattle.words.proofs.InShape.{header-there}
-use Rattle.words.proofs.Index.{eight-columns, eight-rows, eight-words, nine-shape, none-wrong}
-use Rattle.words.proofs.listing.index_number.Statement.{statement}
-use Rattle.words.proofs.listing.index_number.Tie as tie
+use Rattle.words.proofs.Indexes.{by-shape, eight-columns, eight-rows, eight-words}
+use Rattle.words.proofs.index.index_number.Statement.{statement}
+use Rattle.words.proofs.index.index_number.Tie as tie
+use Rattle.words.specs.Words.{wordsOk}
 use borrow.Author.Needs.{needs}
 use mathlib.Core.Path.{_∙_, sym}
 
 returns : tie.Need-returns
 returns c =
     let a = c .before .before .before .args in
-    eight-words (a .index .now) (a .n) (a .c) (no (c .before .words-ok .ensures) (c .if1 .taken))
+    eight-words (wordsOk (a .index .now)) (a .index .now) (a .n) (a .c) (no (c .before .words-ok .ensures) (c .if1 .taken))
 
 rows-requires : tie.Need-rows-requires
 rows-requires c κs = header-there (c .before .before .before .args .index .now) (yes (c .before .words-ok .ensures) (c .if1 .left))
@@ -19,7 +20,7 @@ rows-requires c κs = header-there (c .before .before .before .args .index .now)
 returns-2 : tie.Need-returns-2
 returns-2 c =
     let a = c .before .before .before .before .before .args in
-    eight-rows (a .index .now) (a .n) (a .c) (λ e. c .if2 .taken (c .before .rows .ensures .0 ∙ e))
+    eight-rows (wordsOk (a .index .now)) (a .index .now) (a .n) (a .c) (λ e. c .if2 .taken (c .before .rows .ensures .0 ∙ e))
 
 columns-requires : tie.Need-columns-requires
 columns-requires c κs =
@@ -29,7 +30,7 @@ columns-requires c κs =
 returns-3 : tie.Need-returns-3
 returns-3 c =
     let a = c .before .before .before .before .before .before .before .args in
-    eight-columns (a .index .now) (a .n) (a .c) (λ e. c .if3 .taken (c .before .columns .ensures .0 ∙ e))
+    eight-columns (wordsOk (a .index .now)) (a .index .now) (a .n) (a .c) (λ e. c .if3 .taken (c .before .columns .ensures .0 ∙ e))
 
 shape-ok-requires : tie.Need-shape-ok-requires
 shape-ok-requires c κs =
@@ -42,9 +43,9 @@ returns-4 c =
     let at2 = at3 .before .before in
     let at1 = at2 .before .before in
     let a = at1 .before .before .before .args in
-    nine-shape (a .index .now) (a .n) (a .c) (yes (at1 .before .words-ok .ensures) (at1 .if1 .left))
+    by-shape (wordsOk (a .index .now)) (a .index .now) (a .n) (a .c) (yes (at1 .before .words-ok .ensures) (at1 .if1 .left))
     (sym (at2 .before .rows .ensures .0) ∙ at2 .if2 .left) (sym (at3 .before .columns .ensures .0) ∙ at3 .if3 .left)
-    (no (c .before .shape-ok .ensures) (c .if4 .taken))
+    (sym (no (c .before .shape-ok .ensures) (c .if4 .taken)))
 
 returns-5 : tie.Need-returns-5
 returns-5 c =
@@ -52,9 +53,9 @@ returns-5 c =
     let at2 = at3 .before .before in
     let at1 = at2 .before .before in
     let a = at1 .before .before .before .args in
-    none-wrong (a .index .now) (a .n) (a .c) (yes (at1 .before .words-ok .ensures) (at1 .if1 .left))
+    by-shape (wordsOk (a .index .now)) (a .index .now) (a .n) (a .c) (yes (at1 .before .words-ok .ensures) (at1 .if1 .left))
     (sym (at2 .before .rows .ensures .0) ∙ at2 .if2 .left) (sym (at3 .before .columns .ensures .0) ∙ at3 .if3 .left)
-    (yes (c .before .shape-ok .ensures) (c .if4 .left))
+    (sym (yes (c .before .shape-ok .ensures) (c .if4 .left)))
 
 pub index-number-spec : {M : Type 1} → statement M
 index-number-spec =
