@@ -7,6 +7,7 @@ use Rattle.answers_held.specs.Giving.{Falling}
 use Rattle.laws.specs.Bags.{total}
 use Rattle.laws.specs.Every.{Every}
 use Rattle.laws.specs.Lists.{has}
+use Rattle.seek.specs.Asked.{Buffers}
 use Rattle.seek.specs.Found.{Sound}
 use Rattle.tree.proofs.Sorted.{Le, Sorted}
 use Rattle.words.specs.Words.{at}
@@ -57,10 +58,10 @@ three false v v′ h e = ((λ z. absurd (omega arith), λ t. absurd t), λ n. om
 -- ---- the entries l are handed out, each that of a row, none less than those after it
 module _ (x : ℕ → ℕ) (n k : ℕ) (l : List ℕ) (long : length l ≡ k) (own : total (stray x n) l ≡ 0) (fall : Falling l) where
   -- WHAT IS HANDED OUT IS SOUND: rows with their distances, in order, and their how-bytes 3
-  pub sound-of : (wanted : ℕ) (rs rs′ ds ds′ how how′ : List ℕ) → k ≡ min wanted n
-      → rs′ ≡ map rowOf l ++ drop k rs → ds′ ≡ map distanceOf l ++ drop k ds
-      → ((i : ℕ) → i < n → at how i ≤ 1) → ((i : ℕ) → at how′ i ≡ cond (has i (map rowOf l)) 3 (at how i)) → Sound x n wanted rs′ ds′ how′ k
-  sound-of wanted rs rs′ ds ds′ how how′ count er ed bits marked = record {
+  pub sound-of : (wanted : ℕ) (b b′ : Buffers) → k ≡ min wanted n
+      → b′ .rows ≡ map rowOf l ++ drop k (b .rows) → b′ .distances ≡ map distanceOf l ++ drop k (b .distances)
+      → ((i : ℕ) → i < n → at (b .how) i ≤ 1) → ((i : ℕ) → at (b′ .how) i ≡ cond (has i (map rowOf l)) 3 (at (b .how) i)) → Sound x n wanted b′ k
+  sound-of wanted b b′ count er ed bits marked = record {
     count = count;
     own = λ j h.
         let o = entry-own x n (getD l j 0) (none-at (stray x n) l j (omega arith) own) in
@@ -70,15 +71,15 @@ module _ (x : ℕ → ℕ) (n k : ℕ) (l : List ℕ) (long : length l ≡ k) (o
         order-is (distance-at i before) (distance-at j p) (row-at i before) (row-at j p)
         (order-at l (falling-sorted x n l own fall) i j h (omega arith));
     marks = λ i h.
-        subst (λ (b : Bool). ((at how′ i ≡ 3) ↔ T b) × ((at how′ i ≡ 3 → ⊥) → at how′ i ≤ 1)) (sym (ap (has i) given-rows))
-        (three (has i (map rowOf l)) (at how i) (at how′ i) (bits i h) (marked i));
+        subst (λ (u : Bool). ((at (b′ .how) i ≡ 3) ↔ T u) × ((at (b′ .how) i ≡ 3 → ⊥) → at (b′ .how) i ≤ 1)) (sym (ap (has i) given-rows))
+        (three (has i (map rowOf l)) (at (b .how) i) (at (b′ .how) i) (bits i h) (marked i));
   }
     where
-      row-at : (j : ℕ) → j < k → at rs′ j ≡ rowOf (getD l j 0)
-      row-at j h = ap (λ (s : List ℕ). at s j) er ∙ put-at rowOf (drop k rs) l j (omega arith)
+      row-at : (j : ℕ) → j < k → at (b′ .rows) j ≡ rowOf (getD l j 0)
+      row-at j h = ap (λ (s : List ℕ). at s j) er ∙ put-at rowOf (drop k (b .rows)) l j (omega arith)
 
-      distance-at : (j : ℕ) → j < k → at ds′ j ≡ distanceOf (getD l j 0)
-      distance-at j h = ap (λ (s : List ℕ). at s j) ed ∙ put-at distanceOf (drop k ds) l j (omega arith)
+      distance-at : (j : ℕ) → j < k → at (b′ .distances) j ≡ distanceOf (getD l j 0)
+      distance-at j h = ap (λ (s : List ℕ). at s j) ed ∙ put-at distanceOf (drop k (b .distances)) l j (omega arith)
 
-      given-rows : take k rs′ ≡ map rowOf l
-      given-rows = ap (take k) er ∙ take-at (map rowOf l) (drop k rs) k (length-map l rowOf ∙ long)
+      given-rows : take k (b′ .rows) ≡ map rowOf l
+      given-rows = ap (take k) er ∙ take-at (map rowOf l) (drop k (b .rows)) k (length-map l rowOf ∙ long)

@@ -16,6 +16,7 @@ use Rattle.queue.specs.Queue.{Queue, entries}
 use Rattle.seek.proofs.Growing.{firstsTo, grew-as, grew-front}
 use Rattle.seek.proofs.Rounds.{first-seen, id-small, node-there}
 use Rattle.seek.proofs.Staying.{front-alone, frontier-stays, last-then, ready-at}
+use Rattle.seek.specs.Asked.{asks}
 use Rattle.seek.specs.Rounds.{Taken, Takes}
 use Rattle.seek.specs.Standing.{Ready, Took}
 use Rattle.tree.specs.Grove.{reach#}
@@ -29,7 +30,7 @@ use mathlib.Core.Path.{_∙_, _≡_, ap, ap₂, refl, subst, sym}
 use native.Mathlib.Omega.{arith}
 
 module _ (t : List ℕ) (c : ℕ) (q w : List ℕ) (wanted : ℕ) (how work : List ℕ) (len held k b : ℕ)
-    (T : Takes t c q w wanted how work len held (node k b (from t c q (first# w k)))) (some : 0 < child# w k) where
+    (T : Takes (asks t c w q wanted) how work len held (node k b (from t c q (first# w k)))) (some : 0 < child# w k) where
   -- how far the query is from a row
   abbrev x : ℕ → ℕ
   x = from t c q

@@ -21,6 +21,7 @@ use Rattle.queue.specs.Queue.{Popped, entries}
 use Rattle.seek.proofs.Filling.{still-split}
 use Rattle.seek.proofs.Staying.{held-stay, ready-on, since-then, since-work, stands-stay}
 use Rattle.seek.proofs.Weights.{amiss-on, cost, opened-amiss, opened-cost, opened-weight, some-weight}
+use Rattle.seek.specs.Asked.{asks}
 use Rattle.seek.specs.Rounds.{Searched, State, Taken, Takes, amiss, still}
 use Rattle.seek.specs.Standing.{Since, Stands}
 use Rattle.words.specs.InShape.{InShape}
@@ -47,7 +48,7 @@ module _ (t : List ℕ) (c : ℕ) (q w : List ℕ) (wanted : ℕ) (S : InShape w
   items-count : (work : List ℕ) (len : ℕ) → total (λ (i : Item). 1) (items w x work len) ≡ len
   items-count work len = total-map (λ (i : Item). 1) (itemOf w x) (entries work 0 len) ∙ entries-count work 0 len
 
-  module _ (how work : List ℕ) (len held : ℕ) (St : State t c q w wanted how work len held) where
+  module _ (how work : List ℕ) (len held : ℕ) (St : State (asks t c w q wanted) how work len held) where
     -- THERE IS ROOM: no more wait than there are positions
     state-room : len ≤ n# w
     state-room =
@@ -107,7 +108,7 @@ module _ (t : List ℕ) (c : ℕ) (q w : List ℕ) (wanted : ℕ) (S : InShape w
       others-sound = omega (arith, bag (amiss w how), St .sound)
 
       -- THE ITEM CAN BE TAKEN
-      pub takes : edition# w ≡ 2 → Takes t c q w wanted how work₁ (len - 1) held (itemOf w (from t c q) v)
+      pub takes : edition# w ≡ 2 → Takes (asks t c w q wanted) how work₁ (len - 1) held (itemOf w (from t c q) v)
       takes two = record {
         ready = ready-on t c q (n# w) wanted how how work work₁ held held (St .ready) popped-stands;
         room = record {
@@ -195,7 +196,7 @@ module _ (t : List ℕ) (c : ℕ) (q w : List ℕ) (wanted : ℕ) (S : InShape w
 
         -- A ROUND: the state is kept
         pub round : 1 ≤ n# w → (n d key : ℕ) → n ≡ n# w → d ≡ lastOf work₁ (3 * n) wanted held → key ≡ keyOf v → key ≤ greatestWord → key ≤ d
-            → State t c q w wanted how′ work₂ len′ held′
+            → State (asks t c w q wanted) how′ work₂ len′ held′
         round filled n d key en ed ek word due = record {
           ready = ready-on t c q (n# w) wanted how how′ work work₂ held held′ (St .ready) (D .grew .stands);
           queue = D .queue;
@@ -233,7 +234,7 @@ module _ (t : List ℕ) (c : ℕ) (q w : List ℕ) (wanted : ℕ) (S : InShape w
 
       -- THE END: the first that waits is not due
       pub stops : (n d key : ℕ) → n ≡ n# w → d ≡ lastOf work₁ (3 * n) wanted held → key ≡ keyOf v → key ≤ greatestWord → d < key
-          → (how₀ work₀ : List ℕ) → Since (n# w) how₀ how work₀ work → Searched t c q w wanted how₀ how work₀ work₁ held
+          → (how₀ work₀ : List ℕ) → Since (n# w) how₀ how work₀ work → Searched (asks t c w q wanted) how₀ how work₀ work₁ held
       stops n d key en ed ek word far how₀ work₀ since = record {
         stands = popped-stands;
         full = held-all (λ l. omega (arith, ed, last-room work₁ (3 * n) wanted held l));
@@ -251,7 +252,7 @@ module _ (t : List ℕ) (c : ℕ) (q w : List ℕ) (wanted : ℕ) (S : InShape w
               at-least (no h) = omega arith
 
     -- THE END: nothing waits
-    pub ends : (how₀ work₀ : List ℕ) → Since (n# w) how₀ how work₀ work → len ≡ 0 → Searched t c q w wanted how₀ how work₀ work held
+    pub ends : (how₀ work₀ : List ℕ) → Since (n# w) how₀ how work₀ work → len ≡ 0 → Searched (asks t c w q wanted) how₀ how work₀ work held
     ends how₀ work₀ since z = record {
       stands = St .ready .stands;
       full = held-all (λ l. omega (arith, St .short l, ap (λ (k : ℕ). total (still w) (items w x work k)) z, St .ready .stands .wanted .1));

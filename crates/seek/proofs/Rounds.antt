@@ -11,6 +11,7 @@ use Rattle.measure.specs.Table.{from}
 use Rattle.queue.specs.Entry.{idOf, keyOf}
 use Rattle.seek.proofs.Growing.{grew-front, grew-none}
 use Rattle.seek.proofs.Staying.{front-alone, frontier-stays, last-then, ready-at}
+use Rattle.seek.specs.Asked.{asks}
 use Rattle.seek.specs.Rounds.{Taken, Takes}
 use Rattle.seek.specs.Standing.{Ready, Took}
 use Rattle.words.specs.InShape.{InShape}
@@ -26,7 +27,7 @@ module _ (t : List ℕ) (c : ℕ) (q w : List ℕ) (wanted : ℕ) (how work : Li
   x = from t c q
 
   -- A POSITION IS TAKEN: its row is measured
-  taken-place : (p b : ℕ) → Takes t c q w wanted how work len held (place p b) → (how′ work′ : List ℕ) (n held′ r : ℕ) → n ≡ n# w
+  taken-place : (p b : ℕ) → Takes (asks t c w q wanted) how work len held (place p b) → (how′ work′ : List ℕ) (n held′ r : ℕ) → n ≡ n# w
       → r ≡ row# w p → Took x n wanted how how′ work work′ held held′ (λ (s : ℕ). is s r)
       → Taken w x wanted how how′ work work′ len len held held′ (place p b)
   taken-place p b T how′ work′ n held′ r en er K₀ =
@@ -41,7 +42,7 @@ module _ (t : List ℕ) (c : ℕ) (q w : List ℕ) (wanted : ℕ) (how work : Li
         queued = λ g. ap (λ (es : List ℕ). total g (map (itemOf w x) es)) (f .1);
       }
 
-  module _ (k b : ℕ) (T : Takes t c q w wanted how work len held (node k b (x (first# w k)))) where
+  module _ (k b : ℕ) (T : Takes (asks t c w q wanted) how work len held (node k b (x (first# w k)))) where
     -- the node's first is at u
     abbrev u : ℕ
     u = x (first# w k)
@@ -94,7 +95,7 @@ module _ (t : List ℕ) (c : ℕ) (q w : List ℕ) (wanted : ℕ) (how work : Li
 
 -- ---- by entries, as the code reads them
 module _ (t : List ℕ) (c : ℕ) (q w : List ℕ) (wanted : ℕ) (how work : List ℕ) (len held e id n : ℕ) (en : n ≡ n# w) (ei : id ≡ idOf e)
-    (T : Takes t c q w wanted how work len held (itemOf w (from t c q) e)) where
+    (T : Takes (asks t c w q wanted) how work len held (itemOf w (from t c q) e)) where
   -- ---- an entry with a node's id
   module _ (key : ℕ) (ek : key ≡ keyOf e) (h : id < 2 * n) where
     -- its item is the node
@@ -102,8 +103,8 @@ module _ (t : List ℕ) (c : ℕ) (q w : List ℕ) (wanted : ℕ) (how work : Li
     is-node = node-read w (from t c q) e id key ei ek (omega arith)
 
     -- the node can be taken where the item can
-    pub node-takes : Takes t c q w wanted how work len held (node id key (from t c q (first# w id)))
-    node-takes = subst (Takes t c q w wanted how work len held) is-node T
+    pub node-takes : Takes (asks t c w q wanted) how work len held (node id key (from t c q (first# w id)))
+    node-takes = subst (Takes (asks t c w q wanted) how work len held) is-node T
 
     -- and where it is taken, the item is
     pub node-taken : (how′ work′ : List ℕ) (len′ held′ : ℕ)
@@ -122,8 +123,8 @@ module _ (t : List ℕ) (c : ℕ) (q w : List ℕ) (wanted : ℕ) (how work : Li
     is-place = place-read w (from t c q) e id ei (omega arith) ∙ ap (λ (n : ℕ). place (id - 2 * n) (keyOf e)) (sym en)
 
     -- the position can be taken where the item can
-    place-takes : Takes t c q w wanted how work len held (place p (keyOf e))
-    place-takes = subst (Takes t c q w wanted how work len held) is-place T
+    place-takes : Takes (asks t c w q wanted) how work len held (place p (keyOf e))
+    place-takes = subst (Takes (asks t c w q wanted) how work len held) is-place T
 
     -- it is a position of the index
     pub place-there : p < n# w

@@ -16,7 +16,8 @@ use Rattle.queue.proofs.Queued.{empty-queue}
 use Rattle.queue.specs.Queue.{Pushed, entry}
 use Rattle.seek.proofs.Filling.{root-row, still-root, sum-one}
 use Rattle.seek.proofs.Staying.{held-stay, ready-on, since-then, since-work, stands-stay}
-use Rattle.seek.specs.Rounds.{State, amiss, still}
+use Rattle.seek.specs.Asked.{Asked, asks}
+use Rattle.seek.specs.Rounds.{Blank, State, amiss, still}
 use Rattle.seek.specs.Standing.{Ready, Since, Stands, Took}
 use Rattle.words.specs.InShape.{InShape}
 use Rattle.words.specs.Words.{N#, at, first#, n#}
@@ -24,6 +25,10 @@ use lib.ListN.{getD, length}
 use mathlib.Core.List.{List, [], _++_, _∷_}
 use mathlib.Core.Path.{_∙_, _≡_, ap, refl, subst, sym}
 use native.Mathlib.Omega.{arith}
+
+-- before it begins a search can measure
+pub blank-ready : (a : Asked) (how work : List ℕ) → Blank a how work → Ready (a .table) (a .columns) (a .query) (n# (a .index)) (a .wanted) how work 0
+blank-ready a how work B = record { stands = B .stands; columns = B .tested .columns; table = B .tested .table; query = B .query }
 
 module _ (t : List ℕ) (c : ℕ) (q w : List ℕ) (wanted : ℕ) where
   -- how far the query is from a row
@@ -116,7 +121,7 @@ module _ (t : List ℕ) (c : ℕ) (q w : List ℕ) (wanted : ℕ) where
           bit a b e h = omega arith
 
       -- THE SEARCH BEGINS: the root waits, and its first is measured
-      pub begins-state : Ready t c q (n# w) wanted how work 0 → State t c q w wanted how₁ work₂ 1 held
+      pub begins-state : Ready t c q (n# w) wanted how work 0 → State (asks t c w q wanted) how₁ work₂ 1 held
       begins-state R = record {
         ready = ready-on t c q (n# w) wanted how how₁ work work₂ 0 held R after;
         queue = P .queue;

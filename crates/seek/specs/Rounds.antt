@@ -9,11 +9,12 @@ use Rattle.items.specs.Items.{Item, boundOf, greatestWord, measuredBy, node, op
 use Rattle.items.specs.Run.{Ran, Running}
 use Rattle.laws.specs.Bags.{SameBag, total}
 use Rattle.laws.specs.Upto.{sumTo}
-use Rattle.measure.specs.Table.{from}
 use Rattle.queue.specs.Queue.{Queue, entries}
+use Rattle.seek.specs.Asked.{Asked, away}
 use Rattle.seek.specs.Standing.{Grew, Ready, Since, Stands}
-use Rattle.words.specs.InShape.{InShape}
-use Rattle.words.specs.Words.{N#, at, edition#, first#, n#}
+use Rattle.tree.specs.Tested.{Tested}
+use Rattle.words.specs.Words.{N#, at, first#, n#}
+use lib.ListN.{length}
 use mathlib.Core.List.{List, _++_}
 use mathlib.Core.Path.{_≡_}
 
@@ -24,10 +25,10 @@ amiss w how (node k b x) = (suc k - N# w) + (1 - at how (first# w k))
 amiss w how (place p b) = suc p - n# w
 
 -- it can be taken: with it gone len entries wait, and there is room for all that it stands for
-pub record Takes (t : List ℕ) (c : ℕ) (q w : List ℕ) (wanted : ℕ) (how work : List ℕ) (len held : ℕ) (i : Item) : Type 0 where
-  pub ready : Ready t c q (n# w) wanted how work held
-  pub room : Room w work (n# w) len (weight w i)
-  pub sound : amiss w how i ≡ 0
+pub record Takes (a : Asked) (how work : List ℕ) (len held : ℕ) (i : Item) : Type 0 where
+  pub ready : Ready (a .table) (a .columns) (a .query) (n# (a .index)) (a .wanted) how work held
+  pub room : Room (a .index) work (n# (a .index)) len (weight (a .index) i)
+  pub sound : amiss (a .index) how i ≡ 0
 
 -- it is taken: what it measures is measured, and what it opens, all under bounds of 32 bits, waits with the others, but for what lies beyond the last
 -- distance by then
@@ -44,27 +45,28 @@ still w i = sumTo (waitsOf w i) (n# w)
 
 -- Between two rounds. Where fewer are held than are wanted, nothing was left out: all n positions are held or wait. The last promise is for
 -- lent rows that are, where it counts, those of a table that the index fits.
-pub record State (t : List ℕ) (c : ℕ) (q w : List ℕ) (wanted : ℕ) (how work : List ℕ) (len held : ℕ) : Type 0 where
-  pub ready : Ready t c q (n# w) wanted how work held
+pub record State (a : Asked) (how work : List ℕ) (len held : ℕ) : Type 0 where
+  pub ready : Ready (a .table) (a .columns) (a .query) (n# (a .index)) (a .wanted) how work held
   pub queue : Queue work 0 len
-  pub sound : total (amiss w how) (items w (from t c q) work len) ≡ 0
-  pub room : total (weight w) (items w (from t c q) work len) ≤ n# w
-  pub short : held < wanted → n# w ≤ held + total (still w) (items w (from t c q) work len)
-  pub run : (x′ : ℕ → ℕ) → Fits w wanted (from t c q) x′
-      → Held (from t c q) (at how) (n# w) work (answersAt (n# w)) wanted held × Running w wanted (from t c q) (items w (from t c q) work len) (at how)
+  pub sound : total (amiss (a .index) how) (items (a .index) (away a) work len) ≡ 0
+  pub room : total (weight (a .index)) (items (a .index) (away a) work len) ≤ n# (a .index)
+  pub short : held < a .wanted → n# (a .index) ≤ held + total (still (a .index)) (items (a .index) (away a) work len)
+  pub run : (x′ : ℕ → ℕ) → Fits (a .index) (a .wanted) (away a) x′
+      → Held (away a) (at how) (n# (a .index)) work (answersAt (n# (a .index))) (a .wanted) held
+      × Running (a .index) (a .wanted) (away a) (items (a .index) (away a) work len) (at how)
 
--- Before it begins: an index in shape and of edition 2 that is not empty, and no row marked.
-pub record Blank (t : List ℕ) (c : ℕ) (q w : List ℕ) (wanted : ℕ) (how work : List ℕ) : Type 0 where
-  pub ready : Ready t c q (n# w) wanted how work 0
-  pub shape : InShape w
-  pub edition : edition# w ≡ 2
-  pub filled : 1 ≤ n# w
-  pub blank : (r : ℕ) → r < n# w → at how r ≡ 0
+-- Before it begins: the index is tested, and not empty, and no row is marked.
+pub record Blank (a : Asked) (how work : List ℕ) : Type 0 where
+  pub tested : Tested (a .index) (a .table) (a .columns)
+  pub query : length (a .query) ≡ a .columns
+  pub stands : Stands (away a) (n# (a .index)) (a .wanted) how work 0
+  pub filled : 1 ≤ n# (a .index)
+  pub blank : (r : ℕ) → r < n# (a .index) → at how r ≡ 0
 
 -- At its end: as many are held as are wanted, on every index in shape.
-pub record Searched (t : List ℕ) (c : ℕ) (q w : List ℕ) (wanted : ℕ) (how how′ work work′ : List ℕ) (held : ℕ) : Type 0 where
-  pub stands : Stands (from t c q) (n# w) wanted how′ work′ held
-  pub full : held ≡ wanted
-  pub since : Since (n# w) how how′ work work′
-  pub ran : (x′ : ℕ → ℕ) → Fits w wanted (from t c q) x′
-      → Held (from t c q) (at how′) (n# w) work′ (answersAt (n# w)) wanted held × Ran w wanted (from t c q) (at how′)
+pub record Searched (a : Asked) (how how′ work work′ : List ℕ) (held : ℕ) : Type 0 where
+  pub stands : Stands (away a) (n# (a .index)) (a .wanted) how′ work′ held
+  pub full : held ≡ a .wanted
+  pub since : Since (n# (a .index)) how how′ work work′
+  pub ran : (x′ : ℕ → ℕ) → Fits (a .index) (a .wanted) (away a) x′
+      → Held (away a) (at how′) (n# (a .index)) work′ (answersAt (n# (a .index))) (a .wanted) held × Ran (a .index) (a .wanted) (away a) (at how′)

@@ -1,5 +1,6 @@
 // The nearest search itself: best first, over the nodes of an index and the single rows of its opened leaves, and the answers handed out.
-ghost use Rattle.seek.specs.Found.{Found, Lent};
+ghost use Rattle.seek.specs.Asked.{asks, lends};
+ghost use Rattle.seek.specs.Found.{Fitting, Found};
 use crate::searching::search;
 use answers_held::give;
 use buffers::clear_bytes;
@@ -23,9 +24,10 @@ pub fn find(
     how: &mut [u8],
     work: &mut [u32],
 ) -> usize
-    requires { ⌜ Lent (now table) c (now index) (now query) wanted (now rows) (now distances) (now how) (now work) ⌝ }
-    ensures { λ k. ⌜ Found (now (table .entry)) c (now (index .entry)) (now (query .entry)) wanted (now (rows .entry)) (now (rows .exit))
-        (now (distances .entry)) (now (distances .exit)) (now (how .entry)) (now (how .exit)) (now (work .entry)) (now (work .exit)) k ⌝ }
+    requires { ⌜ Fitting (asks (now table) c (now index) (now query) wanted) (lends (now rows) (now distances) (now how) (now work)) ⌝ }
+    ensures { λ k. ⌜ Found (asks (now (table .entry)) c (now (index .entry)) (now (query .entry)) wanted)
+        (lends (now (rows .entry)) (now (distances .entry)) (now (how .entry)) (now (work .entry)))
+        (lends (now (rows .exit)) (now (distances .exit)) (now (how .exit)) (now (work .exit))) k ⌝ }
 {
     let n = words::places::rows(index);
     clear_bytes(how, n);

@@ -1,4 +1,5 @@
 // The search: best first, until what waits is farther than the last answer.
+ghost use Rattle.seek.specs.Asked.{asks};
 ghost use Rattle.seek.specs.Rounds.{Blank, Searched};
 use crate::taking::measure_row;
 use crate::taking::take_item;
@@ -21,8 +22,8 @@ pub fn search(
     how: &mut [u8],
     work: &mut [u32],
 ) -> usize
-    requires { ⌜ Blank (now table) c (now query) (now index) w (now how) (now work) ⌝ }
-    ensures { λ k. ⌜ Searched (now (table .entry)) c (now (query .entry)) (now (index .entry)) w
+    requires { ⌜ Blank (asks (now table) c (now index) (now query) w) (now how) (now work) ⌝ }
+    ensures { λ k. ⌜ Searched (asks (now (table .entry)) c (now (index .entry)) (now (query .entry)) w)
         (now (how .entry)) (now (how .exit)) (now (work .entry)) (now (work .exit)) k ⌝ }
 {
     let n = rows(index);

@@ -5,6 +5,7 @@ ghost use Rattle.items.specs.Items.{node};
 ghost use Rattle.laws.specs.Bags.{is};
 ghost use Rattle.laws.specs.Upto.{sumTo};
 ghost use Rattle.measure.specs.Table.{from};
+ghost use Rattle.seek.specs.Asked.{asks};
 ghost use Rattle.seek.specs.Rounds.{Taken, Takes};
 ghost use Rattle.seek.specs.Standing.{Ready, Took};
 ghost use Rattle.words.specs.InShape.{InShape};
@@ -99,7 +100,7 @@ fn open_inner(
     k: usize,
     b: u32,
 ) -> Sizes
-    requires { ⌜ Takes (now table) c (now query) (now index) w (now how) (now work) len held
+    requires { ⌜ Takes (asks (now table) c (now index) (now query) w) (now how) (now work) len held
         (node k b (from (now table) c (now query) (first# (now index) k))) ⌝ }
     requires { ⌜ (n ≡ n# (now index)) × (0 < child# (now index) k) ⌝ }
     ensures { λ s. ⌜ Taken (now (index .entry)) (from (now (table .entry)) c (now (query .entry))) w (now (how .entry)) (now (how .exit))
@@ -133,7 +134,7 @@ fn open_node(
     k: usize,
     b: u32,
 ) -> Sizes
-    requires { ⌜ Takes (now table) c (now query) (now index) w (now how) (now work) len held
+    requires { ⌜ Takes (asks (now table) c (now index) (now query) w) (now how) (now work) len held
         (node k b (from (now table) c (now query) (first# (now index) k))) ⌝ }
     requires { ⌜ n ≡ n# (now index) ⌝ }
     ensures { λ s. ⌜ Taken (now (index .entry)) (from (now (table .entry)) c (now (query .entry))) w (now (how .entry)) (now (how .exit))
@@ -167,7 +168,7 @@ pub fn take_item(
     held: usize,
     e: u64,
 ) -> Sizes
-    requires { ⌜ Takes (now table) c (now query) (now index) w (now how) (now work) len held
+    requires { ⌜ Takes (asks (now table) c (now index) (now query) w) (now how) (now work) len held
         (itemOf (now index) (from (now table) c (now query)) e) ⌝ }
     requires { ⌜ (n ≡ n# (now index)) × (base ≡ pairAt (now index) 0) ⌝ }
     ensures { λ s. ⌜ Taken (now (index .entry)) (from (now (table .entry)) c (now (query .entry))) w (now (how .entry)) (now (how .exit))

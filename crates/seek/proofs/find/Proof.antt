@@ -22,7 +22,7 @@ abbrev sought : tie.After-give → tie.After-search
 sought g = g .before .before .before .before .before .before .before .before .before
 
 rows-requires : tie.Need-rows-requires
-rows-requires c κs = omega (arith, c .before .before .before .before .before .before .before .pre .shape .whole .words)
+rows-requires c κs = omega (arith, c .before .before .before .before .before .before .before .pre .tested .shape .whole .words)
 
 clear-bytes-requires : tie.Need-clear-bytes-requires
 clear-bytes-requires c κs =
@@ -43,7 +43,7 @@ search-requires c κs =
 mul-give : tie.Need-mul-give
 mul-give c =
     let b = wiping (c .before .before .before .before .before .before .before .before) in
-    omega (arith, counted b .rows .ensures .0, start b .pre .shape .whole .rows)
+    omega (arith, counted b .rows .ensures .0, start b .pre .tested .shape .whole .rows)
 
 give-requires : tie.Need-give-requires
 give-requires c κs =
@@ -56,7 +56,7 @@ give-requires c κs =
 mul-clear-words : tie.Need-mul-clear-words
 mul-clear-words c =
     let b = wiping (sought (c .before .before .before .before .before .before .before .before .before)) in
-    omega (arith, counted b .rows .ensures .0, start b .pre .shape .whole .rows)
+    omega (arith, counted b .rows .ensures .0, start b .pre .tested .shape .whole .rows)
 
 clear-words-requires : tie.Need-clear-words-requires
 clear-words-requires c κs =

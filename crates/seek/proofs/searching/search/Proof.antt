@@ -5,11 +5,12 @@ use Rattle.laws.specs.Bags.{total}
 use Rattle.measure.specs.Table.{from}
 use Rattle.queue.proofs.Queued.{empty-queue}
 use Rattle.seek.proofs.Progress.{ends, round, round-less, round-since, stops, takes}
-use Rattle.seek.proofs.Starting.{begins-since, begins-state}
+use Rattle.seek.proofs.Starting.{begins-since, begins-state, blank-ready}
 use Rattle.seek.proofs.Staying.{ready-at, since-none}
 use Rattle.seek.proofs.Weights.{cost}
 use Rattle.seek.proofs.searching.search.Statement.{statement}
 use Rattle.seek.proofs.searching.search.Tie as tie
+use Rattle.seek.specs.Asked.{asks}
 use Rattle.seek.specs.Rounds.{State}
 use Rattle.seek.specs.Standing.{Since}
 use Rattle.words.specs.Words.{n#}
@@ -19,7 +20,7 @@ use native.Mathlib.Omega.{arith}
 
 abbrev Inv-loop : tie.InvT-loop
 Inv-loop table c query index w how₀ work₀ n base first held₀ len₀ how work held len =
-    State table c query index w how work len held × Since (n# index) how₀ how work₀ work
+    State (asks table c index query w) how work len held × Since (n# index) how₀ how work₀ work
 
 abbrev μ-loop : tie.MeasureT-loop
 μ-loop table c query index w how₀ work₀ n base first held₀ len₀ how work held len = total (cost index) (items index (from table c query) work len)
@@ -49,22 +50,22 @@ since l =
     (met l .measure-row .ensures) (queued l .push .ensures) _ _ (l .loop .inv .1)
 
 rows-requires : tie.Need-rows-requires Inv-loop μ-loop
-rows-requires c κs = omega (arith, c .before .before .before .before .before .pre .shape .whole .words)
+rows-requires c κs = omega (arith, c .before .before .before .before .before .pre .tested .shape .whole .words)
 
 pair-at-requires : tie.Need-pair-at-requires Inv-loop μ-loop
-pair-at-requires c κs = omega (arith, c .before .before .before .before .before .before .pre .shape .whole .words)
+pair-at-requires c κs = omega (arith, c .before .before .before .before .before .before .pre .tested .shape .whole .words)
 
 node-first-requires : tie.Need-node-first-requires Inv-loop μ-loop
 node-first-requires c κs =
     let pre = c .before .before .before .before .before .before .before .pre in
-    (pre .shape, pre .shape .root (pre .filled) .there)
+    (pre .tested .shape, pre .tested .shape .root (pre .filled) .there)
 
 measure-row-requires : tie.Need-measure-row-requires Inv-loop μ-loop
 measure-row-requires c κs =
     let s = c .before .before .before .before .before .before .before .before .before .before in
     let rows = c .before .before .before .before .rows in
     let node-first = c .before .before .node-first in
-    (ready-at _ _ _ (s .args .index .now) _ _ _ _ _ (rows .ensures .0) (s .pre .ready), omega (arith, node-first .ensures .1, rows .ensures .0))
+    (ready-at _ _ _ (s .args .index .now) _ _ _ _ _ (rows .ensures .0) (blank-ready _ _ _ (s .pre)), omega (arith, node-first .ensures .1, rows .ensures .0))
 
 push-requires : tie.Need-push-requires Inv-loop μ-loop
 push-requires c κs =
@@ -81,7 +82,7 @@ loop-holds c =
     let rows = m .before .before .before .before .before .rows in
     let s = m .before .before .before .before .before .before .before .before .before .before .before in (
       begins-state _ _ _ (s .args .index .now) _ (s .pre .filled) _ _ _ _ _ _ _ _ (rows .ensures .0) (m .measure-row .ensures) (p .push .ensures)
-          (s .pre .shape) (node-first .ensures .0) (s .pre .blank) (s .pre .ready),
+          (s .pre .tested .shape) (node-first .ensures .0) (s .pre .blank) (blank-ready _ _ _ (s .pre)),
       since-none _ _ _,
     )
 
@@ -91,7 +92,7 @@ pop-requires c κs = (c .before .before .loop .inv .0 .queue, c .before .loop-te
 mul-last : tie.Need-mul-last Inv-loop μ-loop
 mul-last c =
     let l = c .before .before .before .before .before .before in
-    omega (arith, counted l .rows .ensures .0, start l .pre .shape .whole .rows)
+    omega (arith, counted l .rows .ensures .0, start l .pre .tested .shape .whole .rows)
 
 last-requires : tie.Need-last-requires Inv-loop μ-loop
 last-requires c κs =
@@ -111,7 +112,7 @@ returns : tie.Need-returns Inv-loop μ-loop
 returns c =
     let p = c .before .before .before .before .before .before in
     let l = turn p in
-    stops _ _ _ _ _ (start l .pre .shape) _ _ _ _ (l .loop .inv .0) _ _ (p .pop .ensures) (p .before .before .loop-test .taken) _ _ _
+    stops _ _ _ _ _ (start l .pre .tested .shape) _ _ _ _ (l .loop .inv .0) _ _ (p .pop .ensures) (p .before .before .loop-test .taken) _ _ _
     (counted l .rows .ensures .0) (c .before .before .last .ensures) (c .before .key-of .ensures) (omega arith) (omega arith) _ _ (since l)
 
 sub-take-item : tie.Need-sub-take-item Inv-loop μ-loop
@@ -121,7 +122,7 @@ take-item-requires : tie.Need-take-item-requires Inv-loop μ-loop
 take-item-requires c κs =
     let p = c .before .before .before .before .before .before .before .before in
     let l = turn p in (
-      takes _ _ _ _ _ (start l .pre .shape) _ _ _ _ (l .loop .inv .0) _ _ (p .pop .ensures) (p .before .before .loop-test .taken) (start l .pre .edition),
+      takes _ _ _ _ _ (start l .pre .tested .shape) _ _ _ _ (l .loop .inv .0) _ _ (p .pop .ensures) (p .before .before .loop-test .taken) (start l .pre .tested .edition),
       (counted l .rows .ensures .0, met l .before .before .before .before .pair-at .ensures),
     )
 
@@ -130,7 +131,7 @@ loop-less c =
     let t = c .before .before .before .before in
     let p = t .before .before .before .before .before .before .before .before .before in
     let l = turn p in
-    round-less _ _ _ _ _ (start l .pre .shape) _ _ _ _ (l .loop .inv .0) _ _ (p .pop .ensures) (p .before .before .loop-test .taken) _ _ _ _
+    round-less _ _ _ _ _ (start l .pre .tested .shape) _ _ _ _ (l .loop .inv .0) _ _ (p .pop .ensures) (p .before .before .loop-test .taken) _ _ _ _
     (t .take-item .ensures)
 
 loop-again : tie.Need-loop-again Inv-loop μ-loop
@@ -140,9 +141,9 @@ loop-again c =
     let l = turn p in
     let key-of = t .before .before .before .before .key-of in
     let last = t .before .before .before .before .before .last in (
-      round _ _ _ _ _ (start l .pre .shape) _ _ _ _ (l .loop .inv .0) _ _ (p .pop .ensures) (p .before .before .loop-test .taken) _ _ _ _
+      round _ _ _ _ _ (start l .pre .tested .shape) _ _ _ _ (l .loop .inv .0) _ _ (p .pop .ensures) (p .before .before .loop-test .taken) _ _ _ _
           (t .take-item .ensures) (start l .pre .filled) _ _ _ (counted l .rows .ensures .0) (last .ensures) (key-of .ensures) (omega arith) (omega arith),
-      round-since _ _ _ _ _ (start l .pre .shape) _ _ _ _ (l .loop .inv .0) _ _ (p .pop .ensures) (p .before .before .loop-test .taken) _ _ _ _
+      round-since _ _ _ _ _ (start l .pre .tested .shape) _ _ _ _ (l .loop .inv .0) _ _ (p .pop .ensures) (p .before .before .loop-test .taken) _ _ _ _
           (t .take-item .ensures) _ _ (l .loop .inv .1),
     )
 
@@ -155,7 +156,7 @@ same-length-4 c = since (c .before) .words
 returns-2 : tie.Need-returns-2 Inv-loop μ-loop
 returns-2 c =
     let l = c .before in
-    ends _ _ _ _ _ (start l .pre .shape) _ _ _ _ (l .loop .inv .0) _ _ (since l) (omega arith)
+    ends _ _ _ _ _ (start l .pre .tested .shape) _ _ _ _ (l .loop .inv .0) _ _ (since l) (omega arith)
 
 pub search-spec : {M : Type 1} → statement M
 search-spec =
