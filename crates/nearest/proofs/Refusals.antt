@@ -5,7 +5,6 @@ use Rattle.limits.proofs.Faults.{fault-first, fault-next, fault-none, numberOf,
 use Rattle.limits.proofs.Sized.{Sized, sized, table-numbered}
 use Rattle.limits.specs.Said.{Said, fault, said, tableFaults}
 use Rattle.measure.specs.Table.{rowsOf}
-use Rattle.seek.specs.Found.{Lent}
 use Rattle.tree.specs.Calls.{saidNearest}
 use Rattle.words.proofs.Headers.{words-whole}
 use Rattle.words.proofs.Index.{index-tests, over}
@@ -18,7 +17,7 @@ use lib.ListN.{length}
 use mathlib.Core.Bool.{Bool, _||_, not, true}
 use mathlib.Core.List.{List, _++_, append-assoc}
 use mathlib.Core.Logic.{_≢_}
-use mathlib.Core.Path.{_∙_, _≡_, ap, subst, sym}
+use mathlib.Core.Path.{_∙_, _≡_, ap, sym}
 use native.Mathlib.Omega.{arith}
 
 -- WITH 0 NOTHING IS WRONG: the table and the query, the rooms, what is wanted, and the index
@@ -149,22 +148,3 @@ module _ (t : List ℕ) (c : ℕ) (w q : List ℕ) (wanted room how work : ℕ) 
         query = eqb-true (length q) c (not-false b (g .0));
         some = eqb-false wanted 0 (h .0);
       }
-
--- what is lent then fits the index
-pub fits : (t : List ℕ) (c : ℕ) (w q : List ℕ) (wanted room : ℕ) (rs ds how work : List ℕ) → (room ≤ length rs) × (room ≤ length ds) → (k : ℕ) → k ≡ min wanted (n# w)
-    → saidNearest t c w q wanted room (length how) (length work) .0 ≡ 0 → Lent t c w q k rs ds how work
-fits t c w q wanted room rs ds how work fit k ek z =
-    let C = clear t c w q wanted room (length how) (length work) z in
-    let same : n# w ≡ rowsOf t c = C .index .rows in
-    record {
-      shape = C .index .shape;
-      edition = C .edition;
-      table = subst (λ (n : ℕ). c * n ≤ length t) (sym same) (C .table .inside);
-      columns = C .table .few;
-      query = C .query;
-      asked = (omega arith, λ l. omega (arith, C .some));
-      rows = omega (arith, C .answers, fit .0);
-      distances = omega (arith, C .answers, fit .1);
-      bytes = omega (arith, C .bytes);
-      words = omega (arith, C .words);
-    }
