@@ -9,7 +9,7 @@ use Rattle.measure.proofs.Metric.{query-point}
 use Rattle.measure.specs.Table.{between, from, rowsOf}
 use Rattle.nearest.proofs.Refusals.{clear}
 use Rattle.nearest.specs.Calls.{Answered, Serves}
-use Rattle.seek.specs.Asked.{Asked, Buffers, asks, away}
+use Rattle.seek.specs.Asked.{Asked, Buffers, asks, away, due, rowsIn}
 use Rattle.seek.specs.Found.{Fitting, Found, Settled, Sound}
 use Rattle.tree.proofs.Accepted.{each-once, shape-of}
 use Rattle.tree.proofs.Answers.{near-at, passes-all}
@@ -86,10 +86,10 @@ byte-measured x n g k i h p =
     go true = tt
     go false = rw p tt
 
-module _ (a : Asked) (t′ : List ℕ) (k : ℕ) (ek : k ≡ min (a .wanted) (n# (a .index))) (A : Serves a t′) where
+module _ (a : Asked) (t′ : List ℕ) (k : ℕ) (ek : k ≡ due a) (A : Serves a t′) where
   -- how many rows there are
   abbrev n : ℕ
-  n = n# (a .index)
+  n = rowsIn a
 
   -- how far the query is from a row of the table that serves
   abbrev x′ : ℕ → ℕ
@@ -135,11 +135,11 @@ abbrev pub butFor : Asked → ℕ → Asked
 butFor a k = asks (a .table) (a .columns) (a .index) (a .query) k
 
 -- where nothing is refused, the index is tested, and what is lent fits it
-pub fits : (a : Asked) (room : ℕ) (b : Buffers) → (room ≤ length (b .rows)) × (room ≤ length (b .distances)) → (k : ℕ) → k ≡ min (a .wanted) (n# (a .index))
+pub fits : (a : Asked) (room : ℕ) (b : Buffers) → (room ≤ length (b .rows)) × (room ≤ length (b .distances)) → (k : ℕ) → k ≡ due a
     → saidOf a room b ≡ 0 → Fitting (butFor a k) b
 fits a room b fit k ek z =
     let C = clear (a .table) (a .columns) (a .index) (a .query) (a .wanted) room (length (b .how)) (length (b .work)) z in
-    let same : n# (a .index) ≡ rowsOf (a .table) (a .columns) = C .index .rows in
+    let same : rowsIn a ≡ rowsOf (a .table) (a .columns) = C .index .rows in
     record {
       tested = record {
         shape = C .index .shape;
@@ -170,15 +170,15 @@ module _ (a : Asked) (b : Buffers) {number room : ℕ} (fit : (room ≤ length (
   }
 
   -- where nothing is refused, what is lent is what the search asks
-  pub core-asks : (n k : ℕ) → number ≡ 0 → n ≡ n# (a .index) → k ≡ min (a .wanted) n → Fitting (butFor a k) b
+  pub core-asks : (n k : ℕ) → number ≡ 0 → n ≡ rowsIn a → k ≡ min (a .wanted) n → Fitting (butFor a k) b
   core-asks n k z en ek = fits a room b fit k (ek ∙ ap (λ (n : ℕ). min (a .wanted) n) en) (sym said-is ∙ z)
 
   -- A SEARCH MEETS THE CONTRACT
-  pub done-is : (n k given given₀ met : ℕ) (b′ : Buffers) → number ≡ 0 → n ≡ n# (a .index) → k ≡ min (a .wanted) n
+  pub done-is : (n k given given₀ met : ℕ) (b′ : Buffers) → number ≡ 0 → n ≡ rowsIn a → k ≡ min (a .wanted) n
       → Found (butFor a k) b b′ given₀ → given ≡ given₀ → met ≡ measured (take n (b′ .how)) → Answered a room b b′ 0 given met
   done-is n k given given₀ met b′ z en ek₀ D₀ eg em =
       let w = a .index in
-      let ek : k ≡ min (a .wanted) (n# (a .index)) = ek₀ ∙ ap (λ (n : ℕ). min (a .wanted) n) en in
+      let ek : k ≡ due a = ek₀ ∙ ap (λ (n : ℕ). min (a .wanted) n) en in
       let D = subst (λ (g : ℕ). Found (butFor a k) b b′ g) (sym eg) D₀ in
       record {
         said = sym z ∙ said-is;

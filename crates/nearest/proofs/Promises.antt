@@ -16,7 +16,7 @@ use Rattle.nearest.proofs.Refusals.{clear}
 use Rattle.nearest.specs.Calls.{Answered, Serves}
 use Rattle.nearest.specs.Ranked.{ahead}
 use Rattle.seek.proofs.HowBytes.{near-length}
-use Rattle.seek.specs.Asked.{Asked, Buffers, asks, away, lends}
+use Rattle.seek.specs.Asked.{Asked, Buffers, asks, away, due, lends, rowsIn}
 use Rattle.seek.specs.Found.{Settled}
 use Rattle.tree.proofs.Answers.{answers-length, near-at, passes-all, passes-near}
 use Rattle.tree.proofs.Sorted.{sort-every, sort-sorted, sorted-take, under-last}
@@ -24,7 +24,6 @@ use Rattle.tree.proofs.Theorems.{home-below}
 use Rattle.tree.specs.Check.{Accepted}
 use Rattle.tree.specs.Grove.{treeOf}
 use Rattle.tree.specs.Nearest.{answers, candidates, isMeasured, lastDistance, measured, nearHow, passes, sort}
-use Rattle.words.specs.Words.{n#}
 use borrow.Author.Tests.{le-leb, le-ltb, leb-true}
 use lib.Dec.{T, leb}
 use lib.ListN.{List·getD-append, drop, getD, length, length-map, take}
@@ -83,44 +82,44 @@ tally-rows f g (v ∷ l) a h =
 module _ {asked : Asked} {room : ℕ} {lent lent′ : Buffers} {number given met : ℕ} (s : Answered asked room lent lent′ number given met)
     (done : number ≡ 0) where
   -- the table has as many rows as the index
-  rows-are : rowsOf (asked .table) (asked .columns) ≡ n# (asked .index)
+  rows-are : rowsOf (asked .table) (asked .columns) ≡ rowsIn asked
   rows-are = sym (clear (asked .table) (asked .columns) (asked .index) (asked .query) (asked .wanted) room (length (lent .how)) (length (lent .work)) (sym (s .said) ∙ done) .index .rows)
 
   module _ (x : ℕ → ℕ) (Z : Settled x (asked .index) (asked .wanted) lent lent′ given) where
     -- as many are given as are wanted or there are
-    part-length : (f : ℕ × ℕ → ℕ) → length (map f (answers x (n# (asked .index)) (asked .wanted))) ≡ min (asked .wanted) (n# (asked .index))
+    part-length : (f : ℕ × ℕ → ℕ) → length (map f (answers x (rowsIn asked) (asked .wanted))) ≡ due asked
     part-length f =
-        length-map (answers x (n# (asked .index)) (asked .wanted)) f ∙ ap length (sym (same-answers x (n# (asked .index)) (asked .wanted) (min (asked .wanted) (n# (asked .index))) refl))
-        ∙ answers-length x (n# (asked .index)) (min (asked .wanted) (n# (asked .index))) (omega arith)
+        length-map (answers x (rowsIn asked) (asked .wanted)) f ∙ ap length (sym (same-answers x (rowsIn asked) (asked .wanted) (due asked) refl))
+        ∙ answers-length x (rowsIn asked) (due asked) (omega arith)
 
     -- the rows written are those of the answers
-    first-rows : take (min (asked .wanted) (n# (asked .index))) (lent′ .rows) ≡ map (λ a. a .0) (answers x (n# (asked .index)) (asked .wanted))
+    first-rows : take (due asked) (lent′ .rows) ≡ map (λ a. a .0) (answers x (rowsIn asked) (asked .wanted))
     first-rows =
-        ap (take (min (asked .wanted) (n# (asked .index)))) (Z .rows)
-        ∙ take-at (map (λ a. a .0) (answers x (n# (asked .index)) (asked .wanted))) (drop (min (asked .wanted) (n# (asked .index))) (lent .rows)) (min (asked .wanted) (n# (asked .index))) (part-length (λ a. a .0))
+        ap (take (due asked)) (Z .rows)
+        ∙ take-at (map (λ a. a .0) (answers x (rowsIn asked) (asked .wanted))) (drop (due asked) (lent .rows)) (due asked) (part-length (λ a. a .0))
 
     -- and so are the distances
-    first-distances : take (min (asked .wanted) (n# (asked .index))) (lent′ .distances) ≡ map (λ a. a .1) (answers x (n# (asked .index)) (asked .wanted))
+    first-distances : take (due asked) (lent′ .distances) ≡ map (λ a. a .1) (answers x (rowsIn asked) (asked .wanted))
     first-distances =
-        ap (take (min (asked .wanted) (n# (asked .index)))) (Z .distances)
-        ∙ take-at (map (λ a. a .1) (answers x (n# (asked .index)) (asked .wanted))) (drop (min (asked .wanted) (n# (asked .index))) (lent .distances)) (min (asked .wanted) (n# (asked .index))) (part-length (λ a. a .1))
+        ap (take (due asked)) (Z .distances)
+        ∙ take-at (map (λ a. a .1) (answers x (rowsIn asked) (asked .wanted))) (drop (due asked) (lent .distances)) (due asked) (part-length (λ a. a .1))
 
     -- the first n how-bytes are those of the definition
-    first-bytes : take (n# (asked .index)) (lent′ .how) ≡ nearHow x (n# (asked .index)) (treeOf (asked .index)) (asked .wanted)
+    first-bytes : take (rowsIn asked) (lent′ .how) ≡ nearHow x (rowsIn asked) (treeOf (asked .index)) (asked .wanted)
     first-bytes =
-        ap (take (n# (asked .index))) (Z .bytes)
-        ∙ take-at (nearHow x (n# (asked .index)) (treeOf (asked .index)) (asked .wanted)) (drop (n# (asked .index)) (lent .how)) (n# (asked .index)) (near-length x (n# (asked .index)) (treeOf (asked .index)) (asked .wanted))
+        ap (take (rowsIn asked)) (Z .bytes)
+        ∙ take-at (nearHow x (rowsIn asked) (treeOf (asked .index)) (asked .wanted)) (drop (rowsIn asked) (lent .how)) (rowsIn asked) (near-length x (rowsIn asked) (treeOf (asked .index)) (asked .wanted))
 
     -- the count is that of the definition's how-bytes 1 and 3
-    pub count-is : met ≡ measured (nearHow x (n# (asked .index)) (treeOf (asked .index)) (asked .wanted))
+    pub count-is : met ≡ measured (nearHow x (rowsIn asked) (treeOf (asked .index)) (asked .wanted))
     count-is = s .counted done ∙ ap measured first-bytes
 
     -- a row's how-byte is that of the definition
-    byte-at : (i : ℕ) → i < n# (asked .index) → getD (lent′ .how) i 0 ≡ getD (nearHow x (n# (asked .index)) (treeOf (asked .index)) (asked .wanted)) i 0
+    byte-at : (i : ℕ) → i < rowsIn asked → getD (lent′ .how) i 0 ≡ getD (nearHow x (rowsIn asked) (treeOf (asked .index)) (asked .wanted)) i 0
     byte-at i h =
         ap (λ (l : List ℕ). getD l i 0) (Z .bytes)
-        ∙ List·getD-append (nearHow x (n# (asked .index)) (treeOf (asked .index)) (asked .wanted)) (drop (n# (asked .index)) (lent .how)) 0 i
-        (subst (λ (n : ℕ). i < n) (sym (near-length x (n# (asked .index)) (treeOf (asked .index)) (asked .wanted))) h)
+        ∙ List·getD-append (nearHow x (rowsIn asked) (treeOf (asked .index)) (asked .wanted)) (drop (rowsIn asked) (lent .how)) 0 i
+        (subst (λ (n : ℕ). i < n) (sym (near-length x (rowsIn asked) (treeOf (asked .index)) (asked .wanted))) h)
 
 -- ---- a call that is not refused, on an index that the full check accepts with its table
 module _ {asked : Asked} {room : ℕ} {lent lent′ : Buffers} {number given met : ℕ} (s : Answered asked room lent lent′ number given met)
@@ -139,63 +138,63 @@ module _ {asked : Asked} {room : ℕ} {lent lent′ : Buffers} {number given met
   nearest-exact = s .found done (asked .table) (record { rows = rows-are s done; accepted = A; agree = λ i h m. refl })
 
   -- MEASURED: A ROW'S HOW-BYTE IS 1 OR 3 EXACTLY IF ITS HOME BOUND IS AT MOST D
-  pub nearest-measured : (asked .wanted) ≤ n# (asked .index) → (i : ℕ) → i < n# (asked .index)
-      → T (isMeasured (getD (lent′ .how) i 0)) ↔ (homeBound (asked .index) (away asked) i ≤ lastDistance (answers (away asked) (n# (asked .index)) (asked .wanted)))
+  pub nearest-measured : (asked .wanted) ≤ rowsIn asked → (i : ℕ) → i < rowsIn asked
+      → T (isMeasured (getD (lent′ .how) i 0)) ↔ (homeBound (asked .index) (away asked) i ≤ lastDistance (answers (away asked) (rowsIn asked) (asked .wanted)))
   nearest-measured few i h =
-      subst (λ (v : ℕ). T (isMeasured v) ↔ (hb i ≤ lastDistance (answers x (n# (asked .index)) (asked .wanted))))
-      (sym (byte-at s done x nearest-exact i h ∙ near-at x (n# (asked .index)) (treeOf (asked .index)) (asked .wanted) i h))
-      (go (has i (map (λ a. a .0) (answers x (n# (asked .index)) (asked .wanted)))) (passes x (n# (asked .index)) (asked .wanted) (hb i)) refl refl)
+      subst (λ (v : ℕ). T (isMeasured v) ↔ (hb i ≤ lastDistance (answers x (rowsIn asked) (asked .wanted))))
+      (sym (byte-at s done x nearest-exact i h ∙ near-at x (rowsIn asked) (treeOf (asked .index)) (asked .wanted) i h))
+      (go (has i (map (λ a. a .0) (answers x (rowsIn asked) (asked .wanted)))) (passes x (rowsIn asked) (asked .wanted) (hb i)) refl refl)
     where
-      go : (a b : Bool) → has i (map (λ a. a .0) (answers x (n# (asked .index)) (asked .wanted))) ≡ a → passes x (n# (asked .index)) (asked .wanted) (hb i) ≡ b
-          → T (isMeasured (cond a 3 (cond b 1 0))) ↔ (hb i ≤ lastDistance (answers x (n# (asked .index)) (asked .wanted)))
-      go true b ea eb = (λ m. answer-near x hb (n# (asked .index)) (asked .wanted) i (λ r l. home-below (between (asked .table) (asked .columns)) (asked .index) A x (query-point (asked .table) (asked .columns) (asked .query)) r l) ea, λ m. tt)
-      go false true ea eb = (λ m. passes-only x (n# (asked .index)) (asked .wanted) (hb i) few eb, λ m. tt)
-      go false false ea eb = (λ m. absurd m, λ m. subst T (sym (passes-near x (n# (asked .index)) (asked .wanted) (hb i) m) ∙ eb) tt)
+      go : (a b : Bool) → has i (map (λ a. a .0) (answers x (rowsIn asked) (asked .wanted))) ≡ a → passes x (rowsIn asked) (asked .wanted) (hb i) ≡ b
+          → T (isMeasured (cond a 3 (cond b 1 0))) ↔ (hb i ≤ lastDistance (answers x (rowsIn asked) (asked .wanted)))
+      go true b ea eb = (λ m. answer-near x hb (rowsIn asked) (asked .wanted) i (λ r l. home-below (between (asked .table) (asked .columns)) (asked .index) A x (query-point (asked .table) (asked .columns) (asked .query)) r l) ea, λ m. tt)
+      go false true ea eb = (λ m. passes-only x (rowsIn asked) (asked .wanted) (hb i) few eb, λ m. tt)
+      go false false ea eb = (λ m. absurd m, λ m. subst T (sym (passes-near x (rowsIn asked) (asked .wanted) (hb i) m) ∙ eb) tt)
 
   -- ALL ROWS IF MORE ARE WANTED THAN THERE ARE
-  pub nearest-measured-all : n# (asked .index) < asked .wanted → (i : ℕ) → i < n# (asked .index) → T (isMeasured (getD (lent′ .how) i 0))
+  pub nearest-measured-all : rowsIn asked < asked .wanted → (i : ℕ) → i < rowsIn asked → T (isMeasured (getD (lent′ .how) i 0))
   nearest-measured-all more i h =
       subst (λ (v : ℕ). T (isMeasured v)) (sym (byte-at s done x nearest-exact i h))
-      (byte-measured x (n# (asked .index)) (treeOf (asked .index)) (asked .wanted) i h (passes-all x (n# (asked .index)) (asked .wanted) (hb i) more))
+      (byte-measured x (rowsIn asked) (treeOf (asked .index)) (asked .wanted) i h (passes-all x (rowsIn asked) (asked .wanted) (hb i) more))
 
   -- IN HER WORDS: A ROW IS AMONG THE ANSWERS EXACTLY IF FEWER THAN w ROWS COME BEFORE IT BY DISTANCE, THEN ROW NUMBER
-  pub nearest-ranked : (i : ℕ) → i < n# (asked .index) → T (has i (take given (lent′ .rows))) ↔ (ahead (away asked) (n# (asked .index)) i < asked .wanted)
+  pub nearest-ranked : (i : ℕ) → i < rowsIn asked → T (has i (take given (lent′ .rows))) ↔ (ahead (away asked) (rowsIn asked) i < asked .wanted)
   nearest-ranked i h =
       let Z = nearest-exact in
-      subst (λ (l : List ℕ). T (has i l) ↔ (ahead x (n# (asked .index)) i < asked .wanted)) (sym (ap (λ (k : ℕ). take k (lent′ .rows)) (Z .count) ∙ first-rows s done x Z))
-      (answers-ranked x (n# (asked .index)) i h (asked .wanted))
+      subst (λ (l : List ℕ). T (has i l) ↔ (ahead x (rowsIn asked) i < asked .wanted)) (sym (ap (λ (k : ℕ). take k (lent′ .rows)) (Z .count) ∙ first-rows s done x Z))
+      (answers-ranked x (rowsIn asked) i h (asked .wanted))
 
   -- the how-bytes of the definition, counted by a test that is theirs
-  counted-by : (f : ℕ → Bool) → ((i : ℕ) → i < n# (asked .index) → isMeasured (getD (lent′ .how) i 0) ≡ f i) → met ≡ tally f (range 0 (n# (asked .index)))
+  counted-by : (f : ℕ → Bool) → ((i : ℕ) → i < rowsIn asked → isMeasured (getD (lent′ .how) i 0) ≡ f i) → met ≡ tally f (range 0 (rowsIn asked))
   counted-by f same =
       let Z = nearest-exact in
-      let e = near-length x (n# (asked .index)) (treeOf (asked .index)) (asked .wanted) in
+      let e = near-length x (rowsIn asked) (treeOf (asked .index)) (asked .wanted) in
       let shift : (i : ℕ) → 0 + i ≡ i = λ i. omega arith in
       count-is s done x Z
-      ∙ tally-rows isMeasured f (nearHow x (n# (asked .index)) (treeOf (asked .index)) (asked .wanted)) 0
-      (λ i l. let h : i < n# (asked .index) = subst (λ (n : ℕ). i < n) e l in ap isMeasured (sym (byte-at s done x Z i h)) ∙ same i h ∙ ap f (sym (shift i)))
+      ∙ tally-rows isMeasured f (nearHow x (rowsIn asked) (treeOf (asked .index)) (asked .wanted)) 0
+      (λ i l. let h : i < rowsIn asked = subst (λ (n : ℕ). i < n) e l in ap isMeasured (sym (byte-at s done x Z i h)) ∙ same i h ∙ ap f (sym (shift i)))
       ∙ ap (λ (n : ℕ). tally f (range 0 n)) e
 
   -- THE COUNT IS THE NUMBER OF ROWS WHOSE HOME BOUND IS AT MOST D
-  pub nearest-counted : (asked .wanted) ≤ n# (asked .index)
-      → met ≡ tally (λ i. leb (homeBound (asked .index) (away asked) i) (lastDistance (answers (away asked) (n# (asked .index)) (asked .wanted)))) (range 0 (n# (asked .index)))
+  pub nearest-counted : (asked .wanted) ≤ rowsIn asked
+      → met ≡ tally (λ i. leb (homeBound (asked .index) (away asked) i) (lastDistance (answers (away asked) (rowsIn asked) (asked .wanted)))) (range 0 (rowsIn asked))
   nearest-counted few =
-      counted-by (λ i. leb (hb i) (lastDistance (answers x (n# (asked .index)) (asked .wanted))))
-      (λ i h. test-is (isMeasured (getD (lent′ .how) i 0)) (hb i) (lastDistance (answers x (n# (asked .index)) (asked .wanted))) (nearest-measured few i h))
+      counted-by (λ i. leb (hb i) (lastDistance (answers x (rowsIn asked) (asked .wanted))))
+      (λ i h. test-is (isMeasured (getD (lent′ .how) i 0)) (hb i) (lastDistance (answers x (rowsIn asked) (asked .wanted))) (nearest-measured few i h))
 
   -- THE NUMBER OF ALL ROWS, IF MORE ARE WANTED THAN THERE ARE
-  pub nearest-counted-all : n# (asked .index) < asked .wanted → met ≡ n# (asked .index)
+  pub nearest-counted-all : rowsIn asked < asked .wanted → met ≡ rowsIn asked
   nearest-counted-all more =
       counted-by (λ i. true) (λ i h. is-true (isMeasured (getD (lent′ .how) i 0)) (nearest-measured-all more i h))
-      ∙ tally-length (range 0 (n# (asked .index))) ∙ range-length 0 (n# (asked .index))
+      ∙ tally-length (range 0 (rowsIn asked)) ∙ range-length 0 (rowsIn asked)
 
   -- TWO TABLES: WHERE A SECOND TABLE AGREES WITH THIS ONE IN EVERY ROW THAT WAS MEASURED, A SEARCH ON IT THAT IS NOT REFUSED GIVES THE SAME ANSWERS,
   -- HOW-BYTES AND COUNTS. Nothing else is asked of the second table, and its call may be lent other rooms
   pub nearest-two-tables : {t₂ : List ℕ} {lent₂ lent₂′ : Buffers} {room₂ number₂ given₂ met₂ : ℕ}
       → Answered (asks t₂ (asked .columns) (asked .index) (asked .query) (asked .wanted)) room₂ lent₂ lent₂′ number₂ given₂ met₂ → number₂ ≡ 0
-      → ((i : ℕ) → i < n# (asked .index) → T (isMeasured (getD (lent′ .how) i 0)) → row (asked .table) (asked .columns) i ≡ row t₂ (asked .columns) i)
-      → (given ≡ given₂) × (met ≡ met₂) × (take (min (asked .wanted) (n# (asked .index))) (lent′ .rows) ≡ take (min (asked .wanted) (n# (asked .index))) (lent₂′ .rows))
-      × (take (min (asked .wanted) (n# (asked .index))) (lent′ .distances) ≡ take (min (asked .wanted) (n# (asked .index))) (lent₂′ .distances)) × (take (n# (asked .index)) (lent′ .how) ≡ take (n# (asked .index)) (lent₂′ .how))
+      → ((i : ℕ) → i < rowsIn asked → T (isMeasured (getD (lent′ .how) i 0)) → row (asked .table) (asked .columns) i ≡ row t₂ (asked .columns) i)
+      → (given ≡ given₂) × (met ≡ met₂) × (take (due asked) (lent′ .rows) ≡ take (due asked) (lent₂′ .rows))
+      × (take (due asked) (lent′ .distances) ≡ take (due asked) (lent₂′ .distances)) × (take (rowsIn asked) (lent′ .how) ≡ take (rowsIn asked) (lent₂′ .how))
   nearest-two-tables s₂ done₂ agree =
       let Z = nearest-exact in
       let Z₂ = s₂ .found done₂ (asked .table)
@@ -230,9 +229,9 @@ module _ {asked : Asked} {room : ℕ} {lent lent₁ lent₂ : Buffers} {number�
   -- WHAT IS SETTLED ON ANY INDEX: ALL OF A REFUSAL; ELSE THE NUMBER, THE WORKSPACE, WHAT LIES BEYOND, THE COUNT BY THE HOW-BYTES, AND HOW MANY
   -- ARE GIVEN
   pub nearest-open : (number₁ ≡ number₂) × ((number₁ ≡ 0 → ⊥) → Same)
-      × (number₁ ≡ 0 → ((lent₁ .work) ≡ lent₂ .work) × (drop (min (asked .wanted) (n# (asked .index))) (lent₁ .rows) ≡ drop (min (asked .wanted) (n# (asked .index))) (lent₂ .rows))
-      × (drop (min (asked .wanted) (n# (asked .index))) (lent₁ .distances) ≡ drop (min (asked .wanted) (n# (asked .index))) (lent₂ .distances)) × (drop (n# (asked .index)) (lent₁ .how) ≡ drop (n# (asked .index)) (lent₂ .how))
-      × (take (n# (asked .index)) (lent₁ .how) ≡ take (n# (asked .index)) (lent₂ .how) → met₁ ≡ met₂) × (given₁ ≡ given₂))
+      × (number₁ ≡ 0 → ((lent₁ .work) ≡ lent₂ .work) × (drop (due asked) (lent₁ .rows) ≡ drop (due asked) (lent₂ .rows))
+      × (drop (due asked) (lent₁ .distances) ≡ drop (due asked) (lent₂ .distances)) × (drop (rowsIn asked) (lent₁ .how) ≡ drop (rowsIn asked) (lent₂ .how))
+      × (take (rowsIn asked) (lent₁ .how) ≡ take (rowsIn asked) (lent₂ .how) → met₁ ≡ met₂) × (given₁ ≡ given₂))
   nearest-open = (
     one-number,
     λ k.
@@ -266,7 +265,7 @@ module _ {asked : Asked} {room : ℕ} {lent lent₁ lent₂ : Buffers} {number�
             one-number,
             (
               nearest-open .2 z .5,
-              nearest-open .2 z .4 (ap (take (n# (asked .index))) e),
+              nearest-open .2 z .4 (ap (take (rowsIn asked)) e),
               same-lent lent₁ lent₂ (Z₁ .rows ∙ sym (Z₂ .rows)) (Z₁ .distances ∙ sym (Z₂ .distances)) e (nearest-open .2 z .0),
             ),
           )
@@ -282,6 +281,6 @@ nearest-small {asked} {room} {lent} {lent′} {number} {given} {met} s = go (ℕ
         let C = clear (asked .table) (asked .columns) (asked .index) (asked .query) (asked .wanted) room (length (lent .how)) (length (lent .work)) (sym (s .said) ∙ z) in
         let n = C .index .shape .whole .rows in (
           omega (arith, s .sound z .count, n),
-          omega (arith, s .counted z, tally-take isMeasured (n# (asked .index)) (lent′ .how), n),
+          omega (arith, s .counted z, tally-take isMeasured (rowsIn asked) (lent′ .how), n),
           omega (arith, s .sound z .count, C .answers, C .index .rows),
         )

@@ -1,13 +1,12 @@
 -- What the nearest calls promise. Assumes nothing.
 use Prim.Native.Nat.{_*_, _<_, min, ℕ}
 use Rattle.measure.specs.Table.{between, from, row, rowsOf}
-use Rattle.seek.specs.Asked.{Asked, Buffers, away}
+use Rattle.seek.specs.Asked.{Asked, Buffers, away, due, rowsIn}
 use Rattle.seek.specs.Found.{Settled, Sound}
 use Rattle.tree.specs.Calls.{saidNearest}
 use Rattle.tree.specs.Check.{Accepted}
 use Rattle.tree.specs.Grove.{treeOf}
 use Rattle.tree.specs.Nearest.{isMeasured, measured, nearHow}
-use Rattle.words.specs.Words.{n#}
 use lib.Dec.{T}
 use lib.ListN.{drop, getD, length, replicate, take}
 use mathlib.Core.List.{List, _++_}
@@ -15,10 +14,10 @@ use mathlib.Core.Path.{_≡_}
 
 -- the table t′ fits the index, and the table asked about agrees with it in every row that the search on t′ measures
 pub record Serves (a : Asked) (t′ : List ℕ) : Type 0 where
-  pub rows : rowsOf t′ (a .columns) ≡ n# (a .index)
+  pub rows : rowsOf t′ (a .columns) ≡ rowsIn a
   pub accepted : Accepted (between t′ (a .columns)) (a .index)
-  pub agree : (i : ℕ) → i < n# (a .index)
-      → T (isMeasured (getD (nearHow (from t′ (a .columns) (a .query)) (n# (a .index)) (treeOf (a .index)) (a .wanted)) i 0))
+  pub agree : (i : ℕ) → i < rowsIn a
+      → T (isMeasured (getD (nearHow (from t′ (a .columns) (a .query)) (rowsIn a) (treeOf (a .index)) (a .wanted)) i 0))
       → row (a .table) (a .columns) i ≡ row t′ (a .columns) i
 
 -- what is asked, how many there is room for, what is lent before and after; the number, and the two counts
@@ -28,15 +27,15 @@ pub record Answered (a : Asked) (room : ℕ) (b b′ : Buffers) (number given me
   -- a refusal has zero counts and changes nothing
   pub refused : (number ≡ 0 → ⊥) → (given ≡ 0) × (met ≡ 0) × (b′ ≡ b)
   -- on success the first 6n words of the workspace are zero
-  pub cleared : number ≡ 0 → b′ .work ≡ replicate (6 * n# (a .index)) 0 ++ drop (6 * n# (a .index)) (b .work)
+  pub cleared : number ≡ 0 → b′ .work ≡ replicate (6 * rowsIn a) 0 ++ drop (6 * rowsIn a) (b .work)
   -- and entries beyond what is written stay
-  pub beyond : number ≡ 0 → (drop (min (a .wanted) (n# (a .index))) (b′ .rows) ≡ drop (min (a .wanted) (n# (a .index))) (b .rows))
-      × (drop (min (a .wanted) (n# (a .index))) (b′ .distances) ≡ drop (min (a .wanted) (n# (a .index))) (b .distances))
-      × (drop (n# (a .index)) (b′ .how) ≡ drop (n# (a .index)) (b .how))
+  pub beyond : number ≡ 0 → (drop (due a) (b′ .rows) ≡ drop (due a) (b .rows))
+      × (drop (due a) (b′ .distances) ≡ drop (due a) (b .distances))
+      × (drop (rowsIn a) (b′ .how) ≡ drop (rowsIn a) (b .how))
   -- on every index in shape there are min(w, n) answers, rows with their distances, in order, and the how-bytes tell them
-  pub sound : number ≡ 0 → Sound (away a) (n# (a .index)) (a .wanted) b′ given
+  pub sound : number ≡ 0 → Sound (away a) (rowsIn a) (a .wanted) b′ given
   -- the count is that of the how-bytes 1 and 3 that stand there afterwards
-  pub counted : number ≡ 0 → met ≡ measured (take (n# (a .index)) (b′ .how))
+  pub counted : number ≡ 0 → met ≡ measured (take (rowsIn a) (b′ .how))
   -- 01, Which rows are measured, Nearest: answers and how-bytes are those of any table that fits the index and with which the lent one agrees
   -- in the rows measured. With the lent table itself this says what the answers are; with another it is the statement on two tables
   pub found : number ≡ 0 → (t′ : List ℕ) → Serves a t′ → Settled (from t′ (a .columns) (a .query)) (a .index) (a .wanted) b b′ given

@@ -16,7 +16,7 @@ use Rattle.queue.proofs.Queued.{empty-queue}
 use Rattle.queue.specs.Queue.{Pushed, entry}
 use Rattle.seek.proofs.Filling.{root-row, still-root, sum-one}
 use Rattle.seek.proofs.Staying.{held-stay, ready-on, since-then, since-work, stands-stay}
-use Rattle.seek.specs.Asked.{Asked, asks}
+use Rattle.seek.specs.Asked.{Asked, asks, rowsIn}
 use Rattle.seek.specs.Rounds.{Blank, State, amiss, still}
 use Rattle.seek.specs.Standing.{Ready, Since, Stands, Took}
 use Rattle.words.specs.InShape.{InShape}
@@ -27,7 +27,7 @@ use mathlib.Core.Path.{_∙_, _≡_, ap, refl, subst, sym}
 use native.Mathlib.Omega.{arith}
 
 -- before it begins a search can measure
-pub blank-ready : (a : Asked) (how work : List ℕ) → Blank a how work → Ready (a .table) (a .columns) (a .query) (n# (a .index)) (a .wanted) how work 0
+pub blank-ready : (a : Asked) (how work : List ℕ) → Blank a how work → Ready (a .table) (a .columns) (a .query) (rowsIn a) (a .wanted) how work 0
 blank-ready a how work B = record { stands = B .stands; columns = B .tested .columns; table = B .tested .table; query = B .query }
 
 module _ (t : List ℕ) (c : ℕ) (q w : List ℕ) (wanted : ℕ) where

@@ -1,6 +1,7 @@
 -- What is asked of a nearest search, and what it is lent. Assumes nothing.
-use Prim.Native.Nat.{ℕ}
+use Prim.Native.Nat.{min, ℕ}
 use Rattle.measure.specs.Table.{from}
+use Rattle.words.specs.Words.{n#}
 use mathlib.Core.List.{List}
 
 -- What is asked: of a table of so many columns, by its index, the rows nearest to the query, as many as are wanted.
@@ -28,3 +29,11 @@ lends rs ds how work = record { rows = rs; distances = ds; how = how; work = wor
 -- how far the query is from a row of the table
 abbrev pub away : Asked → ℕ → ℕ
 away a = from (a .table) (a .columns) (a .query)
+
+-- how many rows there are, by the index
+abbrev pub rowsIn : Asked → ℕ
+rowsIn a = n# (a .index)
+
+-- how many answers there are: as many as are wanted, or all rows
+abbrev pub due : Asked → ℕ
+due a = min (a .wanted) (n# (a .index))

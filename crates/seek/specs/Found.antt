@@ -3,7 +3,7 @@ use Prim.Native.Nat.{_*_, _<_, _≤_, min, ℕ}
 use Rattle.frontier.specs.Workspace.{workWords}
 use Rattle.items.specs.Fits.{Fits}
 use Rattle.laws.specs.Lists.{has}
-use Rattle.seek.specs.Asked.{Asked, Buffers, away}
+use Rattle.seek.specs.Asked.{Asked, Buffers, away, rowsIn}
 use Rattle.tree.specs.Grove.{treeOf}
 use Rattle.tree.specs.Nearest.{answers, nearHow}
 use Rattle.tree.specs.Tested.{Tested}
@@ -18,11 +18,11 @@ use mathlib.Core.Path.{_≡_}
 pub record Fitting (a : Asked) (b : Buffers) : Type 0 where
   pub tested : Tested (a .index) (a .table) (a .columns)
   pub query : length (a .query) ≡ a .columns
-  pub few : (a .wanted ≤ n# (a .index)) × (1 ≤ n# (a .index) → 1 ≤ a .wanted)
+  pub few : (a .wanted ≤ rowsIn a) × (1 ≤ rowsIn a → 1 ≤ a .wanted)
   pub rows : a .wanted ≤ length (b .rows)
   pub distances : a .wanted ≤ length (b .distances)
-  pub bytes : n# (a .index) ≤ length (b .how)
-  pub words : workWords (n# (a .index)) ≤ length (b .work)
+  pub bytes : rowsIn a ≤ length (b .how)
+  pub words : workWords (rowsIn a) ≤ length (b .work)
 
 -- the answers for rows at x, with their how-bytes, before what stood beyond
 pub record Settled (x : ℕ → ℕ) (w : List ℕ) (wanted : ℕ) (b b′ : Buffers) (given : ℕ) : Type 0 where
@@ -46,10 +46,10 @@ pub record Sound (x : ℕ → ℕ) (n wanted : ℕ) (b′ : Buffers) (given : �
 -- what such a search leaves, and gives: how many answers there are
 pub record Found (a : Asked) (b b′ : Buffers) (given : ℕ) : Type 0 where
   -- the workspace is cleared, and what lies beyond stays
-  pub cleared : b′ .work ≡ replicate (6 * n# (a .index)) 0 ++ drop (6 * n# (a .index)) (b .work)
+  pub cleared : b′ .work ≡ replicate (6 * rowsIn a) 0 ++ drop (6 * rowsIn a) (b .work)
   pub beyond : (drop (a .wanted) (b′ .rows) ≡ drop (a .wanted) (b .rows)) × (drop (a .wanted) (b′ .distances) ≡ drop (a .wanted) (b .distances))
-      × (drop (n# (a .index)) (b′ .how) ≡ drop (n# (a .index)) (b .how))
+      × (drop (rowsIn a) (b′ .how) ≡ drop (rowsIn a) (b .how))
   pub bytes : length (b′ .how) ≡ length (b .how)
-  pub sound : Sound (away a) (n# (a .index)) (a .wanted) b′ given
+  pub sound : Sound (away a) (rowsIn a) (a .wanted) b′ given
   -- for rows that the index fits, with which the lent ones agree where it counts, the answers and how-bytes are those of the definition
   pub found : (x′ : ℕ → ℕ) → Fits (a .index) (a .wanted) (away a) x′ → Settled x′ (a .index) (a .wanted) b b′ given

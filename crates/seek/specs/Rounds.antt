@@ -10,7 +10,7 @@ use Rattle.items.specs.Run.{Ran, Running}
 use Rattle.laws.specs.Bags.{SameBag, total}
 use Rattle.laws.specs.Upto.{sumTo}
 use Rattle.queue.specs.Queue.{Queue, entries}
-use Rattle.seek.specs.Asked.{Asked, away}
+use Rattle.seek.specs.Asked.{Asked, away, rowsIn}
 use Rattle.seek.specs.Standing.{Grew, Ready, Since, Stands}
 use Rattle.tree.specs.Tested.{Tested}
 use Rattle.words.specs.Words.{N#, at, first#, n#}
@@ -26,8 +26,8 @@ amiss w how (place p b) = suc p - n# w
 
 -- it can be taken: with it gone len entries wait, and there is room for all that it stands for
 pub record Takes (a : Asked) (how work : List ℕ) (len held : ℕ) (i : Item) : Type 0 where
-  pub ready : Ready (a .table) (a .columns) (a .query) (n# (a .index)) (a .wanted) how work held
-  pub room : Room (a .index) work (n# (a .index)) len (weight (a .index) i)
+  pub ready : Ready (a .table) (a .columns) (a .query) (rowsIn a) (a .wanted) how work held
+  pub room : Room (a .index) work (rowsIn a) len (weight (a .index) i)
   pub sound : amiss (a .index) how i ≡ 0
 
 -- it is taken: what it measures is measured, and what it opens, all under bounds of 32 bits, waits with the others, but for what lies beyond the last
@@ -46,27 +46,27 @@ still w i = sumTo (waitsOf w i) (n# w)
 -- Between two rounds. Where fewer are held than are wanted, nothing was left out: all n positions are held or wait. The last promise is for
 -- lent rows that are, where it counts, those of a table that the index fits.
 pub record State (a : Asked) (how work : List ℕ) (len held : ℕ) : Type 0 where
-  pub ready : Ready (a .table) (a .columns) (a .query) (n# (a .index)) (a .wanted) how work held
+  pub ready : Ready (a .table) (a .columns) (a .query) (rowsIn a) (a .wanted) how work held
   pub queue : Queue work 0 len
   pub sound : total (amiss (a .index) how) (items (a .index) (away a) work len) ≡ 0
-  pub room : total (weight (a .index)) (items (a .index) (away a) work len) ≤ n# (a .index)
-  pub short : held < a .wanted → n# (a .index) ≤ held + total (still (a .index)) (items (a .index) (away a) work len)
+  pub room : total (weight (a .index)) (items (a .index) (away a) work len) ≤ rowsIn a
+  pub short : held < a .wanted → rowsIn a ≤ held + total (still (a .index)) (items (a .index) (away a) work len)
   pub run : (x′ : ℕ → ℕ) → Fits (a .index) (a .wanted) (away a) x′
-      → Held (away a) (at how) (n# (a .index)) work (answersAt (n# (a .index))) (a .wanted) held
+      → Held (away a) (at how) (rowsIn a) work (answersAt (rowsIn a)) (a .wanted) held
       × Running (a .index) (a .wanted) (away a) (items (a .index) (away a) work len) (at how)
 
 -- Before it begins: the index is tested, and not empty, and no row is marked.
 pub record Blank (a : Asked) (how work : List ℕ) : Type 0 where
   pub tested : Tested (a .index) (a .table) (a .columns)
   pub query : length (a .query) ≡ a .columns
-  pub stands : Stands (away a) (n# (a .index)) (a .wanted) how work 0
-  pub filled : 1 ≤ n# (a .index)
-  pub blank : (r : ℕ) → r < n# (a .index) → at how r ≡ 0
+  pub stands : Stands (away a) (rowsIn a) (a .wanted) how work 0
+  pub filled : 1 ≤ rowsIn a
+  pub blank : (r : ℕ) → r < rowsIn a → at how r ≡ 0
 
 -- At its end: as many are held as are wanted, on every index in shape.
 pub record Searched (a : Asked) (how how′ work work′ : List ℕ) (held : ℕ) : Type 0 where
-  pub stands : Stands (away a) (n# (a .index)) (a .wanted) how′ work′ held
+  pub stands : Stands (away a) (rowsIn a) (a .wanted) how′ work′ held
   pub full : held ≡ a .wanted
-  pub since : Since (n# (a .index)) how how′ work work′
+  pub since : Since (rowsIn a) how how′ work work′
   pub ran : (x′ : ℕ → ℕ) → Fits (a .index) (a .wanted) (away a) x′
-      → Held (away a) (at how′) (n# (a .index)) work′ (answersAt (n# (a .index))) (a .wanted) held × Ran (a .index) (a .wanted) (away a) (at how′)
+      → Held (away a) (at how′) (rowsIn a) work′ (answersAt (rowsIn a)) (a .wanted) held × Ran (a .index) (a .wanted) (away a) (at how′)
