@@ -3,14 +3,15 @@ use Prim.Native.Nat.{_<_, _≤_, min, ℕ}
 use Rattle.build.specs.Calls.{Builds}
 use Rattle.finder.specs.Answers.{Alike, Closest}
 use Rattle.measure.specs.Table.{between, from, row, rowsOf}
-use Rattle.nearest.proofs.Contract.{same-answers}
+use Rattle.nearest.proofs.Contract.{fits, same-answers}
 use Rattle.nearest.proofs.Promises.{nearest-exact}
-use Rattle.nearest.proofs.Refusals.{clear, fits}
+use Rattle.nearest.proofs.Refusals.{clear}
 use Rattle.nearest.specs.Calls.{Answered}
 use Rattle.radius.proofs.Promises.{radius-call-exact}
 use Rattle.radius.proofs.Refusals as within-radius
 use Rattle.radius.specs.Calls.{Searched}
-use Rattle.seek.specs.Found.{Lent, Settled}
+use Rattle.seek.specs.Asked.{asks, lends}
+use Rattle.seek.specs.Found.{Fitting, Settled}
 use Rattle.tree.proofs.Answers.{answers-length}
 use Rattle.tree.specs.Build.{build}
 use Rattle.tree.specs.Check.{Accepted}
@@ -51,15 +52,15 @@ module _ {t : List ℕ} {c : ℕ} (i : ℕ) {w : List ℕ} (a : Accepted (betwee
 
   -- a nearest search that is not refused
   module _ {rs rs′ ds ds′ how how′ work work′ : List ℕ} {wanted number given met : ℕ}
-      (x : Answered t c w (row t c i) wanted (min (length rs) (length ds)) rs rs′ ds ds′ how how′ work work′ number given met) (z : number ≡ 0) where
+      (x : Answered (asks t c w (row t c i) wanted) (min (length rs) (length ds)) (lends rs ds how work) (lends rs′ ds′ how′ work′) number given met) (z : number ≡ 0) where
     -- settles its answers
-    settled : Settled (between t c i) w wanted rs rs′ ds ds′ how how′ given
-    settled = subst (λ (d : ℕ → ℕ). Settled d w wanted rs rs′ ds ds′ how how′ given) (row-query t c i) (nearest-exact x z a)
+    settled : Settled (between t c i) w wanted (lends rs ds how work) (lends rs′ ds′ how′ work′) given
+    settled = subst (λ (d : ℕ → ℕ). Settled d w wanted (lends rs ds how work) (lends rs′ ds′ how′ work′) given) (row-query t c i) (nearest-exact x z a)
 
     -- was lent room enough for them
-    lent : Lent t c w (row t c i) (min wanted (n# w)) rs ds how work
+    lent : Fitting (asks t c w (row t c i) (min wanted (n# w))) (lends rs ds how work)
     lent =
-        fits t c w (row t c i) wanted (min (length rs) (length ds)) rs ds how work (omega arith, omega arith) (min wanted (n# w)) refl
+        fits (asks t c w (row t c i) wanted) (min (length rs) (length ds)) (lends rs ds how work) (omega arith, omega arith) (min wanted (n# w)) refl
         (sym (x .said) ∙ z)
 
     -- and has as many rows in its index as in its table

@@ -5,6 +5,7 @@ use Rattle.finder.specs.Calls.{Finds, FindsBuilt, Marks, MarksBuilt, Mis
 use Rattle.measure.specs.Table.{row}
 use Rattle.nearest.specs.Calls.{Answered}
 use Rattle.radius.specs.Calls.{Searched}
+use Rattle.seek.specs.Asked.{asks, lends}
 use borrow.Author.Tests.{leb-false, leb-true}
 use lib.Dec.{leb}
 use lib.ListN.{length, take}
@@ -83,7 +84,7 @@ module _ {t : List ℕ} {c i w : ℕ} {room work how rs ds : List ℕ} {number g
 
       -- what it wrote was searched
       pub finds-answered : {q work′ how′ rs′ ds′ : List ℕ} → made ≡ 0 → q ≡ row t c i
-          → Answered t c (take words room′) q w (min (length rs) (length ds)) rs rs′ ds ds′ how how′ cleared work′ number given met
+          → Answered (asks t c (take words room′) q w) (min (length rs) (length ds)) (lends rs ds how cleared) (lends rs′ ds′ how′ work′) number given met
           → Finds t c i w room room′ work work′ how how′ rs rs′ ds ds′ number given met
       finds-answered {work′ = work′} {how′} {rs′} {ds′} z e s =
           finds-there (record {
@@ -96,6 +97,6 @@ module _ {t : List ℕ} {c i w : ℕ} {room work how rs ds : List ℕ} {number g
             answered = λ y.
                 subst
                 (λ (q : List ℕ).
-                Answered t c (take words room′) q w (min (length rs) (length ds)) rs rs′ ds ds′ how how′ cleared work′ number given met)
+                Answered (asks t c (take words room′) q w) (min (length rs) (length ds)) (lends rs ds how cleared) (lends rs′ ds′ how′ work′) number given met)
                 e s;
           })

@@ -12,11 +12,12 @@ use Rattle.nearest.proofs.Refusals.{clear}
 use Rattle.nearest.specs.Calls.{Answered}
 use Rattle.radius.proofs.Promises.{radius-only}
 use Rattle.radius.specs.Calls.{Searched}
+use Rattle.seek.specs.Asked.{Buffers, asks, lends}
 use Rattle.tree.proofs.Accepted.{once-of}
 use lib.ListN.{length, take}
 use mathlib.Core.List.{List}
 use mathlib.Core.Logic.{_↔_}
-use mathlib.Core.Path.{_∙_, _≡_, ap₂, refl, subst, sym}
+use mathlib.Core.Path.{_∙_, _≡_, ap, ap₂, refl, subst, sym}
 use native.Mathlib.Decide.{decLe, ℕ-discrete}
 use native.Mathlib.Omega.{arith}
 
@@ -171,11 +172,11 @@ module _ {t : List ℕ} {c i w : ℕ} {room work how rs ds room₁ work₁ how�
           )
       go (yes z) e v p q =
           let s₀ = subst
-          (λ (u : List ℕ). Answered t c u (row t c i) w (min (length rs) (length ds)) rs rs₂ ds ds₂ how how₂ (y .cleared) work₂ number₂ given₂ met₂)
+          (λ (u : List ℕ). Answered (asks t c u (row t c i) w) (min (length rs) (length ds)) (lends rs ds how (y .cleared)) (lends rs₂ ds₂ how₂ work₂) number₂ given₂ met₂)
           (sym v) (y .answered (sym e ∙ z)) in
           let s = subst
           (λ (u : List ℕ).
-          Answered t c (take (x .words) room₁) (row t c i) w (min (length rs) (length ds)) rs rs₂ ds ds₂ how how₂ u work₂ number₂ given₂ met₂)
+          Answered (asks t c (take (x .words) room₁) (row t c i) w) (min (length rs) (length ds)) (lends rs ds how u) (lends rs₂ ds₂ how₂ work₂) number₂ given₂ met₂)
           (sym q) s₀ in
           let n = nearest-only (x .answered z) s t
           (λ k.
@@ -188,7 +189,16 @@ module _ {t : List ℕ} {c i w : ℕ} {room work how rs ds room₁ work₁ how�
             accepted = x .built .accepted z;
             agree = λ j h m. refl;
           }) in
-          (n .0, n .1 .0, n .1 .1, p, n .1 .5, n .1 .4, n .1 .2, n .1 .3)
+          let b = n .1 .2 in (
+            n .0,
+            n .1 .0,
+            n .1 .1,
+            p,
+            ap (λ (l : Buffers). l .work) b,
+            ap (λ (l : Buffers). l .how) b,
+            ap (λ (l : Buffers). l .rows) b,
+            ap (λ (l : Buffers). l .distances) b,
+          )
 
   -- NO SECOND OUTCOME FITS
   pub finds-only : SameFinds

@@ -4,6 +4,7 @@ use Rattle.build.specs.Calls.{Builds}
 use Rattle.measure.specs.Table.{row}
 use Rattle.nearest.specs.Calls.{Answered}
 use Rattle.radius.specs.Calls.{Searched}
+use Rattle.seek.specs.Asked.{asks, lends}
 use lib.ListN.{length, take}
 use mathlib.Core.List.{List}
 use mathlib.Core.Path.{_≡_}
@@ -58,7 +59,7 @@ pub record FindsBuilt (t : List ℕ) (c i w : ℕ) (room room′ work work′ ho
   pub refused : (made ≡ 0 → ⊥) → (number ≡ made) × (given ≡ 0) × (met ≡ 0) × (work′ ≡ cleared) × (how′ ≡ how) × (rs′ ≡ rs) × (ds′ ≡ ds)
   -- else the built words are searched for the w nearest to row i
   pub answered : made ≡ 0
-      → Answered t c (take words room′) (row t c i) w (min (length rs) (length ds)) rs rs′ ds ds′ how how′ cleared work′ number given met
+      → Answered (asks t c (take words room′) (row t c i) w) (min (length rs) (length ds)) (lends rs ds how cleared) (lends rs′ ds′ how′ work′) number given met
 
 -- the row i that is asked about and how many are wanted; room, workspace, how-bytes, rows and distances before and after; the number and the counts
 pub record Finds (t : List ℕ) (c i w : ℕ) (room room′ work work′ how how′ rs rs′ ds ds′ : List ℕ) (number given met : ℕ) : Type 0 where

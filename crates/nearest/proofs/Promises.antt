@@ -212,7 +212,7 @@ module _ {asked : Asked} {room : ℕ} {lent lent′ : Buffers} {number given met
 
 -- ---- two outcomes of one call
 -- what is lent is known by its parts
-same-lent : (l m : Buffers) → l .rows ≡ m .rows → l .distances ≡ m .distances → l .how ≡ m .how → l .work ≡ m .work → l ≡ m
+pub same-lent : (l m : Buffers) → l .rows ≡ m .rows → l .distances ≡ m .distances → l .how ≡ m .how → l .work ≡ m .work → l ≡ m
 same-lent l m e₁ e₂ e₃ e₄ =
     ap₂ (λ (r d : List ℕ). lends r d (l .how) (l .work)) e₁ e₂ ∙ ap₂ (λ (h k : List ℕ). lends (m .rows) (m .distances) h k) e₃ e₄
 
