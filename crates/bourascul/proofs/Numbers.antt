@@ -15,7 +15,8 @@ use Rattle.radius.specs.Calls.{Searched}
 use Rattle.seek.specs.Asked.{Buffers, asks}
 use Rattle.seek.specs.Found.{Settled}
 use Rattle.tree.proofs.Answers.{answers-length}
-use Rattle.tree.specs.Calls.{saidNearest, saidRadius}
+use Rattle.nearest.specs.Numbers.{saidNearest}
+use Rattle.radius.specs.Numbers.{saidRadius}
 use Rattle.tree.specs.Nearest.{answers, lastDistance}
 use Rattle.words.proofs.Headers.{whole-words}
 use Rattle.words.proofs.Index.{none-wrong}

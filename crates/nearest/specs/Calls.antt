@@ -1,9 +1,9 @@
 -- What the nearest calls promise. Assumes nothing.
 use Prim.Native.Nat.{_*_, _<_, min, ℕ}
 use Rattle.measure.specs.Table.{between, from, row, rowsOf}
+use Rattle.nearest.specs.Numbers.{saidNearest}
 use Rattle.seek.specs.Asked.{Asked, Buffers, away, due, rowsIn}
 use Rattle.seek.specs.Found.{Settled, Sound}
-use Rattle.tree.specs.Calls.{saidNearest}
 use Rattle.tree.specs.Check.{Accepted}
 use Rattle.tree.specs.Grove.{treeOf}
 use Rattle.tree.specs.Nearest.{isMeasured, measured, nearHow}

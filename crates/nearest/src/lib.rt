@@ -1,8 +1,8 @@
 // The nearest call: its refusals, and the search.
 ghost use Prim.Native.Nat.{_≤_, min};
 ghost use Rattle.nearest.specs.Calls.{Answered};
+ghost use Rattle.nearest.specs.Numbers.{saidNearest};
 ghost use Rattle.seek.specs.Asked.{asks, lends};
-ghost use Rattle.tree.specs.Calls.{saidNearest};
 ghost use lib.ListN.{length};
 ghost use mathlib.Core.Path.{_≡_};
 use seek::find;
