@@ -2,13 +2,13 @@
 use Prim.Native.Nat.{_<_, _^_, _≤_, min, ℕ}
 use Rattle.nearest.proofs.Promises.{nearest-small}
 use Rattle.nearest.specs.Calls.{Answered}
-use Rattle.seek.specs.Asked.{Asked, Buffers}
+use Rattle.nearest_search.specs.Asked.{NearestAsked, NearestLent}
 use lib.ListN.{length}
 use mathlib.Core.Path.{_≡_}
 use native.Mathlib.Omega.{arith}
 
 -- there is room in each, before and after
-pub given-each : {asked : Asked} {own : ℕ} {lent lent′ : Buffers} {number given met : ℕ}
+pub given-each : {asked : NearestAsked} {own : ℕ} {lent lent′ : NearestLent} {number given met : ℕ}
     → Answered asked (min own (min (length (lent .rows)) (length (lent .distances)))) lent lent′ number given met
     → length (lent′ .rows) ≡ length (lent .rows) → length (lent′ .distances) ≡ length (lent .distances) → (given ≤ own) × (given ≤ length (lent′ .rows)) × (given ≤ length (lent′ .distances))
 given-each s er ed =

@@ -8,11 +8,11 @@ use Rattle.bourascul.proofs.Firsts.{measured-still, same-first}
 use Rattle.bourascul.specs.Recorded.{Recorded}
 use Rattle.measure.specs.Table.{from}
 use Rattle.nearest.specs.Calls.{Answered}
+use Rattle.nearest_search.proofs.HowBytes.{near-length}
+use Rattle.nearest_search.specs.Asked.{NearestLent, asks}
+use Rattle.nearest_search.specs.Found.{Settled}
 use Rattle.radius.proofs.Cases.{radius-call-cases}
 use Rattle.radius.specs.Calls.{Searched}
-use Rattle.seek.proofs.HowBytes.{near-length}
-use Rattle.seek.specs.Asked.{Buffers, asks}
-use Rattle.seek.specs.Found.{Settled}
 use Rattle.tree.specs.Build.{build}
 use Rattle.tree.specs.Cases.{five}
 use Rattle.tree.specs.Grove.{treeOf}
@@ -25,7 +25,7 @@ use mathlib.Core.Path.{_∙_, _≡_, ap, subst, sym}
 use native.Mathlib.Omega.{arith}
 
 -- the how-byte of row i is the definition's
-byte-is : {x : ℕ → ℕ} {w : List ℕ} {wanted : ℕ} {lent lent′ : Buffers} {given : ℕ} → Settled x w wanted lent lent′ given
+byte-is : {x : ℕ → ℕ} {w : List ℕ} {wanted : ℕ} {lent lent′ : NearestLent} {given : ℕ} → Settled x w wanted lent lent′ given
     → (i : ℕ) → i < n# w → getD (lent′ .how) i 0 ≡ getD (nearHow x (n# w) (treeOf w) wanted) i 0
 byte-is {x} {w} {wanted} {lent} Z i h =
     let bytes : List ℕ = nearHow x (n# w) (treeOf w) wanted in
@@ -35,7 +35,7 @@ byte-is {x} {w} {wanted} {lent} Z i h =
 -- an index of which a check gave 0
 module _ {t : List ℕ} {c : ℕ} {w work₀ work₁ : List ℕ} {place second : ℕ} (ok : Checks t c w work₀ work₁ 0 place second) where
   -- two nearest searches: fewer are wanted, and more; either may be more than there are rows
-  module _ {q : List ℕ} {few many room room₂ : ℕ} {lent lent′ lent₂ lent₂′ : Buffers}
+  module _ {q : List ℕ} {few many room room₂ : ℕ} {lent lent′ lent₂ lent₂′ : NearestLent}
       {given met given₂ met₂ : ℕ} (s : Answered (asks t c w q few) room lent lent′ 0 given met)
       (s₂ : Answered (asks t c w q many) room₂ lent₂ lent₂′ 0 given₂ met₂) (more : few ≤ many) where
     -- THE FIRST TEN OF TWENTY ARE THE TEN: no fewer are given, and the first rows and distances are the same
@@ -59,7 +59,7 @@ module _ {t : List ℕ} {c : ℕ} {w work₀ work₁ : List ℕ} {place second :
 
   -- the same with records
   module _ {q : List ℕ} {few many : ℕ} {as₀ as₁ as₂ as₃ : List Answer}
-      {lent lent′ lent₂ lent₂′ : Buffers} {given met given₂ met₂ : ℕ}
+      {lent lent′ lent₂ lent₂′ : NearestLent} {given met given₂ met₂ : ℕ}
       (s : Recorded (asks t c w q few) as₀ as₁ lent lent′ 0 given met)
       (s₂ : Recorded (asks t c w q many) as₂ as₃ lent₂ lent₂′ 0 given₂ met₂) (more : few ≤ many) where
     -- THE FIRST TEN RECORDS OF TWENTY ARE THE TEN

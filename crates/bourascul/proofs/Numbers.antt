@@ -10,13 +10,13 @@ use Rattle.measure.specs.Table.{rowsOf}
 use Rattle.nearest.proofs.Contract.{same-answers}
 use Rattle.nearest.proofs.Refusals as near
 use Rattle.nearest.specs.Calls.{Answered}
+use Rattle.nearest.specs.Numbers.{saidNearest}
+use Rattle.nearest_search.specs.Asked.{NearestLent, asks}
+use Rattle.nearest_search.specs.Found.{Settled}
 use Rattle.radius.proofs.Refusals as within-radius
 use Rattle.radius.specs.Calls.{Searched}
-use Rattle.seek.specs.Asked.{Buffers, asks}
-use Rattle.seek.specs.Found.{Settled}
-use Rattle.tree.proofs.Answers.{answers-length}
-use Rattle.nearest.specs.Numbers.{saidNearest}
 use Rattle.radius.specs.Numbers.{saidRadius}
+use Rattle.tree.proofs.Answers.{answers-length}
 use Rattle.tree.specs.Nearest.{answers, lastDistance}
 use Rattle.words.proofs.Headers.{whole-words}
 use Rattle.words.proofs.Index.{none-wrong}
@@ -50,7 +50,7 @@ module _ {t : List ℕ} {c : ℕ} {w work₀ work₁ : List ℕ} {place second :
       s .said ∙ sym (within-radius.by-index t c w q (length before) table-right refl (omega (arith, passed .same-rows)) e index-right)
 
   -- NOR IS A NEAREST SEARCH WHERE SOME ARE WANTED AND THERE IS ROOM FOR THE ANSWERS, THE HOW-BYTES AND 6n WORDS
-  pub nearest-taken : {q : List ℕ} {wanted room : ℕ} {lent lent′ : Buffers} {number given met : ℕ}
+  pub nearest-taken : {q : List ℕ} {wanted room : ℕ} {lent lent′ : NearestLent} {number given met : ℕ}
       → Answered (asks t c w q wanted) room lent lent′ number given met
       → length q ≡ c → 1 ≤ wanted → min wanted (n# w) ≤ room → n# w ≤ length (lent .how) → 6 * n# w ≤ length (lent .work) → number ≡ 0
   nearest-taken {q} {wanted} {room} {lent} s e some a b d =
@@ -59,7 +59,7 @@ module _ {t : List ℕ} {c : ℕ} {w work₀ work₁ : List ℕ} {place second :
 
 -- ---- D
 -- THE LAST DISTANCE GIVEN IS D
-pub last-is : {x : ℕ → ℕ} {w : List ℕ} {wanted : ℕ} {lent lent′ : Buffers} {given : ℕ} → Settled x w wanted lent lent′ given
+pub last-is : {x : ℕ → ℕ} {w : List ℕ} {wanted : ℕ} {lent lent′ : NearestLent} {given : ℕ} → Settled x w wanted lent lent′ given
     → last (take given (lent′ .distances)) ≡ lastDistance (answers x (n# w) wanted)
 last-is {x} {w} {wanted} {lent} s =
     let k : ℕ = min wanted (n# w) in
@@ -74,7 +74,7 @@ pub both-parts : (k : ℕ) (a b : List ℕ) → take k a ≡ take k b → drop k
 both-parts k a b e d = sym (take-append-drop k a) ∙ ap₂ (λ (x y : List ℕ). x ++ y) e d ∙ take-append-drop k b
 
 -- TWO NEAREST SEARCHES ON TABLES THAT ARE EQUALLY LONG, LENT AS MUCH, GIVE THE SAME NUMBER
-pub same-number : {t t₂ : List ℕ} {c : ℕ} {w q : List ℕ} {wanted room : ℕ} {lent lent′ lent₂ lent₂′ : Buffers} {number given met number₂ given₂ met₂ : ℕ}
+pub same-number : {t t₂ : List ℕ} {c : ℕ} {w q : List ℕ} {wanted room : ℕ} {lent lent′ lent₂ lent₂′ : NearestLent} {number given met number₂ given₂ met₂ : ℕ}
     → Answered (asks t c w q wanted) room lent lent′ number given met → Answered (asks t₂ c w q wanted) room lent₂ lent₂′ number₂ given₂ met₂
     → length t ≡ length t₂ → length (lent .how) ≡ length (lent₂ .how) → length (lent .work) ≡ length (lent₂ .work) → number ≡ number₂
 unfolding saidNearest

@@ -11,8 +11,8 @@ use Rattle.measure.specs.Table.{between, from, row}
 use Rattle.nearest.proofs.Contract.{same-answers}
 use Rattle.nearest.proofs.Promises.{Same, nearest-exact, nearest-only, nearest-two-tables}
 use Rattle.nearest.specs.Calls.{Serves}
-use Rattle.seek.specs.Asked.{Asked, Buffers, asks, away, due, rowsIn}
-use Rattle.seek.specs.Found.{Settled}
+use Rattle.nearest_search.specs.Asked.{NearestAsked, NearestLent, asks, away, due, rowsIn}
+use Rattle.nearest_search.specs.Found.{Settled}
 use Rattle.tree.proofs.Answers.{answers-length}
 use Rattle.tree.specs.Check.{Accepted}
 use Rattle.tree.specs.Nearest.{answers, isMeasured}
@@ -24,7 +24,7 @@ use mathlib.Core.Path.{_∙_, _≡_, ap, ap₂, refl, sym}
 use native.Mathlib.Omega.{arith}
 
 -- ---- one outcome
-module _ {asked : Asked} {as₀ as₁ : List Answer} {lent lent′ : Buffers} {number given met : ℕ}
+module _ {asked : NearestAsked} {as₀ as₁ : List Answer} {lent lent′ : NearestLent} {number given met : ℕ}
     (s : Recorded asked as₀ as₁ lent lent′ number given met) where
   -- A REFUSAL CHANGES NO RECORD
   pub refused-records : (number ≡ 0 → ⊥) → as₁ ≡ as₀
@@ -62,7 +62,7 @@ module _ {asked : Asked} {as₀ as₁ : List Answer} {lent lent′ : Buffers} {n
     answers-exact = settled-records (away asked) (nearest-exact (s .plain) done A)
 
 -- ---- two outcomes, on two tables: the first accepted with the index, the second agreeing with it in every row that was measured
-module _ {asked : Asked} {t₂ : List ℕ} {as₀ as₁ bs₀ bs₁ : List Answer} {lent lent′ lent₂ lent₂′ : Buffers} {number given met number₂ given₂ met₂ : ℕ}
+module _ {asked : NearestAsked} {t₂ : List ℕ} {as₀ as₁ bs₀ bs₁ : List Answer} {lent lent′ lent₂ lent₂′ : NearestLent} {number given met number₂ given₂ met₂ : ℕ}
     (s : Recorded asked as₀ as₁ lent lent′ number given met)
     (s₂ : Recorded (asks t₂ (asked .columns) (asked .index) (asked .query) (asked .wanted)) bs₀ bs₁ lent₂ lent₂′ number₂ given₂ met₂) where
   -- TWO TABLES: A SEARCH ON THE SECOND THAT IS NOT REFUSED GIVES THE SAME RECORDS
@@ -80,7 +80,7 @@ module _ {asked : Asked} {t₂ : List ℕ} {as₀ as₁ bs₀ bs₁ : List Answe
       )
 
 -- ---- two outcomes of one call
-module _ {asked : Asked} {as₀ as₁ as₂ : List Answer} {lent lent₁ lent₂ : Buffers} {number₁ given₁ met₁ number₂ given₂ met₂ : ℕ}
+module _ {asked : NearestAsked} {as₀ as₁ as₂ : List Answer} {lent lent₁ lent₂ : NearestLent} {number₁ given₁ met₁ number₂ given₂ met₂ : ℕ}
     (s₁ : Recorded asked as₀ as₁ lent lent₁ number₁ given₁ met₁)
     (s₂ : Recorded asked as₀ as₂ lent lent₂ number₂ given₂ met₂) where
   -- ON ANY INDEX THE RECORDS FOLLOW FROM THE NUMBERS AND DISTANCES HANDED OUT
@@ -93,7 +93,7 @@ module _ {asked : Asked} {as₀ as₁ as₂ : List Answer} {lent lent₁ lent₂
   pub answers-only : (t′ : List ℕ) → (number₁ ≡ 0 → Serves asked t′) → (number₁ ≡ number₂) × Same (s₁ .plain) (s₂ .plain) × (as₁ ≡ as₂)
   answers-only t′ serves =
       let E = nearest-only (s₁ .plain) (s₂ .plain) t′ serves in
-      (E .0, E .1, records-follow (E .1 .0) (ap (λ (l : Buffers). l .rows) (E .1 .2)) (ap (λ (l : Buffers). l .distances) (E .1 .2)))
+      (E .0, E .1, records-follow (E .1 .0) (ap (λ (l : NearestLent). l .rows) (E .1 .2)) (ap (λ (l : NearestLent). l .distances) (E .1 .2)))
 
 -- ---- reading an image, with the number of a wrong block in 32 bits
 -- NO SECOND OUTCOME FITS

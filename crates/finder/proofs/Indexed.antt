@@ -7,8 +7,8 @@ use Rattle.nearest.proofs.Contract.{fits, same-answers}
 use Rattle.nearest.proofs.Promises.{nearest-exact}
 use Rattle.nearest.proofs.Refusals.{clear}
 use Rattle.nearest.specs.Calls.{Answered}
-use Rattle.seek.specs.Asked.{asks, lends}
-use Rattle.seek.specs.Found.{Fitting, Settled}
+use Rattle.nearest_search.specs.Asked.{asks, lends}
+use Rattle.nearest_search.specs.Found.{Searchable, Settled}
 use Rattle.tree.proofs.Answers.{answers-length}
 use Rattle.tree.specs.Build.{build}
 use Rattle.tree.specs.Check.{Accepted}
@@ -41,7 +41,7 @@ module _ {t : List ℕ} {c : ℕ} (q : List ℕ) {w : List ℕ} (a : Accepted (b
     settled = nearest-exact x z a
 
     -- was lent room enough for them
-    lent : Fitting (asks t c w q (min wanted (n# w))) (lends rs ds how work)
+    lent : Searchable (asks t c w q (min wanted (n# w))) (lends rs ds how work)
     lent =
         fits (asks t c w q wanted) (min (length rs) (length ds)) (lends rs ds how work) (omega arith, omega arith) (min wanted (n# w)) refl
         (sym (x .said) ∙ z)

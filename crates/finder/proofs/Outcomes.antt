@@ -9,7 +9,7 @@ use Rattle.finder.specs.Near.{Asked, Fit, firstOf, markOf, saidNear}
 use Rattle.limits.proofs.Sized.{Sized}
 use Rattle.measure.specs.Table.{rowsOf}
 use Rattle.nearest.specs.Calls.{Answered}
-use Rattle.seek.specs.Asked.{asks, lends}
+use Rattle.nearest_search.specs.Asked.{asks, lends}
 use Rattle.words.proofs.InShape.{in-shape}
 use Rattle.words.specs.Words.{n#}
 use lib.ListN.{drop, length, length-append, length-drop, length-replicate, replicate, take}

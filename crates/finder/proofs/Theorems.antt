@@ -13,8 +13,8 @@ use Rattle.measure.specs.Table.{between, from, row, rowsOf}
 use Rattle.nearest.proofs.Promises.{nearest-only}
 use Rattle.nearest.proofs.Refusals.{clear}
 use Rattle.nearest.specs.Calls.{Answered}
+use Rattle.nearest_search.specs.Asked.{NearestLent, asks, lends}
 use Rattle.radius.proofs.How.{bytes-are}
-use Rattle.seek.specs.Asked.{Buffers, asks, lends}
 use Rattle.tree.proofs.Accepted.{once-of}
 use Rattle.tree.proofs.Theorems.{radius-exact}
 use Rattle.tree.specs.Check.{Accepted}
@@ -229,8 +229,8 @@ module _ {t : List ℕ} {c : ℕ} {q : List ℕ} {w : ℕ} {room work how rs ds 
             n .1 .0,
             n .1 .1,
             p,
-            ap (λ (l : Buffers). l .work) l,
-            ap (λ (l : Buffers). l .how) l,
-            ap (λ (l : Buffers). l .rows) l,
-            ap (λ (l : Buffers). l .distances) l,
+            ap (λ (l : NearestLent). l .work) l,
+            ap (λ (l : NearestLent). l .how) l,
+            ap (λ (l : NearestLent). l .rows) l,
+            ap (λ (l : NearestLent). l .distances) l,
           )

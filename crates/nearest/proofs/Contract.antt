@@ -1,21 +1,21 @@
 -- What the code did is what the contract says: a refusal, and a search. Assumes nothing.
 use Prim.Native.Nat.{_*_, _<_, _≤_, min, ℕ}
-use Rattle.items.proofs.Ranks.{all-pass}
-use Rattle.items.specs.Fits.{Fits, homeBound}
+use Rattle.index_space.proofs.Ranks.{all-pass}
+use Rattle.index_space.specs.Fits.{IndexFits, homeBound}
 use Rattle.laws.proofs.Maps.{map-same}
 use Rattle.laws.proofs.Ranges.{at-every}
 use Rattle.laws.specs.Lists.{has, look, range, times}
 use Rattle.measure.proofs.Metric.{query-point}
 use Rattle.measure.specs.Table.{between, from, rowsOf}
+use Rattle.nearest_search.specs.Asked.{NearestAsked, NearestLent, asks, away, due, rowsIn}
+use Rattle.nearest_search.specs.Found.{FoundNearest, Searchable, Settled, SoundAnswers}
 use Rattle.nearest.proofs.Refusals.{clear}
 use Rattle.nearest.specs.Calls.{Answered, Serves}
-use Rattle.seek.specs.Asked.{Asked, Buffers, asks, away, due, rowsIn}
-use Rattle.seek.specs.Found.{Fitting, Found, Settled, Sound}
+use Rattle.nearest.specs.Numbers.{saidNearest}
 use Rattle.tree.proofs.Accepted.{each-once, shape-of}
 use Rattle.tree.proofs.Answers.{near-at, passes-all}
 use Rattle.tree.proofs.Rows.{rows-tree}
 use Rattle.tree.proofs.Theorems.{home-below, same-row}
-use Rattle.nearest.specs.Numbers.{saidNearest}
 use Rattle.tree.specs.Grove.{Grove, treeOf}
 use Rattle.tree.specs.Homes.{homes}
 use Rattle.tree.specs.Nearest.{answers, candidates, isMeasured, measured, nearHow, passes, sort}
@@ -72,7 +72,7 @@ module _ (x : ℕ → ℕ) (n wanted k : ℕ) (ek : k ≡ min wanted n) where
           ap (λ (k : ℕ). passes x n k (look i (homes x g))) e
 
   -- answers that are sound for k are sound for as many as are wanted
-  sound-wanted : {b′ : Buffers} {given : ℕ} → Sound x n k b′ given → Sound x n wanted b′ given
+  sound-wanted : {b′ : NearestLent} {given : ℕ} → SoundAnswers x n k b′ given → SoundAnswers x n wanted b′ given
   sound-wanted Z = record { count = Z .count ∙ same-count; own = Z .own; order = Z .order; marks = Z .marks }
 
 -- ---- a table that serves is one that fits
@@ -86,7 +86,7 @@ byte-measured x n g k i h p =
     go true = tt
     go false = rw p tt
 
-module _ (a : Asked) (t′ : List ℕ) (k : ℕ) (ek : k ≡ due a) (A : Serves a t′) where
+module _ (a : NearestAsked) (t′ : List ℕ) (k : ℕ) (ek : k ≡ due a) (A : Serves a t′) where
   -- how many rows there are
   abbrev n : ℕ
   n = rowsIn a
@@ -100,7 +100,7 @@ module _ (a : Asked) (t′ : List ℕ) (k : ℕ) (ek : k ≡ due a) (A : Serves 
   below i h = home-below (between t′ (a .columns)) (a .index) (A .accepted) x′ (query-point t′ (a .columns) (a .query)) i h
 
   -- the index fits its rows, with which the lent ones agree where it counts
-  serves-fits : Fits (a .index) k (away a) (from t′ (a .columns) (a .query))
+  serves-fits : IndexFits (a .index) k (away a) (from t′ (a .columns) (a .query))
   serves-fits = record {
     once = λ i h.
         ap (times i) (sym (rows-tree (a .index) (shape-of (between t′ (a .columns)) (a .index) (A .accepted))))
@@ -113,7 +113,7 @@ module _ (a : Asked) (t′ : List ℕ) (k : ℕ) (ek : k ≡ due a) (A : Serves 
   }
 
   -- answers and how-bytes that are settled for k are settled for as many as are wanted
-  settled-wanted : (b b′ : Buffers) (given : ℕ) → Settled (from t′ (a .columns) (a .query)) (a .index) k b b′ given
+  settled-wanted : (b b′ : NearestLent) (given : ℕ) → Settled (from t′ (a .columns) (a .query)) (a .index) k b b′ given
       → Settled (from t′ (a .columns) (a .query)) (a .index) (a .wanted) b b′ given
   settled-wanted b b′ given Z =
       let e = same-count x′ n (a .wanted) k ek in
@@ -127,16 +127,16 @@ module _ (a : Asked) (t′ : List ℕ) (k : ℕ) (ek : k ≡ due a) (A : Serves 
 
 -- ---- the call
 -- what is said of what is asked and lent
-abbrev pub saidOf : Asked → ℕ → Buffers → ℕ
+abbrev pub saidOf : NearestAsked → ℕ → NearestLent → ℕ
 saidOf a room b = saidNearest (a .table) (a .columns) (a .index) (a .query) (a .wanted) room (length (b .how)) (length (b .work)) .0
 
 -- what is asked where only k are wanted
-abbrev pub butFor : Asked → ℕ → Asked
+abbrev pub butFor : NearestAsked → ℕ → NearestAsked
 butFor a k = asks (a .table) (a .columns) (a .index) (a .query) k
 
 -- where nothing is refused, the index is tested, and what is lent fits it
-pub fits : (a : Asked) (room : ℕ) (b : Buffers) → (room ≤ length (b .rows)) × (room ≤ length (b .distances)) → (k : ℕ) → k ≡ due a
-    → saidOf a room b ≡ 0 → Fitting (butFor a k) b
+pub fits : (a : NearestAsked) (room : ℕ) (b : NearestLent) → (room ≤ length (b .rows)) × (room ≤ length (b .distances)) → (k : ℕ) → k ≡ due a
+    → saidOf a room b ≡ 0 → Searchable (butFor a k) b
 fits a room b fit k ek z =
     let C = clear (a .table) (a .columns) (a .index) (a .query) (a .wanted) room (length (b .how)) (length (b .work)) z in
     let same : rowsIn a ≡ rowsOf (a .table) (a .columns) = C .index .rows in
@@ -155,7 +155,7 @@ fits a room b fit k ek z =
       words = omega (arith, C .words);
     }
 
-module _ (a : Asked) (b : Buffers) {number room : ℕ} (fit : (room ≤ length (b .rows)) × (room ≤ length (b .distances)))
+module _ (a : NearestAsked) (b : NearestLent) {number room : ℕ} (fit : (room ≤ length (b .rows)) × (room ≤ length (b .distances)))
     (said-is : number ≡ saidOf a room b) where
   -- A REFUSAL MEETS THE CONTRACT
   pub refused-is : (number ≡ 0 → ⊥) → Answered a room b b number 0 0
@@ -170,16 +170,16 @@ module _ (a : Asked) (b : Buffers) {number room : ℕ} (fit : (room ≤ length (
   }
 
   -- where nothing is refused, what is lent is what the search asks
-  pub core-asks : (n k : ℕ) → number ≡ 0 → n ≡ rowsIn a → k ≡ min (a .wanted) n → Fitting (butFor a k) b
+  pub core-asks : (n k : ℕ) → number ≡ 0 → n ≡ rowsIn a → k ≡ min (a .wanted) n → Searchable (butFor a k) b
   core-asks n k z en ek = fits a room b fit k (ek ∙ ap (λ (n : ℕ). min (a .wanted) n) en) (sym said-is ∙ z)
 
   -- A SEARCH MEETS THE CONTRACT
-  pub done-is : (n k given given₀ met : ℕ) (b′ : Buffers) → number ≡ 0 → n ≡ rowsIn a → k ≡ min (a .wanted) n
-      → Found (butFor a k) b b′ given₀ → given ≡ given₀ → met ≡ measured (take n (b′ .how)) → Answered a room b b′ 0 given met
+  pub done-is : (n k given given₀ met : ℕ) (b′ : NearestLent) → number ≡ 0 → n ≡ rowsIn a → k ≡ min (a .wanted) n
+      → FoundNearest (butFor a k) b b′ given₀ → given ≡ given₀ → met ≡ measured (take n (b′ .how)) → Answered a room b b′ 0 given met
   done-is n k given given₀ met b′ z en ek₀ D₀ eg em =
       let w = a .index in
       let ek : k ≡ due a = ek₀ ∙ ap (λ (n : ℕ). min (a .wanted) n) en in
-      let D = subst (λ (g : ℕ). Found (butFor a k) b b′ g) (sym eg) D₀ in
+      let D = subst (λ (g : ℕ). FoundNearest (butFor a k) b b′ g) (sym eg) D₀ in
       record {
         said = sym z ∙ said-is;
         refused = λ f. absurd (f refl);
@@ -194,6 +194,6 @@ module _ (a : Asked) (b : Buffers) {number room : ℕ} (fit : (room ≤ length (
       }
 
 -- the same with the room said in another way
-pub room-is : {a : Asked} {room room′ : ℕ} {b b′ : Buffers} {number given met : ℕ} → room ≡ room′ → Answered a room b b′ number given met
+pub room-is : {a : NearestAsked} {room room′ : ℕ} {b b′ : NearestLent} {number given met : ℕ} → room ≡ room′ → Answered a room b b′ number given met
     → Answered a room′ b b′ number given met
 room-is {a} {room} {room′} {b} {b′} {number} {given} {met} e s = subst (λ (r : ℕ). Answered a r b b′ number given met) e s

@@ -1,7 +1,7 @@
 -- What the contract of the nearest call says, in 01's words: it is exact on an accepted index, it measures the rows whose home bound is at most D,
 -- it rests on the rows that it measures, and no second outcome fits. Assumes nothing.
 use Prim.Native.Nat.{_+_, _<_, _≤_, min, suc, ℕ}
-use Rattle.items.specs.Fits.{homeBound}
+use Rattle.index_space.specs.Fits.{homeBound}
 use Rattle.laws.proofs.Every.{every-both, every-map, every-take, has-every}
 use Rattle.laws.proofs.Lists.{tally-length, tally-take}
 use Rattle.laws.proofs.Ranges.{at-every, range-length}
@@ -10,14 +10,14 @@ use Rattle.laws.specs.Lists.{has, range, tally}
 use Rattle.limits.specs.Limits.{maxRows}
 use Rattle.measure.proofs.Metric.{query-point}
 use Rattle.measure.specs.Table.{between, from, row, rowsOf}
+use Rattle.nearest_search.proofs.HowBytes.{near-length}
+use Rattle.nearest_search.specs.Asked.{NearestAsked, NearestLent, asks, away, due, lends, rowsIn}
+use Rattle.nearest_search.specs.Found.{Settled}
 use Rattle.nearest.proofs.Contract.{byte-measured, same-answers}
 use Rattle.nearest.proofs.Ranking.{answers-ranked}
 use Rattle.nearest.proofs.Refusals.{clear}
 use Rattle.nearest.specs.Calls.{Answered, Serves}
 use Rattle.nearest.specs.Ranked.{ahead}
-use Rattle.seek.proofs.HowBytes.{near-length}
-use Rattle.seek.specs.Asked.{Asked, Buffers, asks, away, due, lends, rowsIn}
-use Rattle.seek.specs.Found.{Settled}
 use Rattle.tree.proofs.Answers.{answers-length, near-at, passes-all, passes-near}
 use Rattle.tree.proofs.Sorted.{sort-every, sort-sorted, sorted-take, under-last}
 use Rattle.tree.proofs.Theorems.{home-below}
@@ -79,7 +79,7 @@ tally-rows f g (v ∷ l) a h =
     (tally-rows f g l (suc a) (λ i p. h (suc i) (omega arith) ∙ ap g (next i)))
 
 -- ---- a call that is not refused, where a table serves
-module _ {asked : Asked} {room : ℕ} {lent lent′ : Buffers} {number given met : ℕ} (s : Answered asked room lent lent′ number given met)
+module _ {asked : NearestAsked} {room : ℕ} {lent lent′ : NearestLent} {number given met : ℕ} (s : Answered asked room lent lent′ number given met)
     (done : number ≡ 0) where
   -- the table has as many rows as the index
   rows-are : rowsOf (asked .table) (asked .columns) ≡ rowsIn asked
@@ -122,7 +122,7 @@ module _ {asked : Asked} {room : ℕ} {lent lent′ : Buffers} {number given met
         (subst (λ (n : ℕ). i < n) (sym (near-length x (rowsIn asked) (treeOf (asked .index)) (asked .wanted))) h)
 
 -- ---- a call that is not refused, on an index that the full check accepts with its table
-module _ {asked : Asked} {room : ℕ} {lent lent′ : Buffers} {number given met : ℕ} (s : Answered asked room lent lent′ number given met)
+module _ {asked : NearestAsked} {room : ℕ} {lent lent′ : NearestLent} {number given met : ℕ} (s : Answered asked room lent lent′ number given met)
     (done : number ≡ 0) (A : Accepted (between (asked .table) (asked .columns)) (asked .index)) where
   -- how far the query is from a row
   abbrev x : ℕ → ℕ
@@ -190,7 +190,7 @@ module _ {asked : Asked} {room : ℕ} {lent lent′ : Buffers} {number given met
 
   -- TWO TABLES: WHERE A SECOND TABLE AGREES WITH THIS ONE IN EVERY ROW THAT WAS MEASURED, A SEARCH ON IT THAT IS NOT REFUSED GIVES THE SAME ANSWERS,
   -- HOW-BYTES AND COUNTS. Nothing else is asked of the second table, and its call may be lent other rooms
-  pub nearest-two-tables : {t₂ : List ℕ} {lent₂ lent₂′ : Buffers} {room₂ number₂ given₂ met₂ : ℕ}
+  pub nearest-two-tables : {t₂ : List ℕ} {lent₂ lent₂′ : NearestLent} {room₂ number₂ given₂ met₂ : ℕ}
       → Answered (asks t₂ (asked .columns) (asked .index) (asked .query) (asked .wanted)) room₂ lent₂ lent₂′ number₂ given₂ met₂ → number₂ ≡ 0
       → ((i : ℕ) → i < rowsIn asked → T (isMeasured (getD (lent′ .how) i 0)) → row (asked .table) (asked .columns) i ≡ row t₂ (asked .columns) i)
       → (given ≡ given₂) × (met ≡ met₂) × (take (due asked) (lent′ .rows) ≡ take (due asked) (lent₂′ .rows))
@@ -212,11 +212,11 @@ module _ {asked : Asked} {room : ℕ} {lent lent′ : Buffers} {number given met
 
 -- ---- two outcomes of one call
 -- what is lent is known by its parts
-pub same-lent : (l m : Buffers) → l .rows ≡ m .rows → l .distances ≡ m .distances → l .how ≡ m .how → l .work ≡ m .work → l ≡ m
+pub same-lent : (l m : NearestLent) → l .rows ≡ m .rows → l .distances ≡ m .distances → l .how ≡ m .how → l .work ≡ m .work → l ≡ m
 same-lent l m e₁ e₂ e₃ e₄ =
     ap₂ (λ (r d : List ℕ). lends r d (l .how) (l .work)) e₁ e₂ ∙ ap₂ (λ (h k : List ℕ). lends (m .rows) (m .distances) h k) e₃ e₄
 
-module _ {asked : Asked} {room : ℕ} {lent lent₁ lent₂ : Buffers} {number₁ given₁ met₁ number₂ given₂ met₂ : ℕ}
+module _ {asked : NearestAsked} {room : ℕ} {lent lent₁ lent₂ : NearestLent} {number₁ given₁ met₁ number₂ given₂ met₂ : ℕ}
     (s₁ : Answered asked room lent lent₁ number₁ given₁ met₁) (s₂ : Answered asked room lent lent₂ number₂ given₂ met₂) where
   -- they have the same counts and buffers
   abbrev pub Same : Type 0
@@ -271,7 +271,7 @@ module _ {asked : Asked} {room : ℕ} {lent lent₁ lent₂ : Buffers} {number�
           )
 
 -- THE COUNTS ARE NO MORE THAN THE ROWS, so that 32 bits hold them, and there are no more answers than there is room for
-pub nearest-small : {asked : Asked} {room : ℕ} {lent lent′ : Buffers} {number given met : ℕ} → Answered asked room lent lent′ number given met
+pub nearest-small : {asked : NearestAsked} {room : ℕ} {lent lent′ : NearestLent} {number given met : ℕ} → Answered asked room lent lent′ number given met
     → (given ≤ maxRows) × (met ≤ maxRows) × (given ≤ room)
 nearest-small {asked} {room} {lent} {lent′} {number} {given} {met} s = go (ℕ-discrete number 0)
   where

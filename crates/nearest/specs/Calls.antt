@@ -1,9 +1,9 @@
 -- What the nearest calls promise. Assumes nothing.
 use Prim.Native.Nat.{_*_, _<_, min, ℕ}
 use Rattle.measure.specs.Table.{between, from, row, rowsOf}
+use Rattle.nearest_search.specs.Asked.{NearestAsked, NearestLent, away, due, rowsIn}
+use Rattle.nearest_search.specs.Found.{Settled, SoundAnswers}
 use Rattle.nearest.specs.Numbers.{saidNearest}
-use Rattle.seek.specs.Asked.{Asked, Buffers, away, due, rowsIn}
-use Rattle.seek.specs.Found.{Settled, Sound}
 use Rattle.tree.specs.Check.{Accepted}
 use Rattle.tree.specs.Grove.{treeOf}
 use Rattle.tree.specs.Nearest.{isMeasured, measured, nearHow}
@@ -13,7 +13,7 @@ use mathlib.Core.List.{List, _++_}
 use mathlib.Core.Path.{_≡_}
 
 -- the table t′ fits the index, and the table asked about agrees with it in every row that the search on t′ measures
-pub record Serves (a : Asked) (t′ : List ℕ) : Type 0 where
+pub record Serves (a : NearestAsked) (t′ : List ℕ) : Type 0 where
   pub rows : rowsOf t′ (a .columns) ≡ rowsIn a
   pub accepted : Accepted (between t′ (a .columns)) (a .index)
   pub agree : (i : ℕ) → i < rowsIn a
@@ -21,7 +21,7 @@ pub record Serves (a : Asked) (t′ : List ℕ) : Type 0 where
       → row (a .table) (a .columns) i ≡ row t′ (a .columns) i
 
 -- what is asked, how many there is room for, what is lent before and after; the number, and the two counts
-pub record Answered (a : Asked) (room : ℕ) (b b′ : Buffers) (number given met : ℕ) : Type 0 where
+pub record Answered (a : NearestAsked) (room : ℕ) (b b′ : NearestLent) (number given met : ℕ) : Type 0 where
   -- 01, Numbers given back: 0, or the lowest that applies
   pub said : number ≡ saidNearest (a .table) (a .columns) (a .index) (a .query) (a .wanted) room (length (b .how)) (length (b .work)) .0
   -- a refusal has zero counts and changes nothing
@@ -33,7 +33,7 @@ pub record Answered (a : Asked) (room : ℕ) (b b′ : Buffers) (number given me
       × (drop (due a) (b′ .distances) ≡ drop (due a) (b .distances))
       × (drop (rowsIn a) (b′ .how) ≡ drop (rowsIn a) (b .how))
   -- on every index in shape there are min(w, n) answers, rows with their distances, in order, and the how-bytes tell them
-  pub sound : number ≡ 0 → Sound (away a) (rowsIn a) (a .wanted) b′ given
+  pub sound : number ≡ 0 → SoundAnswers (away a) (rowsIn a) (a .wanted) b′ given
   -- the count is that of the how-bytes 1 and 3 that stand there afterwards
   pub counted : number ≡ 0 → met ≡ measured (take (rowsIn a) (b′ .how))
   -- 01, Which rows are measured, Nearest: answers and how-bytes are those of any table that fits the index and with which the lent one agrees

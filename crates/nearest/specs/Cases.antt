@@ -1,7 +1,7 @@
 -- What the call gives in the nearest cases of 01, The five-row table, and in one of ours. Assumes nothing.
 use Prim.Native.Nat.{_≤_, min, ℕ}
+use Rattle.nearest_search.specs.Asked.{NearestLent, asks}
 use Rattle.nearest.specs.Calls.{Answered}
-use Rattle.seek.specs.Asked.{Buffers, asks}
 use Rattle.tree.specs.Cases.{five, fiveWords}
 use lib.ListN.{drop, length}
 use mathlib.Core.List.{List, [], _++_, _∷_, map}
@@ -29,7 +29,7 @@ asked =
 -- what was lent beyond them, and these counts
 abbrev pub Gets : Case → Type 0
 Gets k =
-    (b b′ : Buffers) (number given met : ℕ) → length (k .answers) ≤ length (b .rows) → length (k .answers) ≤ length (b .distances)
+    (b b′ : NearestLent) (number given met : ℕ) → length (k .answers) ≤ length (b .rows) → length (k .answers) ≤ length (b .distances)
     → 5 ≤ length (b .how) → 30 ≤ length (b .work)
     → Answered (asks five 1 fiveWords (k .query ∷ []) (k .wanted)) (min (length (b .rows)) (length (b .distances))) b b′ number given met
     → (number ≡ 0) × (given ≡ length (k .answers)) × (met ≡ k .met)

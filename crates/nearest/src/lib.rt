@@ -1,11 +1,11 @@
 // The nearest call: its refusals, and the search.
 ghost use Prim.Native.Nat.{_≤_, min};
+ghost use Rattle.nearest_search.specs.Asked.{asks, lends};
 ghost use Rattle.nearest.specs.Calls.{Answered};
 ghost use Rattle.nearest.specs.Numbers.{saidNearest};
-ghost use Rattle.seek.specs.Asked.{asks, lends};
 ghost use lib.ListN.{length};
 ghost use mathlib.Core.Path.{_≡_};
-use seek::find;
+use nearest_search::find;
 use tree::how::tally;
 
 // What a call gives: 0 or why it was refused; on success how many answers, and how many rows were measured.

@@ -1,10 +1,10 @@
 -- `nearest::answer` meets its contract: a refusal changes nothing; else the core searches for as many as there can be.
 -- Assumes nothing.
+use Rattle.nearest_search.specs.Asked.{NearestAsked, NearestLent, asks, lends}
+use Rattle.nearest_search.specs.Found.{Searchable}
 use Rattle.nearest.proofs.Contract.{butFor, core-asks, done-is, refused-is}
 use Rattle.nearest.proofs.answer.Statement.{statement}
 use Rattle.nearest.proofs.answer.Tie as tie
-use Rattle.seek.specs.Asked.{Asked, Buffers, asks, lends}
-use Rattle.seek.specs.Found.{Fitting}
 use borrow.Author.Needs.{needs}
 use mathlib.Core.Path.{refl}
 use native.Mathlib.Omega.{arith}
@@ -21,14 +21,14 @@ abbrev asked : tie.After-find → tie.After-least
 asked f = f .before .before .before .before .before
 
 -- what is asked, and what is lent
-abbrev asking : tie.Start → Asked
+abbrev asking : tie.Start → NearestAsked
 asking s = asks (s .args .table .now) (s .args .c) (s .args .index .now) (s .args .query .now) (s .args .wanted)
 
-abbrev lending : tie.Start → Buffers
+abbrev lending : tie.Start → NearestLent
 lending s = lends (s .args .rows .now) (s .args .distances .now) (s .args .how .now) (s .args .work .now)
 
 -- it fits the index
-lent : (l : tie.After-least) → Fitting (butFor (asking (start (going l))) (l .least .result)) (lending (start (going l)))
+lent : (l : tie.After-least) → Searchable (butFor (asking (start (going l))) (l .least .result)) (lending (start (going l)))
 lent l =
     let e = going l in
     core-asks (asking (start e)) (lending (start e)) (start e .pre) (e .before .refusal .ensures) _ _ (e .if1 .left) (l .before .rows .ensures .0)
