@@ -11,8 +11,8 @@ use native.Mathlib.Omega.{arith}
 
 -- ---- how many rows are closer
 -- no fewer of a larger set, and up to a greater distance
-pub rowsCloser-le : (n : ℕ) (a b d : ℕ → ℕ) (k k′ : ℕ) → ((r : ℕ) → a r ≤ b r) → k ≤ k′ → rowsCloser n a d k ≤ rowsCloser n b d k′
-rowsCloser-le n a b d k k′ h l = sum-below-le (λ (r : ℕ). min (a r) (k - d r)) (λ (r : ℕ). min (b r) (k′ - d r)) n (λ r x. omega (arith, h r))
+pub closer-le : (n : ℕ) (a b d : ℕ → ℕ) (k k′ : ℕ) → ((r : ℕ) → a r ≤ b r) → k ≤ k′ → rowsCloser n a d k ≤ rowsCloser n b d k′
+closer-le n a b d k k′ h l = sum-below-le (λ (r : ℕ). min (a r) (k - d r)) (λ (r : ℕ). min (b r) (k′ - d r)) n (λ r x. omega (arith, h r))
 
 module _ {Item : Type 0} (S : SearchSpace Item) (H : Homes Item) (w : ℕ) (d : ℕ → ℕ) (L : Lawful S H d) where
   -- where nothing waits with a bound below k, every live row closer than k is measured

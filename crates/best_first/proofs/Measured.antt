@@ -16,14 +16,14 @@ module _ {Item : Type 0} (S : SearchSpace Item) (H : Homes Item) (w : ℕ) (d : 
     (e : Ended S w d q m) where
   -- no more measured rows are closer than rows
   found-le : (o : ℕ → ℕ) (k : ℕ) → found S o m k ≤ rowsCloser (S .rows) (S .live) o k
-  found-le o k = rowsCloser-le (S .rows) (both m (S .live)) (S .live) o k k (λ s. omega arith) (omega arith)
+  found-le o k = closer-le (S .rows) (both m (S .live)) (S .live) o k k (λ s. omega arith) (omega arith)
 
   -- a row that is not measured has w live measured rows closer than its home bound
   unmeasured-far : (r : ℕ) → r < S .rows → m r ≡ 0 → w ≤ found S d m (H .home r)
   unmeasured-far r h z = at (decLt (found S d m (H .home r)) w)
     where
       up : (k k′ : ℕ) → k ≤ k′ → found S d m k ≤ found S d m k′
-      up k k′ = rowsCloser-le (S .rows) (both m (S .live)) (both m (S .live)) d k k′ (λ s. omega arith)
+      up k k′ = closer-le (S .rows) (both m (S .live)) (both m (S .live)) d k k′ (λ s. omega arith)
 
       at : Dec (found S d m (H .home r) < w) → w ≤ found S d m (H .home r)
       at (yes c) =
@@ -49,7 +49,7 @@ module _ {Item : Type 0} (S : SearchSpace Item) (H : Homes Item) (w : ℕ) (d : 
       (λ p. to p (decLt D (H .home r)), λ c. measured-exactly-due r h .1 (omega (arith, up (H .home r) D c)))
     where
       up : (k k′ : ℕ) → k ≤ k′ → rowsCloser (S .rows) (S .live) d k ≤ rowsCloser (S .rows) (S .live) d k′
-      up k k′ = rowsCloser-le (S .rows) (S .live) (S .live) d k k′ (λ s. omega arith)
+      up k k′ = closer-le (S .rows) (S .live) (S .live) d k k′ (λ s. omega arith)
 
       to : 0 < m r → Dec (D < H .home r) → H .home r ≤ D
       to p (yes c) = absurd (omega (arith, up (D + 1) (H .home r) (omega arith), measured-exactly-due r h .0 p))

@@ -107,7 +107,7 @@ module _ (x : ℕ → ℕ) (n : ℕ) where
   -- ---- which bounds pass
   -- no fewer are closer than a greater distance
   nearer-up : (k k′ : ℕ) → k ≤ k′ → nearerThan k ≤ nearerThan k′
-  nearer-up k k′ h = rowsCloser-le n (λ (r : ℕ). 1) (λ (r : ℕ). 1) x k k′ (λ r. omega arith) h
+  nearer-up k k′ h = closer-le n (λ (r : ℕ). 1) (λ (r : ℕ). 1) x k k′ (λ r. omega arith) h
 
   -- no more are closer than there are
   nearer-most : (k : ℕ) → nearerThan k ≤ n
