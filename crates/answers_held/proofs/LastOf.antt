@@ -1,7 +1,7 @@
 -- The last distance, as the code finds it. Assumes nothing.
 use Prim.Native.Nat.{_<_, _≤_, ℕ}
 use Rattle.answers_held.specs.Answers.{distanceOf, lastOf}
-use Rattle.items.specs.Items.{greatestWord}
+use Rattle.index_space.specs.Items.{greatestWord}
 use Rattle.queue.specs.Entry.{entryAt}
 use borrow.Author.Tests.{le-ltb, lt-ltb}
 use mathlib.Core.Bool.{Bool, cond}

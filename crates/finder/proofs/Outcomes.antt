@@ -9,6 +9,7 @@ use Rattle.finder.specs.Near.{Asked, Fit, firstOf, markOf, saidNear}
 use Rattle.limits.proofs.Numbers.{Sized}
 use Rattle.measure.specs.Table.{rowsOf}
 use Rattle.nearest.specs.Calls.{Answered}
+use Rattle.nearest_search.specs.Asked.{asks, lends}
 use Rattle.words.proofs.InShape.{in-shape}
 use Rattle.words.specs.Words.{n#}
 use lib.ListN.{drop, length, length-append, length-drop, length-replicate, replicate, take}
@@ -139,7 +140,7 @@ module _ {t : List ℕ} {c : ℕ} {q : List ℕ} {w : ℕ} {room work how rs ds 
 
   -- what it wrote was searched
   pub finds-answered : {work′ how′ rs′ ds′ : List ℕ} → made ≡ 0
-      → Answered t c (take words room′) q w (min (length rs) (length ds)) rs rs′ ds ds′ how how′ cleared work′ number given met
+      → Answered (asks t c (take words room′) q w) (min (length rs) (length ds)) (lends rs ds how cleared) (lends rs′ ds′ how′ work′) number given met
       → Finds t c q w room room′ work work′ how how′ rs rs′ ds ds′ number given met
   finds-answered z s =
       record {

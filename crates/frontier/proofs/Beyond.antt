@@ -1,7 +1,7 @@
 -- Laws of bounds at most the last distance and of those above it, and of entries that are queued where theirs is at most that. Assumes nothing.
 use Prim.Native.Nat.{_+_, _-_, _<_, _≤_, suc, ℕ}
 use Rattle.frontier.specs.Waiting.{More, atMost}
-use Rattle.items.specs.Items.{greatestWord}
+use Rattle.index_space.specs.Items.{greatestWord}
 use Rattle.laws.proofs.Bags.{total-upto}
 use Rattle.laws.proofs.Keeping.{total-keep, total-parted}
 use Rattle.laws.proofs.Outside.{outside-more, outside-same, outside-then}

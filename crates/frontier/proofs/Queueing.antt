@@ -1,7 +1,7 @@
 -- Queueing the rows of a leaf and the children of an inner node, one by one. Assumes nothing.
 use Prim.Native.Nat.{_*_, _+_, _-_, _<_, _≤_, max, suc, ℕ}
 use Rattle.frontier.proofs.Beyond.{more-none, more-one}
-use Rattle.frontier.specs.Waiting.{More, Room, noded, placed}
+use Rattle.frontier.specs.Waiting.{FrontierRoom, More, noded, placed}
 use Rattle.frontier.specs.Workspace.{kept}
 use Rattle.laws.specs.Lists.{gap}
 use Rattle.limits.specs.Limits.{maxRows}
@@ -18,16 +18,16 @@ use native.Mathlib.Omega.{arith}
 
 -- ---- room
 -- there is room for fewer
-pub room-less : (w work : List ℕ) (n len k k′ : ℕ) → Room w work n len k → k′ ≤ k → Room w work n len k′
+pub room-less : (w work : List ℕ) (n len k k′ : ℕ) → FrontierRoom w work n len k → k′ ≤ k → FrontierRoom w work n len k′
 room-less w work n len k k′ R h =
     record { shape = R .shape; edition = R .edition; rows = R .rows; queue = R .queue; fits = omega (arith, R .fits); words = R .words }
 
 -- there is room for k, the number of rows being told as the code holds it
-pub room-at : (w work : List ℕ) (n len k : ℕ) → n ≡ n# w → Room w work (n# w) len k → Room w work n len k
-room-at w work n len k e R = subst (λ (n : ℕ). Room w work n len k) (sym e) R
+pub room-at : (w work : List ℕ) (n len k : ℕ) → n ≡ n# w → FrontierRoom w work (n# w) len k → FrontierRoom w work n len k
+room-at w work n len k e R = subst (λ (n : ℕ). FrontierRoom w work n len k) (sym e) R
 
 -- the distance kept for a row stands in the workspace, and its place is a number that the code can hold
-pub kept-there : (w work : List ℕ) (n len k r : ℕ) → Room w work n len k → r < n# w → (r < n) × (n ≤ maxRows) × (6 * n ≤ length work)
+pub kept-there : (w work : List ℕ) (n len k r : ℕ) → FrontierRoom w work n len k → r < n# w → (r < n) × (n ≤ maxRows) × (6 * n ≤ length work)
 kept-there w work n len k r R h = (omega (arith, R .rows), omega (arith, R .rows, R .shape .whole .rows), R .words)
 
 -- position p can be read
@@ -58,7 +58,7 @@ module _ (work : List ℕ) (len lo e : ℕ) (g : ℕ → ℕ) (last : ℕ) where
 
   module _ (work₁ : List ℕ) (j size : ℕ) (T : QueuedTo work work₁ len lo e g last j size) where
     -- there is room for the next
-    pub queued-room : (w : List ℕ) (n : ℕ) → Room w work n len (e - lo) → j < e → size + size + 1 < length work₁
+    pub queued-room : (w : List ℕ) (n : ℕ) → FrontierRoom w work n len (e - lo) → j < e → size + size + 1 < length work₁
     queued-room w n R h = omega (arith, T .low, T .more .count, R .fits, T .more .outside .same, R .words)
 
     -- the next is queued, or lies beyond
@@ -81,14 +81,14 @@ module _ (work : List ℕ) (len lo e : ℕ) (g : ℕ → ℕ) (last : ℕ) where
 
 -- ---- the entries, as the code makes them
 -- that of position p of a leaf with the bound b, its first at x, after the leaf's start s
-pub place-entry : (w work : List ℕ) (n len k s b x p stored key : ℕ) → Room w work n len k → s + 1 ≤ p → stored ≡ dist# w p
+pub place-entry : (w work : List ℕ) (n len k s b x p stored key : ℕ) → FrontierRoom w work n len k → s + 1 ≤ p → stored ≡ dist# w p
     → key ≡ max b (gap x stored) → packed key (2 * n + p) ≡ placed w b x (s + suc (p - (s + 1)))
 place-entry w work n len k s b x p stored key R l es ek =
     let here : p ≡ s + suc (p - (s + 1)) = omega arith in
     ap₂ (λ (key n : ℕ). packed key (2 * n + p)) (ek ∙ ap (λ (z : ℕ). max b (gap x z)) es) (R .rows) ∙ ap (placed w b x) here
 
 -- that of node j, of the children from number a on: x is what is kept for its first, r
-pub node-entry : (w work work₁ : List ℕ) (n len a e b y last j size r x key : ℕ) → Room w work n len (e - a)
+pub node-entry : (w work work₁ : List ℕ) (n len a e b y last j size r x key : ℕ) → FrontierRoom w work n len (e - a)
     → QueuedTo work work₁ len a e (λ (i : ℕ). noded w work b y (a + i)) last j size → r ≡ first# w j → x ≡ getD work₁ (2 * n + r) 0
     → key ≡ childBound b y x (reach# w j) → packed key j ≡ noded w work b y (a + (j - a))
 node-entry w work work₁ n len a e b y last j size r x key R T er ex ek =
@@ -98,10 +98,10 @@ node-entry w work work₁ n len a e b y last j size r x key R T er ex ek =
     ap (λ (key : ℕ). packed key j) (ek ∙ ap (λ (x : ℕ). childBound b y x (reach# w j)) at-x) ∙ ap (noded w work b y) here
 
 -- ---- a leaf, as the code reads it: s is its start, c its count, f its first
-module _ (w work : List ℕ) (n len k s c f : ℕ) (R : Room w work n len (count# w k)) (h : k < N# w) (es : s ≡ start# w k) (ec : c ≡ count# w k)
+module _ (w work : List ℕ) (n len k s c f : ℕ) (R : FrontierRoom w work n len (count# w k)) (h : k < N# w) (es : s ≡ start# w k) (ec : c ≡ count# w k)
     (ef : f ≡ first# w k) where
   -- its rows but the first are in the table, and there is room for them
-  pub leaf-room : Room w work n len (s + c - (s + 1)) × ((s < s + c) × (s + c ≤ n))
+  pub leaf-room : FrontierRoom w work n len (s + c - (s + 1)) × ((s < s + c) × (s + c ≤ n))
   leaf-room =
       let N = R .shape .node k h in (
         room-less w work n len (count# w k) (s + c - (s + 1)) R (omega arith),

@@ -2,7 +2,7 @@
 use Prim.Native.Nat.{_*_, _+_, _-_, _<_, _≤_, ℕ}
 use Rattle.frontier.proofs.Beyond.{parts-same}
 use Rattle.frontier.specs.Waiting.{More, atMost, itemBy, itemOf, items}
-use Rattle.items.specs.Items.{Item, boundOf, greatestWord, node, place}
+use Rattle.index_space.specs.Items.{IndexItem, boundOf, greatestWord, node, place}
 use Rattle.laws.proofs.Bags.{total-append, total-map, total-upto}
 use Rattle.laws.proofs.Sums.{sum-below-zero}
 use Rattle.laws.specs.Bags.{SameBag, total, upto}
@@ -63,7 +63,7 @@ module _ (w : List ℕ) (x : ℕ → ℕ) where
       go false = refl
 
   -- ---- items that wait besides, of k that are opened: these are known by their entries
-  module _ (work work′ : List ℕ) (len k : ℕ) (g : ℕ → ℕ) (last len′ : ℕ) (f : ℕ → Item) (M : More work work′ len k g last len′)
+  module _ (work work′ : List ℕ) (len k : ℕ) (g : ℕ → ℕ) (last len′ : ℕ) (f : ℕ → IndexItem) (M : More work work′ len k g last len′)
       (e : (i : ℕ) → i < k → itemOf w x (g i) ≡ f i) where
     -- an entry's key is the bound of its item
     same-bound : (i : ℕ) → i < k → keyOf (g i) ≡ boundOf (f i)
@@ -84,16 +84,16 @@ module _ (w : List ℕ) (x : ℕ → ℕ) where
         )
 
     -- the bounds of all that are opened are numbers of 32 bits
-    small : total (λ (j : Item). boundOf j - greatestWord) (upto f k) ≡ 0
+    small : total (λ (j : IndexItem). boundOf j - greatestWord) (upto f k) ≡ 0
     small =
-        total-upto (λ (j : Item). boundOf j - greatestWord) f k
+        total-upto (λ (j : IndexItem). boundOf j - greatestWord) f k
         ∙ sum-below-zero (λ (i : ℕ). boundOf (f i) - greatestWord) k (λ i l. omega (arith, same-bound i l, M .keys i l))
 
     -- both, as `Taken` says them: where the last distance stays, and these are what an item opens
-    pub opened : (last′ : ℕ) (l : List Item) → last ≡ last′ → upto f k ≡ l
-        → (total (λ (j : Item). boundOf j - greatestWord) l ≡ 0) × SameBag (items w x work′ len′) (atMost boundOf last′ l ++ items w x work len)
+    pub opened : (last′ : ℕ) (l : List IndexItem) → last ≡ last′ → upto f k ≡ l
+        → (total (λ (j : IndexItem). boundOf j - greatestWord) l ≡ 0) × SameBag (items w x work′ len′) (atMost boundOf last′ l ++ items w x work len)
     opened last′ l el ef = (
-      subst (λ (l : List Item). total (λ (j : Item). boundOf j - greatestWord) l ≡ 0) ef small,
-      subst (λ (l : List Item). SameBag (items w x work′ len′) (atMost boundOf last′ l ++ items w x work len)) ef
+      subst (λ (l : List IndexItem). total (λ (j : IndexItem). boundOf j - greatestWord) l ≡ 0) ef small,
+      subst (λ (l : List IndexItem). SameBag (items w x work′ len′) (atMost boundOf last′ l ++ items w x work len)) ef
           (subst (λ (last : ℕ). SameBag (items w x work′ len′) (atMost boundOf last (upto f k) ++ items w x work len)) el added),
     )

@@ -1,7 +1,7 @@
 -- The frontier in the workspace, as a queue of items. A working notion, on which no promise rests. Assumes nothing.
 use Prim.Native.Nat.{_*_, _+_, _-_, _<_, _≤_, ℕ}
 use Rattle.frontier.specs.Workspace.{kept, workWords}
-use Rattle.items.specs.Items.{Item, greatestWord, leastTo, node, place, placeBound}
+use Rattle.index_space.specs.Items.{IndexItem, greatestWord, leastTo, node, place, placeBound}
 use Rattle.laws.specs.Bags.{SameBag, upto}
 use Rattle.laws.specs.Lists.{keep}
 use Rattle.laws.specs.Outside.{Outside}
@@ -19,15 +19,15 @@ use mathlib.Core.Path.{_≡_}
 
 -- ---- entries and items
 -- the item of a key and an id: an id below 2n is a node's number, any other a position's, 2n on
-abbrev pub itemBy : List ℕ → (ℕ → ℕ) → ℕ → ℕ → Item
+abbrev pub itemBy : List ℕ → (ℕ → ℕ) → ℕ → ℕ → IndexItem
 itemBy w x key id = cond (ltb id (2 * n# w)) (node id key (x (first# w id))) (place (id - 2 * n# w) key)
 
 -- the item of an entry
-unfoldable pub itemOf : List ℕ → (ℕ → ℕ) → ℕ → Item
+unfoldable pub itemOf : List ℕ → (ℕ → ℕ) → ℕ → IndexItem
 itemOf w x e = itemBy w x (keyOf e) (idOf e)
 
 -- the items that wait
-abbrev pub items : List ℕ → (ℕ → ℕ) → List ℕ → ℕ → List Item
+abbrev pub items : List ℕ → (ℕ → ℕ) → List ℕ → ℕ → List IndexItem
 items w x work len = map (itemOf w x) (entries work 0 len)
 
 -- the entry of position p of a leaf that has the bound b and its first at x
@@ -52,7 +52,7 @@ pub record More (work work′ : List ℕ) (len k : ℕ) (g : ℕ → ℕ) (last 
   pub outside : Outside work work′ 0 (len + k + (len + k))
 
 -- there is room to queue k more, on an index in shape and of edition 2 over n rows
-pub record Room (w work : List ℕ) (n len k : ℕ) : Type 0 where
+pub record FrontierRoom (w work : List ℕ) (n len k : ℕ) : Type 0 where
   pub shape : InShape w
   pub edition : edition# w ≡ 2
   pub rows : n ≡ n# w

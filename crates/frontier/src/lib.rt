@@ -1,6 +1,6 @@
 // The frontier of a nearest search: what waits, under its bounds.
 ghost use Prim.Native.Nat.{_+_, _-_, _*_, _<_, _≤_, suc, ℕ};
-ghost use Rattle.frontier.specs.Waiting.{More, Room, leastKept, noded, placed};
+ghost use Rattle.frontier.specs.Waiting.{FrontierRoom, More, leastKept, noded, placed};
 ghost use Rattle.frontier.specs.Workspace.{kept};
 ghost use Rattle.queue.specs.Entry.{packed};
 ghost use Rattle.queue.specs.Queue.{Queue};
@@ -46,7 +46,7 @@ fn queue_rows(
     x: u32,
     last: u32,
 ) -> usize
-    requires { ⌜ Room (now index) (now work) n len (e - (s + 1)) ⌝ }
+    requires { ⌜ FrontierRoom (now index) (now work) n len (e - (s + 1)) ⌝ }
     requires { ⌜ (s < e) × (e ≤ n) ⌝ }
     ensures { λ r. ⌜ More (now (work .entry)) (now (work .exit)) len (e - (s + 1)) (λ (i : ℕ). placed (now (index .entry)) b x (s + suc i))
         last r ⌝ }
@@ -71,11 +71,11 @@ pub fn open_leaf(
     b: u32,
     last: u32,
 ) -> usize
-    requires { ⌜ Room (now index) (now work) n len (count# (now index) k) ⌝ }
+    requires { ⌜ FrontierRoom (now index) (now work) n len (count# (now index) k) ⌝ }
     requires { ⌜ k < N# (now index) ⌝ }
     ensures { λ r. ⌜ More (now (work .entry)) (now (work .exit)) len (count# (now (index .entry)) k - 1)
-        (λ (i : ℕ). placed (now (index .entry)) b (kept (now (work .entry)) n (first# (now (index .entry)) k)) (start# (now (index .entry)) k + suc i))
-        last r ⌝ }
+        (λ (i : ℕ). placed (now (index .entry)) b (kept (now (work .entry)) n (first# (now (index .entry)) k))
+        (start# (now (index .entry)) k + suc i)) last r ⌝ }
 {
     let f = node_first(index, k);
     let x = work[DISTANCES * n + f];
@@ -111,7 +111,7 @@ pub fn queue_children(
     y: u32,
     last: u32,
 ) -> usize
-    requires { ⌜ Room (now index) (now work) n len (e - a) ⌝ }
+    requires { ⌜ FrontierRoom (now index) (now work) n len (e - a) ⌝ }
     requires { ⌜ (a ≤ e) × (e ≤ N# (now index)) ⌝ }
     ensures { λ r. ⌜ More (now (work .entry)) (now (work .exit)) len (e - a) (λ (i : ℕ). noded (now (index .entry)) (now (work .entry)) b y (a + i))
         last r ⌝ }

@@ -73,18 +73,18 @@ none-wrong = refl
 
 -- where the definition gives it, so does every outcome of the call
 gets : (k : Case) → Right k → Gets k
-gets k R rs rs′ ds ds′ how how′ work work′ number given met a b d e s =
+gets k R b b′ number given met f g d e s =
     let n : number ≡ 0 =
     s .said
-    ∙ sym (taken five 1 fiveWords (k .query ∷ []) (k .wanted) (min (length rs) (length ds)) (length how) (length work)
+    ∙ sym (taken five 1 fiveWords (k .query ∷ []) (k .wanted) (min (length (b .rows)) (length (b .distances))) (length (b .how)) (length (b .work))
     (clear (tabled 5 1) fiveWords none-wrong) (omega (arith, R .count), d, e) refl (R .some)) in
     let Z = nearest-exact s n accepted in (
       n,
       Z .count ∙ R .count,
       count-is s n (x (k .query)) Z ∙ ap measured (R .near) ∙ R .met,
-      Z .rows ∙ ap₂ (λ (as′ : List (ℕ × ℕ)) (m : ℕ). map (λ a. a .0) as′ ++ drop m rs) (R .first) (R .count),
-      Z .distances ∙ ap₂ (λ (as′ : List (ℕ × ℕ)) (m : ℕ). map (λ a. a .1) as′ ++ drop m ds) (R .first) (R .count),
-      Z .bytes ∙ ap (λ (l : List ℕ). l ++ drop 5 how) (R .near),
+      Z .rows ∙ ap₂ (λ (as′ : List (ℕ × ℕ)) (m : ℕ). map (λ a. a .0) as′ ++ drop m (b .rows)) (R .first) (R .count),
+      Z .distances ∙ ap₂ (λ (as′ : List (ℕ × ℕ)) (m : ℕ). map (λ a. a .1) as′ ++ drop m (b .distances)) (R .first) (R .count),
+      Z .bytes ∙ ap (λ (l : List ℕ). l ++ drop 5 (b .how)) (R .near),
     )
 
 -- EVERY CASE COMES OUT, WHATEVER THE CALL IS LENT

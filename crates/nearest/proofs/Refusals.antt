@@ -4,11 +4,8 @@ use Rattle.laws.proofs.Tests.{or-none, or-parts}
 use Rattle.limits.specs.Said.{tabled}
 use Rattle.measure.specs.Table.{rowsOf}
 use Rattle.nearest.specs.Numbers.{nearestAsks, nearestShort, saidNearest}
-use Rattle.seek.specs.Found.{Lent}
-use Rattle.tree.proofs.Tested.{tested}
 use Rattle.words.proofs.Indexes.{Clear, clear, clear-none}
-use Rattle.words.specs.Words.{n#}
-use borrow.Author.Tests.{eq-eqb, eqb-false, eqb-true, le-ltb, ltb-false, ne-eqb, not-false}
+use borrow.Author.Tests.{eq-eqb, le-ltb, ltb-false, ne-eqb}
 use lib.Dec.{eqb, ltb}
 use lib.ListN.{length}
 use mathlib.Core.Bool.{_||_, false, not}
@@ -55,26 +52,3 @@ module _ (t : List ℕ) (c : ℕ) (w q : List ℕ) (wanted room how work : ℕ) 
         columns = C .columns;
         shape = C .shape;
       })
-
--- what is lent then fits the index
-pub fits : (t : List ℕ) (c : ℕ) (w q : List ℕ) (wanted room : ℕ) (rs ds how work : List ℕ) → (room ≤ length rs) × (room ≤ length ds) → (k : ℕ) → k ≡ min wanted (n# w)
-    → saidNearest t c w q wanted room (length how) (length work) .0 ≡ 0 → Lent t c w q k rs ds how work
-fits t c w q wanted room rs ds how work fit k ek z =
-    let a = nearestAsks t c q wanted room (length how) (length work) in
-    let C = not-refused t c w q wanted room (length how) (length work) z in
-    let same : n# w ≡ rowsOf t c = C .rows in
-    let s = tested t c a w refl refl C in
-    let h = rooms (rowsOf t c) wanted room (length how) (length work) (C .numbers .room) in
-    let some : wanted ≢ 0 = eqb-false wanted 0 (C .numbers .some) in
-    record {
-      shape = s .shape;
-      edition = s .edition;
-      table = s .table;
-      columns = s .columns;
-      query = eqb-true (length q) c (not-false (eqb (length q) c) (C .numbers .like));
-      asked = (omega arith, λ l. omega (arith, some));
-      rows = omega (arith, h .0, fit .0);
-      distances = omega (arith, h .0, fit .1);
-      bytes = omega (arith, h .1);
-      words = omega (arith, h .2);
-    }

@@ -1,40 +1,41 @@
 -- What the nearest calls promise. Assumes nothing.
 use Prim.Native.Nat.{_*_, _<_, min, ℕ}
-use Rattle.laws.specs.Lists.{has}
 use Rattle.measure.specs.Table.{between, from, row, rowsOf}
+use Rattle.nearest_search.specs.Asked.{NearestAsked, NearestLent, away, due, rowsIn}
+use Rattle.nearest_search.specs.Found.{Settled, SoundAnswers}
 use Rattle.nearest.specs.Numbers.{saidNearest}
-use Rattle.seek.specs.Found.{Settled, Sound}
 use Rattle.tree.specs.Check.{Accepted}
 use Rattle.tree.specs.Grove.{treeOf}
-use Rattle.tree.specs.Nearest.{answers, isMeasured, measured, nearHow}
-use Rattle.words.specs.Words.{at, n#}
+use Rattle.tree.specs.Nearest.{isMeasured, measured, nearHow}
 use lib.Dec.{T}
 use lib.ListN.{drop, getD, length, replicate, take}
 use mathlib.Core.List.{List, _++_}
 use mathlib.Core.Path.{_≡_}
 
--- the table t′ fits the index w, and t agrees with it in every row that the search on t′ measures
-pub record Serves (t t′ : List ℕ) (c : ℕ) (w q : List ℕ) (wanted : ℕ) : Type 0 where
-  pub rows : rowsOf t′ c ≡ n# w
-  pub accepted : Accepted (between t′ c) w
-  pub agree : (i : ℕ) → i < n# w → T (isMeasured (getD (nearHow (from t′ c q) (n# w) (treeOf w) wanted) i 0)) → row t c i ≡ row t′ c i
+-- the table t′ fits the index, and the table asked about agrees with it in every row that the search on t′ measures
+pub record Serves (a : NearestAsked) (t′ : List ℕ) : Type 0 where
+  pub rows : rowsOf t′ (a .columns) ≡ rowsIn a
+  pub accepted : Accepted (between t′ (a .columns)) (a .index)
+  pub agree : (i : ℕ) → i < rowsIn a
+      → T (isMeasured (getD (nearHow (from t′ (a .columns) (a .query)) (rowsIn a) (treeOf (a .index)) (a .wanted)) i 0))
+      → row (a .table) (a .columns) i ≡ row t′ (a .columns) i
 
--- the table t of c columns, the index w, the query q, how many are wanted, and how many there is room for; each buffer before and after; the
--- number, and the two counts
-pub record Answered (t : List ℕ) (c : ℕ) (w q : List ℕ) (wanted room : ℕ) (rs rs′ ds ds′ how how′ work work′ : List ℕ) (number given met : ℕ) : Type 0 where
+-- what is asked, how many there is room for, what is lent before and after; the number, and the two counts
+pub record Answered (a : NearestAsked) (room : ℕ) (b b′ : NearestLent) (number given met : ℕ) : Type 0 where
   -- 01, Numbers given back: 0, or the lowest that applies
-  pub said : number ≡ saidNearest t c w q wanted room (length how) (length work) .0
+  pub said : number ≡ saidNearest (a .table) (a .columns) (a .index) (a .query) (a .wanted) room (length (b .how)) (length (b .work)) .0
   -- a refusal has zero counts and changes nothing
-  pub refused : (number ≡ 0 → ⊥) → (given ≡ 0) × (met ≡ 0) × (rs′ ≡ rs) × (ds′ ≡ ds) × (how′ ≡ how) × (work′ ≡ work)
+  pub refused : (number ≡ 0 → ⊥) → (given ≡ 0) × (met ≡ 0) × (b′ ≡ b)
   -- on success the first 6n words of the workspace are zero
-  pub cleared : number ≡ 0 → work′ ≡ replicate (6 * n# w) 0 ++ drop (6 * n# w) work
+  pub cleared : number ≡ 0 → b′ .work ≡ replicate (6 * rowsIn a) 0 ++ drop (6 * rowsIn a) (b .work)
   -- and entries beyond what is written stay
-  pub beyond : number ≡ 0 → (drop (min wanted (n# w)) rs′ ≡ drop (min wanted (n# w)) rs) × (drop (min wanted (n# w)) ds′ ≡ drop (min wanted (n# w)) ds)
-      × (drop (n# w) how′ ≡ drop (n# w) how)
+  pub beyond : number ≡ 0 → (drop (due a) (b′ .rows) ≡ drop (due a) (b .rows))
+      × (drop (due a) (b′ .distances) ≡ drop (due a) (b .distances))
+      × (drop (rowsIn a) (b′ .how) ≡ drop (rowsIn a) (b .how))
   -- on every index in shape there are min(w, n) answers, rows with their distances, in order, and the how-bytes tell them
-  pub sound : number ≡ 0 → Sound (from t c q) (n# w) wanted rs′ ds′ how′ given
+  pub sound : number ≡ 0 → SoundAnswers (away a) (rowsIn a) (a .wanted) b′ given
   -- the count is that of the how-bytes 1 and 3 that stand there afterwards
-  pub counted : number ≡ 0 → met ≡ measured (take (n# w) how′)
+  pub counted : number ≡ 0 → met ≡ measured (take (rowsIn a) (b′ .how))
   -- 01, Which rows are measured, Nearest: answers and how-bytes are those of any table that fits the index and with which the lent one agrees
   -- in the rows measured. With the lent table itself this says what the answers are; with another it is the statement on two tables
-  pub found : number ≡ 0 → (t′ : List ℕ) → Serves t t′ c w q wanted → Settled (from t′ c q) w wanted rs rs′ ds ds′ how how′ given
+  pub found : number ≡ 0 → (t′ : List ℕ) → Serves a t′ → Settled (from t′ (a .columns) (a .query)) (a .index) (a .wanted) b b′ given

@@ -1,5 +1,6 @@
 // The nearest call: its refusals, and the search.
 ghost use Prim.Native.Nat.{_≤_, min};
+ghost use Rattle.nearest_search.specs.Asked.{asks, lends};
 ghost use Rattle.nearest.specs.Calls.{Answered};
 ghost use Rattle.nearest.specs.Numbers.{saidNearest};
 ghost use lib.ListN.{length};
@@ -7,7 +8,7 @@ ghost use mathlib.Core.Path.{_≡_};
 use limits::Asked;
 use limits::is_short;
 use limits::rows_in;
-use seek::find;
+use nearest_search::find;
 use tree::how::tally;
 
 // What a call gives: 0 or why it was refused; on success how many answers, and how many rows were measured.
@@ -63,9 +64,9 @@ fn answer(
     work: &mut [u32],
 ) -> Given
     requires { ⌜ (room ≤ length (now rows)) × (room ≤ length (now distances)) ⌝ }
-    ensures { λ g. ⌜ Answered (now (table .entry)) c (now (index .entry)) (now (query .entry)) wanted room (now (rows .entry)) (now (rows .exit))
-        (now (distances .entry)) (now (distances .exit)) (now (how .entry)) (now (how .exit)) (now (work .entry)) (now (work .exit)) (g .number)
-        (g .given) (g .measured) ⌝ }
+    ensures { λ g. ⌜ Answered (asks (now (table .entry)) c (now (index .entry)) (now (query .entry)) wanted) room
+        (lends (now (rows .entry)) (now (distances .entry)) (now (how .entry)) (now (work .entry)))
+        (lends (now (rows .exit)) (now (distances .exit)) (now (how .exit)) (now (work .exit))) (g .number) (g .given) (g .measured) ⌝ }
 {
     let number = refusal(table, c, index, query, wanted, room, how.len(), work.len());
     if number != 0 {
@@ -108,9 +109,10 @@ pub fn nearest(
     how: &mut [u8],
     work: &mut [u32],
 ) -> Given
-    ensures { λ g. ⌜ Answered (now (table .entry)) c (now (index .entry)) (now (query .entry)) wanted (min (length (now (rows .entry))) (length (now (distances .entry))))
-        (now (rows .entry)) (now (rows .exit)) (now (distances .entry)) (now (distances .exit)) (now (how .entry)) (now (how .exit)) (now (work .entry))
-        (now (work .exit)) (g .number) (g .given) (g .measured) ⌝ }
+    ensures { λ g. ⌜ Answered (asks (now (table .entry)) c (now (index .entry)) (now (query .entry)) wanted)
+        (min (length (now (rows .entry))) (length (now (distances .entry))))
+        (lends (now (rows .entry)) (now (distances .entry)) (now (how .entry)) (now (work .entry)))
+        (lends (now (rows .exit)) (now (distances .exit)) (now (how .exit)) (now (work .exit))) (g .number) (g .given) (g .measured) ⌝ }
 {
     let room = least(rows.len(), distances.len());
     answer(
@@ -140,9 +142,10 @@ pub fn within(
     how: &mut [u8],
     work: &mut [u32],
 ) -> Given
-    ensures { λ g. ⌜ Answered (now (table .entry)) c (now (index .entry)) (now (query .entry)) wanted (min own (min (length (now (rows .entry))) (length (now (distances .entry)))))
-        (now (rows .entry)) (now (rows .exit)) (now (distances .entry)) (now (distances .exit)) (now (how .entry)) (now (how .exit)) (now (work .entry))
-        (now (work .exit)) (g .number) (g .given) (g .measured) ⌝ }
+    ensures { λ g. ⌜ Answered (asks (now (table .entry)) c (now (index .entry)) (now (query .entry)) wanted)
+        (min own (min (length (now (rows .entry))) (length (now (distances .entry)))))
+        (lends (now (rows .entry)) (now (distances .entry)) (now (how .entry)) (now (work .entry)))
+        (lends (now (rows .exit)) (now (distances .exit)) (now (how .exit)) (now (work .exit))) (g .number) (g .given) (g .measured) ⌝ }
 {
     let room = least(own, least(rows.len(), distances.len()));
     answer(

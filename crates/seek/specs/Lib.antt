@@ -1,3 +1,0 @@
-pub mod Standing
-pub mod Rounds
-pub mod Found
