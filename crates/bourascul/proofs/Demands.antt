@@ -16,7 +16,7 @@ use Rattle.build.specs.Calls.{Builds}
 use Rattle.card.proofs.RoundTrip.{round-trip}
 use Rattle.card.proofs.Spoilt.{spoilt-block, spoilt-word}
 use Rattle.card.proofs.Theorems.{read-accepted, read-clear, read-headed, read-placed, read-refused as call-refused, read-wide}
-use Rattle.card.specs.Cards.{cardWords}
+use Rattle.card_words.specs.Cards.{cardWords}
 use Rattle.image.proofs.RoundTrip.{written-ok}
 use Rattle.image.proofs.Small.{write-small, write-whole}
 use Rattle.image.specs.Below.{Below}

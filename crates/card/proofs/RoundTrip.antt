@@ -1,10 +1,10 @@
 -- What is written is read back over its table, word for word. Assumes nothing.
 use Prim.Native.Nat.{_*_, _+_, _<_, _^_, _≤_, ℕ}
+use Rattle.card_words.specs.Cards.{cardWords}
 use Rattle.card.proofs.Filling.{total-wide}
 use Rattle.card.proofs.Refusals.{Clear}
 use Rattle.card.proofs.Theorems.{read-count, read-own, read-room, read-taken}
 use Rattle.card.specs.Calls.{Reads, readTotal}
-use Rattle.card.specs.Cards.{cardWords}
 use Rattle.image.proofs.RoundTrip.{image-sound, image-words, written-image, written-ok}
 use Rattle.image.specs.Below.{Below}
 use Rattle.image.specs.Calls.{Writes}

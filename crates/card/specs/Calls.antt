@@ -1,6 +1,6 @@
 -- What reading a card over its table promises: 02, R-11. Assumes nothing.
 use Prim.Native.Nat.{_*_, _+_, ℕ}
-use Rattle.card.specs.Cards.{cardWords}
+use Rattle.card_words.specs.Cards.{cardWords}
 use Rattle.limits.specs.Said.{Said, fault, said, tableFaults}
 use Rattle.measure.specs.Table.{between, rowsOf}
 use Rattle.tree.specs.Widen.{widen}
