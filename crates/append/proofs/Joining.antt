@@ -13,7 +13,7 @@ use Rattle.measure.specs.Table.{between}
 use Rattle.refill.proofs.Linking.{leaf-under, limitOf, regrown-appended, run-once}
 use Rattle.refill.specs.Calls.{Refilled, regrownWords}
 use Rattle.regrow.specs.Calls.{Regrowable, regrownOf}
-use Rattle.split.specs.Groups.{stretch}
+use Rattle.rounds.specs.Stretch.{stretch}
 use Rattle.split.specs.Runs.{laid}
 use Rattle.tree.specs.Encode.{encode, numbered}
 use Rattle.tree.specs.Grove.{Grove}

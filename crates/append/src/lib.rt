@@ -18,7 +18,7 @@ use limits::Params;
 use limits::table_number;
 use refill::refill;
 use regrow::Growth;
-use split::groups::WIDTH;
+use split::WIDTH;
 use words::listing::index_number;
 use words::places::HEADER;
 use words::places::centres;

@@ -7,7 +7,7 @@ use Rattle.leafward.specs.Way.{Lent}
 use Rattle.limits.specs.Limits.{maxRows}
 use Rattle.measure.specs.Table.{between}
 use Rattle.queue.specs.Queue.{Queue, entries}
-use Rattle.split.specs.Groups.{stretch}
+use Rattle.rounds.specs.Stretch.{stretch}
 use Rattle.split.specs.Runs.{laid, rows}
 use Rattle.words.specs.InShape.{InShape}
 use Rattle.words.specs.Words.{N#, count#, l#, n#, row#, run#, start#}

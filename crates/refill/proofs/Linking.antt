@@ -13,7 +13,7 @@ use Rattle.regrow.proofs.Changes.{one-reaches}
 use Rattle.regrow.proofs.Trees.{small-grown}
 use Rattle.regrow.specs.Calls.{Regrowable, regrownOf}
 use Rattle.regrow.specs.Pieces.{newReach}
-use Rattle.split.specs.Groups.{stretch}
+use Rattle.rounds.specs.Stretch.{stretch}
 use Rattle.tree.specs.Build.{build, grow, leafOf}
 use Rattle.tree.specs.Calls.{roomOf}
 use Rattle.tree.specs.Encode.{encode}

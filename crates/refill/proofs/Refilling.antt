@@ -17,7 +17,7 @@ use Rattle.regrow.proofs.Around.{own-start}
 use Rattle.regrow.specs.Calls.{Regrowable, Regrown, regrownOf}
 use Rattle.regrow.specs.Pieces.{end#}
 use Rattle.split.proofs.Laid.{runs-long}
-use Rattle.split.specs.Groups.{stretch}
+use Rattle.rounds.specs.Stretch.{stretch}
 use Rattle.split.specs.Places.{nodeAt}
 use Rattle.split.specs.Runs.{laid}
 use Rattle.tree.proofs.Written.{each-words}

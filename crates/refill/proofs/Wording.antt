@@ -6,7 +6,7 @@ use Rattle.laws.specs.Lists.{each}
 use Rattle.refill.proofs.Positions.{held}
 use Rattle.refill.specs.Calls.{Pairing, pairsThen}
 use Rattle.regrow.specs.Pieces.{end#}
-use Rattle.split.specs.Groups.{stretch}
+use Rattle.rounds.specs.Stretch.{stretch}
 use Rattle.tree.specs.Encode.{pairWords}
 use Rattle.words.specs.InShape.{InShape}
 use Rattle.words.specs.Words.{count#, dist#, n#, pairAt, row#, start#}

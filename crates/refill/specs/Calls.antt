@@ -4,7 +4,7 @@ use Rattle.build.specs.Filled.{pairsIn}
 use Rattle.limits.specs.Limits.{maxRows}
 use Rattle.regrow.specs.Calls.{Regrowable, regrownOf}
 use Rattle.regrow.specs.Pieces.{end#}
-use Rattle.split.specs.Groups.{stretch}
+use Rattle.rounds.specs.Stretch.{stretch}
 use Rattle.tree.specs.Encode.{encode, numbered}
 use Rattle.words.specs.Words.{N#, c#, count#, l#, m#, n#, pairAt, start#}
 use lib.ListN.{drop, length, take}

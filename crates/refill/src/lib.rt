@@ -10,7 +10,7 @@ ghost use mathlib.Core.Path.{_≡_};
 use limits::Params;
 use reach::node_end;
 use regrow::Growth;
-use split::groups::WIDTH;
+use split::WIDTH;
 use words::places::HEADER;
 use words::places::centres;
 use words::places::columns;

@@ -13,7 +13,7 @@ use Rattle.regrow.proofs.Trees.{fits-sound, numbered-pieces}
 use Rattle.regrow.specs.Calls.{Regrowable, Regrown, regrownOf}
 use Rattle.regrow.specs.Pieces.{Fitting, Job, allNodes, due, jobOf, piece}
 use Rattle.regrow.specs.Stages.{Leveled, Own, Planted, withCopies}
-use Rattle.split.specs.Groups.{stretch}
+use Rattle.rounds.specs.Stretch.{stretch}
 use Rattle.split.specs.Runs.{laid}
 use Rattle.tree.specs.Encode.{Node, numbered}
 use Rattle.tree.specs.Grove.{bare, members#}

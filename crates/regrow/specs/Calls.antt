@@ -11,7 +11,7 @@ use Rattle.limits.specs.Limits.{maxDepth}
 use Rattle.measure.specs.Table.{between}
 use Rattle.regrow.specs.Pieces.{due, jobOf, newReach, piece}
 use Rattle.regrow.specs.Stages.{Change}
-use Rattle.split.specs.Groups.{stretch}
+use Rattle.rounds.specs.Stretch.{stretch}
 use Rattle.split.specs.Runs.{laid}
 use Rattle.tree.specs.Build.{grow}
 use Rattle.tree.specs.Calls.{roomOf}

@@ -4,9 +4,9 @@ use Rattle.laws.specs.Every.{Every}
 use Rattle.laws.specs.Lists.{each, head, times}
 use Rattle.limits.specs.Limits.{maxColumns, maxRows}
 use Rattle.measure.specs.Table.{between}
-use Rattle.split.specs.Groups.{stretch}
-use Rattle.tree.specs.Build.{innerReach, radius, split}
+use Rattle.rounds.specs.Stretch.{stretch}
 use Rattle.split.specs.Places.{nodeAt}
+use Rattle.tree.specs.Build.{innerReach, radius, split}
 use lib.ListN.{drop, length, take}
 use mathlib.Core.List.{List, [], _++_, _∷_}
 use mathlib.Core.Path.{_≡_}
