@@ -2,6 +2,7 @@
 -- other as before. Assumes nothing.
 use Prim.Native.Nat.{_+_, _-_, _<_, _≤_, suc, zero, ℕ}
 use Rattle.build.specs.Levels.{Able, Item}
+use Rattle.copies.specs.Copies.{copied, end#, newChild, newCount, newStart}
 use Rattle.laws.proofs.Every.{every-map}
 use Rattle.laws.proofs.Ranges.{every-range, range-every, range-length}
 use Rattle.laws.proofs.Tests.{holds}
@@ -13,7 +14,7 @@ use Rattle.regrow.proofs.Dues.{both-none}
 use Rattle.regrow.proofs.Found.{child-same, dues, dues-down, j, kids, leaf-few, own-piece, stays-kept}
 use Rattle.regrow.proofs.Rows.{piece-node}
 use Rattle.regrow.specs.Pieces as pieces
-use Rattle.regrow.specs.Pieces.{Fitting, Follow, copied, due, end#, kept, newChild, newCount, newStart, pending, piece}
+use Rattle.regrow.specs.Pieces.{Fitting, Follow, due, kept, pending, piece}
 use Rattle.regrow.specs.Stages.{Own}
 use Rattle.tree.specs.Encode.{Node}
 use Rattle.tree.specs.Grove.{members#}
