@@ -13,7 +13,8 @@ use Rattle.nearest.specs.Calls.{Answered, Settled}
 use Rattle.radius.proofs.Refusals as within-radius
 use Rattle.radius.specs.Calls.{Searched}
 use Rattle.tree.proofs.Answers.{answers-length}
-use Rattle.tree.specs.Calls.{saidNearest, saidRadius}
+use Rattle.nearest.specs.Numbers.{saidNearest}
+use Rattle.radius.specs.Numbers.{saidRadius}
 use Rattle.tree.specs.Nearest.{answers, lastDistance}
 use Rattle.words.proofs.Headers.{whole-words}
 use Rattle.words.proofs.Index.{none-wrong}

@@ -8,9 +8,9 @@ use Rattle.image.proofs.OneByte.{one-byte-said}
 use Rattle.image.proofs.Wrong.{lowest-le}
 use Rattle.image.specs.Below.{Below}
 use Rattle.image.specs.Changed.{Changed, Moved}
+use Rattle.image.specs.Image.{blockGood, imageFaults}
 use Rattle.limits.proofs.Sized.{Sized}
 use Rattle.limits.specs.Said.{Said, said}
-use Rattle.words.specs.Image.{blockGood, imageFaults}
 use Rattle.words.specs.Words.{at}
 use lib.ListN.{length, set}
 use mathlib.Core.Bool.{false, true}

@@ -4,9 +4,9 @@ use Rattle.card_widen.specs.Parts.{wideLong, withWide}
 use Rattle.card_words.proofs.Cards.{card-long, card-total}
 use Rattle.card_words.specs.Cards.{Held, cardWords}
 use Rattle.card.specs.Calls.{readTotal, readWords}
+use Rattle.image.specs.Image.{imageTotal, imageWord, imageWords}
 use Rattle.measure.specs.Table.{between}
 use Rattle.tree.specs.Widen.{widen}
-use Rattle.words.specs.Image.{imageTotal, imageWord, imageWords}
 use Rattle.words.specs.Words.{N#, at, edition#, n#, width}
 use borrow.Author.Tests.{eq-eqb, ne-eqb}
 use lib.Dec.{eqb}

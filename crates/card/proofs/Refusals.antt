@@ -6,6 +6,7 @@ use Rattle.card_words.proofs.Cards.{carded}
 use Rattle.card_words.specs.Cards.{Carded, cardWords}
 use Rattle.card.specs.Calls.{Tested, cardFaults, readTotal, saidRead}
 use Rattle.image.proofs.Refusals.{faults-numbered, faults-placed}
+use Rattle.image.specs.Image.{imageFaults}
 use Rattle.image.specs.Sound.{Sound}
 use Rattle.laws.proofs.Every.{every-append}
 use Rattle.laws.proofs.Tests.{and-l, and-r, holds}
@@ -14,7 +15,6 @@ use Rattle.limits.proofs.Faults.{Early, early-numbered, early-placeless, fault-
 use Rattle.limits.proofs.Sized.{Sized, sized, sized-none, table-early, table-numbered}
 use Rattle.limits.specs.Said.{Said, fault, said, tableFaults}
 use Rattle.measure.specs.Table.{rowsOf}
-use Rattle.words.specs.Image.{imageFaults}
 use Rattle.words.specs.Shape.{shapeOk}
 use Rattle.words.specs.Words.{c#, n#}
 use borrow.Author.Tests.{eq-eqb, eqb-false, eqb-true, le-ltb, lt-ltb, ltb-false, ne-eqb, not-false}

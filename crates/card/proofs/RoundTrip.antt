@@ -8,6 +8,7 @@ use Rattle.card.specs.Calls.{Reads, readTotal}
 use Rattle.image.proofs.RoundTrip.{image-sound, image-words, written-image, written-ok}
 use Rattle.image.specs.Below.{Below}
 use Rattle.image.specs.Calls.{Writes}
+use Rattle.image.specs.Image.{image}
 use Rattle.limits.proofs.Sized.{Sized}
 use Rattle.limits.specs.Said.{said}
 use Rattle.measure.specs.Table.{rowsOf}
@@ -15,7 +16,6 @@ use Rattle.tree.proofs.Alike.{Alike, shape-alike}
 use Rattle.words.proofs.Headers.{words-whole}
 use Rattle.words.proofs.InShape.{in-shape, whole}
 use Rattle.words.proofs.Strides.{stride}
-use Rattle.words.specs.Image.{image}
 use Rattle.words.specs.InShape.{Whole}
 use Rattle.words.specs.Shape.{shapeOk}
 use Rattle.words.specs.Words.{N#, at, c#, edition#, inner#, kept, n#, nodeAt, pairAt, width, wordsOf, wordsOk}

@@ -9,9 +9,9 @@ use Rattle.image.proofs.WrittenBlocks.{written-bytes, written-good}
 use Rattle.image.specs.Below.{Below}
 use Rattle.image.specs.Calls.{Writes}
 use Rattle.image.specs.Changed.{Changed, Moved, blockWord}
+use Rattle.image.specs.Image.{blockGood, wordAt}
 use Rattle.limits.proofs.Sized.{Sized}
 use Rattle.limits.specs.Said.{Said}
-use Rattle.words.specs.Image.{blockGood, wordAt}
 use lib.ListN.{length, take}
 use mathlib.Core.Bool.{true}
 use mathlib.Core.List.{List}

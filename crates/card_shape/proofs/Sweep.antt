@@ -4,9 +4,9 @@ use Rattle.card_shape.specs.Sweep.{GreatestTo, InBlock}
 use Rattle.card_words.proofs.Cards.{card-at}
 use Rattle.card_words.specs.Cards.{Held, cardWords}
 use Rattle.image.proofs.InBlocks.{block-word, inside-block}
+use Rattle.image.specs.Image.{wordAt}
 use Rattle.laws.proofs.Upto.{most-next, most-none}
 use Rattle.words.proofs.Positions.{dist-word, row-word}
-use Rattle.words.specs.Image.{wordAt}
 use Rattle.words.specs.Words.{dist#, row#}
 use lib.ListN.{length}
 use mathlib.Core.List.{List}

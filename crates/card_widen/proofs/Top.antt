@@ -3,8 +3,8 @@ use Prim.Native.Nat.{_+_, _<_, ℕ}
 use Rattle.card_widen.specs.Parts.{topOf}
 use Rattle.card_words.proofs.Cards.{card-at}
 use Rattle.card_words.specs.Cards.{Held, cardWords}
+use Rattle.image.specs.Image.{imageWord, imageWords}
 use Rattle.words.proofs.Strides.{header-in}
-use Rattle.words.specs.Image.{imageWord, imageWords}
 use Rattle.words.specs.Words.{at}
 use lib.Dec.{lit<}
 use lib.ListN.{drop, set}

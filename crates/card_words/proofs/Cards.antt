@@ -4,13 +4,13 @@ use Rattle.card_words.specs.Cards.{Carded, Held, cardWords}
 use Rattle.image.proofs.Places.{blocks-hold, image-length}
 use Rattle.image.proofs.RoundTrip.{header-take, total-take}
 use Rattle.image.proofs.Standing.{at-snoc}
+use Rattle.image.specs.Image.{blocksFor, imageFaults, imageTotal, imageWord, imageWords}
 use Rattle.image.specs.Lowest.{wrongBlocks}
 use Rattle.image.specs.Sound.{restZero}
 use Rattle.limits.specs.Said.{fault, said}
 use Rattle.words.proofs.Headers.{good-whole}
 use Rattle.words.proofs.InShape.{whole}
 use Rattle.words.proofs.Strides.{words-few}
-use Rattle.words.specs.Image.{blocksFor, imageFaults, imageTotal, imageWord, imageWords}
 use Rattle.words.specs.Words.{n#, pairAt, at, cardOk, wordsOf, wholeOk}
 use borrow.Author.Tests.{eqb-true, le-leb}
 use lib.Dec.{eqb}

@@ -1,6 +1,6 @@
 -- An index on a card, in the bytes of its image: 02, R-11. Assumes nothing.
 use Prim.Native.Nat.{_*_, _/_, _≤_, ℕ}
-use Rattle.words.specs.Image.{blocksFor, imageTotal, imageWords}
+use Rattle.image.specs.Image.{blocksFor, imageTotal, imageWords}
 use Rattle.words.specs.InShape.{Whole}
 use Rattle.words.specs.Words.{cardOk, headerWords}
 use lib.ListN.{length}

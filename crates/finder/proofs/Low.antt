@@ -6,7 +6,8 @@ use Rattle.limits.proofs.Faults.{Early, early-low, fault-early}
 use Rattle.limits.proofs.Sized.{table-early}
 use Rattle.limits.specs.Said.{Said, fault, tableFaults}
 use Rattle.measure.specs.Table.{rowsOf}
-use Rattle.tree.specs.Calls.{saidNearest, saidRadius}
+use Rattle.nearest.specs.Numbers.{saidNearest}
+use Rattle.radius.specs.Numbers.{saidRadius}
 use Rattle.words.proofs.Index.{index-early}
 use Rattle.words.specs.Calls.{indexFaults}
 use lib.Dec.{eqb, ltb}

@@ -13,7 +13,7 @@ use Rattle.tree.proofs.Accepted.{each-once, shape-of}
 use Rattle.tree.proofs.Answers.{near-at, passes-all}
 use Rattle.tree.proofs.Rows.{rows-tree}
 use Rattle.tree.proofs.Theorems.{home-below, same-row}
-use Rattle.tree.specs.Calls.{saidNearest}
+use Rattle.nearest.specs.Numbers.{saidNearest}
 use Rattle.tree.specs.Grove.{Grove, treeOf}
 use Rattle.tree.specs.Homes.{homes}
 use Rattle.tree.specs.Nearest.{answers, candidates, isMeasured, measured, nearHow, passes, sort}

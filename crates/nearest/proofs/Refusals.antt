@@ -6,7 +6,7 @@ use Rattle.limits.proofs.Sized.{Sized, sized, table-numbered}
 use Rattle.limits.specs.Said.{Said, fault, said, tableFaults}
 use Rattle.measure.specs.Table.{rowsOf}
 use Rattle.nearest.specs.Calls.{Lent}
-use Rattle.tree.specs.Calls.{saidNearest}
+use Rattle.nearest.specs.Numbers.{saidNearest}
 use Rattle.words.proofs.Headers.{words-whole}
 use Rattle.words.proofs.Index.{index-tests, over}
 use Rattle.words.specs.Calls.{indexFaults}

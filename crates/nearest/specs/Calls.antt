@@ -4,7 +4,7 @@ use Rattle.items.specs.Fits.{Fits}
 use Rattle.laws.specs.Lists.{has}
 use Rattle.limits.specs.Limits.{maxColumns}
 use Rattle.measure.specs.Table.{between, from, row, rowsOf}
-use Rattle.tree.specs.Calls.{saidNearest}
+use Rattle.nearest.specs.Numbers.{saidNearest}
 use Rattle.tree.specs.Check.{Accepted}
 use Rattle.tree.specs.Grove.{treeOf}
 use Rattle.tree.specs.Nearest.{answers, isMeasured, measured, nearHow}

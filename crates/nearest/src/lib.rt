@@ -1,7 +1,7 @@
 // The nearest call: its refusals, the search, and the answers handed out.
 ghost use Prim.Native.Nat.{_≤_, min};
 ghost use Rattle.nearest.specs.Calls.{Answered, Found, Lent};
-ghost use Rattle.tree.specs.Calls.{saidNearest};
+ghost use Rattle.nearest.specs.Numbers.{saidNearest};
 ghost use lib.ListN.{length};
 ghost use mathlib.Core.Path.{_≡_};
 use crate::giving::give;

@@ -5,7 +5,7 @@ use Rattle.limits.proofs.Sized.{Sized, sized, table-numbered}
 use Rattle.limits.specs.Said.{Said, fault, said, tableFaults}
 use Rattle.measure.specs.Table.{rowsOf}
 use Rattle.radius.specs.Lent.{Lent}
-use Rattle.tree.specs.Calls.{saidRadius}
+use Rattle.radius.specs.Numbers.{saidRadius}
 use Rattle.words.proofs.Headers.{words-whole}
 use Rattle.words.proofs.Index.{index-tests, over}
 use Rattle.words.specs.Calls.{indexFaults}

@@ -1,3 +1,4 @@
+pub mod Numbers
 pub mod Written
 pub mod Once
 pub mod Lent

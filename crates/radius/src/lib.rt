@@ -4,7 +4,7 @@ ghost use Rattle.radius.specs.Calls.{Searched};
 ghost use Rattle.radius.specs.Lent.{Lent};
 ghost use Rattle.buffers.specs.Wiped.{wiped};
 ghost use Rattle.radius.specs.Written.{write};
-ghost use Rattle.tree.specs.Calls.{saidRadius};
+ghost use Rattle.radius.specs.Numbers.{saidRadius};
 ghost use Rattle.tree.specs.Grove.{treeOf};
 ghost use Rattle.tree.specs.Radius.{marks};
 ghost use Rattle.words.specs.Words.{n#};
