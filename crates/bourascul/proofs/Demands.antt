@@ -41,7 +41,7 @@ use Rattle.tree.specs.Nearest.{answers, isMeasured, lastDistance, measured}
 use Rattle.tree.specs.Widen.{widen}
 use Rattle.words.proofs.Listed.{list-only, node-there, part-none, part-pairs}
 use Rattle.words.specs.Calls.{Lists, listed, lists}
-use Rattle.image.specs.Image.{wordAt}
+use Rattle.blocks.specs.Blocks.{wordAt}
 use Rattle.words.specs.Shape.{shapeOk}
 use Rattle.words.specs.Words.{c#, edition#, n#, wordsOf}
 use borrow.Author.Tests.{le-leb, lt-leb, ne-eqb}

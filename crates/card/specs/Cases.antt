@@ -1,8 +1,9 @@
 -- The five-row index of 01 and the empty one, on a card of either edition, read over a table: one column, m = 2 and l = 2. Assumes nothing.
 use Prim.Native.Nat.{ℕ}
+use Rattle.blocks.specs.Blocks.{block, blockGood, blocks, blocksFor, bytes, checkFrom, checkWord, imageWord, imageWords, rotate, step, window, wordAt, wordsAt}
 use Rattle.card_words.specs.Cards.{cardWords}
 use Rattle.card.specs.Calls.{cardFaults, readTotal, readWords, saidRead}
-use Rattle.image.specs.Image.{block, blockGood, blocks, blocksFor, bytes, checkFrom, checkWord, image, imageFaults, imageTotal, imageWord, imageWords, rotate, step, window, wordAt, wordsAt}
+use Rattle.image.specs.Image.{image, imageFaults, imageTotal}
 use Rattle.laws.specs.Lists.{same}
 use Rattle.laws.specs.Upto.{sumTo}
 use Rattle.limits.specs.Said.{tableFaults}

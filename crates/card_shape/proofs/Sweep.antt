@@ -1,10 +1,10 @@
 -- The pass over a card's positions: the words of a block's positions, and the greatest so far. Assumes nothing.
 use Prim.Native.Nat.{_*_, _+_, _<_, _≤_, max, ℕ}
+use Rattle.blocks.proofs.InBlocks.{block-word, inside-block}
+use Rattle.blocks.specs.Blocks.{wordAt}
 use Rattle.card_shape.specs.Sweep.{GreatestTo, InBlock}
 use Rattle.card_words.proofs.Cards.{card-at}
 use Rattle.card_words.specs.Cards.{Held, cardWords}
-use Rattle.image.proofs.InBlocks.{block-word, inside-block}
-use Rattle.image.specs.Image.{wordAt}
 use Rattle.laws.proofs.Upto.{most-next, most-none}
 use Rattle.words.proofs.Positions.{dist-word, row-word}
 use Rattle.words.specs.Words.{dist#, row#}

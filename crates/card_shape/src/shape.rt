@@ -8,6 +8,8 @@ ghost use Rattle.words.specs.Pass.{fits, roomy};
 ghost use Rattle.words.specs.Shape.{brood, positionOk, rootFits, shapeOk, tile, treeFits};
 ghost use Rattle.words.specs.Words.{N#, n#};
 ghost use mathlib.Core.Path.{_≡_};
+use blocks::word::HELD;
+use blocks::word::get_word;
 use card_words::places::card_centres;
 use card_words::places::card_child;
 use card_words::places::card_count;
@@ -19,8 +21,6 @@ use card_words::places::card_radius;
 use card_words::places::card_rows;
 use card_words::places::card_start;
 use card_words::places::held_word;
-use image::word::HELD;
-use image::word::get_word;
 use limits::Params;
 use words::shape::greater;
 

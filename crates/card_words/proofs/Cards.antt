@@ -1,11 +1,12 @@
 -- The index words that a card holds: each is the image's, their header is the image's, and they are whole. Assumes nothing.
 use Prim.Native.Nat.{_%_, _+_, _/_, _<_, _≤_, suc, zero, ℕ}
+use Rattle.blocks.proofs.Places.{blocks-hold, image-length}
+use Rattle.blocks.specs.Blocks.{blocksFor, imageWord, imageWords}
+use Rattle.blocks.specs.Lowest.{wrongBlocks}
 use Rattle.card_words.specs.Cards.{Carded, Held, cardWords}
-use Rattle.image.proofs.Places.{blocks-hold, image-length}
 use Rattle.image.proofs.RoundTrip.{header-take, total-take}
 use Rattle.image.proofs.Standing.{at-snoc}
-use Rattle.image.specs.Image.{blocksFor, imageFaults, imageTotal, imageWord, imageWords}
-use Rattle.image.specs.Lowest.{wrongBlocks}
+use Rattle.image.specs.Image.{imageFaults, imageTotal}
 use Rattle.image.specs.Sound.{restZero}
 use Rattle.limits.specs.Said.{fault, said}
 use Rattle.words.proofs.Headers.{good-whole}

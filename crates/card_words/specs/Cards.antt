@@ -1,6 +1,7 @@
 -- An index on a card, in the bytes of its image: 02, R-11. Assumes nothing.
 use Prim.Native.Nat.{_*_, _/_, _≤_, ℕ}
-use Rattle.image.specs.Image.{blocksFor, imageTotal, imageWords}
+use Rattle.blocks.specs.Blocks.{blocksFor, imageWords}
+use Rattle.image.specs.Image.{imageTotal}
 use Rattle.words.specs.InShape.{Whole}
 use Rattle.words.specs.Words.{cardOk, headerWords}
 use lib.ListN.{length}

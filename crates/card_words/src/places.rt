@@ -4,7 +4,7 @@ ghost use Rattle.card_words.specs.Cards.{Held, cardWords};
 ghost use Rattle.words.specs.Words.{N#, at, c#, child#, count#, dist#, edition#, inner#, l#, m#, n#, nodeAt, pairAt, radius#, row#, start#, width};
 ghost use lib.ListN.{length};
 ghost use mathlib.Core.Path.{_≡_};
-use image::word::image_word;
+use blocks::word::image_word;
 use words::places::HEADER;
 
 // Index word j.

@@ -1,8 +1,9 @@
 -- The ends of writing: what each return of the code meets of its contract. Assumes nothing.
 use Prim.Native.Nat.{_*_, _<_, _≤_, ℕ}
+use Rattle.blocks.specs.Blocks.{blocksFor}
 use Rattle.image.specs.Calls.{Writes}
+use Rattle.image.specs.Image.{image, saidWrite}
 use Rattle.limits.specs.Said.{fault, said}
-use Rattle.image.specs.Image.{blocksFor, image, saidWrite}
 use Rattle.words.specs.Words.{wordsOf, wordsOk}
 use borrow.Author.Tests.{le-ltb, lt-ltb}
 use lib.Dec.{ltb}

@@ -1,8 +1,9 @@
 -- What reading finds before it looks at the room: 01, Numbers given back, 14 to 17. A working notion, on which no promise rests. Assumes nothing.
 use Prim.Native.Nat.{_*_, _-_, _/_, ℕ}
+use Rattle.blocks.specs.Blocks.{blocksFor, imageWord, imageWords}
+use Rattle.image.specs.Image.{imageTotal}
 use Rattle.laws.specs.Lists.{all, range}
 use Rattle.limits.specs.Said.{Said, fault, said}
-use Rattle.image.specs.Image.{blocksFor, imageTotal, imageWord, imageWords}
 use Rattle.words.specs.Words.{cardOk, headerWords}
 use lib.Dec.{eqb}
 use lib.ListN.{length}

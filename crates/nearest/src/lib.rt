@@ -8,7 +8,7 @@ use crate::giving::give;
 use buffers::clear_bytes;
 use buffers::clear_words;
 use seek::searching::search;
-use tree::how::tally;
+use tallies::tally;
 
 mod giving;
 

@@ -13,7 +13,7 @@ use crate::descent::descend;
 use crate::marking::measure_row;
 use buffers::clear_bytes;
 use limits::Params;
-use tree::how::tally;
+use tallies::tally;
 use words::places::node_first;
 use words::places::nodes;
 use words::places::rows;

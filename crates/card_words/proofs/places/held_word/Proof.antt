@@ -1,9 +1,9 @@
 -- `card_words::places::held_word` meets its contract: each index word stands within the bytes.
 -- Assumes nothing.
+use Rattle.blocks.proofs.Places.{inside}
 use Rattle.card_words.proofs.Cards.{card-at}
 use Rattle.card_words.proofs.places.held_word.Statement.{statement}
 use Rattle.card_words.proofs.places.held_word.Tie as tie
-use Rattle.image.proofs.Places.{inside}
 use lib.ListN.{length}
 use mathlib.Core.Path.{_∙_}
 use native.Mathlib.Omega.{arith}

@@ -8,7 +8,7 @@ use Rattle.radius.proofs.Distances.{bound-is, least-is}
 use Rattle.radius.proofs.Fitted.{lent-same}
 use Rattle.radius.proofs.Ways.{closed-did, inner-opened, leaf-opened, swept-did}
 use Rattle.radius.proofs.Written.{marked-end, marked-next, marked-none}
-use Rattle.tree.proofs.bounds.kid_bound.Reads as kid-bound-reads
+use Rattle.bounds.proofs.kid_bound.Reads as kid-bound-reads
 use Rattle.radius.proofs.centres.least_of.Reads as least-of-reads
 use Rattle.radius.proofs.descent.+descend.Lts-descend as descend-lts
 use Rattle.radius.proofs.descent.+descend.Tie.{close}
