@@ -1,6 +1,7 @@
 -- The five-row index of 01 and the empty one, on a card of either edition, read over a table: one column, m = 2 and l = 2. Assumes nothing.
 use Prim.Native.Nat.{ℕ}
-use Rattle.blocks.specs.Blocks.{block, blockGood, blocks, blocksFor, bytes, checkFrom, checkWord, imageWord, imageWords, rotate, step, window, wordAt, wordsAt}
+use Rattle.blocks.specs.Blocks.{block, blockGood, blocks, blocksFor, bytes, checkFrom, checkWord}
+use Rattle.blocks.specs.Blocks.{imageWord, imageWords, rotate, step, window, wordAt, wordsAt}
 use Rattle.card_words.specs.Cards.{cardWords}
 use Rattle.card.specs.Calls.{cardFaults, readTotal, readWords, saidRead}
 use Rattle.image.specs.Image.{image, imageFaults, imageTotal}
@@ -26,7 +27,8 @@ pub data Case : Type 0 where
 
 -- a case comes out as it says
 unfoldable pub right : Case → Bool
-unfolding sumTo tableFaults l1 between cardOk born level tile nodeOk shapeOk widen block blockGood blocks blocksFor bytes checkFrom checkWord image imageFaults imageTotal imageWord imageWords rotate step window wordAt wordsAt cardFaults cardWords readTotal readWords saidRead
+unfolding sumTo tableFaults l1 between cardOk born level tile nodeOk shapeOk widen block blockGood blocks blocksFor bytes checkFrom
+    checkWord image imageFaults imageTotal imageWord imageWords rotate step window wordAt wordsAt cardFaults cardWords readTotal readWords saidRead
 right (gives w T room v) = let i = image w in eqb (saidRead T 1 i room .0) 0 && same (readWords T 1 i) v
 right (says w T room k) = let i = image w in eqb (saidRead T 1 i room .0) k
 

@@ -14,7 +14,8 @@ pub struct Read {
 
 // Reads a card over its table, of c columns, to the front of the room. The index need not be accepted: one in shape is enough.
 pub fn read_image(image: &[u8], table: &[u16], c: usize, room: &mut [u32]) -> Read
-    ensures { λ r. ⌜ Reads (now (table .entry)) c (now (image .entry)) (now (room .entry)) (now (room .exit)) (r .number) (r .place) (r .words) ⌝ }
+    ensures { λ r. ⌜ Reads (now (table .entry)) c (now (image .entry)) (now (room .entry)) (now (room .exit))
+        (r .number) (r .place) (r .words) ⌝ }
 {
     let told = refusal_of(image, table, c, room.len());
     if told.number != 0 {

@@ -92,7 +92,8 @@ pub fn refusal_of(image: &[u8], table: &[u16], c: usize, room: usize) -> Read
 pub fn put_index(table: &[u16], c: usize, image: &[u8], words: usize, room: &mut [u32])
     requires { ⌜ Tabled (now table) c (now image) ⌝ }
     requires { ⌜ (words ≡ readTotal (now image)) × (words ≤ length (now room)) ⌝ }
-    ensures { λ _. ⌜ now (room .exit) ≡ readWords (now (table .entry)) c (now (image .entry)) ++ drop (readTotal (now (image .entry))) (now (room .entry)) ⌝ }
+    ensures { λ _. ⌜ now (room .exit) ≡ readWords (now (table .entry)) c (now (image .entry))
+        ++ drop (readTotal (now (image .entry))) (now (room .entry)) ⌝ }
 {
     if card_word(image, 0) == 1 {
         widen_card(table, c, image, room);

@@ -18,7 +18,8 @@ restZero i t = all (λ j. eqb (imageWord i j) 0) (range t (127 * (length i / 512
 -- 16 and 17 as faults: what is wrong with the words that the blocks hold
 abbrev pub heldFaults : List ℕ → List Said
 heldFaults i =
-    fault 16 (not (cardOk (imageWords i headerWords)) || not (eqb (length i / 512) (blocksFor (imageTotal i)))) ++ fault 17 (not (restZero i (imageTotal i)))
+    fault 16 (not (cardOk (imageWords i headerWords)) || not (eqb (length i / 512) (blocksFor (imageTotal i))))
+    ++ fault 17 (not (restZero i (imageTotal i)))
 
 -- of these faults the first, and with none how many words the index has
 pub record Sound (i : List ℕ) (faults : List Said) (number place words : ℕ) : Type 0 where

@@ -18,7 +18,8 @@ fn wide(x: u32) -> usize
 
 // An entry's least distance and its centre, now that `centre` is one.
 fn nearer_one(table: &[u16], c: usize, centre: u32, entry: &mut [u32])
-    requires { ⌜ (c ≤ maxColumns) × InTable (now table) c centre × (length (now entry) ≡ 3) × InTable (now table) c (getD (now entry) 0 0) ⌝ }
+    requires { ⌜ (c ≤ maxColumns) × InTable (now table) c centre × (length (now entry) ≡ 3)
+        × InTable (now table) c (getD (now entry) 0 0) ⌝ }
     ensures { λ _. ⌜ now (entry .exit) ≡ nearAll (between (now (table .entry)) c) centre (now (entry .entry)) ⌝ }
 {
     let d = row_distance(table, c, wide(centre), wide(entry[0]));
@@ -44,8 +45,8 @@ fn nearer(table: &[u16], c: usize, centre: u32, part: &mut [u32])
 // The entry at p is to be chosen before the one at b: it is farther from the centres, or as far with a row number that is no greater.
 fn precedes(part: &[u32], p: usize, b: usize) -> bool
     requires { ⌜ (p + 3 ≤ length (now part)) × (b + 3 ≤ length (now part)) ⌝ }
-    ensures { λ r. ⌜ r ≡ ahead (getD (now (part .entry)) p 0) (getD (now (part .entry)) (p + 1) 0) (getD (now (part .entry)) b 0) (getD (now (part .entry)) (b + 1) 0)
-        ⌝ }
+    ensures { λ r. ⌜ r ≡ ahead (getD (now (part .entry)) p 0) (getD (now (part .entry)) (p + 1) 0)
+        (getD (now (part .entry)) b 0) (getD (now (part .entry)) (b + 1) 0) ⌝ }
 {
     if part[b + 1] < part[p + 1] {
         return true;
@@ -109,7 +110,8 @@ fn round(table: &[u16], c: usize, part: &mut [u32])
 // The rounds that leave m centres at the front of a run whose first is at the front.
 pub fn choose(table: &[u16], c: usize, m: usize, run: &mut [u32])
     requires { ⌜ (c ≤ maxColumns) × (1 ≤ m) × (3 * m ≤ length (now run)) × Entries (InTable (now table) c) (now run) ⌝ }
-    ensures { λ _. ⌜ now (run .exit) ≡ take 3 (now (run .entry)) ++ roundsOf (between (now (table .entry)) c) (m - 1) (drop 3 (now (run .entry))) ⌝ }
+    ensures { λ _. ⌜ now (run .exit) ≡ take 3 (now (run .entry))
+        ++ roundsOf (between (now (table .entry)) c) (m - 1) (drop 3 (now (run .entry))) ⌝ }
 {
     let mut r = 1;
     while r < m {

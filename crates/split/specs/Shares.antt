@@ -18,7 +18,8 @@ shared es cs = each (λ a. group a es) cs
 -- the words of these groups' nodes, from position `at` on, no children yet; a centre does not count for the inner reach of its group
 unfoldable pub sharedNodes : ℕ → List ℕ → List ℕ → List ℕ
 sharedNodes at es [] = []
-sharedNodes at es (a ∷ cs) = at ∷ size (group a es) ∷ 0 ∷ widest (group a es) ∷ narrowest (picked a es) ∷ sharedNodes (at + size (group a es)) es cs
+sharedNodes at es (a ∷ cs) =
+    at ∷ size (group a es) ∷ 0 ∷ widest (group a es) ∷ narrowest (picked a es) ∷ sharedNodes (at + size (group a es)) es cs
 
 -- the rows of k entries from word p on
 unfoldable pub centres : List ℕ → ℕ → ℕ → List ℕ

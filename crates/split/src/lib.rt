@@ -17,7 +17,8 @@ pub const WIDTH: usize = 5;
 // Copies the words from `lo + over` on back to lo, as far as hi.
 fn copy_back(work: &mut [u32], lo: usize, hi: usize, over: usize)
     requires { ⌜ (lo ≤ hi) × (hi + over ≤ length (now work)) ⌝ }
-    ensures { λ _. ⌜ now (work .exit) ≡ take lo (now (work .entry)) ++ (stretch (now (work .entry)) (lo + over) (hi + over) ++ drop hi (now (work .entry))) ⌝ }
+    ensures { λ _. ⌜ now (work .exit) ≡ take lo (now (work .entry))
+        ++ (stretch (now (work .entry)) (lo + over) (hi + over) ++ drop hi (now (work .entry))) ⌝ }
 {
     let mut p = lo;
     while p < hi {
@@ -71,7 +72,8 @@ pub fn split_run(
     made: usize,
 )
     requires { ⌜ Splittable (now table) c m n (now room) (now work) s count made ⌝ }
-    ensures { λ _. ⌜ Splitted (now (table .entry)) c m n (now (room .entry)) (now (work .entry)) s count made (now (room .exit)) (now (work .exit)) ⌝ }
+    ensures { λ _. ⌜ Splitted (now (table .entry)) c m n (now (room .entry)) (now (work .entry)) s count made
+        (now (room .exit)) (now (work .exit)) ⌝ }
 {
     let lo = 3 * s;
     let hi = lo + 3 * count;

@@ -55,7 +55,8 @@ fn has_room(index: &[u32], k: usize, next: usize) -> bool
 // Node k, whose words stand from `here` on, fits, at the given depth, if `next` is the number that its first child must have.
 fn node_fits(index: &[u32], k: usize, here: usize, next: usize, depth: usize) -> bool
     requires { ⌜ Whole (now index) ⌝ }
-    requires { ⌜ (k < N# (now index)) × (here ≡ nodeAt (now index) k) × (k < next) × (next ≤ maxCentres * k + 1) × (edition# (now index) ≡ 2) ⌝ }
+    requires { ⌜ (k < N# (now index)) × (here ≡ nodeAt (now index) k) × (k < next) × (next ≤ maxCentres * k + 1)
+        × (edition# (now index) ≡ 2) ⌝ }
     ensures { λ r. ⌜ r ≡ fits (now (index .entry)) k next depth ⌝ }
 {
     let count = word(index, here + 1);
