@@ -1,7 +1,7 @@
 -- What the radius call promises, for every input. Assumes nothing.
 use Prim.Native.Nat.{ℕ}
 use Rattle.measure.specs.Table.{from}
-use Rattle.radius.specs.Written.{write}
+use Rattle.marking.specs.Written.{write}
 use Rattle.radius.specs.Numbers.{saidRadius}
 use Rattle.tree.specs.Grove.{treeOf}
 use Rattle.tree.specs.Nearest.{measured}
