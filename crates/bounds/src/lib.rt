@@ -1,41 +1,16 @@
 // Bounds, from distances and radii. Nothing here knows of a search.
-ghost use Prim.Native.Nat.{_+_, _-_, _/_, _<_, max, min};
+ghost use Prim.Native.Nat.{_+_, _-_, _/_, _<_, max};
 ghost use Rattle.laws.specs.Lists.{gap};
 ghost use Rattle.tree.specs.Grove.{reach#, reaching};
 ghost use Rattle.tree.specs.Homes.{childBound};
 ghost use Rattle.words.specs.InShape.{Whole};
 ghost use Rattle.words.specs.Words.{N#, edition#};
 ghost use mathlib.Core.Path.{_≡_};
+use numbers::apart;
+use numbers::larger;
+use numbers::less;
 use words::places::node_inner;
 use words::places::node_radius;
-
-// a - b, or 0 where b is more.
-pub fn less(a: u32, b: u32) -> u32
-    ensures { λ r. ⌜ r ≡ a - b ⌝ }
-{
-    if a < b { 0 } else { a - b }
-}
-
-// |a - b|
-pub fn apart(a: u32, b: u32) -> u32
-    ensures { λ r. ⌜ r ≡ gap a b ⌝ }
-{
-    if a < b { b - a } else { a - b }
-}
-
-// The greater of two.
-pub fn larger(a: u32, b: u32) -> u32
-    ensures { λ r. ⌜ r ≡ max a b ⌝ }
-{
-    if a < b { b } else { a }
-}
-
-// The lesser of two.
-pub fn smaller(a: u32, b: u32) -> u32
-    ensures { λ r. ⌜ r ≡ min a b ⌝ }
-{
-    if b < a { b } else { a }
-}
 
 // Half of a, rounded up. (a + 1 could wrap.)
 fn half_up(a: u32) -> u32

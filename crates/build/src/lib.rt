@@ -12,13 +12,13 @@ ghost use lib.ListN.{drop, length};
 ghost use mathlib.Core.List.{_++_};
 ghost use mathlib.Core.Path.{_≡_};
 use buffers::clear_words;
-use groups::greater;
 use groups::least_of;
 use limits::Chosen;
 use limits::Params;
 use limits::columns_ok;
 use limits::length_number;
 use measure::row_distance;
+use numbers::larger;
 use rounds::put_entry;
 use split::WIDTH;
 use split::split_run;
@@ -51,7 +51,7 @@ fn lay(table: &[u16], c: usize, n: usize, work: &mut [u32]) -> Reach
     let mut i = 0;
     while i < n {
         let d = row_distance(table, c, 0, i);
-        radius = greater(radius, d);
+        radius = larger(radius, d);
         inner = least_of(i, inner, d);
         let at = 3 * i;
         put_entry(&mut work[at..], i as u32, d, 0);

@@ -22,7 +22,7 @@ use card_words::places::card_rows;
 use card_words::places::card_start;
 use card_words::places::held_word;
 use limits::Params;
-use words::shape::greater;
+use numbers::larger;
 
 // The runs of m nodes from number j on tile the positions s up to e, in order.
 fn tiles(image: &[u8], j: usize, m: usize, s: usize, e: usize) -> bool
@@ -179,8 +179,8 @@ fn block_greatest(
     let mut far = found.far;
     let mut q = p;
     while q < end {
-        row = greater(row, get_word(image, from + 8 * q));
-        far = greater(far, get_word(image, from + 8 * q + 4));
+        row = larger(row, get_word(image, from + 8 * q));
+        far = larger(far, get_word(image, from + 8 * q + 4));
         q += 1;
     }
     Greatest { row, far }
@@ -201,8 +201,8 @@ fn positions_fit(image: &[u8]) -> bool
     let mut far: u32 = 0;
     let mut p = 0;
     while p < n {
-        row = greater(row, held_word(image, base + 2 * p));
-        far = greater(far, held_word(image, base + 2 * p + 1));
+        row = larger(row, held_word(image, base + 2 * p));
+        far = larger(far, held_word(image, base + 2 * p + 1));
         p += 1;
         let b = (base + 2 * p) / HELD;
         let stop = block_stop(base, b, p, n);

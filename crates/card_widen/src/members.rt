@@ -6,11 +6,11 @@ ghost use Rattle.measure.specs.Table.{between};
 ghost use Rattle.tree.specs.Check.{nearest#};
 ghost use Rattle.words.specs.Words.{N#, n#, row#};
 ghost use mathlib.Core.Path.{_≡_};
-use bounds::smaller;
 use card_words::places::card_count;
 use card_words::places::card_row;
 use card_words::places::card_start;
 use measure::row_distance;
+use numbers::smaller;
 
 // The distance of row f from the row at position p.
 fn card_apart(table: &[u16], c: usize, image: &[u8], f: usize, p: usize) -> u32

@@ -8,9 +8,9 @@ ghost use Rattle.words.specs.Words.{N#, c#, m#, n#};
 ghost use lib.ListN.{length};
 ghost use mathlib.Core.Path.{_≡_};
 use build::Reach;
-use groups::greater;
 use groups::least_of;
 use measure::row_distance;
+use numbers::larger;
 use reach::node_end;
 use split::WIDTH;
 use words::places::HEADER;
@@ -99,7 +99,7 @@ fn reach_of(table: &[u16], index: &[u32], p: Growth, k: usize) -> Reach
     }
     let d = row_distance(table, columns(index), node_first(index, k), rows(index));
     Reach {
-        radius: greater(radius, d),
+        radius: larger(radius, d),
         inner: least_of(node_count(index, k), inner, d),
     }
 }

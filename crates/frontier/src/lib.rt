@@ -11,7 +11,7 @@ ghost use mathlib.Core.Path.{_≡_};
 use crate::workspace::DISTANCES;
 use bounds::kid_bound;
 use bounds::place_bound;
-use bounds::smaller;
+use numbers::smaller;
 use queue::pack;
 use queue::push;
 use words::places::node_count;

@@ -1,8 +1,8 @@
 // One centre's group: the entries of a run that are closest to it, written behind it.
-ghost use Prim.Native.Nat.{max};
 ghost use Rattle.groups.specs.Groups.{Gatherable, Gathered, Picked, Picking};
 ghost use Rattle.laws.specs.Lists.{lower};
 ghost use mathlib.Core.Path.{_≡_};
+use numbers::larger;
 use rounds::put_entry;
 
 // A group: how many members, the greatest distance to its centre, and the least of a member other than the centre, 0 where there is none.
@@ -10,13 +10,6 @@ pub struct Group {
     pub count: usize,
     pub radius: u32,
     pub inner: u32,
-}
-
-// The greater of two distances.
-pub fn greater(a: u32, b: u32) -> u32
-    ensures { λ r. ⌜ r ≡ max a b ⌝ }
-{
-    if a < b { b } else { a }
 }
 
 // The least of k distances: d is the last of them, and `low` the least of those before it.
@@ -47,7 +40,7 @@ fn pick(work: &mut [u32], lo: usize, hi: usize, centre: u32, to: usize) -> Group
             let q = to + 3 * count;
             put_entry(&mut work[q..], row, least, centre);
             count += 1;
-            radius = greater(radius, least);
+            radius = larger(radius, least);
             inner = least_of(count, inner, least);
         }
     }

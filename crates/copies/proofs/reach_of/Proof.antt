@@ -43,7 +43,7 @@ returns-3 c =
     let s = h .before .before .before .before .before in
     reach-more _ _ _ _ _ (h .before .before .node-radius .ensures) (h .before .node-inner .ensures) (h .holds-run .ensures)
     (not-false _ (i .if1 .left)) (k .before .if2 .left) (d .before .before .node-first .ensures .0) (d .before .rows .ensures .0)
-    (k .columns .ensures .0) (d .row-distance .ensures .0) (m .node-count .ensures .0) (s .pre .0 .shape .node (s .args .k) (s .pre .1) .some) (g .greater .ensures)
+    (k .columns .ensures .0) (d .row-distance .ensures .0) (m .node-count .ensures .0) (s .pre .0 .shape .node (s .args .k) (s .pre .1) .some) (g .larger .ensures)
     (c .least-of .ensures)
 
 pub reach-of-spec : {M : Type 1} → statement M

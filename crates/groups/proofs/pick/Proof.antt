@@ -70,7 +70,7 @@ loop-again c =
     let g = c .before in
     let e = g .before .before .before in
     let s = turn (e .before .before .before .before) in
-    rw (g .greater .ensures, c .least-of .ensures) (picks-take (s .loop .inv) _ (search needs) (search needs) (e .put-entry .ensures))
+    rw (g .larger .ensures, c .least-of .ensures) (picks-take (s .loop .inv) _ (search needs) (search needs) (e .put-entry .ensures))
 
 loop-again-2 : tie.Need-loop-again-2 Inv-loop μ-loop
 loop-again-2 c =

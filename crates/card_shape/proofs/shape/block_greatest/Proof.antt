@@ -58,7 +58,7 @@ loop-again c =
       found = greatest-next (cardWords i) (l .loop .inv .found)
           (block-row i (s .pre .0) (s .pre .1 .0) (l .loop .q) (l .loop .inv .from) on (c .before .before .before .get-word .ensures))
           (block-dist i (s .pre .0) (s .pre .1 .0) (l .loop .q) (l .loop .inv .from) on (c .before .get-word2 .ensures))
-          (c .before .before .greater .ensures) (c .greater2 .ensures);
+          (c .before .before .larger .ensures) (c .larger2 .ensures);
     }
 
 returns : tie.Need-returns Inv-loop μ-loop

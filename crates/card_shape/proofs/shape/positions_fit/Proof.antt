@@ -30,16 +30,16 @@ small l =
     omega (arith, few (start l .args .image .now) (start l .pre), l .before .card-pair-at .ensures, l .before .before .before .card-rows .ensures .0)
 
 -- with position p the greatest so far are those of one position more
-next : (c : tie.After-greater2 Inv-loop μ-loop)
+next : (c : tie.After-larger2 Inv-loop μ-loop)
     → GreatestTo (cardWords (start (c .before .before .before .before .before) .args .image .now))
-    (c .before .before .before .before .before .loop .p + 1) (c .before .before .greater .result) (c .greater2 .result)
+    (c .before .before .before .before .before .loop .p + 1) (c .before .before .larger .result) (c .larger2 .result)
 next c =
     let l = c .before .before .before .before .before in
     let w = cardWords (start l .args .image .now) in
     let at = l .before .card-pair-at in
     greatest-next w (l .loop .inv .1) (c .before .before .before .held-word .ensures ∙ row-word w (at .result) (l .loop .p) (at .ensures))
     (c .before .held-word2 .ensures ∙ dist-word w (at .result) (l .loop .p) (at .ensures))
-    (c .before .before .greater .ensures) (c .greater2 .ensures)
+    (c .before .before .larger .ensures) (c .larger2 .ensures)
 
 returns : tie.Need-returns Inv-loop μ-loop
 returns c = rw (sym (c .before .card-rows .ensures .0) ∙ c .if1 .taken)
