@@ -1,5 +1,5 @@
 -- The blocks of an image: 127 index words and their check word each. 01, The image. Assumes nothing.
-use Prim.Native.Nat.{_%_, _*_, _+_, _-_, _/_, _^_, suc, zero, ℕ}
+use Prim.Native.Nat.{_%_, _*_, _+_, _/_, _^_, suc, zero, ℕ}
 use Rattle.laws.specs.Lists.{each}
 use Rattle.words.specs.Words.{at}
 use lib.Dec.{eqb}

@@ -1,6 +1,6 @@
 -- What a reading puts into the room: the words of either edition. Assumes nothing.
 use Prim.Native.Nat.{_*_, _+_, _/_, _≤_, ℕ}
-use Rattle.blocks.specs.Blocks.{imageWord, imageWords}
+use Rattle.blocks.specs.Blocks.{imageWords}
 use Rattle.card_widen.specs.Parts.{wideLong, withWide}
 use Rattle.card_words.proofs.Cards.{card-long, card-total}
 use Rattle.card_words.specs.Cards.{Held, cardWords}
@@ -8,9 +8,8 @@ use Rattle.card.specs.Calls.{readTotal, readWords}
 use Rattle.image.specs.Image.{imageTotal}
 use Rattle.measure.specs.Table.{between}
 use Rattle.tree.specs.Widen.{widen}
-use Rattle.words.specs.Words.{N#, at, edition#, n#, width}
+use Rattle.words.specs.Words.{N#, edition#, n#, width}
 use borrow.Author.Tests.{eq-eqb, ne-eqb}
-use lib.Dec.{eqb}
 use lib.ListN.{drop, length}
 use mathlib.Core.Bool.{Bool, cond}
 use mathlib.Core.List.{List, _++_}

@@ -16,7 +16,7 @@ use Rattle.tree.specs.Encode.{Node, nodeWords}
 use Rattle.words.specs.Words.{c#, child#, count#, first#, inner#, n#, radius#, start#}
 use borrow.Author.Tests.{eq-eqb, eqb-false, eqb-true, le-leb, lt-leb, lt-ltb, ne-eqb}
 use borrow.Rule.Slice.PartMut.{midOf, putMid}
-use lib.Dec.{eqb, leb, ltb}
+use lib.Dec.{eqb, leb}
 use lib.ListN.{drop, length, length-append, length-map, take, take-append-drop}
 use lib.Seq.{drop-append-add, drop-drop, length-take-le, take-at}
 use mathlib.Core.Bool.{Bool, cond, false, true}

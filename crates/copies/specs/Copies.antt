@@ -1,11 +1,9 @@
 -- An old node of an index, as it stands in one that is grown anew from it. A working notion, on which no promise rests. Assumes nothing.
 use Prim.Native.Nat.{_*_, _+_, _<_, _≤_, ℕ}
 use Rattle.appending.specs.Append.{reachWith}
-use Rattle.build.specs.Levels.{waits}
 use Rattle.laws.specs.Lists.{each, range}
 use Rattle.limits.specs.Limits.{maxRows}
-use Rattle.split.specs.Places.{child#, nodeAt}
-use Rattle.tree.specs.Build.{reach}
+use Rattle.split.specs.Places.{nodeAt}
 use Rattle.tree.specs.Encode.{Node, nodeWords}
 use Rattle.tree.specs.Grove.{Reach, reach#}
 use Rattle.words.specs.InShape.{InShape}

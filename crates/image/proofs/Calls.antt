@@ -10,7 +10,7 @@ use lib.Dec.{ltb}
 use lib.ListN.{drop, length}
 use mathlib.Core.Bool.{Bool, false, not, true}
 use mathlib.Core.List.{List, _++_}
-use mathlib.Core.Path.{_≡_, ap, ap₂, refl, sym}
+use mathlib.Core.Path.{_≡_, ap₂, refl, sym}
 
 module _ (w before : List ℕ) where
   -- how many bytes the image has

@@ -5,11 +5,10 @@ use Rattle.image.proofs.RoundTrip.{image-is, low, written-image, writte
 use Rattle.image.proofs.Standing.{good-in}
 use Rattle.image.specs.Below.{Below}
 use Rattle.image.specs.Calls.{Writes}
-use Rattle.image.specs.Image.{image}
 use Rattle.laws.proofs.Every.{every-append}
 use Rattle.laws.specs.Every.{Every}
 use Rattle.laws.specs.Lists.{each}
-use Rattle.words.specs.Words.{at, wordsOf, wordsOk}
+use Rattle.words.specs.Words.{wordsOf, wordsOk}
 use lib.ListN.{length, take}
 use mathlib.Core.Bool.{true}
 use mathlib.Core.List.{List, [], _++_, _∷_}

@@ -7,14 +7,14 @@ use Rattle.laws.proofs.Every.{every-map}
 use Rattle.laws.proofs.Ranges.{every-range, range-every, range-length}
 use Rattle.laws.proofs.Tests.{holds}
 use Rattle.laws.specs.Every.{Every}
-use Rattle.laws.specs.Lists.{each, range}
+use Rattle.laws.specs.Lists.{range}
 use Rattle.leafward.specs.Changed.{Holds}
 use Rattle.limits.specs.Limits.{maxDepth}
 use Rattle.regrow.proofs.Dues.{both-none}
 use Rattle.regrow.proofs.Found.{child-same, dues, dues-down, j, kids, leaf-few, own-piece, stays-kept}
 use Rattle.regrow.proofs.Rows.{piece-node}
 use Rattle.regrow.specs.Pieces as pieces
-use Rattle.regrow.specs.Pieces.{Fitting, Follow, due, kept, pending, piece}
+use Rattle.regrow.specs.Pieces.{Fitting, Follow, due, pending, piece}
 use Rattle.regrow.specs.Stages.{Own}
 use Rattle.tree.specs.Encode.{Node}
 use Rattle.tree.specs.Grove.{members#}
@@ -27,7 +27,7 @@ use Rattle.words.specs.Words.{N#, child#, count#, dist#, l#, m#, row#, run#, st
 use borrow.Author.Tests.{eq-eqb, eqb-false, eqb-true, le-leb, lt-leb, ne-eqb, not-false}
 use lib.Dec.{T, eqb, leb}
 use lib.ListN.{length, length-map}
-use mathlib.Core.Bool.{Bool, _&&_, cond, false, not, true}
+use mathlib.Core.Bool.{Bool, _&&_, cond, false, true}
 use mathlib.Core.List.{List, [], _++_, _∷_, append-nil, cons≢nil, map}
 use mathlib.Core.Logic.{_⊎_, inl, inr}
 use mathlib.Core.Path.{_∙_, _≡_, ap, ap₂, refl, subst, sym}

@@ -4,7 +4,6 @@ use Rattle.groups.proofs.Gathered.{group-size}
 use Rattle.groups.specs.Groups.{Gatherable, Gathered, group, narrowest, picked, size, widest}
 use Rattle.laws.proofs.Parts.{put-more}
 use Rattle.rounds.proofs.Parts.{read-front, stretch-front}
-use Rattle.rounds.specs.Stretch.{stretch}
 use Rattle.split.specs.Places.{nodeAt}
 use Rattle.split.specs.Shares.{Sharable, Shared, centres, groupNodes, groupWords, shared, sharedNodes, waiting}
 use borrow.Rule.Slice.PartMut.{midOf, putMid}

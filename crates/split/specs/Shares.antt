@@ -1,13 +1,12 @@
 -- A run's entries shared out among its centres: 01, The tree, groups and the children's runs. A working notion, on which no promise rests. Assumes
 -- nothing.
-use Prim.Native.Nat.{_*_, _+_, _-_, _≤_, max, suc, zero, ℕ}
+use Prim.Native.Nat.{_*_, _+_, _≤_, suc, zero, ℕ}
 use Rattle.groups.specs.Groups.{group, narrowest, picked, size, widest}
 use Rattle.laws.specs.Lists.{each}
 use Rattle.limits.specs.Limits.{maxRows}
 use Rattle.rounds.specs.Stretch.{stretch}
 use Rattle.split.specs.Places.{nodeAt}
 use lib.ListN.{drop, getD, length, take}
-use mathlib.Core.Bool.{cond}
 use mathlib.Core.List.{List, [], _++_, _∷_}
 use mathlib.Core.Path.{_≡_}
 
