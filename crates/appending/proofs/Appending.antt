@@ -1,9 +1,10 @@
 -- The index with one row more: the full check accepts it, and all groups but one keep their order. Assumes nothing.
 use Prim.Native.Nat.{_*_, _+_, _/_, _<_, _≤_, suc, zero, ℕ}
 use Rattle.appending.proofs.Agree.{Agree, good-agree}
-use Rattle.appending.proofs.Back.{entries-tree, numbered-is, tree-fits}
+use Rattle.appending.proofs.Back.{entries-tree, tree-fits}
 use Rattle.appending.proofs.Joined.{Appended, fresh-in, join-good}
 use Rattle.appending.proofs.Nodes.{Made, Once, good-made}
+use Rattle.appending.proofs.Numbered.{numbered-is}
 use Rattle.appending.proofs.Onesplit.{join-size, numbered-size}
 use Rattle.appending.proofs.Order.{Order, groups-entries, join-order, together}
 use Rattle.appending.proofs.Read.{encode-length, encode-tree}

@@ -16,13 +16,13 @@ use Rattle.build.specs.Calls.{Builds}
 use Rattle.card.proofs.RoundTrip.{round-trip}
 use Rattle.card.proofs.Spoilt.{spoilt-block, spoilt-word}
 use Rattle.card.proofs.Theorems.{read-accepted, read-clear, read-headed, read-placed, read-refused as call-refused, read-wide}
-use Rattle.card.specs.Cards.{cardWords}
+use Rattle.card_words.specs.Cards.{cardWords}
 use Rattle.image.proofs.RoundTrip.{written-ok}
 use Rattle.image.proofs.Small.{write-small, write-whole}
 use Rattle.image.specs.Below.{Below}
 use Rattle.image.specs.Calls.{Writes}
 use Rattle.image.specs.Changed.{Moved}
-use Rattle.image.specs.Image.{wordAt}
+use Rattle.blocks.specs.Blocks.{wordAt}
 use Rattle.index_space.specs.Fits.{homeBound}
 use Rattle.laws.specs.Lists.{has, last, range, tally, times}
 use Rattle.limits.proofs.Numbers.{Sized, sized-of}
@@ -44,6 +44,7 @@ use Rattle.tree.specs.Nearest.{answers, isMeasured, lastDistance, measured}
 use Rattle.tree.specs.Widen.{widen}
 use Rattle.words.proofs.Listed.{list-only, node-there, part-none, part-pairs}
 use Rattle.words.specs.Calls.{Lists, listed, lists}
+use Rattle.blocks.specs.Blocks.{wordAt}
 use Rattle.words.specs.Shape.{shapeOk}
 use Rattle.words.specs.Words.{c#, edition#, n#, wordsOf}
 use borrow.Author.Tests.{le-leb, lt-leb, ne-eqb}

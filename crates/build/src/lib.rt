@@ -8,11 +8,12 @@ ghost use Rattle.build.specs.Stages.{Fit, Level, Openable, Opened, Stage
 ghost use Rattle.limits.specs.Limits.{maxColumns, maxRows};
 ghost use Rattle.limits.specs.Said.{numberFaults, said};
 ghost use Rattle.measure.specs.Table.{between};
-ghost use Rattle.split.specs.Groups.{stretch};
+ghost use Rattle.rounds.specs.Stretch.{stretch};
 ghost use lib.ListN.{drop, length};
 ghost use mathlib.Core.List.{_++_};
 ghost use mathlib.Core.Path.{_≡_};
 use buffers::clear_words;
+use groups::least_of;
 use limits::Asked;
 use limits::Chosen;
 use limits::Params;
@@ -20,11 +21,10 @@ use limits::is_short;
 use limits::number_of;
 use limits::rows_in;
 use measure::row_distance;
-use split::groups::WIDTH;
-use split::groups::greater;
-use split::groups::least_of;
-use split::groups::split_run;
-use split::rounds::put_entry;
+use numbers::larger;
+use rounds::put_entry;
+use split::WIDTH;
+use split::split_run;
 use words::places::HEADER;
 use words::places::word;
 use words::writing::put_node;
@@ -54,7 +54,7 @@ fn lay(table: &[u16], c: usize, n: usize, work: &mut [u32]) -> Reach
     let mut i = 0;
     while i < n {
         let d = row_distance(table, c, 0, i);
-        radius = greater(radius, d);
+        radius = larger(radius, d);
         inner = least_of(i, inner, d);
         let at = 3 * i;
         put_entry(&mut work[at..], i as u32, d, 0);

@@ -1,11 +1,12 @@
 -- Why a reading is refused: one law for each return of the code, and what holds where nothing is refused. Assumes nothing.
 use Prim.Native.Nat.{_<_, _≤_, ℕ}
-use Rattle.card.proofs.Cards.{carded}
-use Rattle.card.proofs.Tabled.{card-tabled}
+use Rattle.card_widen.proofs.Tabled.{card-tabled}
+use Rattle.card_widen.specs.Tabled.{Tabled}
+use Rattle.card_words.proofs.Cards.{carded}
+use Rattle.card_words.specs.Cards.{Carded, cardWords}
 use Rattle.card.specs.Calls.{Tested, cardFaults, readTotal, saidRead}
-use Rattle.card.specs.Cards.{Carded, cardWords}
-use Rattle.card.specs.Tabled.{Tabled}
 use Rattle.image.proofs.Refusals.{faults-numbered, faults-placed}
+use Rattle.image.specs.Image.{imageFaults}
 use Rattle.image.specs.Sound.{Sound}
 use Rattle.laws.proofs.Every.{every-append}
 use Rattle.laws.specs.Every.{Every}
@@ -14,7 +15,6 @@ use Rattle.limits.proofs.Numbers.{Sized, numbers-early, numbers-numbered, passe
 use Rattle.limits.specs.Said.{Said, fault, numberFaults, said, tabled}
 use Rattle.limits.specs.declared.Asked.{Asked}
 use Rattle.measure.specs.Table.{rowsOf}
-use Rattle.image.specs.Image.{imageFaults}
 use Rattle.words.proofs.Indexes.{by-shape, fit-early, fit-tests}
 use Rattle.words.specs.Shape.{shapeOk}
 use Rattle.words.specs.Words.{c#, n#}

@@ -1,10 +1,10 @@
 -- What reading a card over its table promises: 02, R-11. Assumes nothing.
 use Prim.Native.Nat.{_*_, _+_, ℕ}
-use Rattle.card.specs.Cards.{cardWords}
+use Rattle.card_words.specs.Cards.{cardWords}
+use Rattle.image.specs.Image.{imageFaults}
 use Rattle.limits.specs.Said.{Said, fault, numberFaults, said, tabled}
 use Rattle.measure.specs.Table.{between, rowsOf}
 use Rattle.tree.specs.Widen.{widen}
-use Rattle.image.specs.Image.{imageFaults}
 use Rattle.words.specs.Index.{fitFaults}
 use Rattle.words.specs.Words.{N#, edition#, headerWords, n#, width}
 use lib.Dec.{eqb, ltb}

@@ -2,7 +2,7 @@
 use Prim.Native.Nat.{ℕ}
 use Rattle.audit.specs.Numbers.{saidCheck}
 use Rattle.build.specs.Numbers.{saidBuild}
-use Rattle.image.specs.Image.{checkFrom, checkWord, rotate, step, window}
+use Rattle.blocks.specs.Blocks.{checkFrom, checkWord, rotate, step, window}
 use Rattle.laws.specs.Upto.{sumTo}
 use Rattle.limits.specs.Said.{numberFaults}
 use Rattle.measure.specs.Distance.{l1}

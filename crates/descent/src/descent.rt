@@ -12,10 +12,10 @@ ghost use Rattle.words.specs.Words.{N#, radius#};
 ghost use mathlib.Core.Path.{_≡_};
 use crate::fate::Fate;
 use crate::fate::settle;
+use bounds::kid_bound;
 use marking::centres::least_of;
 use marking::centres::open_inner;
 use marking::leaf::open_leaf;
-use tree::bounds::kid_bound;
 use words::places::centres;
 use words::places::node_child;
 

@@ -9,7 +9,7 @@ use descent::search;
 use limits::Params;
 use measure::row_of;
 use radius::Found;
-use tree::how::tally;
+use tallies::tally;
 use words::places::rows;
 
 // A how-byte of 2 or 3 says that the row is in.

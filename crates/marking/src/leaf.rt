@@ -8,7 +8,7 @@ ghost use Rattle.marking.specs.Written.{byte, marked};
 ghost use Rattle.words.specs.Words.{N#, count#, n#, pairAt, row#, start#};
 ghost use mathlib.Core.Path.{_≡_};
 use crate::row::measure_row;
-use tree::bounds::apart;
+use numbers::apart;
 use words::places::node_count;
 use words::places::node_start;
 use words::places::pair_at;

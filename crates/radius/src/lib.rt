@@ -5,7 +5,7 @@ ghost use mathlib.Core.Path.{_≡_};
 use descent::search;
 use limits::Asked;
 use limits::rows_in;
-use tree::how::tally;
+use tallies::tally;
 use words::places::rows;
 
 // What a call gives: 0 or why it was refused; on success how many rows are in, and how many were measured.

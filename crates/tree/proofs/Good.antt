@@ -1,8 +1,8 @@
 -- A well-made tree, numbered and written, is accepted by the full check. Assumes nothing.
 use Prim.Native.Nat.{_*_, _+_, _-_, _<_, _≤_, suc, zero, ℕ}
 use Rattle.laws.proofs.Every.{every-both, every-unmap}
-use Rattle.laws.specs.Every.{Every}
 use Rattle.laws.proofs.Tests.{and-of, holds, is-true}
+use Rattle.laws.specs.Every.{Every}
 use Rattle.laws.specs.Lists.{each, range, times}
 use Rattle.limits.proofs.Ranges.{shared, within-both}
 use Rattle.limits.specs.Limits.{columnsOk, editionOk, maxDepth, maxDistance, maxRows, shareOk}

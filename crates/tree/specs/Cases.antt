@@ -76,7 +76,8 @@ pub data Case : Type 0 where
 
 -- a case comes out as it says
 unfoldable pub right : Case → Bool
-unfolding sumTo l1 between from again wrongDist wrongRadius wrongInner widen strays faults treeAt treeOf family broods levelNodes nodes numbered encode choose split grow build homesIn homes answers passes nearHow marksIn marks radiusHow
+unfolding sumTo l1 between from again wrongDist wrongRadius wrongInner widen strays faults treeAt treeOf family broods levelNodes nodes
+    numbered encode choose split grow build homesIn homes answers passes nearHow marksIn marks radiusHow
 right (words T w) = same (build T 1 2 2 2) w && eqb (said (faults (between T 1) w) .0) 0
 right (order T is N) = let w = build T 1 2 2 2 in same (map (row# w) (range 0 (n# w))) is && eqb (N# w) N
 right (radius T q r how i k) =

@@ -1,6 +1,6 @@
 -- `card::reading::card_number` meets its contract: each return is one end of the test, in its order.
 -- Assumes nothing.
-use Rattle.card.proofs.Cards.{card-held}
+use Rattle.card_words.proofs.Cards.{card-held}
 use Rattle.card.proofs.reading.card_number.Statement.{statement}
 use Rattle.card.proofs.reading.card_number.Tie as tie
 use Rattle.laws.proofs.Tests.{no, yes}

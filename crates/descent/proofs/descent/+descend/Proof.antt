@@ -28,7 +28,7 @@ use Rattle.descent.proofs.fate.settle.Reads as settle-reads
 use Rattle.marking.proofs.centres.least_of.Reads as least-of-reads
 use Rattle.marking.proofs.centres.open_inner.Reads as open-inner-reads
 use Rattle.marking.proofs.leaf.open_leaf.Reads as open-leaf-reads
-use Rattle.tree.proofs.bounds.kid_bound.Reads as kid-bound-reads
+use Rattle.bounds.proofs.kid_bound.Reads as kid-bound-reads
 use Rattle.words.proofs.places.centres.Reads as centres-reads
 use Rattle.words.proofs.places.node_child.Reads as node-child-reads
 use Rattle.descent.proofs.descent.+descend.{statement}
