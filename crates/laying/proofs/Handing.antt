@@ -9,7 +9,6 @@ use Rattle.laws.proofs.Tests.{or-parts}
 use Rattle.laws.proofs.Times.{every-same}
 use Rattle.laws.specs.Every.{Every}
 use Rattle.laws.specs.Lists.{head}
-use Rattle.laying.proofs.Ordering.{once-each}
 use Rattle.laying.proofs.Storing.{head-first, run-count}
 use Rattle.laying.specs.Lay.{ready, unsplit, withRow}
 use Rattle.leafward.proofs.Changing.{join-changed}
