@@ -28,16 +28,16 @@ along-digit l k d p l′ e q h = rw e (h ∙ ap (λ (x : Place). moved l x true)
 pub record Fits (columns rows put n room : ℕ) : Type 0 where
   pub narrow : n ≤ 16
   pub even : differs columns n ≡ false
-  pub few : rows < 65_536
+  pub few : rows < 1_048_576
   pub space : put + n ≤ room
 
 module _ (columns rows put n room : ℕ) where
   -- a row in which nothing is wrong fits
   pub row-fits : rowTrouble columns rows put n room .kind ≡ 0 → Fits columns rows put n room
   unfolding rowTrouble
-  row-fits e = go (ltb 16 n) (differs columns n) (leb 65_536 rows) (ltb room (put + n)) refl refl refl refl e
+  row-fits e = go (ltb 16 n) (differs columns n) (leb 1_048_576 rows) (ltb room (put + n)) refl refl refl refl e
     where
-      go : (q d m s : Bool) → ltb 16 n ≡ q → differs columns n ≡ d → leb 65_536 rows ≡ m → ltb room (put + n) ≡ s
+      go : (q d m s : Bool) → ltb 16 n ≡ q → differs columns n ≡ d → leb 1_048_576 rows ≡ m → ltb room (put + n) ≡ s
           → cond {A = Trouble} q (record { kind = 3; column = 17 })
           (cond d (record { kind = 4; column = min columns n + 1 })
           (cond m (record { kind = 5; column = 1 }) (cond s (record { kind = 6; column = 1 }) none))) .kind ≡ 0
@@ -50,7 +50,7 @@ module _ (columns rows put n room : ℕ) where
           record {
             narrow = ltb-false 16 n b;
             even = c;
-            few = leb-false 65_536 rows f;
+            few = leb-false 1_048_576 rows f;
             space = ltb-false room (put + n) g;
           }
 

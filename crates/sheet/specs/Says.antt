@@ -26,12 +26,12 @@ unfoldable pub differs : ℕ → ℕ → Bool
 differs columns count = not (eqb columns 0) && not (eqb columns count)
 
 -- a row of `count` numbers behind those that were put: more than 16 (3), not as many as there are columns (4: at the first that is missing or too
--- many), more than 65,536 rows (5), no room in the table (6)
+-- many), more than 1,048,576 rows (5), no room in the table (6)
 unfoldable pub rowTrouble : ℕ → ℕ → ℕ → ℕ → ℕ → Trouble
 rowTrouble columns rows put count room =
     cond (ltb 16 count) (record { kind = 3; column = 17 })
     (cond (differs columns count) (record { kind = 4; column = min columns count + 1 })
-    (cond (leb 65_536 rows) (record { kind = 5; column = 1 }) (cond (ltb room (put + count)) (record { kind = 6; column = 1 }) none)))
+    (cond (leb 1_048_576 rows) (record { kind = 5; column = 1 }) (cond (ltb room (put + count)) (record { kind = 6; column = 1 }) none)))
 
 -- what is wrong in a field comes before what is wrong with the row
 unfoldable pub orRow : Trouble → ℕ → ℕ → ℕ → ℕ → ℕ → Trouble

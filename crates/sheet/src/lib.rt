@@ -39,7 +39,7 @@ pub const TABLE_SHORT: u32 = 6;
 
 pub const NO_ROWS: u32 = 8;
 
-pub const MOST_ROWS: usize = 65_536;
+pub const MOST_ROWS: usize = 1_048_576;
 
 const MOST_LINES: u64 = 18_446_744_073_709_551_615;
 
@@ -244,7 +244,7 @@ fn go_onward(r: Reader, blank: u64, columns: usize, rows: usize, put: usize) -> 
 
 // Behind a row of n numbers.
 fn take_row(r: Reader, n: usize, room: usize) -> Reader
-    requires { ⌜ (r .rows + 1 ≤ 65536) × (r .put + n ≤ room) ⌝ }
+    requires { ⌜ (r .rows + 1 ≤ 1048576) × (r .put + n ≤ room) ⌝ }
     ensures { λ s. ⌜ s ≡ onward r 0 n (r .rows + 1) (r .put + n) ⌝ }
 {
     go_onward(r, 0, n, r.rows + 1, r.put + n)
