@@ -6,7 +6,8 @@ use Rattle.measure.specs.Table.{between, from, rowsOf}
 use Rattle.nearest.proofs.Contract.{same-answers}
 use Rattle.nearest.proofs.Promises.{nearest-exact}
 use Rattle.nearest.proofs.Refusals.{clear, fits}
-use Rattle.nearest.specs.Calls.{Answered, Lent, Settled}
+use Rattle.nearest.specs.Calls.{Answered}
+use Rattle.seek.specs.Found.{Lent, Settled}
 use Rattle.tree.proofs.Answers.{answers-length}
 use Rattle.tree.specs.Build.{build}
 use Rattle.tree.specs.Check.{Accepted}

@@ -46,11 +46,14 @@ near-fit {t} {c} {qs} {room} {work} {how} marks {room′} {work′} {marks₁} {
     let a = asked-well (rowsOf t c) c (length qs) (length how) (length marks) (sym s ∙ y) in
     let w : n# (take words room′) ≡ rowsOf t c = h .1 in
     record {
-      shape = in-shape (take words room′) (b .accepted z .words) (b .accepted z .shape);
-      edition = h .4;
-      table = omega (arith, ap (λ (x : ℕ). c * x) w, h .0 .inside);
+      tested =
+          record {
+            shape = in-shape (take words room′) (b .accepted z .words) (b .accepted z .shape);
+            edition = h .4;
+            table = omega (arith, ap (λ (x : ℕ). c * x) w, h .0 .inside);
+            columns = h .0 .few;
+          };
       some = h .0 .some;
-      columns = h .0 .few;
       queries = a .3;
       bytes = omega (arith, a .0);
       room = omega (arith, a .1, ap length e, wiped-long (rowsOf t c) marks (a .1));

@@ -5,10 +5,10 @@ ghost use Rattle.measure.specs.Table.{rowsOf};
 ghost use Rattle.tree.specs.Nearest.{measured};
 ghost use lib.ListN.{length, take};
 ghost use mathlib.Core.Path.{_≡_};
+use descent::search;
 use limits::Params;
 use measure::row_of;
 use radius::Found;
-use radius::search;
 use tree::how::tally;
 use words::places::rows;
 
