@@ -29,6 +29,7 @@ pub struct Reader {
     pub fault: u32,
     pub column: usize,
     pub here: Line,
+    pub label: usize,
 }
 
 pub const UNEVEN: u32 = 4;
@@ -46,9 +47,9 @@ const MOST_LINES: u64 = 18_446_744_073_709_551_615;
 // The mark is over, or was none.
 const PAST: u32 = 3;
 
-// Before the first byte of a text.
-pub fn start() -> Reader
-    ensures { λ r. ⌜ r ≡ begun ⌝ }
+// Before the first byte of a text. The column `label` (from 1) holds a label, which may be anything but empty and is read as 0; 0: there is none.
+pub fn start(label: usize) -> Reader
+    ensures { λ r. ⌜ r ≡ begun label ⌝ }
 {
     Reader {
         mark: 0,
@@ -60,7 +61,8 @@ pub fn start() -> Reader
         put: 0,
         fault: 0,
         column: 0,
-        here: line::fresh(),
+        here: line::fresh(label),
+        label,
     }
 }
 
@@ -238,7 +240,8 @@ fn go_onward(r: Reader, blank: u64, columns: usize, rows: usize, put: usize) -> 
         put,
         fault: r.fault,
         column: r.column,
-        here: line::fresh(),
+        here: line::fresh(r.label),
+        label: r.label,
     }
 }
 
@@ -265,6 +268,7 @@ fn fail(r: Reader, ended: Line, line: u64, trouble: Trouble) -> Reader
         fault: trouble.kind,
         column: trouble.column,
         here: ended,
+        label: r.label,
     }
 }
 
@@ -330,6 +334,7 @@ fn stay(r: Reader, mark: u32, held: bool, here: Line) -> Reader
         fault: r.fault,
         column: r.column,
         here,
+        label: r.label,
     }
 }
 
