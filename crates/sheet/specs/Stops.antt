@@ -29,7 +29,8 @@ pub record Stops (label room line rows put : ℕ) (ls : List (List ℕ)) (o : To
   pub number : o .line ≡ line + length before
   pub above : o .rs ≡ map (numbers label) before
   pub why : (l : List ℕ) (ms : List (List ℕ)) → behind ≡ l ∷ ms
-      → lineTrouble label (o .columns) (rows + length before) (put + length (joined (map (numbers label) before))) room l ≡ record { kind = o .kind; column = o .column }
+      → lineTrouble label (o .columns) (rows + length before) (put + length (joined (map (numbers label) before))) room l
+      ≡ record { kind = o .kind; column = o .column }
   pub none : behind ≡ [] → (o .kind ≡ 8) × (rows + length before ≡ 0)
 
 -- the lines ls of a text say o, in which something is wrong: with its names, or below them, or there are none
