@@ -86,7 +86,7 @@ fn say_row_fault(r: Reader) {
     if r.fault == sheet::UNEVEN {
         say_uneven(r.here.count, r.columns, r.rows);
     } else if r.fault == sheet::TOO_MANY_ROWS {
-        say(b"more than 65,536 rows\n");
+        say(b"more than 1,048,576 rows\n");
     } else if r.fault == sheet::NO_ROWS {
         say(b"no rows\n");
     } else {
@@ -121,9 +121,13 @@ fn say_fault(r: Reader) {
 
 // Answers a question on the rows that were read. Gives 0 where it is answered, and 1 where a line says why it is not.
 fn answer(question: Question, table: &[u16], c: usize, n: usize) -> u32
-    requires { ⌜ (c ≤ maxColumns) × (c * n ≤ length (now table)) × (n ≤ 65536) ⌝ }
+    requires { ⌜ (c ≤ maxColumns) × (c * n ≤ length (now table)) ⌝ }
     ensures { λ r. ⌜ r ≤ 1 ⌝ }
 {
+    if rooms::ROWS < n {
+        say(b"more rows than there is room for\n");
+        return 1;
+    }
     let row = question.row;
     if n <= row {
         say_no_row(row, n);

@@ -13,7 +13,7 @@ pub struct Came {
 pub fn read_rows(file: i32, table: &mut [u16]) -> Came
     ensures { λ r. ⌜ Tidy (length (now (table .exit))) (r .reader) ⌝ }
 {
-    let mut reader = sheet::start();
+    let mut reader = sheet::start(0);
     let mut left: u64 = 0xffff_ffff_ffff_ffff;
     while 0 < left {
         let mut chunk = io::buffer();

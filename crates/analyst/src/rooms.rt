@@ -5,7 +5,7 @@ ghost use mathlib.Core.Path.{_≡_};
 // 65,536 rows of 16 columns.
 const TABLE: usize = 1_048_576;
 
-const ROWS: usize = 65_536;
+pub const ROWS: usize = 65_536;
 
 // Room and workspace for the index of 65,536 rows.
 const ROOM: usize = 786_440;

@@ -24,7 +24,7 @@ fn say_reader(name: &[u8], r: Reader) {
 
 fn show(name: &[u8], text: &[u8]) {
     let mut table = [0; 32];
-    let fed = sheet::feed(sheet::start(), text, &mut table);
+    let fed = sheet::feed(sheet::start(0), text, &mut table);
     let r = sheet::finish(fed, &mut table);
     say_reader(name, r);
 }
@@ -80,7 +80,7 @@ fn part_4() {
 
 fn in_pieces() {
     let mut table = [0; 32];
-    let first = sheet::feed(sheet::start(), b"\xef\xbb", &mut table);
+    let first = sheet::feed(sheet::start(0), b"\xef\xbb", &mut table);
     let second = sheet::feed(first, b"\xbf1,2\r", &mut table);
     let third = sheet::feed(second, b"\n3,", &mut table);
     let r = sheet::finish(third, &mut table);

@@ -14,7 +14,7 @@ slice-aggregate-answer c =
 answer-requires : tie.Need-answer-requires
 answer-requires c κs =
     let read = c .before .before .before .before .before .before .before .before .read-rows in
-    (read .ensures .wide, part-fits _ (read .last .1 .0) (read .ensures), read .ensures .few)
+    (read .ensures .wide, part-fits _ (read .last .1 .0) (read .ensures))
 
 pub run-in-spec : {M : Type 1} → statement M
 run-in-spec =

@@ -15,7 +15,7 @@ abbrev μ-loop : tie.MeasureT-loop
 μ-loop file table₀ reader₀ left₀ table reader left = left
 
 loop-holds : tie.Need-loop-holds Inv-loop μ-loop
-loop-holds c = (rw (c .start .ensures) (begun-tidy _), refl)
+loop-holds c = (rw (c .start .ensures) (begun-tidy 0 _), refl)
 
 returns : tie.Need-returns Inv-loop μ-loop
 returns c = c .before .before .before .before .before .before .loop .inv .0
