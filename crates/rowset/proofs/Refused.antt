@@ -1,0 +1,114 @@
+-- Which sets are refused with 20, and how the last word alone tells it. Assumes nothing.
+use Prim.Native.Nat.{_%_, _*_, _+_, _-_, _/_, _<_, _^_, _≤_, suc, zero, ℕ}
+use Rattle.laws.proofs.First.{any-lost}
+use Rattle.laws.proofs.Never.{never}
+use Rattle.laws.proofs.Tests.{or-none, or-parts}
+use Rattle.laws.specs.Lists.{any, range}
+use Rattle.rowset.proofs.Digits.{digit, no-high-digit, none-shifted}
+use Rattle.rowset.proofs.Rows.{Has, beyond, digit-row}
+use Rattle.rowset.specs.Sets.{Narrow, bitOf, isIn, setBad, wordOf, wordsFor}
+use borrow.Author.Tests.{eq-eqb, eqb-true, ne-eqb, not-false}
+use lib.Dec.{eqb}
+use lib.ListN.{getD, length}
+use mathlib.Core.Bool.{Bool, _||_, cond, false, not, true}
+use mathlib.Core.List.{List}
+use mathlib.Core.Path.{_∙_, _≡_, ap, refl, subst, sym}
+use native.Mathlib.Decide.{decLt, ℕ-discrete}
+use native.Mathlib.Omega.{arith}
+
+-- ---- a range in which no number passes
+-- none does
+none-of : (f : ℕ → Bool) (a k : ℕ) → any f (range a k) ≡ false → (i : ℕ) → a ≤ i → i < a + k → f i ≡ false
+none-of f a zero e i l h = absurd (omega arith)
+none-of f a (suc k) e i l h =
+    let parts = or-parts (f a) (any f (range (suc a) k)) e in
+    go (parts .0) (none-of f (suc a) k (parts .1) i) (ℕ-discrete i a)
+  where
+    go : f a ≡ false → (suc a ≤ i → i < suc a + k → f i ≡ false) → Dec (i ≡ a) → f i ≡ false
+    go here later (yes q) = ap f q ∙ here
+    go here later (no q) = later (omega arith) (omega arith)
+
+-- and so the test of the range fails
+all-fail : (f : ℕ → Bool) (a k : ℕ) → ((i : ℕ) → a ≤ i → i < a + k → f i ≡ false) → any f (range a k) ≡ false
+all-fail f a k h = any-lost f a k (record { from = omega arith; to = omega arith; none = h; here = λ l. absurd (omega arith) })
+
+module _ (s : List ℕ) (n : ℕ) where
+  -- a bit n or above is on
+  abbrev tooHigh : Bool
+  tooHigh = any (isIn s) (range n (32 * length s - n))
+
+  -- none is: no row from n on is in
+  none-above : tooHigh ≡ false → (i : ℕ) → n ≤ i → isIn s i ≡ false
+  none-above e i h = go (decLt (i / 32) (length s))
+    where
+      go : Dec (i / 32 < length s) → isIn s i ≡ false
+      go (yes l) = none-of (isIn s) n (32 * length s - n) e i h (omega arith)
+      go (no l) = beyond s i (omega arith)
+
+  -- ---- A SET THAT IS NOT REFUSED HAS THE WORDS FOR n ROWS, AND NO ROW FROM n ON IS IN IT
+  -- the words
+  pub right-length : setBad s n ≡ false → length s ≡ wordsFor n
+  unfolding setBad
+  right-length e = eqb-true (length s) (wordsFor n) (not-false (eqb (length s) (wordsFor n)) (or-parts (not (eqb (length s) (wordsFor n))) tooHigh e .0))
+
+  -- the rows
+  pub right-above : setBad s n ≡ false → (i : ℕ) → n ≤ i → isIn s i ≡ false
+  unfolding setBad
+  right-above e = none-above (or-parts (not (eqb (length s) (wordsFor n))) tooHigh e .1)
+
+  -- and no other set is refused
+  pub right-of : length s ≡ wordsFor n → ((i : ℕ) → n ≤ i → isIn s i ≡ false) → setBad s n ≡ false
+  unfolding setBad
+  right-of e h =
+      or-none (not (eqb (length s) (wordsFor n))) tooHigh (ap not (eq-eqb (length s) (wordsFor n) e))
+      (all-fail (isIn s) n (32 * length s - n) (λ i l k. h i l))
+
+  -- a row below n then has its bit in the set
+  pub right-has : setBad s n ≡ false → (r : ℕ) → r < n → Has s r
+  right-has e r h = omega (arith, right-length e)
+
+  -- ---- by the last word
+  -- what is left of the word of row n, when the bits below n are shifted out
+  abbrev pub high : ℕ
+  high = wordOf s n / 2 ^ (n % 32)
+
+  module _ (narrow : Narrow s) (long : length s ≡ wordsFor n) where
+    -- no bit n or above: nothing is left
+    nothing-left : tooHigh ≡ false → high ≡ 0
+    nothing-left e =
+        none-shifted (wordOf s n) (n % 32) (narrow (n / 32)) (omega arith)
+        (λ k l h. digit-row s (n / 32) k h ∙ ap (λ (b : Bool). cond b 1 0) (none-above e (32 * (n / 32) + k) (omega arith)))
+
+    -- nothing is left: no such bit
+    none-high : high ≡ 0 → tooHigh ≡ false
+    unfolding bitOf
+    none-high e = all-fail (isIn s) n (32 * length s - n) off
+      where
+        off : (i : ℕ) → n ≤ i → i < n + (32 * length s - n) → isIn s i ≡ false
+        off i l h =
+            let here : i / 32 ≡ n / 32 = omega (arith, long) in
+            let zero-there : digit (wordOf s n) (i % 32) ≡ 0 = no-high-digit (wordOf s n) (n % 32) e (i % 32) (omega arith) in
+            ne-eqb (digit (wordOf s i) (i % 32)) 1
+            (λ q. omega (arith, zero-there, subst (λ (j : ℕ). digit (getD s j 0) (i % 32) ≡ 1) here q))
+
+    -- A BIT n OR ABOVE IS ON EXACTLY WHERE SOMETHING IS LEFT
+    pub high-bits : tooHigh ≡ not (eqb high 0)
+    high-bits = go tooHigh refl
+      where
+        go : (b : Bool) → tooHigh ≡ b → b ≡ not (eqb high 0)
+        go true e = sym (ap not (ne-eqb high 0 (λ z. never (sym (none-high z) ∙ e))))
+        go false e = sym (ap not (eq-eqb high 0 (nothing-left e)))
+
+    -- so the last word alone decides
+    pub by-last-word : not (eqb high 0) ≡ setBad s n
+    unfolding setBad
+    by-last-word = rw (eq-eqb (length s) (wordsFor n) long) (sym high-bits)
+
+    -- and where the words end with row n - 1 nothing does
+    pub by-length : length s ≤ n / 32 → false ≡ setBad s n
+    by-length h = sym (right-of long (λ i l. beyond s i (omega arith)))
+
+  -- a set of another length is refused
+  pub wrong-length : (length s ≡ wordsFor n → ⊥) → true ≡ setBad s n
+  unfolding setBad
+  wrong-length h = rw (ne-eqb (length s) (wordsFor n) h)
