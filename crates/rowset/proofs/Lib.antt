@@ -1,6 +1,7 @@
 pub mod Digits
 pub mod Rows
 pub mod Refused
+pub mod Shifts
 pub mod Alike
 pub mod Striking
 pub mod Outcomes

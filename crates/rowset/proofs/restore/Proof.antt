@@ -1,42 +1,27 @@
-use borrow.Author.Needs.{needs}
+-- `rowset::restore` meets its contract: a refusal leaves the set, and else the order is carried out. Assumes nothing.
+use Rattle.rowset.proofs.Outcomes.{clear-has, done-order, refused-order}
 use Rattle.rowset.proofs.restore.Statement.{statement}
 use Rattle.rowset.proofs.restore.Tie as tie
-use Rattle.rowset.proofs.restore.Reads as reads
-use Rattle.rowset.proofs.restore.Lts as lts
-use Rattle.rowset.proofs.order_number.Reads as order-number-reads
-use Rattle.rowset.proofs.restore_row.Reads as restore-row-reads
+use Rattle.rowset.specs.Orders.{restoring}
+use Rattle.rowset.specs.Sets.{Narrow}
+use borrow.Author.Needs.{needs}
+use mathlib.Core.Path.{_∙_, sym}
+use native.Mathlib.Omega.{arith}
 
--- src/lib.rt:91:9
-order-number-requires : tie.Need-order-number-requires
-order-number-requires c κs = search needs
+-- the words have 32 bits
+narrow : (c : tie.After-slice-known) → Narrow (c .before .args .set .now)
+narrow c i = omega (arith, c .slice-known .given i)
 
--- src/lib.rt:93:9
-same-length : tie.Need-same-length
-same-length c = search needs
-
--- src/lib.rt:93:9
 returns : tie.Need-returns
-returns c = search needs
+returns c = refused-order (restoring _) (narrow (c .before .before .before)) (c .before .order-number .ensures) (c .if1 .taken)
 
--- src/lib.rt:95:5
-restore-row-requires : tie.Need-restore-row-requires
-restore-row-requires c κs = search needs
+row-requires : tie.Need-restore-row-requires
+row-requires c κs = clear-has _ _ _ (sym (c .before .before .order-number .ensures) ∙ c .before .if1 .left)
 
--- src/lib.rt:88:1
-same-length-2 : tie.Need-same-length-2
-same-length-2 c = search needs
-
--- src/lib.rt:88:1
 returns-2 : tie.Need-returns-2
-returns-2 c = search needs
+returns-2 c =
+    let o = c .before .before .before .before .before in
+    done-order (restoring _) (narrow (o .before .before)) (o .order-number .ensures) (c .before .before .before .before .if1 .left) (c .before .before .restore-row .ensures)
 
 pub restore-spec : {M : Type 1} → statement M
-restore-spec =
-    tie.close
-    (tie.spec
-    order-number-requires
-    same-length
-    returns
-    restore-row-requires
-    same-length-2
-    returns-2)
+restore-spec = tie.close (tie.spec (λ c κs. search needs) (λ c. search needs) returns row-requires (λ c. search needs) returns-2)

@@ -1,51 +1,42 @@
-use borrow.Author.Needs.{needs}
+-- `rowset::set_bad` meets its contract: the length, then the last word. Assumes nothing.
+use Rattle.rowset.proofs.Refused.{by-length, wrong-length}
+use Rattle.rowset.proofs.Shifts.{left-over}
 use Rattle.rowset.proofs.set_bad.Statement.{statement}
 use Rattle.rowset.proofs.set_bad.Tie as tie
-use Rattle.rowset.proofs.set_bad.Reads as reads
-use Rattle.rowset.proofs.set_bad.Lts as lts
-use Rattle.rowset.proofs.words_for.Reads as words-for-reads
+use Rattle.rowset.specs.Sets.{Narrow, wordsFor}
+use borrow.Author.Needs.{needs}
+use lib.ListN.{length}
+use mathlib.Core.Path.{_∙_, _≡_}
+use native.Mathlib.Omega.{arith}
 
--- src/lib.rt:51:21
-words-for-requires : tie.Need-words-for-requires
-words-for-requires c κs = search needs
+-- the words have 32 bits
+narrow : (c : tie.After-shared-slice-known) → Narrow (c .before .args .set .now)
+narrow c i = omega (arith, c .shared-slice-known .given i)
 
--- src/lib.rt:52:9
+-- past the first test there are as many as n rows take
+long : (c : tie.Else1) → length (c .before .before .before .args .set .now) ≡ wordsFor (c .before .before .before .args .n)
+long c = c .if1 .left ∙ c .before .words-for .ensures
+
 returns : tie.Need-returns
-returns c = search needs
+returns c = wrong-length _ _ (λ e. c .if1 .taken (omega (arith, c .before .words-for .ensures)))
 
--- src/lib.rt:56:9
 returns-2 : tie.Need-returns-2
-returns-2 c = search needs
+returns-2 c = by-length (c .before .before .before .before .args .set .now) (c .before .before .before .before .args .n) (narrow (c .before .before .before)) (long (c .before)) (omega arith)
 
--- src/lib.rt:58:17
-cast-place : tie.Need-cast-place
-cast-place c = search needs
-
--- src/lib.rt:59:5
-mul-result : tie.Need-mul-result
-mul-result c = search needs
-
--- src/lib.rt:59:5
-shared-slice-read-result : tie.Need-shared-slice-read-result
-shared-slice-read-result c = search needs
-
--- src/lib.rt:59:5
-shr-result : tie.Need-shr-result
-shr-result c = search needs
-
--- src/lib.rt:48:1
 returns-3 : tie.Need-returns-3
-returns-3 c = search needs
+returns-3 c =
+    let e = c .before .before in
+    left-over (e .before .before .before .args .set .now) (e .before .before .before .args .n) _ _ (omega arith) (omega arith) (narrow (e .before .before)) (long e)
 
 pub set-bad-spec : {M : Type 1} → statement M
 set-bad-spec =
     tie.close
     (tie.spec
-    words-for-requires
+    (λ c κs. search needs)
     returns
     returns-2
-    cast-place
-    mul-result
-    shared-slice-read-result
-    shr-result
+    (λ c. search needs)
+    (λ c. search needs)
+    (λ c. search needs)
+    (λ c. search needs)
     returns-3)

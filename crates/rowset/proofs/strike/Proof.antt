@@ -1,42 +1,27 @@
-use borrow.Author.Needs.{needs}
+-- `rowset::strike` meets its contract: a refusal leaves the set, and else the order is carried out. Assumes nothing.
+use Rattle.rowset.proofs.Outcomes.{clear-has, done-order, refused-order}
 use Rattle.rowset.proofs.strike.Statement.{statement}
 use Rattle.rowset.proofs.strike.Tie as tie
-use Rattle.rowset.proofs.strike.Reads as reads
-use Rattle.rowset.proofs.strike.Lts as lts
-use Rattle.rowset.proofs.order_number.Reads as order-number-reads
-use Rattle.rowset.proofs.strike_row.Reads as strike-row-reads
+use Rattle.rowset.specs.Orders.{striking}
+use Rattle.rowset.specs.Sets.{Narrow}
+use borrow.Author.Needs.{needs}
+use mathlib.Core.Path.{_∙_, sym}
+use native.Mathlib.Omega.{arith}
 
--- src/lib.rt:79:9
-order-number-requires : tie.Need-order-number-requires
-order-number-requires c κs = search needs
+-- the words have 32 bits
+narrow : (c : tie.After-slice-known) → Narrow (c .before .args .set .now)
+narrow c i = omega (arith, c .slice-known .given i)
 
--- src/lib.rt:81:9
-same-length : tie.Need-same-length
-same-length c = search needs
-
--- src/lib.rt:81:9
 returns : tie.Need-returns
-returns c = search needs
+returns c = refused-order (striking _) (narrow (c .before .before .before)) (c .before .order-number .ensures) (c .if1 .taken)
 
--- src/lib.rt:83:5
-strike-row-requires : tie.Need-strike-row-requires
-strike-row-requires c κs = search needs
+row-requires : tie.Need-strike-row-requires
+row-requires c κs = clear-has _ _ _ (sym (c .before .before .order-number .ensures) ∙ c .before .if1 .left)
 
--- src/lib.rt:76:1
-same-length-2 : tie.Need-same-length-2
-same-length-2 c = search needs
-
--- src/lib.rt:76:1
 returns-2 : tie.Need-returns-2
-returns-2 c = search needs
+returns-2 c =
+    let o = c .before .before .before .before .before in
+    done-order (striking _) (narrow (o .before .before)) (o .order-number .ensures) (c .before .before .before .before .if1 .left) (c .before .before .strike-row .ensures)
 
 pub strike-spec : {M : Type 1} → statement M
-strike-spec =
-    tie.close
-    (tie.spec
-    order-number-requires
-    same-length
-    returns
-    strike-row-requires
-    same-length-2
-    returns-2)
+strike-spec = tie.close (tie.spec (λ c κs. search needs) (λ c. search needs) returns row-requires (λ c. search needs) returns-2)
