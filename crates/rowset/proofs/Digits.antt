@@ -1,26 +1,26 @@
 -- The binary digits of a number, and of a word in which one bit is put on or off. Assumes nothing.
 use Prim.Native.Nat.{_%_, _*_, _+_, _-_, _/_, _<_, _^_, _≤_, max, min, suc, zero, ℕ}
 use borrow.Author.Tests.{eqb-false, eqb-true}
-use lib.Bits.{and-mask, and-shr, and-step, bitAnd, bitOr, bitXor, differ, or-shr, or-step, xor-add-and, xor-shr, xor-step}
+use lib.Bits.{and-high, and-mask, and-shr, and-step, bitAnd, bitOr, bitXor, differ, or-shr, or-step, xor-add-and, xor-shr, xor-step}
 use lib.Dec.{eqb}
-use lib.Pow.{high, ones-lt, ones-split, pow-add, pow-lt, pow-pos, shl-exact, shl-shr, shr-le, shr-lt, shr-shr}
+use lib.Pow.{high, ones-lt, ones-split, pow-add, pow-lt, pow-mono, pow-pos, shl-exact, shl-shr, shr-lt, shr-shr}
 use mathlib.Core.Bool.{Bool, cond, false, true}
 use mathlib.Core.Path.{_∙_, _≡_, ap, ap₂, refl, subst, sym}
 use native.Mathlib.Decide.{decLt}
-use native.Mathlib.Nat.{mod-eq-of-lt, pow-suc, zero-add}
+use native.Mathlib.Nat.{div-eq-of-lt, div-lt-iff-lt-mul, mod-eq-of-lt, pow-suc}
 use native.Mathlib.Omega.{arith}
 
 -- digit k
 abbrev pub digit : ℕ → ℕ → ℕ
 digit w k = w / 2 ^ k % 2
 
--- 0 has no digit but 0
-pub zero-digit : (k : ℕ) → digit 0 k ≡ 0
-zero-digit k = omega (arith, shr-le 0 k)
+-- a number below 2 ^ p has no digit from p on but 0
+pub high-digit : (w p k : ℕ) → w < 2 ^ p → p ≤ k → digit w k ≡ 0
+high-digit w p k h l = let none : w / 2 ^ k ≡ 0 = div-eq-of-lt (omega (arith, pow-mono l)) in omega arith
 
--- the last digit, by a mask
-pub last-digit : (w : ℕ) → bitAnd w 1 ≡ w % 2
-last-digit w = and-mask w 1
+-- and 0 none at all
+pub zero-digit : (k : ℕ) → digit 0 k ≡ 0
+zero-digit k = high-digit 0 0 k (omega arith) (omega arith)
 
 -- 1 shifted up stays in a word of 32 bits
 pub one-shifted : (p : ℕ) → p < 32 → 1 * 2 ^ p % 4_294_967_296 ≡ 2 ^ p
@@ -59,11 +59,17 @@ power-elsewhere : (p k : ℕ) → (k ≡ p → ⊥) → digit (2 ^ p) k ≡ 0
 power-elsewhere p k d = go (decLt p k)
   where
     go : Dec (p < k) → digit (2 ^ p) k ≡ 0
-    go (yes h) = let e : 2 ^ p / 2 ^ k < 1 = shr-lt {n = 2 ^ p} 0 k (subst (λ (n : ℕ). 2 ^ p < 2 ^ n) (sym (zero-add k)) (pow-lt h)) in omega arith
+    go (yes h) = high-digit (2 ^ p) k k (pow-lt h) (omega arith)
     go (no h) =
         let j : ℕ = p - suc k in
         let e : p ≡ suc j + k = omega (arith, d) in
         ap (λ (n : ℕ). n / 2 ^ k % 2) (ap (λ (n : ℕ). 2 ^ n) e ∙ pow-add 2 (suc j) k) ∙ ap (λ (n : ℕ). n % 2) (shl-shr (2 ^ suc j) k) ∙ even-power j
+
+-- a mask of one bit leaves that digit, at its place
+pub masked : (w p : ℕ) → bitAnd w (2 ^ p) ≡ digit w p * 2 ^ p
+masked w p =
+    let one : 2 ^ p ≡ 2 ^ (1 + p) - 2 ^ p = omega (arith, pow-add 2 1 p) in
+    ap (bitAnd w) one ∙ and-high w 1 p
 
 -- ---- the greatest word, and what is left of it without a power of two
 -- every digit of the greatest word is 1
@@ -122,16 +128,11 @@ same-digits (suc k) a b ha hb h =
     higher : (n i : ℕ) → digit (n / 2) i ≡ digit n (suc i)
     higher n i = ap (λ (x : ℕ). x % 2) (shr-shr n 1 i) ∙ ap (digit n) (omega arith)
 
--- ---- a word shifted down by p is 0 where no digit from p on is 1
--- it is 0: there is none
-pub no-high-digit : (w p : ℕ) → w / 2 ^ p ≡ 0 → (k : ℕ) → p ≤ k → digit w k ≡ 0
-no-high-digit w p e k h =
-    let j : ℕ = k - p in
-    ap (digit w) (omega arith) ∙ ap (λ (n : ℕ). n % 2) (sym (shr-shr w p j)) ∙ ap (λ (n : ℕ). n / 2 ^ j % 2) e ∙ zero-digit j
-
--- there is none up to 32, in a word of 32 bits: it is 0
-pub none-shifted : (w p : ℕ) → w < 4_294_967_296 → p ≤ 32 → ((k : ℕ) → p ≤ k → k < 32 → digit w k ≡ 0) → w / 2 ^ p ≡ 0
-none-shifted w p small h f =
+-- a number of 32 digits, of which none from p on is 1, is below 2 ^ p
+pub low-word : (w p : ℕ) → w < 4_294_967_296 → p ≤ 32 → ((k : ℕ) → p ≤ k → k < 32 → digit w k ≡ 0) → w < 2 ^ p
+low-word w p small h f =
     let rest : 32 ≡ (32 - p) + p = omega arith in
+    let none : w / 2 ^ p ≡ 0 =
     same-digits (32 - p) (w / 2 ^ p) 0 (shr-lt (32 - p) p (subst (λ (n : ℕ). w < 2 ^ n) rest small)) (pow-pos (32 - p))
-    (λ k l. ap (λ (n : ℕ). n % 2) (shr-shr w p k) ∙ f (p + k) (omega arith) (omega arith) ∙ sym (zero-digit k))
+    (λ k l. ap (λ (n : ℕ). n % 2) (shr-shr w p k) ∙ f (p + k) (omega arith) (omega arith) ∙ sym (zero-digit k)) in
+    omega (arith, div-lt-iff-lt-mul {x = w} {y = 1} (pow-pos p) .0 (omega arith))

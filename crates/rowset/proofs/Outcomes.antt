@@ -52,9 +52,11 @@ pub refused-order : {s : List ℕ} {n number : ℕ} (o : Order) → Narrow s →
 refused-order {s} {number = number} o narrow q h =
     record { said = q; set = sym (ap (λ (t : Bool). cond t (ordered s o) s) (ne-eqb number 0 h)); narrow = narrow }
 
--- by an order that was carried out
-pub done-order : {s s′ : List ℕ} {n number : ℕ} (o : Order) → Narrow s → number ≡ saidOrder s n (rowOf o) .0 → number ≡ 0 → s′ ≡ ordered s o → Orders s s′ n o 0
-done-order o narrow q z e = record { said = sym z ∙ q; set = e; narrow = narrow }
+-- by an order that was carried out, past a test that gave 0
+pub done-order : {s s′ : List ℕ} {n number k : ℕ} (o : Order) → Narrow s → number ≡ saidOrder s n (rowOf o) .0 → number ≡ 0 → k ≡ 0 → s′ ≡ ordered s o
+    → Orders s s′ n o k
+done-order {s} {k = k} o narrow q z e h =
+    record { said = e ∙ sym z ∙ q; set = h ∙ sym (ap (λ (t : Bool). cond t (ordered s o) s) (eq-eqb k 0 e)); narrow = narrow }
 
 -- ---- what an outcome says
 module _ {s s′ : List ℕ} {n number : ℕ} {o : Order} (O : Orders s s′ n o number) where

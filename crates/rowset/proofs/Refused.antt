@@ -4,11 +4,11 @@ use Rattle.laws.proofs.First.{any-lost}
 use Rattle.laws.proofs.Never.{never}
 use Rattle.laws.proofs.Tests.{or-none, or-parts}
 use Rattle.laws.specs.Lists.{any, range}
-use Rattle.rowset.proofs.Digits.{digit, no-high-digit, none-shifted}
+use Rattle.rowset.proofs.Digits.{digit, high-digit, low-word}
 use Rattle.rowset.proofs.Rows.{Has, beyond, digit-row}
-use Rattle.rowset.specs.Sets.{Narrow, bitOf, isIn, setBad, wordOf, wordsFor}
-use borrow.Author.Tests.{eq-eqb, eqb-true, ne-eqb, not-false}
-use lib.Dec.{eqb}
+use Rattle.rowset.specs.Sets.{Narrow, bitOf, isIn, mask, setBad, wordOf, wordsFor}
+use borrow.Author.Tests.{eq-eqb, eqb-true, le-leb, lt-leb, ne-eqb, not-false}
+use lib.Dec.{eqb, leb}
 use lib.ListN.{getD, length}
 use mathlib.Core.Bool.{Bool, _||_, cond, false, not, true}
 use mathlib.Core.List.{List}
@@ -68,43 +68,42 @@ module _ (s : List ℕ) (n : ℕ) where
   right-has e r h = omega (arith, right-length e)
 
   -- ---- by the last word
-  -- what is left of the word of row n, when the bits below n are shifted out
-  abbrev pub high : ℕ
-  high = wordOf s n / 2 ^ (n % 32)
-
   module _ (narrow : Narrow s) (long : length s ≡ wordsFor n) where
-    -- no bit n or above: nothing is left
-    nothing-left : tooHigh ≡ false → high ≡ 0
-    nothing-left e =
-        none-shifted (wordOf s n) (n % 32) (narrow (n / 32)) (omega arith)
+    -- no bit n or above: the word of row n is below that row's mask
+    word-below : tooHigh ≡ false → wordOf s n < mask n
+    word-below e =
+        low-word (wordOf s n) (n % 32) (narrow (n / 32)) (omega arith)
         (λ k l h. digit-row s (n / 32) k h ∙ ap (λ (b : Bool). cond b 1 0) (none-above e (32 * (n / 32) + k) (omega arith)))
 
-    -- nothing is left: no such bit
-    none-high : high ≡ 0 → tooHigh ≡ false
+    -- it is below: there is no such bit, since all of them stand in that word
+    none-high : wordOf s n < mask n → tooHigh ≡ false
     unfolding bitOf
     none-high e = all-fail (isIn s) n (32 * length s - n) off
       where
         off : (i : ℕ) → n ≤ i → i < n + (32 * length s - n) → isIn s i ≡ false
         off i l h =
             let here : i / 32 ≡ n / 32 = omega (arith, long) in
-            let zero-there : digit (wordOf s n) (i % 32) ≡ 0 = no-high-digit (wordOf s n) (n % 32) e (i % 32) (omega arith) in
+            let none : digit (wordOf s n) (i % 32) ≡ 0 = high-digit (wordOf s n) (n % 32) (i % 32) e (omega arith) in
             ne-eqb (digit (wordOf s i) (i % 32)) 1
-            (λ q. omega (arith, zero-there, subst (λ (j : ℕ). digit (getD s j 0) (i % 32) ≡ 1) here q))
+            (λ q. omega (arith, none, subst (λ (j : ℕ). digit (getD s j 0) (i % 32) ≡ 1) here q))
 
-    -- A BIT n OR ABOVE IS ON EXACTLY WHERE SOMETHING IS LEFT
-    pub high-bits : tooHigh ≡ not (eqb high 0)
+    -- A BIT n OR ABOVE IS ON EXACTLY WHERE THE LAST WORD IS NOT BELOW THE MASK OF ROW n
+    pub high-bits : tooHigh ≡ leb (mask n) (wordOf s n)
     high-bits = go tooHigh refl
       where
-        go : (b : Bool) → tooHigh ≡ b → b ≡ not (eqb high 0)
-        go true e = sym (ap not (ne-eqb high 0 (λ z. never (sym (none-high z) ∙ e))))
-        go false e = sym (ap not (eq-eqb high 0 (nothing-left e)))
+        go : (b : Bool) → tooHigh ≡ b → b ≡ leb (mask n) (wordOf s n)
+        go true e = sym (le-leb (mask n) (wordOf s n) (not-below (λ h. never (sym (none-high h) ∙ e))))
+          where
+            not-below : {a b : ℕ} → (a < b → ⊥) → b ≤ a
+            not-below h = omega arith
+        go false e = sym (lt-leb (mask n) (wordOf s n) (word-below e))
 
     -- so the last word alone decides
-    pub by-last-word : not (eqb high 0) ≡ setBad s n
+    pub by-last-word : leb (mask n) (wordOf s n) ≡ setBad s n
     unfolding setBad
     by-last-word = rw (eq-eqb (length s) (wordsFor n) long) (sym high-bits)
 
-    -- and where the words end with row n - 1 nothing does
+    -- and where the words end with row n - 1 there is no bit to be on
     pub by-length : length s ≤ n / 32 → false ≡ setBad s n
     by-length h = sym (right-of long (λ i l. beyond s i (omega arith)))
 

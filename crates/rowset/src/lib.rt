@@ -1,11 +1,19 @@
-// A set of rows as bits, 32 rows to a word: which row is in it, and the foremen's orders to strike and to restore one.
+// A set of rows as bits, 32 rows to a word: which rows are in it, and the foremen's orders to strike a row and to restore one.
 ghost use Prim.Native.Nat.{_/_, _<_};
 ghost use Rattle.rowset.specs.Orders.{Orders, restoring, saidOrder, striking};
-ghost use Rattle.rowset.specs.Sets.{isIn, restored, setBad, struck, wordsFor};
+ghost use Rattle.rowset.specs.Sets.{isIn, mask, restored, setBad, struck, wordsFor};
 ghost use lib.ListN.{length};
 ghost use mathlib.Core.Path.{_≡_};
 
-// Whether row r is in the set. A row beyond its words is not.
+// A word in which row r's bit alone is on.
+fn mask_of(r: usize) -> u32
+    ensures { λ m. ⌜ m ≡ mask r ⌝ }
+{
+    let place = (r % 32) as u32;
+    1 << place
+}
+
+// Whether row r is in the set. A row beyond its words is not, so that a set of any length may be asked.
 pub fn is_in(set: &[u32], r: usize) -> bool
     ensures { λ b. ⌜ b ≡ isIn (now (set .entry)) r ⌝ }
 {
@@ -13,8 +21,8 @@ pub fn is_in(set: &[u32], r: usize) -> bool
     if set.len() <= at {
         return false;
     }
-    let place = (r % 32) as u32;
-    (set[at] >> place) & 1 == 1
+    let bit = mask_of(r);
+    set[at] & bit != 0
 }
 
 // Row r comes into the set.
@@ -23,8 +31,8 @@ fn strike_row(set: &mut [u32], r: usize)
     ensures { λ _. ⌜ now (set .exit) ≡ struck (now (set .entry)) r ⌝ }
 {
     let at = r / 32;
-    let place = (r % 32) as u32;
-    set[at] = set[at] | (1 << place);
+    let bit = mask_of(r);
+    set[at] = set[at] | bit;
 }
 
 // Row r leaves the set.
@@ -33,18 +41,18 @@ fn restore_row(set: &mut [u32], r: usize)
     ensures { λ _. ⌜ now (set .exit) ≡ restored (now (set .entry)) r ⌝ }
 {
     let at = r / 32;
-    let place = (r % 32) as u32;
-    set[at] = set[at] & !(1 << place);
+    let bit = mask_of(r);
+    set[at] = set[at] & !bit;
 }
 
-// How many words n rows take. (No sum of n and 31, which may be too large.)
+// How many words n rows take. It does not go by n + 31, which may be more than a usize holds.
 pub fn words_for(n: usize) -> usize
     ensures { λ r. ⌜ r ≡ wordsFor n ⌝ }
 {
     n / 32 + (n % 32 + 31) / 32
 }
 
-// Whether the set is no set of n rows. Only its last word can hold a bit n or above, so this takes the same time for any n.
+// Whether the set is refused as one of n rows. A bit n or above can stand in the last word alone, and does where this is not below the mask of row n.
 pub fn set_bad(set: &[u32], n: usize) -> bool
     ensures { λ b. ⌜ b ≡ setBad (now (set .entry)) n ⌝ }
 {
@@ -52,14 +60,14 @@ pub fn set_bad(set: &[u32], n: usize) -> bool
         return true;
     }
     let at = n / 32;
-    if set.len() <= at {
+    if set.len() == at {
         return false;
     }
-    let place = (n % 32) as u32;
-    set[at] >> place != 0
+    let bit = mask_of(n);
+    bit <= set[at]
 }
 
-// What refuses an order on row r of n, or 0.
+// What refuses an order on row r of n rows: 20, 26, or 0 for nothing.
 fn order_number(set: &[u32], n: usize, r: usize) -> u32
     ensures { λ k. ⌜ k ≡ saidOrder (now (set .entry)) n r .0 ⌝ }
 {
@@ -72,7 +80,7 @@ fn order_number(set: &[u32], n: usize, r: usize) -> u32
     0
 }
 
-// Strikes a row of a set of n rows: it is withdrawn.
+// Strikes a row of n: it is withdrawn from now on.
 pub fn strike(set: &mut [u32], n: usize, row: usize) -> u32
     ensures { λ k. ⌜ Orders (now (set .entry)) (now (set .exit)) n (striking row) k ⌝ }
 {
@@ -84,7 +92,7 @@ pub fn strike(set: &mut [u32], n: usize, row: usize) -> u32
     0
 }
 
-// Restores a row of a set of n rows: it is withdrawn no longer.
+// Restores a row of n: it is withdrawn no longer.
 pub fn restore(set: &mut [u32], n: usize, row: usize) -> u32
     ensures { λ k. ⌜ Orders (now (set .entry)) (now (set .exit)) n (restoring row) k ⌝ }
 {

@@ -7,7 +7,7 @@ use mathlib.Core.Path.{_∙_, sym}
 use native.Mathlib.Omega.{arith}
 
 returns : tie.Need-returns
-returns c = twenty _ _ _ (sym (c .before .set-bad .ensures) ∙ c .if1 .taken)
+returns c = omega (arith, twenty _ _ (c .before .before .before .args .r) (sym (c .before .set-bad .ensures) ∙ c .if1 .taken))
 
 returns-2 : tie.Need-returns-2
 returns-2 c = twenty-six _ _ _ (sym (c .before .before .set-bad .ensures) ∙ c .before .if1 .left) (omega arith)

@@ -6,14 +6,15 @@ use borrow.Author.Needs.{needs}
 use native.Mathlib.Omega.{arith}
 
 returns : tie.Need-returns
-returns c = put-off (c .before .args .set .now) (c .before .args .r) _ _ (omega arith) (omega arith)
+returns c =
+    let m = c .before in
+    put-off (m .before .before .args .set .now) (m .before .before .args .r) _ _ (omega arith) (omega (arith, m .mask-of .ensures))
 
 pub restore-row-spec : {M : Type 1} → statement M
 restore-row-spec =
     tie.close
     (tie.spec
-    (λ c. search needs)
-    (λ c. search needs)
+    (λ c κs. search needs)
     (λ c. search needs)
     (λ c. search needs)
     (λ c. search needs)

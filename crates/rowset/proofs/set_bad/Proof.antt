@@ -1,6 +1,6 @@
 -- `rowset::set_bad` meets its contract: the length, then the last word. Assumes nothing.
 use Rattle.rowset.proofs.Refused.{by-length, wrong-length}
-use Rattle.rowset.proofs.Shifts.{left-over}
+use Rattle.rowset.proofs.Shifts.{not-below}
 use Rattle.rowset.proofs.set_bad.Statement.{statement}
 use Rattle.rowset.proofs.set_bad.Tie as tie
 use Rattle.rowset.specs.Sets.{Narrow, wordsFor}
@@ -21,12 +21,16 @@ returns : tie.Need-returns
 returns c = wrong-length _ _ (λ e. c .if1 .taken (omega (arith, c .before .words-for .ensures)))
 
 returns-2 : tie.Need-returns-2
-returns-2 c = by-length (c .before .before .before .before .args .set .now) (c .before .before .before .before .args .n) (narrow (c .before .before .before)) (long (c .before)) (omega arith)
+returns-2 c =
+    let e = c .before in
+    by-length (e .before .before .before .args .set .now) (e .before .before .before .args .n) (narrow (e .before .before)) (long e) (omega arith)
 
 returns-3 : tie.Need-returns-3
 returns-3 c =
-    let e = c .before .before in
-    left-over (e .before .before .before .args .set .now) (e .before .before .before .args .n) _ _ (omega arith) (omega arith) (narrow (e .before .before)) (long e)
+    let m = c .before in
+    let e = m .before .before in
+    not-below (e .before .before .before .args .set .now) (e .before .before .before .args .n) _ _ (omega arith) (omega (arith, m .mask-of .ensures))
+    (narrow (e .before .before)) (long e)
 
 pub set-bad-spec : {M : Type 1} → statement M
 set-bad-spec =
@@ -35,8 +39,7 @@ set-bad-spec =
     (λ c κs. search needs)
     returns
     returns-2
-    (λ c. search needs)
-    (λ c. search needs)
+    (λ c κs. search needs)
     (λ c. search needs)
     (λ c. search needs)
     returns-3)

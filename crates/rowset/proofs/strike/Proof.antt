@@ -21,7 +21,8 @@ row-requires c κs = clear-has _ _ _ (sym (c .before .before .order-number .ensu
 returns-2 : tie.Need-returns-2
 returns-2 c =
     let o = c .before .before .before .before .before in
-    done-order (striking _) (narrow (o .before .before)) (o .order-number .ensures) (c .before .before .before .before .if1 .left) (c .before .before .strike-row .ensures)
+    done-order (striking _) (narrow (o .before .before)) (o .order-number .ensures) (c .before .before .before .before .if1 .left) (omega arith)
+    (c .before .before .strike-row .ensures)
 
 pub strike-spec : {M : Type 1} → statement M
 strike-spec = tie.close (tie.spec (λ c κs. search needs) (λ c. search needs) returns row-requires (λ c. search needs) returns-2)
