@@ -1,11 +1,13 @@
 -- Lists of orders that decide the same of every row: 02, R-12. Assumes nothing.
 use Prim.Native.Nat.{ℕ}
+use Rattle.laws.proofs.Every.{every-of}
+use Rattle.laws.specs.Every.{Every}
 use Rattle.laws.specs.Lists.{has, keep}
-use Rattle.rowset.specs.Orders.{Alike, Order, names, restoring, rowOf, standing, striking, wants}
+use Rattle.rowset.specs.Orders.{Agree, Agreed, Alike, Mixed, Order, first, names, over, rowOf, second, standing, striking, wants}
 use borrow.Author.Tests.{eqb-true}
 use lib.Dec.{eqb}
 use mathlib.Core.Bool.{Bool, _||_, cond, false, or-true, true}
-use mathlib.Core.List.{List, [], _∷_, map}
+use mathlib.Core.List.{List, [], _++_, _∷_, map}
 use mathlib.Core.Path.{_∙_, _≡_, ap, refl, sym}
 
 -- AN ORDER GIVEN TWICE IS THE ORDER GIVEN ONCE
@@ -17,7 +19,7 @@ alike-twice o i b = go (names i o)
     go false = refl
 
 -- TWO ORDERS MAY CHANGE PLACES, unless they want different things of one row
-pub alike-swap : (o p : Order) → (rowOf o ≡ rowOf p → wants o ≡ wants p) → Alike (o ∷ p ∷ []) (p ∷ o ∷ [])
+pub alike-swap : (o p : Order) → Agree o p → Alike (o ∷ p ∷ []) (p ∷ o ∷ [])
 alike-swap o p agree i b = go (names i o) (names i p) refl refl
   where
     go : (t u : Bool) → names i o ≡ t → names i p ≡ u → cond u (wants p) (cond t (wants o) b) ≡ cond t (wants o) (cond u (wants p) b)
@@ -52,3 +54,23 @@ standing-own i (o ∷ os) b = go (standing-own i os) (names i o) refl
 -- MIXED ORDERS IN WHICH EACH ROW'S OWN ONES KEEP THEIR SEQUENCE
 pub alike-mixed : (os ps : List Order) → ((i : ℕ) → keep (names i) os ≡ keep (names i) ps) → Alike os ps
 alike-mixed os ps h i b = sym (standing-own i os b) ∙ ap (λ (l : List Order). standing i l b) (h i) ∙ standing-own i ps b
+
+-- ---- two offices
+-- an order that agrees with those before it may come before them
+moved : (i : ℕ) (xs ys : List Order) (p : Order) (b : Bool) → Every (λ o. Agree o p) xs → standing i (xs ++ p ∷ ys) b ≡ standing i (p ∷ (xs ++ ys)) b
+moved i [] ys p b h = refl
+moved i (o ∷ xs) ys p b h =
+    moved i xs ys p (cond (names i o) (wants o) b) (h .1) ∙ ap (standing i (xs ++ ys)) (alike-swap o p (h .0) i b)
+
+-- mixed orders decide as those of the first office and then those of the second
+unmixed : {xs ys os : List Order} (i : ℕ) (b : Bool) → Agreed xs ys → Mixed xs ys os → standing i os b ≡ standing i (xs ++ ys) b
+unmixed i b h over = refl
+unmixed {xs = o ∷ xs} {ys = ys} i b h (first m) = unmixed i (cond (names i o) (wants o) b) (fewer ys h) m
+  where
+    fewer : (ps : List Order) → Agreed (o ∷ xs) ps → Agreed xs ps
+    fewer ps k = every-of (λ p. Every (λ q. Agree q p) (o ∷ xs)) (λ p. Every (λ q. Agree q p) xs) (λ p e. e .1) ps k
+unmixed {xs = xs} {ys = p ∷ ys} i b h (second m) = unmixed i (cond (names i p) (wants p) b) (h .1) m ∙ sym (moved i xs ys p b (h .0))
+
+-- ORDERS OF TWO OFFICES THAT AGREE, however they are mixed
+pub alike-offices : {xs ys os ps : List Order} → Agreed xs ys → Mixed xs ys os → Mixed xs ys ps → Alike os ps
+alike-offices h m k i b = unmixed i b h m ∙ sym (unmixed i b h k)

@@ -3,15 +3,15 @@ use Prim.Native.Nat.{_<_, ℕ}
 use Rattle.laws.proofs.Never.{never}
 use Rattle.laws.specs.Lists.{has, keep}
 use Rattle.limits.specs.Said.{fault, said}
-use Rattle.rowset.proofs.Alike.{alike-mixed, alike-strikes, alike-swap, alike-twice}
+use Rattle.rowset.proofs.Alike.{alike-mixed, alike-offices, alike-strikes, alike-swap, alike-twice}
 use Rattle.rowset.proofs.Outcomes.{orders-done, orders-in, orders-keep, orders-refused, orders-set}
 use Rattle.rowset.proofs.Striking.{SetOf, never-swapped, same-set, strike-restore}
-use Rattle.rowset.specs.Orders.{Alike, Carried, Order, Orders, done, names, next, restoring, rowOf, saidOrder, standing, striking, wants}
+use Rattle.rowset.specs.Orders.{Agree, Agreed, Alike, Carried, Mixed, Order, Orders, done, names, next, restoring, rowOf, saidOrder, standing, striking}
 use Rattle.rowset.specs.Sets.{Narrow, isIn, restored, setBad, struck}
 use lib.Dec.{leb}
-use mathlib.Core.Bool.{Bool, cond, false, true}
-use mathlib.Core.List.{List, [], _++_, _∷_, map}
-use mathlib.Core.Path.{_∙_, _≡_, ap, refl, subst, sym}
+use mathlib.Core.Bool.{Bool, false, true}
+use mathlib.Core.List.{List, _++_, _∷_, map}
+use mathlib.Core.Path.{_∙_, _≡_, ap, refl, sym}
 
 -- ---- calls, one behind the other
 -- the set is refused with 20 afterwards exactly where it was before
@@ -65,7 +65,7 @@ module _ {n : ℕ} {s : List ℕ} where
       (carried-said (next O done) P ∙ sym (O .said), calls-alike (alike-twice (striking r)) (next O (next P done)) (next O done))
 
   -- two orders in either sequence: the same two numbers, and the same set
-  swapped : {j j′ k k′ : ℕ} {a b c d : List ℕ} {o p : Order} → (rowOf o ≡ rowOf p → wants o ≡ wants p)
+  swapped : {j j′ k k′ : ℕ} {a b c d : List ℕ} {o p : Order} → Agree o p
       → Orders s a n o j → Orders a b n p k → Orders s c n p k′ → Orders c d n o j′ → (j ≡ j′) × (k ≡ k′) × (b ≡ d)
   swapped {o = o} {p} agree O P Q R = (
     O .said ∙ sym (carried-said (next Q done) R),
@@ -90,9 +90,14 @@ module _ {n : ℕ} {s : List ℕ} where
       → Carried n s (map striking rs) a → Carried n s (map striking qs) b → a ≡ b
   calls-any-order rs qs same = calls-alike (alike-strikes rs qs same)
 
-  -- ORDERS OF TWO OFFICES GIVE THE SAME SET HOWEVER THEY ARE MIXED, where each row's own ones keep their sequence
+  -- MIXED ORDERS GIVE THE SAME SET HOWEVER THEY COME, where each row's own ones keep their sequence
   pub calls-mixed : {a b : List ℕ} {os ps : List Order} → ((i : ℕ) → keep (names i) os ≡ keep (names i) ps) → Carried n s os a → Carried n s ps b → a ≡ b
   calls-mixed {os = os} {ps} same = calls-alike (alike-mixed os ps same)
+
+  -- SO DO THE ORDERS OF TWO OFFICES, however they are mixed, where no order of the one contradicts one of the other
+  pub calls-offices : {a b : List ℕ} {xs ys os ps : List Order} → Agreed xs ys → Mixed xs ys os → Mixed xs ys ps
+      → Carried n s os a → Carried n s ps b → a ≡ b
+  calls-offices agreed m k = calls-alike (alike-offices agreed m k)
 
   -- ---- where the first call gave 0, so that its row is below n and the set one of n rows
   module _ {k r : ℕ} {a b : List ℕ} (O : Orders s a n (striking r) 0) (P : Orders a b n (restoring r) k) where

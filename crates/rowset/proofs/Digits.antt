@@ -5,7 +5,7 @@ use lib.Bits.{and-high, and-mask, and-shr, and-step, bitAnd, bitOr, bitXor, diff
 use lib.Dec.{eqb}
 use lib.Pow.{high, ones-lt, ones-split, pow-add, pow-lt, pow-mono, pow-pos, shl-exact, shl-shr, shr-lt, shr-shr}
 use mathlib.Core.Bool.{Bool, cond, false, true}
-use mathlib.Core.Path.{_∙_, _≡_, ap, ap₂, refl, subst, sym}
+use mathlib.Core.Path.{_∙_, _≡_, ap, refl, subst, sym}
 use native.Mathlib.Decide.{decLt}
 use native.Mathlib.Nat.{div-eq-of-lt, div-lt-iff-lt-mul, mod-eq-of-lt, pow-suc}
 use native.Mathlib.Omega.{arith}
@@ -37,7 +37,9 @@ and-digit a b k = ap (λ (x : ℕ). x % 2) (and-shr a b k) ∙ omega (arith, and
 
 -- whether they differ
 xor-digit : (a b k : ℕ) → digit (bitXor a b) k ≡ differ (digit a k) (digit b k) % 2
-xor-digit a b k = ap (λ (x : ℕ). x % 2) (xor-shr a b k ∙ xor-step (a / 2 ^ k) (b / 2 ^ k)) ∙ go (bitXor (a / 2 ^ k / 2) (b / 2 ^ k / 2)) (differ (digit a k) (digit b k))
+xor-digit a b k =
+    ap (λ (x : ℕ). x % 2) (xor-shr a b k ∙ xor-step (a / 2 ^ k) (b / 2 ^ k))
+    ∙ go (bitXor (a / 2 ^ k / 2) (b / 2 ^ k / 2)) (differ (digit a k) (digit b k))
   where
     go : (u v : ℕ) → (u * 2 + v) % 2 ≡ v % 2
     go u v = omega arith

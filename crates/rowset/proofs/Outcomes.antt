@@ -11,7 +11,7 @@ use Rattle.rowset.specs.Sets.{Narrow, isIn, setBad}
 use borrow.Author.Tests.{eq-eqb, eqb-false, eqb-true, le-leb, leb-false, lt-leb, ne-eqb}
 use lib.Dec.{eqb, leb}
 use mathlib.Core.Bool.{Bool, cond, false, true}
-use mathlib.Core.List.{List, _++_}
+use mathlib.Core.List.{List}
 use mathlib.Core.Path.{_∙_, _≡_, ap, refl, subst, sym}
 use native.Mathlib.Omega.{arith}
 

@@ -1,5 +1,5 @@
 -- Which sets are refused with 20, and how the last word alone tells it. Assumes nothing.
-use Prim.Native.Nat.{_%_, _*_, _+_, _-_, _/_, _<_, _^_, _≤_, suc, zero, ℕ}
+use Prim.Native.Nat.{_%_, _*_, _+_, _-_, _/_, _<_, _≤_, suc, zero, ℕ}
 use Rattle.laws.proofs.First.{any-lost}
 use Rattle.laws.proofs.Never.{never}
 use Rattle.laws.proofs.Tests.{or-none, or-parts}
@@ -10,7 +10,7 @@ use Rattle.rowset.specs.Sets.{Narrow, bitOf, isIn, mask, setBad, wordOf,
 use borrow.Author.Tests.{eq-eqb, eqb-true, le-leb, lt-leb, ne-eqb, not-false}
 use lib.Dec.{eqb, leb}
 use lib.ListN.{getD, length}
-use mathlib.Core.Bool.{Bool, _||_, cond, false, not, true}
+use mathlib.Core.Bool.{Bool, cond, false, not, true}
 use mathlib.Core.List.{List}
 use mathlib.Core.Path.{_∙_, _≡_, ap, refl, subst, sym}
 use native.Mathlib.Decide.{decLt, ℕ-discrete}
@@ -34,7 +34,7 @@ all-fail f a k h = any-lost f a k (record { from = omega arith; to = omega arith
 
 module _ (s : List ℕ) (n : ℕ) where
   -- a bit n or above is on
-  abbrev tooHigh : Bool
+  abbrev pub tooHigh : Bool
   tooHigh = any (isIn s) (range n (32 * length s - n))
 
   -- none is: no row from n on is in
@@ -56,14 +56,18 @@ module _ (s : List ℕ) (n : ℕ) where
   unfolding setBad
   right-above e = none-above (or-parts (not (eqb (length s) (wordsFor n))) tooHigh e .1)
 
-  -- and no other set is refused
+  -- and a set of which both are true is not refused
   pub right-of : length s ≡ wordsFor n → ((i : ℕ) → n ≤ i → isIn s i ≡ false) → setBad s n ≡ false
   unfolding setBad
   right-of e h =
       or-none (not (eqb (length s) (wordsFor n))) tooHigh (ap not (eq-eqb (length s) (wordsFor n) e))
       (all-fail (isIn s) n (32 * length s - n) (λ i l k. h i l))
 
-  -- a row below n then has its bit in the set
+  -- so one of the right length, whose words end with row n - 1, is not
+  pub by-length : length s ≡ wordsFor n → length s ≤ n / 32 → false ≡ setBad s n
+  by-length e h = sym (right-of e (λ i l. beyond s i (omega arith)))
+
+  -- a row below n has its bit in a set that is not refused
   pub right-has : setBad s n ≡ false → (r : ℕ) → r < n → Has s r
   right-has e r h = omega (arith, right-length e)
 
@@ -102,10 +106,6 @@ module _ (s : List ℕ) (n : ℕ) where
     pub by-last-word : leb (mask n) (wordOf s n) ≡ setBad s n
     unfolding setBad
     by-last-word = rw (eq-eqb (length s) (wordsFor n) long) (sym high-bits)
-
-    -- and where the words end with row n - 1 there is no bit to be on
-    pub by-length : length s ≤ n / 32 → false ≡ setBad s n
-    by-length h = sym (right-of long (λ i l. beyond s i (omega arith)))
 
   -- a set of another length is refused
   pub wrong-length : (length s ≡ wordsFor n → ⊥) → true ≡ setBad s n

@@ -1,5 +1,5 @@
 -- A set, row by row: which rows are in it after a strike or a restore, and that its rows are all that a set is. Assumes nothing.
-use Prim.Native.Nat.{_%_, _*_, _+_, _-_, _/_, _<_, _^_, _≤_, suc, zero, ℕ}
+use Prim.Native.Nat.{_%_, _*_, _+_, _-_, _/_, _<_, _≤_, suc, zero, ℕ}
 use Rattle.rowset.proofs.Digits.{digit, off-digit, on-digit, same-digits, zero-digit}
 use Rattle.rowset.specs.Sets.{Narrow, bitOf, isIn, mask, restored, struck, wordOf}
 use borrow.Author.Tests.{eq-eqb, eqb-false, eqb-true, ne-eqb}

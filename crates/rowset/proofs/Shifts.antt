@@ -1,5 +1,5 @@
 -- A row's bit by shift and mask, as the code takes it: what the code computes is told by equations. Assumes nothing.
-use Prim.Native.Nat.{_%_, _*_, _-_, _/_, _<_, _^_, _≤_, suc, zero, ℕ}
+use Prim.Native.Nat.{_%_, _*_, _-_, _/_, _^_, _≤_, suc, zero, ℕ}
 use Rattle.rowset.proofs.Digits.{digit, masked, one-shifted}
 use Rattle.rowset.proofs.Refused.{by-last-word}
 use Rattle.rowset.specs.Sets.{Narrow, bitOf, isIn, mask, restored, setBad, struck, wordOf, wordsFor}

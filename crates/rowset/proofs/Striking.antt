@@ -1,13 +1,13 @@
 -- 02, R-12 over sets: what orders on rows below n do to a set of n rows. Assumes nothing.
-use Prim.Native.Nat.{_<_, _≤_, ℕ}
+use Prim.Native.Nat.{_<_, ℕ}
 use Rattle.laws.proofs.Every.{every-map}
 use Rattle.laws.proofs.Never.{never}
 use Rattle.laws.specs.Every.{Every}
 use Rattle.laws.specs.Lists.{has, keep}
-use Rattle.rowset.proofs.Alike.{alike-mixed, alike-strikes, alike-swap, alike-twice}
+use Rattle.rowset.proofs.Alike.{alike-mixed, alike-offices, alike-strikes, alike-swap, alike-twice}
 use Rattle.rowset.proofs.Refused.{right-above, right-has, right-length, right-of}
 use Rattle.rowset.proofs.Rows.{Has, in-restored, in-struck, restored-length, restored-narrow, same-rows, struck-length, struck-narrow}
-use Rattle.rowset.specs.Orders.{Alike, Order, after, names, ordered, restoring, rowOf, standing, striking, wants}
+use Rattle.rowset.specs.Orders.{Agreed, Alike, Mixed, Order, after, names, ordered, restoring, rowOf, standing, striking, wants}
 use Rattle.rowset.specs.Sets.{Narrow, isIn, restored, setBad, struck}
 use borrow.Author.Tests.{eq-eqb, ne-eqb}
 use lib.ListN.{length}
@@ -115,6 +115,10 @@ module _ {n : ℕ} {s : List ℕ} (S : SetOf n s) where
   -- MIXED ORDERS GIVE THE SAME SET HOWEVER THEY COME, where each row's own ones keep their sequence
   pub orders-mixed : (os ps : List Order) → Below n os → Below n ps → ((i : ℕ) → keep (names i) os ≡ keep (names i) ps) → after s os ≡ after s ps
   orders-mixed os ps h k same = same-after os ps h k (alike-mixed os ps same)
+
+  -- SO DO THE ORDERS OF TWO OFFICES, however they are mixed, where no order of the one contradicts one of the other
+  pub offices-mixed : {xs ys os ps : List Order} → Below n os → Below n ps → Agreed xs ys → Mixed xs ys os → Mixed xs ys ps → after s os ≡ after s ps
+  offices-mixed {os = os} {ps} h k agreed m q = same-after os ps h k (alike-offices agreed m q)
 
   -- A STRIKE AND A RESTORE OF ONE ROW MAY NOT CHANGE PLACES: of no set and no row do they give the same
   pub never-swapped : (r : ℕ) → r < n → restored (struck s r) r ≡ struck (restored s r) r → ⊥

@@ -1,5 +1,6 @@
 -- Striking and restoring: 02, R-12. Assumes nothing.
 use Prim.Native.Nat.{ℕ}
+use Rattle.laws.specs.Every.{Every}
 use Rattle.limits.specs.Said.{Said, fault, said}
 use Rattle.rowset.specs.Sets.{Narrow, restored, setBad, struck}
 use lib.Dec.{eqb, leb}
@@ -44,6 +45,21 @@ standing i (o ∷ os) b = standing i os (cond (names i o) (wants o) b)
 -- two lists of orders that decide the same of every row
 abbrev pub Alike : List Order → List Order → Type 0
 Alike os ps = (i : ℕ) (b : Bool) → standing i os b ≡ standing i ps b
+
+-- ---- two offices
+-- two lists of orders mixed into one, in which the orders of each keep their sequence
+pub data Mixed : List Order → List Order → List Order → Type 0 where
+  over : Mixed [] [] []
+  first : {o : Order} {xs ys os : List Order} → Mixed xs ys os → Mixed (o ∷ xs) ys (o ∷ os)
+  second : {o : Order} {xs ys os : List Order} → Mixed xs ys os → Mixed xs (o ∷ ys) (o ∷ os)
+
+-- two orders that want the same where they name one row
+abbrev pub Agree : Order → Order → Type 0
+Agree o p = rowOf o ≡ rowOf p → wants o ≡ wants p
+
+-- every order of the one office agrees with every order of the other
+abbrev pub Agreed : List Order → List Order → Type 0
+Agreed xs ys = Every (λ p. Every (λ o. Agree o p) xs) ys
 
 -- ---- the calls
 -- an order on row r of a set of n rows: 20, then 26 for row n or above

@@ -21,9 +21,7 @@ returns : tie.Need-returns
 returns c = wrong-length _ _ (λ e. c .if1 .taken (omega (arith, c .before .words-for .ensures)))
 
 returns-2 : tie.Need-returns-2
-returns-2 c =
-    let e = c .before in
-    by-length (e .before .before .before .args .set .now) (e .before .before .before .args .n) (narrow (e .before .before)) (long e) (omega arith)
+returns-2 c = by-length _ _ (long (c .before)) (omega arith)
 
 returns-3 : tie.Need-returns-3
 returns-3 c =
