@@ -122,12 +122,6 @@ static void compare(struct trial *t, const struct lot *lot, enum call call, stru
     }
 }
 
-/* The first `bytes` bytes may be anything: the scope paper leaves them open here. */
-static void leave_open(enum lent which, size_t bytes)
-{
-    memcpy(lend_expected(which), lend_given(which), bytes);
-}
-
 /* ---- What the naive calls take ---- */
 
 static struct naive_table model_table(const struct lot *lot)
@@ -284,14 +278,46 @@ static void lend_nearest(struct trial *t, const struct lot *lot)
     lend_words(t, LENT_WORK, lot->work);
 }
 
-/* On an index that the full check refuses the answers, how-bytes and counts are open; what lies beyond them is not. */
-static struct naive_says open_nearest(const struct lot *lot, struct naive_says is)
+/* An answer that can stand behind the one before it: a row that there is, and no nearer; of two as near no lower row. */
+static bool stands(const uint32_t *rows, const uint32_t *distances, size_t i, size_t n)
+{
+    if (rows[i] >= n)
+        return false;
+    return i == 0 || distances[i - 1] < distances[i] || (distances[i - 1] == distances[i] && rows[i - 1] <= rows[i]);
+}
+
+/* On an index that the full check refuses it is open which rows are answers and which were measured. Settled is: as many answers as are wanted or there
+   are rows, each a row with its own distance, in order; 3 exactly at the answers, else 0 or 1; and the count of 1 and 3. What is settled is put in the place
+   of what is open; where an answer can't stand, another number shows it. */
+static struct naive_says settle_nearest(const struct lot *lot)
 {
     size_t n = lot->table_length / lot->c, asked = lot->w < n ? lot->w : n;
-    leave_open(LENT_ROWS, asked * sizeof(uint32_t));
-    leave_open(LENT_DISTANCES, asked * sizeof(uint32_t));
-    leave_open(LENT_HOW, n);
-    return three(0, is.one, is.two);
+    const uint32_t *rows = lend_given(LENT_ROWS), *distances = lend_given(LENT_DISTANCES);
+    const uint8_t *how = lend_given(LENT_HOW);
+    uint32_t *rows_should = lend_expected(LENT_ROWS), *distances_should = lend_expected(LENT_DISTANCES), measured = 0;
+    uint8_t *how_should = lend_expected(LENT_HOW);
+    for (size_t i = 0; i < n; i++)
+        how_should[i] = how[i] % 2;
+    for (size_t i = 0; i < asked; i++) {
+        rows_should[i] = stands(rows, distances, i, n) ? rows[i] : ~rows[i];
+        if (rows[i] < n) {
+            distances_should[i] = naive_distance(lot->table + lot->c * rows[i], lot->query, lot->c);
+            how_should[rows[i]] = 3;
+        }
+    }
+    for (size_t i = 0; i < n; i++)
+        measured += how_should[i] % 2;
+    return three(0, (uint32_t)asked, measured);
+}
+
+/* The records are the rows and distances of the same call. */
+static void settle_records(const struct lot *lot)
+{
+    size_t n = lot->table_length / lot->c, asked = lot->w < n ? lot->w : n;
+    const uint32_t *rows = lend_expected(LENT_ROWS), *distances = lend_expected(LENT_DISTANCES);
+    bourascul_answer *answers = lend_expected(LENT_ANSWERS);
+    for (size_t i = 0; i < asked; i++)
+        answers[i] = (bourascul_answer){ rows[i], distances[i] };
 }
 
 static bool nearest_is_open(const struct lot *lot, struct naive_says should)
@@ -312,7 +338,7 @@ void try_nearest(struct trial *t, const struct lot *lot)
                                              model_room(LENT_DISTANCES), model_bytes(LENT_HOW), model_room(LENT_WORK));
     if (nearest_is_open(lot, should)) {
         open_outcomes[NEAREST]++;
-        should = open_nearest(lot, is);
+        should = settle_nearest(lot);
     }
     compare(t, lot, NEAREST, is, should, lents, 7);
 }
@@ -331,9 +357,8 @@ void try_nearest_answers(struct trial *t, const struct lot *lot)
                                                      model_room(LENT_ROWS), model_room(LENT_DISTANCES), model_bytes(LENT_HOW), model_room(LENT_WORK));
     if (nearest_is_open(lot, should)) {
         open_outcomes[NEAREST_ANSWERS]++;
-        size_t n = lot->table_length / lot->c;
-        leave_open(LENT_ANSWERS, (lot->w < n ? lot->w : n) * sizeof(bourascul_answer));
-        should = open_nearest(lot, is);
+        should = settle_nearest(lot);
+        settle_records(lot);
     }
     compare(t, lot, NEAREST_ANSWERS, is, should, lents, 8);
 }

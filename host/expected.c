@@ -15,8 +15,8 @@ enum {
     MOST_NUMBERS = 1 << 20,
     EDITION = 2,  /* what both programs build */
     NODE_WORDS = 5,
-    CENTRES = 16, /* what the analyst's program builds with */
-    LEAF = 128
+    CENTRES = 4,  /* what the analyst's program builds with */
+    LEAF = 1024
 };
 
 static char text[MOST_TEXT + 1];

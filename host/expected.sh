@@ -10,15 +10,26 @@ mkdir -p "$out"
 
 wrong=0
 same=0
+hold() {
+    if diff "$1" "$want" >/dev/null; then same=$((same + 1)); else wrong=$((wrong + 1)); echo "differs: $want"; fi
+}
 compare() {
-    if "$out/expected" "$@" <"$text" | diff - "$want" >/dev/null; then same=$((same + 1)); else wrong=$((wrong + 1)); echo "differs: $want"; fi
+    "$out/expected" "$@" <"$text" >"$out/expected.out"
+    hold "$out/expected.out"
 }
 
-for crate in crates/list crates/list_*; do
-    text=$crate/stdin
-    want=$crate/stdout
-    compare list
-done
+text=crates/list/stdin
+want=crates/list/stdout
+compare list
+# Each text of data/ behind its name, in the order of the output; a directory can't be read.
+cases=crates/list_cases
+want=$cases/stdout
+for name in $(grep -v '^[0-9]' "$want" | grep -v '^refused'); do
+    echo "$name"
+    if [ -d "$cases/data/$name" ]; then echo 'refused 18'; else "$out/expected" list <"$cases/data/$name"; fi
+done >"$out/list_cases.want"
+hold "$out/list_cases.want"
+[ "$(grep -c -v -e '^[0-9]' -e '^refused' "$want")" = $(($(ls "$cases/data" | wc -l) + 1)) ] || { wrong=$((wrong + 1)); echo "a text of $cases/data is not run"; }
 for crate in crates/minutes_like crates/minutes_nearest; do
     text=$crate/stdin
     want=$crate/stdout

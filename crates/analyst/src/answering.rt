@@ -11,14 +11,11 @@ use crate::say;
 use crate::say_found;
 use crate::say_refused;
 use finder::find_nearest;
-use finder::mark_like;
+use finder::mark_near;
 use lines::make_room;
 use lines::put_number;
 use measure::query_distance;
 use measure::row_of;
-
-// A how-byte of 2 or 3 says that the row is in.
-const IN: u8 = 2;
 
 // How many bytes a line with two numbers takes at most.
 const LINE: usize = 42;
@@ -48,21 +45,21 @@ fn put_marked(
     requires { ⌜ (at ≤ length (now text)) × (42 ≤ length (now text)) ⌝ }
     ensures { λ r. ⌜ r ≤ length (now (text .entry)) ⌝ }
 {
-    if mark < IN {
+    if mark == 0 {
         return at;
     }
     put_answer(text, at, row, query_distance(table, c, query, row))
 }
 
 // Writes every row that is marked in.
-fn say_rows(table: &[u16], c: usize, query: &[u16], n: usize, how: &[u8])
-    requires { ⌜ (c ≤ maxColumns) × (c * n ≤ length (now table)) × (length (now query) ≡ c) × (n ≤ length (now how)) ⌝ }
+fn say_rows(table: &[u16], c: usize, query: &[u16], n: usize, marks: &[u8])
+    requires { ⌜ (c ≤ maxColumns) × (c * n ≤ length (now table)) × (length (now query) ≡ c) × (n ≤ length (now marks)) ⌝ }
 {
     let mut text = io::buffer();
     let mut at = 0;
     let mut i = 0;
     while i < n {
-        at = put_marked(table, c, query, i, how[i], &mut text, at);
+        at = put_marked(table, c, query, i, marks[i], &mut text, at);
         i += 1;
     }
     say(&text[..at]);
@@ -94,14 +91,24 @@ pub fn like(table: &[u16], c: usize, n: usize, row: usize, r: u32) -> u32
     let mut room = index_room();
     let mut work = workspace();
     let mut how = byte_room();
-    let found = mark_like(table, c, row, r, &mut room, &mut work, &mut how);
+    let mut marks = byte_room();
+    let query = row_of(table, c, row);
+    let found = mark_near(
+        table,
+        c,
+        query,
+        r,
+        &mut room,
+        &mut work,
+        &mut how,
+        &mut marks,
+    );
     let number = found.number;
     if number != 0 {
         say_refused(number);
         return 1;
     }
-    let query = row_of(table, c, row);
-    say_rows(table, c, query, n, &how);
+    say_rows(table, c, query, n, &marks);
     say_found(found.inside, found.measured, n);
     0
 }
@@ -116,10 +123,11 @@ pub fn closest(table: &[u16], c: usize, n: usize, row: usize, wanted: usize) -> 
     let mut how = byte_room();
     let mut rows = answer_room();
     let mut distances = answer_room();
+    let query = row_of(table, c, row);
     let given = find_nearest(
         table,
         c,
-        row,
+        query,
         wanted,
         &mut room,
         &mut work,

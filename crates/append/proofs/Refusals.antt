@@ -7,7 +7,7 @@ use Rattle.limits.proofs.Faults.{fault-first, fault-next, fault-none, numberOf,
 use Rattle.limits.proofs.Sized.{Sized, sized, table-numbered}
 use Rattle.limits.specs.Said.{Said, fault, said, tableFaults}
 use Rattle.measure.specs.Table.{rowsOf}
-use Rattle.tree.specs.Calls.{roomOf}
+use Rattle.build.specs.Numbers.{roomOf}
 use Rattle.words.proofs.Index.{index-tests}
 use Rattle.words.specs.Calls.{indexFaults}
 use Rattle.words.specs.Shape.{shapeOk}

@@ -10,7 +10,7 @@ use Rattle.laws.specs.Every.{Every}
 use Rattle.limits.proofs.Faults.{Early, early-low, early-placeless, numberOf, says-first, says-next}
 use Rattle.limits.specs.Said.{Said, said}
 use Rattle.measure.specs.Table.{between, rowsOf}
-use Rattle.tree.specs.Calls.{saidCheck}
+use Rattle.audit.specs.Numbers.{saidCheck}
 use Rattle.tree.specs.Check.{faults}
 use Rattle.words.specs.Words.{n#}
 use borrow.Author.Tests.{le-leb, lt-leb, ne-eqb}

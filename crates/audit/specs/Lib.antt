@@ -1,3 +1,4 @@
+pub mod Numbers
 pub mod Workspace
 pub mod Refusals
 pub mod Passes

@@ -22,17 +22,18 @@ use Rattle.image.proofs.Small.{write-small, write-whole}
 use Rattle.image.specs.Below.{Below}
 use Rattle.image.specs.Calls.{Writes}
 use Rattle.image.specs.Changed.{Moved}
+use Rattle.items.specs.Fits.{homeBound}
 use Rattle.laws.specs.Lists.{has, last, range, tally, times}
 use Rattle.limits.proofs.Sized.{Sized, sized-of}
 use Rattle.meaning.proofs.Meaning.{accepted-means}
 use Rattle.meaning.specs.Conditions.{Conditions}
 use Rattle.measure.specs.Table.{between, from, row, rowsOf}
 use Rattle.nearest.proofs.Promises.{nearest-counted, nearest-counted-all, nearest-exact as call-exact, nearest-measured, nearest-measured-all, nearest-ranked, nearest-two-tables}
-use Rattle.nearest.specs.Calls.{Answered, Settled}
+use Rattle.nearest.specs.Calls.{Answered}
 use Rattle.nearest.specs.Ranked.{ahead}
-use Rattle.items.specs.Fits.{homeBound}
 use Rattle.radius.proofs.Promises.{radius-call-beyond, radius-call-exact, radius-call-two-tables}
 use Rattle.radius.specs.Calls.{Searched}
+use Rattle.seek.specs.Found.{Settled}
 use Rattle.tree.proofs.Theorems.{one-home}
 use Rattle.tree.specs.Check.{Accepted}
 use Rattle.tree.specs.Grove.{treeOf}
@@ -41,7 +42,7 @@ use Rattle.tree.specs.Nearest.{answers, isMeasured, lastDistance, measured}
 use Rattle.tree.specs.Widen.{widen}
 use Rattle.words.proofs.Listed.{list-only, node-there, part-none, part-pairs}
 use Rattle.words.specs.Calls.{Lists, listed, lists}
-use Rattle.words.specs.Image.{wordAt}
+use Rattle.image.specs.Image.{wordAt}
 use Rattle.words.specs.Shape.{shapeOk}
 use Rattle.words.specs.Words.{c#, edition#, n#, wordsOf}
 use borrow.Author.Tests.{le-leb, lt-leb, ne-eqb}

@@ -7,10 +7,11 @@ use Rattle.bourascul.proofs.Demands.{answers-exact, nearest-exact, radi
 use Rattle.bourascul.proofs.Firsts.{measured-still, same-first}
 use Rattle.bourascul.specs.Recorded.{Recorded}
 use Rattle.measure.specs.Table.{from}
-use Rattle.nearest.proofs.HowBytes.{near-length}
-use Rattle.nearest.specs.Calls.{Answered, Settled}
+use Rattle.nearest.specs.Calls.{Answered}
 use Rattle.radius.proofs.Cases.{radius-call-cases}
 use Rattle.radius.specs.Calls.{Searched}
+use Rattle.seek.proofs.HowBytes.{near-length}
+use Rattle.seek.specs.Found.{Settled}
 use Rattle.tree.specs.Build.{build}
 use Rattle.tree.specs.Cases.{five}
 use Rattle.tree.specs.Grove.{treeOf}

@@ -9,11 +9,13 @@ use Rattle.limits.specs.Said.{said, tableFaults}
 use Rattle.measure.specs.Table.{rowsOf}
 use Rattle.nearest.proofs.Contract.{same-answers}
 use Rattle.nearest.proofs.Refusals as near
-use Rattle.nearest.specs.Calls.{Answered, Settled}
+use Rattle.nearest.specs.Calls.{Answered}
 use Rattle.radius.proofs.Refusals as within-radius
 use Rattle.radius.specs.Calls.{Searched}
+use Rattle.seek.specs.Found.{Settled}
 use Rattle.tree.proofs.Answers.{answers-length}
-use Rattle.tree.specs.Calls.{saidNearest, saidRadius}
+use Rattle.nearest.specs.Numbers.{saidNearest}
+use Rattle.radius.specs.Numbers.{saidRadius}
 use Rattle.tree.specs.Nearest.{answers, lastDistance}
 use Rattle.words.proofs.Headers.{whole-words}
 use Rattle.words.proofs.Index.{none-wrong}

@@ -7,7 +7,7 @@ use Rattle.laws.specs.Upto.{sumTo}
 use Rattle.measure.specs.Distance.{l1}
 use Rattle.measure.specs.Table.{between, rowsOf}
 use Rattle.tree.specs.Build.{build, choose, grow, split}
-use Rattle.tree.specs.Calls.{roomOf, saidBuild}
+use Rattle.build.specs.Numbers.{roomOf, saidBuild}
 use Rattle.tree.specs.Cases.{five, fiveWords}
 use Rattle.tree.specs.Encode.{broods, encode, family, levelNodes, nodes, numbered}
 use Rattle.words.specs.Words.{N#, row#}

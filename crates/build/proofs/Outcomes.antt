@@ -18,7 +18,7 @@ use Rattle.measure.specs.Table.{between, rowsOf}
 use Rattle.split.specs.Places.{nodeAt}
 use Rattle.tree.proofs.Built.{build-accepted}
 use Rattle.tree.specs.Build.{build}
-use Rattle.tree.specs.Calls.{saidBuild}
+use Rattle.build.specs.Numbers.{saidBuild}
 use Rattle.tree.specs.Check.{Accepted}
 use Rattle.tree.specs.Encode.{encode}
 use borrow.Author.Tests.{ne-eqb}

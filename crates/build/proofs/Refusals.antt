@@ -8,7 +8,7 @@ use Rattle.limits.proofs.Sized.{Sized, length-numbered, length-right, sized-of}
 use Rattle.limits.specs.Limits.{columnsOk, shareOk}
 use Rattle.limits.specs.Said.{Said, columnsFault, fault, lengthFaults, said}
 use Rattle.measure.specs.Table.{rowsOf}
-use Rattle.tree.specs.Calls.{roomOf, saidBuild}
+use Rattle.build.specs.Numbers.{roomOf, saidBuild}
 use borrow.Author.Tests.{eqb-true, ltb-false, not-false}
 use lib.Dec.{eqb, ltb}
 use lib.ListN.{length}

@@ -19,7 +19,7 @@ use Rattle.measure.specs.Table.{between, rowsOf}
 use Rattle.split.proofs.Laid.{split-joined}
 use Rattle.tree.proofs.Grow.{split-length, split-runs}
 use Rattle.tree.specs.Build.{Run, build, plant, split}
-use Rattle.tree.specs.Calls.{roomOf, saidBuild}
+use Rattle.build.specs.Numbers.{roomOf, saidBuild}
 use Rattle.tree.specs.Encode.{broods, encode, family, levelNodes, nodes, numbered}
 use Rattle.words.specs.Words.{N#}
 use borrow.Author.Tests.{eqb-true, leb-false}

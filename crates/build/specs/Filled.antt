@@ -8,7 +8,7 @@ use Rattle.limits.specs.Limits.{maxDepth}
 use Rattle.measure.specs.Table.{between}
 use Rattle.split.specs.Runs.{laid}
 use Rattle.tree.specs.Build.{plant}
-use Rattle.tree.specs.Calls.{roomOf}
+use Rattle.build.specs.Numbers.{roomOf}
 use Rattle.tree.specs.Encode.{encode, numbered, pairWords}
 use Rattle.tree.specs.Grove.{entries}
 use lib.Dec.{ltb}

@@ -9,7 +9,7 @@ use Rattle.image.specs.Sound.{restZero}
 use Rattle.limits.specs.Said.{fault, said}
 use Rattle.words.proofs.Headers.{good-whole}
 use Rattle.words.proofs.InShape.{whole}
-use Rattle.words.specs.Image.{blocksFor, imageFaults, imageTotal, imageWord, imageWords}
+use Rattle.image.specs.Image.{blocksFor, imageFaults, imageTotal, imageWord, imageWords}
 use Rattle.words.specs.Words.{at, cardOk, wordsOf, wholeOk}
 use borrow.Author.Tests.{eqb-true, le-leb}
 use lib.Dec.{eqb}

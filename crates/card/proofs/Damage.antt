@@ -10,7 +10,7 @@ use Rattle.image.specs.Below.{Below}
 use Rattle.image.specs.Changed.{Changed, Moved}
 use Rattle.limits.proofs.Sized.{Sized}
 use Rattle.limits.specs.Said.{Said, said}
-use Rattle.words.specs.Image.{blockGood, imageFaults}
+use Rattle.image.specs.Image.{blockGood, imageFaults}
 use Rattle.words.specs.Words.{at}
 use lib.ListN.{length, set}
 use mathlib.Core.Bool.{false, true}

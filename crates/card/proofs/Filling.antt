@@ -7,7 +7,7 @@ use Rattle.card.specs.Parts.{topOf, wideLong, withWide}
 use Rattle.measure.specs.Table.{between}
 use Rattle.tree.specs.Widen.{widen}
 use Rattle.words.proofs.Strides.{header-in}
-use Rattle.words.specs.Image.{imageTotal, imageWord, imageWords}
+use Rattle.image.specs.Image.{imageTotal, imageWord, imageWords}
 use Rattle.words.specs.Words.{N#, at, edition#, n#, width}
 use borrow.Author.Tests.{eq-eqb, ne-eqb}
 use lib.Dec.{eqb, lit<}

@@ -14,7 +14,7 @@ use Rattle.limits.proofs.Faults.{Early, early-numbered, early-placeless, fault-
 use Rattle.limits.proofs.Sized.{Sized, sized, sized-none, table-early, table-numbered}
 use Rattle.limits.specs.Said.{Said, fault, said, tableFaults}
 use Rattle.measure.specs.Table.{rowsOf}
-use Rattle.words.specs.Image.{imageFaults}
+use Rattle.image.specs.Image.{imageFaults}
 use Rattle.words.specs.Shape.{shapeOk}
 use Rattle.words.specs.Words.{c#, n#}
 use borrow.Author.Tests.{eq-eqb, eqb-false, eqb-true, le-ltb, lt-ltb, ltb-false, ne-eqb, not-false}

@@ -15,7 +15,7 @@ use Rattle.tree.proofs.Alike.{Alike, shape-alike}
 use Rattle.words.proofs.Headers.{words-whole}
 use Rattle.words.proofs.InShape.{in-shape, whole}
 use Rattle.words.proofs.Strides.{stride}
-use Rattle.words.specs.Image.{image}
+use Rattle.image.specs.Image.{image}
 use Rattle.words.specs.InShape.{Whole}
 use Rattle.words.specs.Shape.{shapeOk}
 use Rattle.words.specs.Words.{N#, at, c#, edition#, inner#, kept, n#, nodeAt, pairAt, width, wordsOf, wordsOk}

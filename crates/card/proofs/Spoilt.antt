@@ -11,7 +11,7 @@ use Rattle.image.specs.Calls.{Writes}
 use Rattle.image.specs.Changed.{Changed, Moved, blockWord}
 use Rattle.limits.proofs.Sized.{Sized}
 use Rattle.limits.specs.Said.{Said}
-use Rattle.words.specs.Image.{blockGood, wordAt}
+use Rattle.image.specs.Image.{blockGood, wordAt}
 use lib.ListN.{length, take}
 use mathlib.Core.Bool.{true}
 use mathlib.Core.List.{List}

@@ -6,7 +6,7 @@ use Rattle.image.proofs.InBlocks.{block-word, inside-block}
 use Rattle.laws.proofs.Upto.{most-next, most-none}
 use Rattle.words.proofs.Positions.{dist-word, row-word}
 use Rattle.words.proofs.Strides.{words-few}
-use Rattle.words.specs.Image.{wordAt}
+use Rattle.image.specs.Image.{wordAt}
 use Rattle.words.specs.Words.{dist#, n#, pairAt, row#}
 use lib.ListN.{length}
 use mathlib.Core.List.{List}

@@ -4,7 +4,7 @@ use Rattle.card.specs.Cards.{cardWords}
 use Rattle.limits.specs.Said.{Said, fault, said, tableFaults}
 use Rattle.measure.specs.Table.{between, rowsOf}
 use Rattle.tree.specs.Widen.{widen}
-use Rattle.words.specs.Image.{imageFaults}
+use Rattle.image.specs.Image.{imageFaults}
 use Rattle.words.specs.Shape.{shapeOk}
 use Rattle.words.specs.Words.{N#, c#, edition#, headerWords, n#, width}
 use lib.Dec.{eqb, ltb}

@@ -1,7 +1,7 @@
 -- An index on a card, in the bytes of its image: 02, R-11. Assumes nothing.
 use Prim.Native.Nat.{_*_, _+_, _/_, _≤_, ℕ}
 use Rattle.laws.specs.Upto.{mostTo}
-use Rattle.words.specs.Image.{blocksFor, imageTotal, imageWords}
+use Rattle.image.specs.Image.{blocksFor, imageTotal, imageWords}
 use Rattle.words.specs.InShape.{Whole}
 use Rattle.words.specs.Words.{cardOk, dist#, headerWords, n#, pairAt, row#}
 use lib.ListN.{length}

@@ -9,7 +9,7 @@ use Rattle.measure.specs.Distance.{l1}
 use Rattle.measure.specs.Table.{between}
 use Rattle.tree.specs.Cases.{five, fiveWords, oldWords}
 use Rattle.tree.specs.Widen.{widen}
-use Rattle.words.specs.Image.{block, blockGood, blocks, blocksFor, bytes, checkFrom, checkWord, image, imageFaults, imageTotal, imageWord, imageWords, rotate, step, window, wordAt, wordsAt}
+use Rattle.image.specs.Image.{block, blockGood, blocks, blocksFor, bytes, checkFrom, checkWord, image, imageFaults, imageTotal, imageWord, imageWords, rotate, step, window, wordAt, wordsAt}
 use Rattle.words.specs.Shape.{born, level, nodeOk, shapeOk, tile}
 use Rattle.words.specs.Words.{cardOk}
 use lib.Dec.{eqb}

@@ -1,27 +1,24 @@
 -- What a search finds over the index that the build has just written, which the full check accepts. Assumes nothing.
-use Prim.Native.Nat.{_<_, _≤_, min, ℕ}
+use Prim.Native.Nat.{_≤_, min, ℕ}
 use Rattle.build.specs.Calls.{Builds}
-use Rattle.finder.specs.Answers.{Alike, Closest}
-use Rattle.measure.specs.Table.{between, from, row, rowsOf}
+use Rattle.finder.specs.Answers.{Closest}
+use Rattle.measure.specs.Table.{between, from, rowsOf}
 use Rattle.nearest.proofs.Contract.{same-answers}
 use Rattle.nearest.proofs.Promises.{nearest-exact}
 use Rattle.nearest.proofs.Refusals.{clear, fits}
-use Rattle.nearest.specs.Calls.{Answered, Lent, Settled}
-use Rattle.radius.proofs.Promises.{radius-call-exact}
-use Rattle.radius.proofs.Refusals as within-radius
-use Rattle.radius.specs.Calls.{Searched}
+use Rattle.nearest.specs.Calls.{Answered}
+use Rattle.seek.specs.Found.{Lent, Settled}
 use Rattle.tree.proofs.Answers.{answers-length}
 use Rattle.tree.specs.Build.{build}
 use Rattle.tree.specs.Check.{Accepted}
 use Rattle.tree.specs.Nearest.{answers}
 use Rattle.words.specs.Words.{n#}
 use lib.Dec.{eqb}
-use lib.ListN.{drop, getD, length, length-append, length-map, take}
+use lib.ListN.{drop, length, length-append, length-map, take}
 use lib.Seq.{take-at}
 use mathlib.Core.Bool.{cond}
 use mathlib.Core.List.{List, _++_, map}
-use mathlib.Core.Logic.{_↔_}
-use mathlib.Core.Path.{_∙_, _≡_, ap, refl, subst, sym}
+use mathlib.Core.Path.{_∙_, _≡_, ap, refl, sym}
 use native.Mathlib.Omega.{arith}
 
 -- the words that the build counts stand in the room
@@ -33,61 +30,48 @@ words-there {t} {c} {e} {m} {l} {room} {words = words} b z =
     let there = b .index ∙ ap (λ (x : ℕ). cond (eqb x 0) (w ++ drop (length w) room) room) z in
     omega (arith, simp length-append at (ap length there))
 
--- how far the rows are from row i as a query is how far they are from it
-row-query : (t : List ℕ) (c i : ℕ) → from t c (row t c i) ≡ between t c i
-unfolding from between
-row-query t c i = refl
-
--- ---- the two questions, over an accepted index w
-module _ {t : List ℕ} {c : ℕ} (i : ℕ) {w : List ℕ} (a : Accepted (between t c) w) where
-  -- the radius search marks exactly the rows within r
-  pub marked-exact : {before after : List ℕ} {r number in# met : ℕ} → Searched t c w (row t c i) r before after number in# met → number ≡ 0
-      → Alike t c i r after
-  marked-exact {before} {after} {r} x z j h =
-      let rows = within-radius.clear t c w (row t c i) (length before) (sym (x .said) ∙ z) .index .rows in
-      subst (λ (d : ℕ → ℕ). (2 ≤ getD after j 0) ↔ (d j ≤ r)) (row-query t c i)
-      (radius-call-exact x z a j (subst (λ (n : ℕ). j < n) (sym rows) h))
-
+-- ---- over an accepted index w
+module _ {t : List ℕ} {c : ℕ} (q : List ℕ) {w : List ℕ} (a : Accepted (between t c) w) where
   -- a nearest search that is not refused
   module _ {rs rs′ ds ds′ how how′ work work′ : List ℕ} {wanted number given met : ℕ}
-      (x : Answered t c w (row t c i) wanted (min (length rs) (length ds)) rs rs′ ds ds′ how how′ work work′ number given met) (z : number ≡ 0) where
+      (x : Answered t c w q wanted (min (length rs) (length ds)) rs rs′ ds ds′ how how′ work work′ number given met) (z : number ≡ 0) where
     -- settles its answers
-    settled : Settled (between t c i) w wanted rs rs′ ds ds′ how how′ given
-    settled = subst (λ (d : ℕ → ℕ). Settled d w wanted rs rs′ ds ds′ how how′ given) (row-query t c i) (nearest-exact x z a)
+    settled : Settled (from t c q) w wanted rs rs′ ds ds′ how how′ given
+    settled = nearest-exact x z a
 
     -- was lent room enough for them
-    lent : Lent t c w (row t c i) (min wanted (n# w)) rs ds how work
+    lent : Lent t c w q (min wanted (n# w)) rs ds how work
     lent =
-        fits t c w (row t c i) wanted (min (length rs) (length ds)) rs ds how work (omega arith, omega arith) (min wanted (n# w)) refl
+        fits t c w q wanted (min (length rs) (length ds)) rs ds how work (omega arith, omega arith) (min wanted (n# w)) refl
         (sym (x .said) ∙ z)
 
     -- and has as many rows in its index as in its table
     rows-are : n# w ≡ rowsOf t c
-    rows-are = clear t c w (row t c i) wanted (min (length rs) (length ds)) (length how) (length work) (sym (x .said) ∙ z) .index .rows
+    rows-are = clear t c w q wanted (min (length rs) (length ds)) (length how) (length work) (sym (x .said) ∙ z) .index .rows
 
     -- its rows, or its distances, are min(wanted, n)
-    part-length : (f : ℕ × ℕ → ℕ) → length (map f (answers (between t c i) (n# w) wanted)) ≡ min wanted (n# w)
+    part-length : (f : ℕ × ℕ → ℕ) → length (map f (answers (from t c q) (n# w) wanted)) ≡ min wanted (n# w)
     part-length f =
-        length-map (answers (between t c i) (n# w) wanted) f
-        ∙ ap length (sym (same-answers (between t c i) (n# w) wanted (min wanted (n# w)) refl))
-        ∙ answers-length (between t c i) (n# w) (min wanted (n# w)) (omega arith)
+        length-map (answers (from t c q) (n# w) wanted) f
+        ∙ ap length (sym (same-answers (from t c q) (n# w) wanted (min wanted (n# w)) refl))
+        ∙ answers-length (from t c q) (n# w) (min wanted (n# w)) (omega arith)
 
     -- and stand at the front of their room
-    first-part : (f : ℕ × ℕ → ℕ) (xs xs′ : List ℕ) → xs′ ≡ map f (answers (between t c i) (n# w) wanted) ++ drop (min wanted (n# w)) xs
-        → take given xs′ ≡ map f (answers (between t c i) (rowsOf t c) wanted)
+    first-part : (f : ℕ × ℕ → ℕ) (xs xs′ : List ℕ) → xs′ ≡ map f (answers (from t c q) (n# w) wanted) ++ drop (min wanted (n# w)) xs
+        → take given xs′ ≡ map f (answers (from t c q) (rowsOf t c) wanted)
     first-part f xs xs′ e =
         rw (settled .count, e)
-        (take-at (map f (answers (between t c i) (n# w) wanted)) (drop (min wanted (n# w)) xs) (min wanted (n# w)) (part-length f)
-        ∙ ap (λ (k : ℕ). map f (answers (between t c i) k wanted)) rows-are)
+        (take-at (map f (answers (from t c q) (n# w) wanted)) (drop (min wanted (n# w)) xs) (min wanted (n# w)) (part-length f)
+        ∙ ap (λ (k : ℕ). map f (answers (from t c q) k wanted)) rows-are)
 
     -- which is as long as it was
-    same-long : (f : ℕ × ℕ → ℕ) (xs xs′ : List ℕ) → xs′ ≡ map f (answers (between t c i) (n# w) wanted) ++ drop (min wanted (n# w)) xs
+    same-long : (f : ℕ × ℕ → ℕ) (xs xs′ : List ℕ) → xs′ ≡ map f (answers (from t c q) (n# w) wanted) ++ drop (min wanted (n# w)) xs
         → min wanted (n# w) ≤ length xs → min wanted (n# w) ≤ length xs′
     same-long f xs xs′ e h =
         omega (arith, part-length f, simp length-append at (ap length e))
 
     -- the nearest search gives the nearest rows
-    pub nearest-given : Closest t c i wanted rs′ ds′ given
+    pub nearest-given : Closest t c q wanted rs′ ds′ given
     nearest-given =
         record {
           few = (

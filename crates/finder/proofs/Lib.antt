@@ -1,5 +1,7 @@
-pub mod Asked
+pub mod Firsts
+pub mod Joining
+pub mod Searches
+pub mod Why
 pub mod Indexed
 pub mod Outcomes
-pub mod Low
 pub mod Theorems

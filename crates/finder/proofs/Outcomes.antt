@@ -1,101 +1,153 @@
--- The calls' outcomes: a row that is not there, a build that is refused, and a search. Assumes nothing.
-use Prim.Native.Nat.{_≤_, min, ℕ}
+-- The calls' outcomes: a build that is refused, queries that are not right, and searches. Assumes nothing.
+use Prim.Native.Nat.{_*_, _≤_, min, ℕ}
+use Rattle.buffers.specs.Wiped.{wiped}
+use Rattle.build.proofs.Theorems.{build-headed}
 use Rattle.build.specs.Calls.{Builds}
-use Rattle.finder.specs.Calls.{Finds, FindsBuilt, Marks, MarksBuilt, Missing, There, centres, leafRows, noRow}
-use Rattle.measure.specs.Table.{row}
+use Rattle.finder.proofs.Why.{asked-well}
+use Rattle.finder.specs.Calls.{Finds, Near, centres, leafRows}
+use Rattle.finder.specs.Near.{Asked, Fit, firstOf, markOf, saidNear}
+use Rattle.limits.proofs.Sized.{Sized}
+use Rattle.measure.specs.Table.{rowsOf}
 use Rattle.nearest.specs.Calls.{Answered}
-use Rattle.radius.specs.Calls.{Searched}
-use borrow.Author.Tests.{leb-false, leb-true}
-use lib.Dec.{leb}
-use lib.ListN.{length, take}
-use mathlib.Core.Bool.{false, true}
-use mathlib.Core.List.{List}
-use mathlib.Core.Path.{_∙_, _≡_, refl, subst}
+use Rattle.words.proofs.InShape.{in-shape}
+use Rattle.words.specs.Words.{n#}
+use lib.ListN.{drop, length, length-append, length-drop, length-replicate, replicate, take}
+use lib.Seq.{drop-at}
+use mathlib.Core.List.{List, _++_}
+use mathlib.Core.Path.{_∙_, _≡_, ap, refl, subst, sym}
 use native.Mathlib.Omega.{arith}
 
+-- ---- a wiped buffer
+-- what is behind is as it was
+wiped-behind : (n : ℕ) (xs : List ℕ) → drop n (wiped n xs) ≡ drop n xs
+wiped-behind n xs = drop-at (replicate n 0) (drop n xs) n (length-replicate n 0)
+
+-- wiped again it is the same
+wiped-again : (n : ℕ) (xs : List ℕ) → wiped n xs ≡ wiped n (wiped n xs)
+wiped-again n xs = ap (λ (x : List ℕ). replicate n 0 ++ x) (sym (wiped-behind n xs))
+
+-- and as long as before
+wiped-long : (n : ℕ) (xs : List ℕ) → n ≤ length xs → length (wiped n xs) ≡ length xs
+wiped-long n xs h = length-append (replicate n 0) (drop n xs) ∙ omega (arith, length-replicate {A = ℕ} n 0, length-drop n xs)
+
+-- a table that was built over is right
+pub built-sized : {t : List ℕ} {c : ℕ} {room work room′ work′ : List ℕ} {made words nodes : ℕ}
+    → Builds t c 2 centres leafRows room work room′ work′ made words nodes → made ≡ 0 → Sized (length t) c
+built-sized {t} {c} {room} {work} b z = build-headed t c 2 centres leafRows room work b z .0
+
 -- ---- marking
-module _ {t : List ℕ} {c i r : ℕ} {room work how : List ℕ} {number in# met : ℕ} where
-  -- there is no such row
-  pub marks-missing : Missing t c i → (number ≡ noRow) × (in# ≡ 0) × (met ≡ 0) → Marks t c i r room room work work how how number in# met
-  marks-missing h e =
-      record { missing = λ m. (e .0, e .1, e .2, refl, refl, refl); there = λ l. absurd (omega arith) }
+-- what the searches are lent
+pub near-fit : {t : List ℕ} {c : ℕ} {qs room work how : List ℕ} (marks : List ℕ) {room′ work′ marks₁ : List ℕ} {made words nodes why : ℕ}
+    → Builds t c 2 centres leafRows room work room′ work′ made words nodes → made ≡ 0
+    → why ≡ saidNear (rowsOf t c) c (length qs) (length how) (length marks) → why ≡ 0 → marks₁ ≡ wiped (rowsOf t c) marks
+    → Fit (take words room′) t c qs how marks₁
+near-fit {t} {c} {qs} {room} {work} {how} marks {room′} {work′} {marks₁} {made} {words} b z s y e =
+    let h = build-headed t c 2 centres leafRows room work b z in
+    let a = asked-well (rowsOf t c) c (length qs) (length how) (length marks) (sym s ∙ y) in
+    let w : n# (take words room′) ≡ rowsOf t c = h .1 in
+    record {
+      tested =
+          record {
+            shape = in-shape (take words room′) (b .accepted z .words) (b .accepted z .shape);
+            edition = h .4;
+            table = omega (arith, ap (λ (x : ℕ). c * x) w, h .0 .inside);
+            columns = h .0 .few;
+          };
+      some = h .0 .some;
+      queries = a .3;
+      bytes = omega (arith, a .0);
+      room = omega (arith, a .1, ap length e, wiped-long (rowsOf t c) marks (a .1));
+      zeros = subst (λ (n : ℕ). marks₁ ≡ wiped n marks₁) (sym w) (e ∙ wiped-again (rowsOf t c) marks ∙ ap (wiped (rowsOf t c)) (sym e));
+    }
 
-  module _ (l : There t c i) where
-    -- there is, and this came of it
-    pub marks-there : {room′ work′ how′ : List ℕ} → MarksBuilt t c i r room room′ work work′ how how′ number in# met
-        → Marks t c i r room room′ work work′ how how′ number in# met
-    marks-there b = record { missing = λ m. absurd (omega arith); there = λ k. b }
+module _ {t : List ℕ} {c : ℕ} {qs : List ℕ} {r : ℕ} {room work how marks room′ work′ : List ℕ} {made words nodes : ℕ}
+    (b : Builds t c 2 centres leafRows room work room′ work′ made words nodes) where
+  -- the build was refused
+  pub near-unbuilt : {number in# met : ℕ} → (made ≡ 0 → ⊥) → (number ≡ made) × (in# ≡ 0) × (met ≡ 0)
+      → Near t c qs r room room′ work work′ how how marks marks number in# met
+  near-unbuilt k e =
+      record {
+        made = made;
+        words = words;
+        nodes = nodes;
+        built = b;
+        unbuilt = λ n. e .0;
+        said = λ z. absurd (k z);
+        refused = λ n. (e .1, e .2, refl, refl);
+        asked = λ z. absurd (k (sym (e .0) ∙ z));
+      }
 
-    module _ {room′ work′ : List ℕ} {made words nodes : ℕ} (b : Builds t c 2 centres leafRows room work room′ work′ made words nodes) where
-      -- the build was refused
-      pub marks-unbuilt : (made ≡ 0 → ⊥) → (number ≡ made) × (in# ≡ 0) × (met ≡ 0) → Marks t c i r room room′ work work′ how how number in# met
-      marks-unbuilt k e =
-          marks-there (record {
+  module _ (z : made ≡ 0) where
+    module _ {why : ℕ} (s : why ≡ saidNear (rowsOf t c) c (length qs) (length how) (length marks)) where
+      -- rooms too short, or queries that are not right
+      pub near-refused : {number in# met : ℕ} → (why ≡ 0 → ⊥) → (number ≡ why) × (in# ≡ 0) × (met ≡ 0)
+          → Near t c qs r room room′ work work′ how how marks marks number in# met
+      near-refused k e =
+          record {
             made = made;
             words = words;
             nodes = nodes;
             built = b;
-            refused = λ n. (e .0, e .1, e .2, refl);
-            searched = λ z. absurd (k z);
-          })
+            unbuilt = λ n. absurd (n z);
+            said = λ y. e .0 ∙ s;
+            refused = λ n. (e .1, e .2, refl, refl);
+            asked = λ y. absurd (k (sym (e .0) ∙ y));
+          }
 
-      -- what it wrote was searched
-      pub marks-searched : {q how′ : List ℕ} → made ≡ 0 → q ≡ row t c i → Searched t c (take words room′) q r how how′ number in# met
-          → Marks t c i r room room′ work work′ how how′ number in# met
-      marks-searched {how′ = how′} z e s =
-          marks-there (record {
-            made = made;
-            words = words;
-            nodes = nodes;
-            built = b;
-            refused = λ n. absurd (n z);
-            searched = λ y. subst (λ (q : List ℕ). Searched t c (take words room′) q r how how′ number in# met) e s;
-          })
+      module _ (y : why ≡ 0) where
+        -- every query was searched for
+        pub near-asked : {how′ marks₁ marks′ : List ℕ} {number in# met : ℕ} → marks₁ ≡ wiped (rowsOf t c) marks
+            → (number ≡ 0) × Asked t c (take words room′) qs r (rowsOf qs c) how how′ marks₁ marks′ in# met
+            → Near t c qs r room room′ work work′ how how′ marks marks′ number in# met
+        near-asked {marks₁ = marks₁} e f =
+            let w : n# (take words room′) ≡ rowsOf t c = build-headed t c 2 centres leafRows room work b z .1 in
+            let d : drop (n# (take words room′)) marks₁ ≡ drop (n# (take words room′)) marks
+            = ap (drop (n# (take words room′))) (e ∙ ap (λ (n : ℕ). wiped n marks) (sym w)) ∙ wiped-behind (n# (take words room′)) marks in
+            record {
+              made = made;
+              words = words;
+              nodes = nodes;
+              built = b;
+              unbuilt = λ n. absurd (n z);
+              said = λ x. f .0 ∙ sym y ∙ s;
+              refused = λ n. absurd (n (f .0));
+              asked = λ x.
+                  record {
+                    bytes = f .1 .bytes;
+                    marked = f .1 .marked ∙ ap (λ (x : List ℕ). firstOf (markOf t c (take words room′) qs r (rowsOf qs c)) (n# (take words room′)) ++ x) d;
+                    inside = f .1 .inside;
+                    measures = f .1 .measures;
+                  };
+            }
 
 -- ---- finding
-module _ {t : List ℕ} {c i w : ℕ} {room work how rs ds : List ℕ} {number given met : ℕ} where
-  -- there is no such row
-  pub finds-missing : Missing t c i → (number ≡ noRow) × (given ≡ 0) × (met ≡ 0)
-      → Finds t c i w room room work work how how rs rs ds ds number given met
-  finds-missing h e =
-      record { missing = λ m. (e .0, e .1, e .2, refl, refl, refl, refl, refl); there = λ l. absurd (omega arith) }
+module _ {t : List ℕ} {c : ℕ} {q : List ℕ} {w : ℕ} {room work how rs ds room′ cleared : List ℕ} {made words nodes : ℕ}
+    (b : Builds t c 2 centres leafRows room work room′ cleared made words nodes) {number given met : ℕ} where
+  -- the build was refused
+  pub finds-unbuilt : (made ≡ 0 → ⊥) → (number ≡ made) × (given ≡ 0) × (met ≡ 0)
+      → Finds t c q w room room′ work cleared how how rs rs ds ds number given met
+  finds-unbuilt k e =
+      record {
+        made = made;
+        words = words;
+        nodes = nodes;
+        cleared = cleared;
+        built = b;
+        refused = λ n. (e .0, e .1, e .2, refl, refl, refl, refl);
+        answered = λ z. absurd (k z);
+      }
 
-  module _ (l : There t c i) where
-    -- there is, and this came of it
-    pub finds-there : {room′ work′ how′ rs′ ds′ : List ℕ} → FindsBuilt t c i w room room′ work work′ how how′ rs rs′ ds ds′ number given met
-        → Finds t c i w room room′ work work′ how how′ rs rs′ ds ds′ number given met
-    finds-there b = record { missing = λ m. absurd (omega arith); there = λ k. b }
-
-    module _ {room′ cleared : List ℕ} {made words nodes : ℕ} (b : Builds t c 2 centres leafRows room work room′ cleared made words nodes) where
-      -- the build was refused
-      pub finds-unbuilt : (made ≡ 0 → ⊥) → (number ≡ made) × (given ≡ 0) × (met ≡ 0)
-          → Finds t c i w room room′ work cleared how how rs rs ds ds number given met
-      finds-unbuilt k e =
-          finds-there (record {
-            made = made;
-            words = words;
-            nodes = nodes;
-            cleared = cleared;
-            built = b;
-            refused = λ n. (e .0, e .1, e .2, refl, refl, refl, refl);
-            answered = λ z. absurd (k z);
-          })
-
-      -- what it wrote was searched
-      pub finds-answered : {q work′ how′ rs′ ds′ : List ℕ} → made ≡ 0 → q ≡ row t c i
-          → Answered t c (take words room′) q w (min (length rs) (length ds)) rs rs′ ds ds′ how how′ cleared work′ number given met
-          → Finds t c i w room room′ work work′ how how′ rs rs′ ds ds′ number given met
-      finds-answered {work′ = work′} {how′} {rs′} {ds′} z e s =
-          finds-there (record {
-            made = made;
-            words = words;
-            nodes = nodes;
-            cleared = cleared;
-            built = b;
-            refused = λ n. absurd (n z);
-            answered = λ y.
-                subst
-                (λ (q : List ℕ).
-                Answered t c (take words room′) q w (min (length rs) (length ds)) rs rs′ ds ds′ how how′ cleared work′ number given met)
-                e s;
-          })
+  -- what it wrote was searched
+  pub finds-answered : {work′ how′ rs′ ds′ : List ℕ} → made ≡ 0
+      → Answered t c (take words room′) q w (min (length rs) (length ds)) rs rs′ ds ds′ how how′ cleared work′ number given met
+      → Finds t c q w room room′ work work′ how how′ rs rs′ ds ds′ number given met
+  finds-answered z s =
+      record {
+        made = made;
+        words = words;
+        nodes = nodes;
+        cleared = cleared;
+        built = b;
+        refused = λ n. absurd (n z);
+        answered = λ y. s;
+      }

@@ -1,210 +1,226 @@
--- The theorems on the two calls: no second outcome fits, `noRow` is given exactly where there is no such row, and 0 is exact. Assumes nothing.
-use Prim.Native.Nat.{_*_, _+_, _<_, _≤_, min, ℕ}
-use Rattle.build.proofs.Small.{build-low}
-use Rattle.build.proofs.Theorems.{build-only}
-use Rattle.finder.proofs.Indexed.{marked-exact, nearest-given}
-use Rattle.finder.proofs.Low.{nearest-low, radius-low}
-use Rattle.finder.specs.Answers.{Alike, Closest}
-use Rattle.finder.specs.Calls.{Finds, FindsBuilt, Marks, MarksBuilt, Missing, There, centres, leafRows, noRow}
-use Rattle.measure.specs.Table.{between, row}
+-- The theorems on the two calls: no second outcome fits, and 0 is exact. Assumes nothing.
+use Prim.Native.Nat.{_<_, _≤_, min, suc, zero, ℕ}
+use Rattle.build.proofs.Theorems.{build-headed, build-only}
+use Rattle.finder.proofs.Firsts.{first-at}
+use Rattle.finder.proofs.Indexed.{nearest-given}
+use Rattle.finder.specs.Answers.{Alike, Closest, Within}
+use Rattle.finder.specs.Calls.{Finds, Near, centres, leafRows}
+use Rattle.finder.specs.Near.{Asked, firstOf, hasIn, howAfter, howOf, markOf, measuredBy, someTo}
+use Rattle.laws.proofs.Tests.{or-l, or-r}
+use Rattle.laws.specs.Upto.{sumTo}
+use Rattle.measure.proofs.Metric.{query-point}
+use Rattle.measure.specs.Table.{between, from, row, rowsOf}
 use Rattle.nearest.proofs.Promises.{nearest-only}
 use Rattle.nearest.proofs.Refusals.{clear}
 use Rattle.nearest.specs.Calls.{Answered}
-use Rattle.radius.proofs.Promises.{radius-only}
-use Rattle.radius.specs.Calls.{Searched}
+use Rattle.radius.proofs.How.{bytes-are}
 use Rattle.tree.proofs.Accepted.{once-of}
-use lib.ListN.{length, take}
-use mathlib.Core.List.{List}
+use Rattle.tree.proofs.Theorems.{radius-exact}
+use Rattle.tree.specs.Check.{Accepted}
+use Rattle.words.proofs.InShape.{in-shape}
+use Rattle.words.specs.Words.{n#}
+use borrow.Author.Tests.{le-leb, leb-true}
+use lib.Dec.{T}
+use lib.ListN.{drop, getD, length, take}
+use mathlib.Core.Bool.{Bool, _||_, cond, false, true}
+use mathlib.Core.List.{List, _++_}
 use mathlib.Core.Logic.{_↔_}
-use mathlib.Core.Path.{_∙_, _≡_, ap₂, refl, subst, sym}
-use native.Mathlib.Decide.{decLe, ℕ-discrete}
+use mathlib.Core.Path.{_∙_, _≡_, ap, ap₂, refl, subst, sym}
+use native.Mathlib.Decide.{ℕ-discrete}
 use native.Mathlib.Omega.{arith}
 
+-- ---- f j for some j below k
+-- there is such a j
+record Some (f : ℕ → Bool) (k : ℕ) : Type 0 where
+  pub which : ℕ
+  pub below : which < k
+  pub passes : f which ≡ true
+
+-- where the test says so
+some-yes : (f : ℕ → Bool) (k : ℕ) → someTo f k ≡ true → Some f k
+unfolding someTo
+some-yes f zero e = absurd (subst T (sym e) tt)
+some-yes f (suc k) e = go (someTo f k) refl e (some-yes f k)
+  where
+    go : (a : Bool) → someTo f k ≡ a → (a || f k) ≡ true → (someTo f k ≡ true → Some f k) → Some f (suc k)
+    go true p e ih =
+        let s = ih p in
+        record { which = s .which; below = omega (arith, s .below); passes = s .passes }
+    go false p e ih = record { which = k; below = omega arith; passes = e }
+
+-- and wherever there is one
+some-of : (f : ℕ → Bool) (k j : ℕ) → j < k → f j ≡ true → someTo f k ≡ true
+unfolding someTo
+some-of f zero j h e = absurd (omega arith)
+some-of f (suc k) j h e = go (ℕ-discrete j k) (some-of f k j)
+  where
+    go : Dec (j ≡ k) → (j < k → f j ≡ true → someTo f k ≡ true) → (someTo f k || f k) ≡ true
+    go (yes q) ih = or-r (someTo f k) (f k) (ap f (sym q) ∙ e)
+    go (no q) ih = or-l (someTo f k) (f k) (ih (omega arith) e)
+
 -- ---- marking
-module _ {t : List ℕ} {c i r : ℕ} {room room′ work work′ how how′ : List ℕ} {number in# met : ℕ} where
-  -- a row that is there is refused by one of the library's numbers, if at all
-  marks-low : MarksBuilt t c i r room room′ work work′ how how′ number in# met → number ≤ 9
-  marks-low b = go (ℕ-discrete (b .made) 0)
-    where
-      go : Dec (b .made ≡ 0) → number ≤ 9
-      go (yes z) = omega (arith, b .searched z .said, radius-low t c (take (b .words) room′) (row t c i) (length how))
-      go (no k) = omega (arith, b .refused k .0, build-low (b .built))
+-- over an accepted index w a mark says that a query is within r
+module _ (t : List ℕ) (c : ℕ) (w qs : List ℕ) (r : ℕ) (A : Accepted (between t c) w) where
+  -- the search for query j has row i in exactly if it is within r
+  in-exact : (j i : ℕ) → i < n# w → (2 ≤ getD (howOf t c w qs r j) i 0) ↔ (from t c (row qs c j) i ≤ r)
+  unfolding howOf
+  in-exact j i h =
+      subst (λ (l : List ℕ). (2 ≤ getD l i 0) ↔ (from t c (row qs c j) i ≤ r))
+      (sym (bytes-are (from t c (row qs c j)) r w (in-shape w (A .words) (A .shape)) (once-of (between t c) w A)))
+      (radius-exact (between t c) w A (from t c (row qs c j)) (query-point t c (row qs c j)) r i h)
 
+  -- so has the mark of k searches
+  mark-exact : (k i : ℕ) → i < n# w → (markOf t c w qs r k i ≡ 1) ↔ Within t c qs r k i
+  unfolding markOf
+  mark-exact k i h = (λ e. near (someTo (hasIn t c w qs r i) k) refl e, λ x. marked x)
+    where
+      near : (b : Bool) → someTo (hasIn t c w qs r i) k ≡ b → cond {A = ℕ} b 1 0 ≡ 1 → Within t c qs r k i
+      near true p e =
+          let s = some-yes (hasIn t c w qs r i) k p in
+          record { query = s .which; there = s .below; near = in-exact (s .which) i h .0 (leb-true 2 (getD (howOf t c w qs r (s .which)) i 0) (s .passes)) }
+      near false p e = absurd (omega arith)
+
+      marked : Within t c qs r k i → cond {A = ℕ} (someTo (hasIn t c w qs r i) k) 1 0 ≡ 1
+      marked x =
+          rw (some-of (hasIn t c w qs r i) k (x .query) (x .there) (le-leb 2 (getD (howOf t c w qs r (x .query)) i 0) (in-exact (x .query) i h .1 (x .near))))
+          refl
+
+  -- a mark is 0 or 1
+  mark-small : (k i : ℕ) → markOf t c w qs r k i ≤ 1
+  unfolding markOf
+  mark-small k i = go (someTo (hasIn t c w qs r i) k)
+    where
+      go : (b : Bool) → cond {A = ℕ} b 1 0 ≤ 1
+      go true = omega arith
+      go false = omega arith
+
+module _ {t : List ℕ} {c : ℕ} {qs : List ℕ} {r : ℕ} {room room′ work work′ how how′ marks marks′ : List ℕ} {number in# met : ℕ}
+    (x : Near t c qs r room room′ work work′ how how′ marks marks′ number in# met) where
   -- where it is not refused, the build was not
-  marks-made : (b : MarksBuilt t c i r room room′ work work′ how how′ number in# met) → number ≡ 0 → b .made ≡ 0
-  marks-made b z = go (ℕ-discrete (b .made) 0)
+  near-made : number ≡ 0 → x .made ≡ 0
+  near-made z = go (ℕ-discrete (x .made) 0)
     where
-      go : Dec (b .made ≡ 0) → b .made ≡ 0
+      go : Dec (x .made ≡ 0) → x .made ≡ 0
       go (yes y) = y
-      go (no k) = sym (b .refused k .0) ∙ z
+      go (no k) = sym (x .unbuilt k) ∙ z
 
-  module _ (m : Marks t c i r room room′ work work′ how how′ number in# met) where
-    -- ITS OWN NUMBER IS GIVEN EXACTLY WHERE THE TABLE DOES NOT HAVE THE ROW
-    pub marks-no-row : (number ≡ noRow) ↔ Missing t c i
-    marks-no-row = (go (decLe (c * i + c) (length t)), λ h. m .missing h .0)
-      where
-        go : Dec (There t c i) → number ≡ noRow → Missing t c i
-        go (yes l) e = absurd (omega (arith, marks-low (m .there l)))
-        go (no l) e = omega arith
-
-    -- ON 0 THE ROWS MARKED IN ARE EXACTLY THOSE WITHIN r OF THE ROW
-    pub marks-exact : number ≡ 0 → Alike t c i r how′
-    marks-exact z = go (decLe (c * i + c) (length t))
-      where
-        go : Dec (There t c i) → Alike t c i r how′
-        go (yes l) =
-            let b = m .there l in
-            let y = marks-made b z in
-            marked-exact i (b .built .accepted y) (b .searched y) z
-        go (no l) = absurd (omega (arith, m .missing (omega arith) .0))
+  -- ON 0 THE ROWS WITH THE MARK 1 ARE EXACTLY THOSE WITHIN r OF A QUERY, AND THE OTHERS HAVE 0
+  pub near-exact : number ≡ 0 → Alike t c qs r marks′
+  near-exact z =
+      let w : List ℕ = take (x .words) room′ in
+      let A = x .built .accepted (near-made z) in
+      let n : n# w ≡ rowsOf t c = build-headed t c 2 centres leafRows room work (x .built) (near-made z) .1 in
+      let at : (i : ℕ) → i < rowsOf t c → getD marks′ i 0 ≡ markOf t c w qs r (rowsOf qs c) i
+      = λ i h. ap (λ (l : List ℕ). getD l i 0) (x .asked z .marked)
+      ∙ first-at (markOf t c w qs r (rowsOf qs c)) (n# w) i (drop (n# w) marks) (subst (λ (k : ℕ). i < k) (sym n) h) in
+      record {
+        near = λ i h.
+            subst (λ (v : ℕ). (v ≡ 1) ↔ Within t c qs r (rowsOf qs c) i) (sym (at i h))
+            (mark-exact t c w qs r A (rowsOf qs c) i (subst (λ (k : ℕ). i < k) (sym n) h));
+        far = λ i h. omega (arith, at i h, mark-small t c w qs r A (rowsOf qs c) i);
+      }
 
 -- two outcomes of one call
-module _ {t : List ℕ} {c i r : ℕ} {room work how room₁ work₁ how₁ room₂ work₂ how₂ : List ℕ} {number₁ in₁ met₁ number₂ in₂ met₂ : ℕ}
-    (a : Marks t c i r room room₁ work work₁ how how₁ number₁ in₁ met₁)
-    (b : Marks t c i r room room₂ work work₂ how how₂ number₂ in₂ met₂) where
+module _ {t : List ℕ} {c : ℕ} {qs : List ℕ} {r : ℕ} {room work how marks room₁ work₁ how₁ marks₁ room₂ work₂ how₂ marks₂ : List ℕ}
+    {number₁ in₁ met₁ number₂ in₂ met₂ : ℕ} (a : Near t c qs r room room₁ work work₁ how how₁ marks marks₁ number₁ in₁ met₁)
+    (b : Near t c qs r room room₂ work work₂ how how₂ marks marks₂ number₂ in₂ met₂) where
   -- they are the same
-  abbrev pub SameMarks : Type 0
-  SameMarks = (number₁ ≡ number₂) × (in₁ ≡ in₂) × (met₁ ≡ met₂) × (room₁ ≡ room₂) × (work₁ ≡ work₂) × (how₁ ≡ how₂)
+  abbrev pub SameNear : Type 0
+  SameNear =
+      (number₁ ≡ number₂) × (in₁ ≡ in₂) × (met₁ ≡ met₂) × (room₁ ≡ room₂) × (work₁ ≡ work₂) × (how₁ ≡ how₂) × (marks₁ ≡ marks₂)
 
-  -- the build leaves no choice, and over what it built the search leaves none
-  built-marks-only : MarksBuilt t c i r room room₁ work work₁ how how₁ number₁ in₁ met₁
-      → MarksBuilt t c i r room room₂ work work₂ how how₂ number₂ in₂ met₂ → SameMarks
-  built-marks-only x y =
-      let o = build-only t c 2 centres leafRows room work room₁ work₁ room₂ work₂ (x .made) (x .words) (x .nodes) (y .made) (y .words) (y .nodes)
-      (x .built) (y .built) in
-      go (ℕ-discrete (x .made) 0) (o .0) (ap₂ take (o .1) (o .3)) (o .3) (o .4)
-    where
-      go : Dec (x .made ≡ 0) → x .made ≡ y .made → take (x .words) room₁ ≡ take (y .words) room₂ → room₁ ≡ room₂ → work₁ ≡ work₂ → SameMarks
-      go (no k) e w p q =
-          let f = x .refused k in
-          let g = y .refused (λ z. k (e ∙ z)) in
-          (f .0 ∙ e ∙ sym (g .0), f .1 ∙ sym (g .1), f .2 ∙ sym (g .2), p, q, f .3 ∙ sym (g .3))
-      go (yes z) e w p q =
-          let s = subst (λ (v : List ℕ). Searched t c v (row t c i) r how how₂ number₂ in₂ met₂) (sym w) (y .searched (sym e ∙ z)) in
-          let n = radius-only (x .searched z) s in
-          (n .0, n .1 .0, n .1 .1, p, q, n .1 .2)
+  -- the searches leave no choice
+  asked-only : (w v : List ℕ) → w ≡ v → Asked t c w qs r (rowsOf qs c) how how₁ marks marks₁ in₁ met₁
+      → Asked t c v qs r (rowsOf qs c) how how₂ marks marks₂ in₂ met₂ → (in₁ ≡ in₂) × (met₁ ≡ met₂) × (how₁ ≡ how₂) × (marks₁ ≡ marks₂)
+  asked-only w v e x y = (
+    x .inside ∙ ap (λ (u : List ℕ). sumTo (markOf t c u qs r (rowsOf qs c)) (n# u)) e ∙ sym (y .inside),
+    x .measures ∙ ap (λ (u : List ℕ). sumTo (measuredBy t c u qs r) (rowsOf qs c)) e ∙ sym (y .measures),
+    x .bytes ∙ ap (λ (u : List ℕ). howAfter t c u qs r (rowsOf qs c) how) e ∙ sym (y .bytes),
+    x .marked ∙ ap (λ (u : List ℕ). firstOf (markOf t c u qs r (rowsOf qs c)) (n# u) ++ drop (n# u) marks) e ∙ sym (y .marked),
+  )
 
-  -- NO SECOND OUTCOME FITS
-  pub marks-only : SameMarks
-  marks-only = go (decLe (c * i + c) (length t))
+  -- NO SECOND OUTCOME FITS: the build leaves no choice, and over what it built the searches leave none
+  pub near-only : SameNear
+  near-only =
+      let o = build-only t c 2 centres leafRows room work room₁ work₁ room₂ work₂ (a .made) (a .words) (a .nodes) (b .made) (b .words) (b .nodes)
+      (a .built) (b .built) in
+      let n = one (ℕ-discrete (a .made) 0) (o .0) in
+      let s = rest (ℕ-discrete number₁ 0) n (ap₂ take (o .1) (o .3)) in (n, s .0, s .1, o .3, o .4, s .2, s .3)
     where
-      go : Dec (There t c i) → SameMarks
-      go (yes l) = built-marks-only (a .there l) (b .there l)
-      go (no l) =
-          let f = a .missing (omega arith) in
-          let g = b .missing (omega arith) in
-          (f .0 ∙ sym (g .0), f .1 ∙ sym (g .1), f .2 ∙ sym (g .2), f .3 ∙ sym (g .3), f .4 ∙ sym (g .4), f .5 ∙ sym (g .5))
+      one : Dec (a .made ≡ 0) → a .made ≡ b .made → number₁ ≡ number₂
+      one (yes z) e = a .said z ∙ sym (b .said (sym e ∙ z))
+      one (no k) e = a .unbuilt k ∙ e ∙ sym (b .unbuilt (λ z. k (e ∙ z)))
+
+      rest : Dec (number₁ ≡ 0) → number₁ ≡ number₂ → take (a .words) room₁ ≡ take (b .words) room₂
+          → (in₁ ≡ in₂) × (met₁ ≡ met₂) × (how₁ ≡ how₂) × (marks₁ ≡ marks₂)
+      rest (yes z) n e = asked-only (take (a .words) room₁) (take (b .words) room₂) e (a .asked z) (b .asked (sym n ∙ z))
+      rest (no k) n e =
+          let f = a .refused k in
+          let g = b .refused (λ z. k (n ∙ z)) in
+          (f .0 ∙ sym (g .0), f .1 ∙ sym (g .1), f .2 ∙ sym (g .2), f .3 ∙ sym (g .3))
 
 -- ---- finding
-module _ {t : List ℕ} {c i w : ℕ} {room room′ work work′ how how′ rs rs′ ds ds′ : List ℕ} {number given met : ℕ} where
-  -- a row that is there is refused by one of the library's numbers, if at all
-  finds-low : FindsBuilt t c i w room room′ work work′ how how′ rs rs′ ds ds′ number given met → number ≤ 9
-  finds-low b = go (ℕ-discrete (b .made) 0)
-    where
-      go : Dec (b .made ≡ 0) → number ≤ 9
-      go (yes z) =
-          omega (
-            arith,
-            b .answered z .said,
-            nearest-low t c (take (b .words) room′) (row t c i) w (min (length rs) (length ds)) (length how) (length (b .cleared)),
-          )
-      go (no k) = omega (arith, b .refused k .0, build-low (b .built))
-
+module _ {t : List ℕ} {c : ℕ} {q : List ℕ} {w : ℕ} {room room′ work work′ how how′ rs rs′ ds ds′ : List ℕ} {number given met : ℕ}
+    (b : Finds t c q w room room′ work work′ how how′ rs rs′ ds ds′ number given met) where
   -- where it is not refused, the build was not
-  finds-made : (b : FindsBuilt t c i w room room′ work work′ how how′ rs rs′ ds ds′ number given met) → number ≡ 0 → b .made ≡ 0
-  finds-made b z = go (ℕ-discrete (b .made) 0)
+  finds-made : number ≡ 0 → b .made ≡ 0
+  finds-made z = go (ℕ-discrete (b .made) 0)
     where
       go : Dec (b .made ≡ 0) → b .made ≡ 0
       go (yes y) = y
       go (no k) = sym (b .refused k .0) ∙ z
 
-  module _ (m : Finds t c i w room room′ work work′ how how′ rs rs′ ds ds′ number given met) where
-    -- ITS OWN NUMBER IS GIVEN EXACTLY WHERE THE TABLE DOES NOT HAVE THE ROW
-    pub finds-no-row : (number ≡ noRow) ↔ Missing t c i
-    finds-no-row = (go (decLe (c * i + c) (length t)), λ h. m .missing h .0)
-      where
-        go : Dec (There t c i) → number ≡ noRow → Missing t c i
-        go (yes l) e = absurd (omega (arith, finds-low (m .there l)))
-        go (no l) e = omega arith
-
-    -- ON 0 THE ANSWERS ARE THE NEAREST TO THE ROW
-    pub finds-exact : number ≡ 0 → Closest t c i w rs′ ds′ given
-    finds-exact z = go (decLe (c * i + c) (length t))
-      where
-        go : Dec (There t c i) → Closest t c i w rs′ ds′ given
-        go (yes l) =
-            let b = m .there l in
-            let y = finds-made b z in
-            nearest-given i (b .built .accepted y) (b .answered y) z
-        go (no l) = absurd (omega (arith, m .missing (omega arith) .0))
+  -- ON 0 THE ANSWERS ARE THE NEAREST TO THE QUERY
+  pub finds-exact : number ≡ 0 → Closest t c q w rs′ ds′ given
+  finds-exact z = let y = finds-made z in nearest-given q (b .built .accepted y) (b .answered y) z
 
 -- two outcomes of one call
-module _ {t : List ℕ} {c i w : ℕ} {room work how rs ds room₁ work₁ how₁ rs₁ ds₁ room₂ work₂ how₂ rs₂ ds₂ : List ℕ}
-    {number₁ given₁ met₁ number₂ given₂ met₂ : ℕ} (a : Finds t c i w room room₁ work work₁ how how₁ rs rs₁ ds ds₁ number₁ given₁ met₁)
-    (b : Finds t c i w room room₂ work work₂ how how₂ rs rs₂ ds ds₂ number₂ given₂ met₂) where
+module _ {t : List ℕ} {c : ℕ} {q : List ℕ} {w : ℕ} {room work how rs ds room₁ work₁ how₁ rs₁ ds₁ room₂ work₂ how₂ rs₂ ds₂ : List ℕ}
+    {number₁ given₁ met₁ number₂ given₂ met₂ : ℕ} (a : Finds t c q w room room₁ work work₁ how how₁ rs rs₁ ds ds₁ number₁ given₁ met₁)
+    (b : Finds t c q w room room₂ work work₂ how how₂ rs rs₂ ds ds₂ number₂ given₂ met₂) where
   -- they are the same
   abbrev pub SameFinds : Type 0
   SameFinds =
       (number₁ ≡ number₂) × (given₁ ≡ given₂) × (met₁ ≡ met₂) × (room₁ ≡ room₂) × (work₁ ≡ work₂) × (how₁ ≡ how₂) × (rs₁ ≡ rs₂) × (ds₁ ≡ ds₂)
 
-  -- the build leaves no choice, and over what it built the search leaves none
-  built-finds-only : FindsBuilt t c i w room room₁ work work₁ how how₁ rs rs₁ ds ds₁ number₁ given₁ met₁
-      → FindsBuilt t c i w room room₂ work work₂ how how₂ rs rs₂ ds ds₂ number₂ given₂ met₂ → SameFinds
-  built-finds-only x y =
-      let o = build-only t c 2 centres leafRows room work room₁ (x .cleared) room₂ (y .cleared) (x .made) (x .words) (x .nodes)
-      (y .made) (y .words) (y .nodes) (x .built) (y .built) in
-      go (ℕ-discrete (x .made) 0) (o .0) (ap₂ take (o .1) (o .3)) (o .3) (o .4)
+  -- NO SECOND OUTCOME FITS: the build leaves no choice, and over what it built the search leaves none
+  pub finds-only : SameFinds
+  finds-only =
+      let o = build-only t c 2 centres leafRows room work room₁ (a .cleared) room₂ (b .cleared) (a .made) (a .words) (a .nodes)
+      (b .made) (b .words) (b .nodes) (a .built) (b .built) in
+      go (ℕ-discrete (a .made) 0) (o .0) (ap₂ take (o .1) (o .3)) (o .3) (o .4)
     where
-      go : Dec (x .made ≡ 0) → x .made ≡ y .made → take (x .words) room₁ ≡ take (y .words) room₂ → room₁ ≡ room₂ → x .cleared ≡ y .cleared
+      go : Dec (a .made ≡ 0) → a .made ≡ b .made → take (a .words) room₁ ≡ take (b .words) room₂ → room₁ ≡ room₂ → a .cleared ≡ b .cleared
           → SameFinds
-      go (no k) e v p q =
-          let f = x .refused k in
-          let g = y .refused (λ z. k (e ∙ z)) in (
+      go (no k) e v p d =
+          let f = a .refused k in
+          let g = b .refused (λ z. k (e ∙ z)) in (
             f .0 ∙ e ∙ sym (g .0),
             f .1 ∙ sym (g .1),
             f .2 ∙ sym (g .2),
             p,
-            f .3 ∙ q ∙ sym (g .3),
+            f .3 ∙ d ∙ sym (g .3),
             f .4 ∙ sym (g .4),
             f .5 ∙ sym (g .5),
             f .6 ∙ sym (g .6),
           )
-      go (yes z) e v p q =
+      go (yes z) e v p d =
           let s₀ = subst
-          (λ (u : List ℕ). Answered t c u (row t c i) w (min (length rs) (length ds)) rs rs₂ ds ds₂ how how₂ (y .cleared) work₂ number₂ given₂ met₂)
-          (sym v) (y .answered (sym e ∙ z)) in
+          (λ (u : List ℕ). Answered t c u q w (min (length rs) (length ds)) rs rs₂ ds ds₂ how how₂ (b .cleared) work₂ number₂ given₂ met₂)
+          (sym v) (b .answered (sym e ∙ z)) in
           let s = subst
           (λ (u : List ℕ).
-          Answered t c (take (x .words) room₁) (row t c i) w (min (length rs) (length ds)) rs rs₂ ds ds₂ how how₂ u work₂ number₂ given₂ met₂)
-          (sym q) s₀ in
-          let n = nearest-only (x .answered z) s t
+          Answered t c (take (a .words) room₁) q w (min (length rs) (length ds)) rs rs₂ ds ds₂ how how₂ u work₂ number₂ given₂ met₂)
+          (sym d) s₀ in
+          let n = nearest-only (a .answered z) s t
           (λ k.
           record {
             rows =
                 sym
-                (clear t c (take (x .words) room₁) (row t c i) w (min (length rs) (length ds)) (length how) (length (x .cleared))
-                (sym (x .answered z .said) ∙ k)
+                (clear t c (take (a .words) room₁) q w (min (length rs) (length ds)) (length how) (length (a .cleared))
+                (sym (a .answered z .said) ∙ k)
                 .index .rows);
-            accepted = x .built .accepted z;
+            accepted = a .built .accepted z;
             agree = λ j h m. refl;
           }) in
           (n .0, n .1 .0, n .1 .1, p, n .1 .5, n .1 .4, n .1 .2, n .1 .3)
-
-  -- NO SECOND OUTCOME FITS
-  pub finds-only : SameFinds
-  finds-only = go (decLe (c * i + c) (length t))
-    where
-      go : Dec (There t c i) → SameFinds
-      go (yes l) = built-finds-only (a .there l) (b .there l)
-      go (no l) =
-          let f = a .missing (omega arith) in
-          let g = b .missing (omega arith) in (
-            f .0 ∙ sym (g .0),
-            f .1 ∙ sym (g .1),
-            f .2 ∙ sym (g .2),
-            f .3 ∙ sym (g .3),
-            f .4 ∙ sym (g .4),
-            f .5 ∙ sym (g .5),
-            f .6 ∙ sym (g .6),
-            f .7 ∙ sym (g .7),
-          )

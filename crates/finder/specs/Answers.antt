@@ -1,19 +1,26 @@
 -- What an answer with the number 0 says, in the analyst's words. Assumes nothing.
 use Prim.Native.Nat.{_<_, _≤_, min, ℕ}
-use Rattle.measure.specs.Table.{between, rowsOf}
+use Rattle.measure.specs.Table.{from, row, rowsOf}
 use Rattle.tree.specs.Nearest.{answers}
 use lib.ListN.{getD, length, take}
 use mathlib.Core.List.{List, map}
 use mathlib.Core.Logic.{_↔_}
 use mathlib.Core.Path.{_≡_}
 
--- a row is marked in (how-byte 2 or 3) exactly if its distance from row i is at most r
-abbrev pub Alike : List ℕ → ℕ → ℕ → ℕ → List ℕ → Type 0
-Alike t c i r how = (j : ℕ) → j < rowsOf t c → (2 ≤ getD how j 0) ↔ (between t c i j ≤ r)
+-- row i is within r of one of the first k queries
+pub record Within (t : List ℕ) (c : ℕ) (qs : List ℕ) (r k i : ℕ) : Type 0 where
+  pub query : ℕ
+  pub there : query < k
+  pub near : from t c (row qs c query) i ≤ r
 
--- the first `given` rows and distances are the w nearest to row i of all rows, by distance and then by row number
-pub record Closest (t : List ℕ) (c i w : ℕ) (rows distances : List ℕ) (given : ℕ) : Type 0 where
+-- a row has the mark 1 exactly if it is within r of one query at least, else 0
+pub record Alike (t : List ℕ) (c : ℕ) (qs : List ℕ) (r : ℕ) (marks : List ℕ) : Type 0 where
+  pub near : (i : ℕ) → i < rowsOf t c → (getD marks i 0 ≡ 1) ↔ Within t c qs r (rowsOf qs c) i
+  pub far : (i : ℕ) → i < rowsOf t c → getD marks i 0 ≤ 1
+
+-- the first `given` rows and distances are the w nearest to the query of all rows, by distance and then by row number
+pub record Closest (t : List ℕ) (c : ℕ) (q : List ℕ) (w : ℕ) (rows distances : List ℕ) (given : ℕ) : Type 0 where
   pub few : (given ≤ length rows) × (given ≤ length distances)
   pub count : given ≡ min w (rowsOf t c)
-  pub rows# : take given rows ≡ map (λ a. a .0) (answers (between t c i) (rowsOf t c) w)
-  pub distances# : take given distances ≡ map (λ a. a .1) (answers (between t c i) (rowsOf t c) w)
+  pub rows# : take given rows ≡ map (λ a. a .0) (answers (from t c q) (rowsOf t c) w)
+  pub distances# : take given distances ≡ map (λ a. a .1) (answers (from t c q) (rowsOf t c) w)

@@ -1,2 +1,3 @@
+pub mod Near
 pub mod Calls
 pub mod Answers

@@ -1,30 +1,19 @@
-// The two questions about a row of a table, answered exactly: the index is built over the table, and searched for the row.
-ghost use Prim.Native.Nat.{_*_, _+_};
-ghost use Rattle.finder.specs.Calls.{Finds, Marks};
-ghost use lib.Dec.{leb};
+// Questions about a table, answered exactly: which rows are near, and which are the nearest. The index is built over the table, and searched.
+ghost use Rattle.finder.specs.Calls.{Finds, Near};
 ghost use mathlib.Core.Path.{_≡_};
+use crate::rounds::mark_each;
+use crate::rounds::why_not;
+use buffers::clear_bytes;
 use limits::Params;
-use measure::row_of;
 use nearest::Given;
 use radius::Found;
 
-// Centres of an inner node, and rows of a leaf: what the bench measures with.
-const CENTRES: usize = 16;
+mod rounds;
 
-const LEAF: usize = 128;
+// Centres of an inner node, and rows of a leaf: what measures best for one build and one search.
+const CENTRES: usize = 4;
 
-// The table does not have the row asked about. No call of the library gives this number: theirs go up to 26.
-pub const NO_ROW: u32 = 27;
-
-// A table of this length has row `row` of c columns. (Of no columns it has every row; the build refuses it.)
-fn has_row(length: usize, c: usize, row: usize) -> bool
-    ensures { λ r. ⌜ r ≡ leb (c * row + c) length ⌝ }
-{
-    if c == 0 {
-        return true;
-    }
-    row < length / c
-}
+const LEAF: usize = 1024;
 
 // Nothing was marked: the number, and zero counts.
 fn none_marked(number: u32) -> Found
@@ -48,37 +37,40 @@ fn none_given(number: u32) -> Given
     }
 }
 
-// Marks every row within r of the row asked about.
-pub fn mark_like(
+// Marks every row within r of one query at least. The queries stand one after the other, as the table's rows do.
+pub fn mark_near(
     table: &[u16],
     c: usize,
-    row: usize,
+    queries: &[u16],
     r: u32,
     room: &mut [u32],
     work: &mut [u32],
     how: &mut [u8],
+    marks: &mut [u8],
 ) -> Found
-    ensures { λ f. ⌜ Marks (now (table .entry)) c row r (now (room .entry)) (now (room .exit)) (now (work .entry)) (now (work .exit))
-        (now (how .entry)) (now (how .exit)) (f .number) (f .inside) (f .measured) ⌝ }
+    ensures { λ f. ⌜ Near (now (table .entry)) c (now (queries .entry)) r (now (room .entry)) (now (room .exit)) (now (work .entry))
+        (now (work .exit)) (now (how .entry)) (now (how .exit)) (now (marks .entry)) (now (marks .exit)) (f .number) (f .inside) (f .measured) ⌝ }
 {
-    if !has_row(table.len(), c, row) {
-        return none_marked(NO_ROW);
-    }
-    let query = row_of(table, c, row);
     let built = build::build(table, c, CENTRES, LEAF, Params::LAST_EDITION, room, work);
     let number = built.number;
     if number != 0 {
         return none_marked(number);
     }
+    let n = table.len() / c;
+    let why = why_not(n, c, queries.len(), how.len(), marks.len());
+    if why != 0 {
+        return none_marked(why);
+    }
     let words = built.words;
-    radius::radius(table, c, &room[..words], query, r, how)
+    clear_bytes(marks, n);
+    mark_each(table, c, &room[..words], queries, r, how, marks)
 }
 
-// Puts the w nearest to the row asked about, nearest first.
+// Puts the w nearest to the query, nearest first.
 pub fn find_nearest(
     table: &[u16],
     c: usize,
-    row: usize,
+    query: &[u16],
     w: usize,
     room: &mut [u32],
     work: &mut [u32],
@@ -86,14 +78,10 @@ pub fn find_nearest(
     rows: &mut [u32],
     distances: &mut [u32],
 ) -> Given
-    ensures { λ g. ⌜ Finds (now (table .entry)) c row w (now (room .entry)) (now (room .exit)) (now (work .entry)) (now (work .exit))
-        (now (how .entry)) (now (how .exit)) (now (rows .entry)) (now (rows .exit)) (now (distances .entry)) (now (distances .exit))
-        (g .number) (g .given) (g .measured) ⌝ }
+    ensures { λ g. ⌜ Finds (now (table .entry)) c (now (query .entry)) w (now (room .entry)) (now (room .exit)) (now (work .entry))
+        (now (work .exit)) (now (how .entry)) (now (how .exit)) (now (rows .entry)) (now (rows .exit)) (now (distances .entry))
+        (now (distances .exit)) (g .number) (g .given) (g .measured) ⌝ }
 {
-    if !has_row(table.len(), c, row) {
-        return none_given(NO_ROW);
-    }
-    let query = row_of(table, c, row);
     let built = build::build(table, c, CENTRES, LEAF, Params::LAST_EDITION, room, work);
     let number = built.number;
     if number != 0 {

@@ -2,7 +2,7 @@
 use Prim.Native.Nat.{_*_, _+_, suc, zero, ℕ}
 use Rattle.image.proofs.Checks.{check-append}
 use Rattle.laws.specs.Lists.{each}
-use Rattle.words.specs.Image.{block, blocks, bytes, checkFrom, checkWord, step, window}
+use Rattle.image.specs.Image.{block, blocks, bytes, checkFrom, checkWord, step, window}
 use Rattle.words.specs.Words.{at}
 use lib.ListN.{length, length-append}
 use mathlib.Core.List.{List, [], _++_, _∷_, append-assoc, append-nil}

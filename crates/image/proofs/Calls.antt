@@ -2,7 +2,7 @@
 use Prim.Native.Nat.{_*_, _<_, _≤_, ℕ}
 use Rattle.image.specs.Calls.{Writes}
 use Rattle.limits.specs.Said.{fault, said}
-use Rattle.words.specs.Image.{blocksFor, image, saidWrite}
+use Rattle.image.specs.Image.{blocksFor, image, saidWrite}
 use Rattle.words.specs.Words.{wordsOf, wordsOk}
 use borrow.Author.Tests.{le-ltb, lt-ltb}
 use lib.Dec.{ltb}

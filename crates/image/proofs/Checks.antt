@@ -1,6 +1,6 @@
 -- The check word: each of its steps is one-to-one, so that what it starts at and each of its words show in it. Assumes nothing.
 use Prim.Native.Nat.{_%_, _+_, _<_, _^_, ℕ}
-use Rattle.words.specs.Image.{checkFrom, checkWord, rotate, step}
+use Rattle.image.specs.Image.{checkFrom, checkWord, rotate, step}
 use mathlib.Core.List.{List, [], _++_, _∷_}
 use mathlib.Core.Path.{_≡_, refl}
 use native.Mathlib.Omega.{arith}

@@ -9,7 +9,7 @@ use Rattle.image.specs.Lowest.{lowest, wrongBlocks}
 use Rattle.laws.proofs.Tests.{is-true, refute}
 use Rattle.laws.specs.First.{First}
 use Rattle.limits.specs.Said.{said}
-use Rattle.words.specs.Image.{blockGood, checkFrom, checkWord, imageFaults, step, wordAt, wordsAt}
+use Rattle.image.specs.Image.{blockGood, checkFrom, checkWord, imageFaults, step, wordAt, wordsAt}
 use borrow.Author.Tests.{eqb-true, leb-false, leb-true}
 use lib.Dec.{leb}
 use lib.ListN.{length}

@@ -1,7 +1,7 @@
 -- Reading block by block: where a block's words stand, and words read after words. Assumes nothing.
 use Prim.Native.Nat.{_*_, _+_, _-_, _/_, _<_, _≤_, ℕ}
 use Rattle.image.proofs.Places.{image-length}
-use Rattle.words.specs.Image.{imageWord, imageWords, wordAt}
+use Rattle.image.specs.Image.{imageWord, imageWords, wordAt}
 use lib.ListN.{drop, length, take}
 use lib.Seq.{drop-append-add, drop-drop, take-at}
 use mathlib.Core.List.{List, _++_}

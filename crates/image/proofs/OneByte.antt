@@ -5,7 +5,7 @@ use Rattle.image.proofs.Places.{word-cong}
 use Rattle.image.specs.Below.{Below}
 use Rattle.image.specs.Changed.{Changed, blockWord}
 use Rattle.limits.specs.Said.{said}
-use Rattle.words.specs.Image.{blockGood, checkWord, imageFaults, wordAt}
+use Rattle.image.specs.Image.{blockGood, checkWord, imageFaults, wordAt}
 use Rattle.words.specs.Words.{at}
 use borrow.Author.Tests.{eqb-false, eqb-true}
 use lib.Dec.{eqb}

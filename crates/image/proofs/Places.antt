@@ -1,7 +1,7 @@
 -- Reading: the words of a block and of an image, one word more at a time, and where they stand. Assumes nothing.
 use Prim.Native.Nat.{_*_, _+_, _/_, _<_, _≤_, suc, zero, ℕ}
 use Rattle.image.proofs.Checks.{check-append}
-use Rattle.words.specs.Image.{blocksFor, checkFrom, imageWord, imageWords, step, wordAt, wordsAt}
+use Rattle.image.specs.Image.{blocksFor, checkFrom, imageWord, imageWords, step, wordAt, wordsAt}
 use Rattle.words.specs.Words.{at}
 use lib.ListN.{length, length-append}
 use mathlib.Core.List.{List, [], _++_, _∷_}

@@ -7,7 +7,7 @@ use Rattle.laws.proofs.Every.{every-all, every-append, every-map}
 use Rattle.laws.proofs.Tests.{or-l, or-none, or-r}
 use Rattle.limits.proofs.Faults.{Numbered, fault-first, fault-next, fault-numbered, numberOf}
 use Rattle.limits.specs.Said.{Said, fault, said}
-use Rattle.words.specs.Image.{blocksFor, imageFaults, imageTotal, imageWords}
+use Rattle.image.specs.Image.{blocksFor, imageFaults, imageTotal, imageWords}
 use Rattle.words.specs.Words.{cardOk}
 use borrow.Author.Tests.{eq-eqb, ne-eqb}
 use lib.Dec.{eqb}

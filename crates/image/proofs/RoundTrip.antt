@@ -12,7 +12,7 @@ use Rattle.laws.specs.Lists.{all, range}
 use Rattle.limits.specs.Said.{fault, said}
 use Rattle.words.proofs.Headers.{words-whole}
 use Rattle.words.proofs.InShape.{header-possible, whole}
-use Rattle.words.specs.Image.{blocks, blocksFor, image, imageFaults, imageTotal, imageWord, imageWords, saidWrite}
+use Rattle.image.specs.Image.{blocks, blocksFor, image, imageFaults, imageTotal, imageWord, imageWords, saidWrite}
 use Rattle.words.specs.Words.{at, cardOk, wordsOf, wordsOk}
 use borrow.Author.Tests.{leb-false, leb-true}
 use lib.Dec.{eqb, leb, lit<, ltb}

@@ -9,7 +9,7 @@ use Rattle.limits.specs.Said.{said}
 use Rattle.words.proofs.Headers.{words-whole}
 use Rattle.words.proofs.InShape.{whole}
 use Rattle.words.proofs.Strides.{words-few}
-use Rattle.words.specs.Image.{blocksFor}
+use Rattle.image.specs.Image.{blocksFor}
 use Rattle.words.specs.Words.{wordsOf, wordsOk}
 use lib.Dec.{eqb}
 use lib.ListN.{length}

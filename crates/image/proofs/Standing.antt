@@ -10,7 +10,7 @@ use Rattle.laws.proofs.Every.{all-of}
 use Rattle.laws.proofs.Ranges.{at-every, range-every}
 use Rattle.laws.proofs.Tests.{eq-test, is-true}
 use Rattle.laws.specs.Lists.{all, each, range}
-use Rattle.words.specs.Image.{block, blockGood, blocks, bytes, checkWord, imageWord, imageWords, window, wordAt, wordsAt}
+use Rattle.image.specs.Image.{block, blockGood, blocks, bytes, checkWord, imageWord, imageWords, window, wordAt, wordsAt}
 use Rattle.words.specs.Words.{at}
 use borrow.Author.Tests.{eq-eqb, leb-false, leb-true}
 use lib.Dec.{T, eqb, leb}

@@ -7,7 +7,7 @@ use Rattle.image.specs.Calls.{Writes}
 use Rattle.laws.proofs.Every.{every-append}
 use Rattle.laws.specs.Every.{Every}
 use Rattle.laws.specs.Lists.{each}
-use Rattle.words.specs.Image.{block, blockGood, blocks, blocksFor, bytes, checkWord, image, window}
+use Rattle.image.specs.Image.{block, blockGood, blocks, blocksFor, bytes, checkWord, image, window}
 use Rattle.words.specs.Words.{at, wordsOf, wordsOk}
 use lib.ListN.{length, take}
 use mathlib.Core.Bool.{true}

@@ -4,7 +4,7 @@ use Rattle.image.specs.Lowest.{lowest, wrongBlocks}
 use Rattle.laws.proofs.First.{first-at-end, first-empty, first-kept, search-start, search-stop}
 use Rattle.laws.specs.First.{First}
 use Rattle.laws.specs.Lists.{keep, range, rest}
-use Rattle.words.specs.Image.{blockGood}
+use Rattle.image.specs.Image.{blockGood}
 use mathlib.Core.Bool.{Bool, cond, false, not, true, true≢false}
 use mathlib.Core.List.{List, [], _∷_}
 use mathlib.Core.Logic.{by-cases}

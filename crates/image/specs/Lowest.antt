@@ -2,7 +2,7 @@
 -- nothing.
 use Prim.Native.Nat.{ℕ}
 use Rattle.laws.specs.Lists.{keep, range}
-use Rattle.words.specs.Image.{blockGood}
+use Rattle.image.specs.Image.{blockGood}
 use mathlib.Core.Bool.{not}
 use mathlib.Core.List.{List, [], _∷_}
 

@@ -2,7 +2,7 @@
 use Prim.Native.Nat.{_*_, _-_, _/_, ℕ}
 use Rattle.laws.specs.Lists.{all, range}
 use Rattle.limits.specs.Said.{Said, fault, said}
-use Rattle.words.specs.Image.{blocksFor, imageTotal, imageWord, imageWords}
+use Rattle.image.specs.Image.{blocksFor, imageTotal, imageWord, imageWords}
 use Rattle.words.specs.Words.{cardOk, headerWords}
 use lib.Dec.{eqb}
 use lib.ListN.{length}

@@ -1,7 +1,7 @@
 // The check word of a block, and the lowest block whose check word is wrong.
 ghost use Prim.Native.Nat.{_%_, _*_, _+_, _^_, _≤_};
 ghost use Rattle.image.specs.Lowest.{lowest, wrongBlocks};
-ghost use Rattle.words.specs.Image.{blockGood, checkWord, rotate, step, wordsAt};
+ghost use Rattle.image.specs.Image.{blockGood, checkWord, rotate, step, wordsAt};
 ghost use lib.ListN.{length};
 ghost use mathlib.Core.Path.{_≡_};
 use crate::word::BLOCK;

@@ -1,7 +1,7 @@
 // Reading the index words, and what is wrong with an image.
 ghost use Prim.Native.Nat.{_*_, _+_, _/_, _<_, _≤_, min};
 ghost use Rattle.image.specs.Sound.{Sound, heldFaults, restZero};
-ghost use Rattle.words.specs.Image.{imageFaults, imageWords};
+ghost use Rattle.image.specs.Image.{imageFaults, imageWords};
 ghost use Rattle.words.specs.Words.{headerWords};
 ghost use lib.ListN.{drop, length, take};
 ghost use mathlib.Core.List.{_++_};

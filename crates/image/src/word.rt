@@ -1,6 +1,6 @@
 // A word and its four bytes, the lowest first, and where the index words stand in the blocks.
 ghost use Prim.Native.Nat.{_*_, _+_, _/_, _<_, _≤_};
-ghost use Rattle.words.specs.Image.{blocksFor, bytes, imageWord, wordAt};
+ghost use Rattle.image.specs.Image.{blocksFor, bytes, imageWord, wordAt};
 ghost use Rattle.words.specs.Words.{at, cardOk, headerWords, wordsOf};
 ghost use lib.ListN.{drop, length};
 ghost use mathlib.Core.Bool.{true};

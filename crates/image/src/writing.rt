@@ -1,6 +1,6 @@
 // Writing the blocks.
 ghost use Prim.Native.Nat.{_*_, _<_, _≤_};
-ghost use Rattle.words.specs.Image.{block, blocks};
+ghost use Rattle.image.specs.Image.{block, blocks};
 ghost use lib.ListN.{drop, length};
 ghost use mathlib.Core.List.{_++_};
 ghost use mathlib.Core.Path.{_≡_};

@@ -20,6 +20,10 @@ abbrev pub boundOf : Item → ℕ
 boundOf (node k b x) = b
 boundOf (place p b) = b
 
+-- the greatest number of 32 bits: no bound is above it
+abbrev pub greatestWord : ℕ
+greatestWord = 4_294_967_295
+
 -- the least of f 0, f 1, .. f c
 abbrev pub leastTo : (ℕ → ℕ) → ℕ → ℕ
 leastTo f zero = f 0

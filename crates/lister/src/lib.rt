@@ -1,4 +1,4 @@
-// The listing program: the text of standard input, read as c, m, l and a table; the table's index; its nodes and positions as lines of numbers.
+// The listing program: the text of a file or of standard input, read as c, m, l and a table; the table's index; its nodes and positions as lines of numbers.
 ghost use Prim.Native.Nat.{_*_, _+_, _≤_, min};
 ghost use Rattle.lister.specs.Keeps.{Keeps};
 ghost use Rattle.lister.specs.Listing.{Lists, Runs};
@@ -46,15 +46,15 @@ fn keep(came: &[u8], text: &mut [u8], kept: usize) -> usize
     kept + n
 }
 
-// Reads standard input to its end, and keeps the front of it. Gives how many bytes are kept; a text that can't be read to its end counts as too long.
-fn read_text(text: &mut [u8]) -> usize
+// Reads a file to its end, and keeps the front of it. Gives how many bytes are kept; a text that can't be read to its end counts as too long.
+fn read_text(file: i32, text: &mut [u8]) -> usize
     ensures { λ r. ⌜ r ≤ length (now (text .exit)) ⌝ }
 {
     let mut kept = 0;
     let mut left: u64 = 0xffff_ffff_ffff_ffff;
     while 0 < left {
         let mut chunk = io::buffer();
-        let got = libc::read(STDIN_FILENO, &mut chunk);
+        let got = libc::read(file, &mut chunk);
         if got < 0 {
             return text.len();
         }
@@ -108,11 +108,17 @@ fn list(numbers: &[u16], room: &mut [u32], work: &mut [u32]) -> u32
 }
 
 // Reads the text as numbers, and lists them. Gives the number of what refused, or 0.
-fn run_in(text: &mut [u8], numbers: &mut [u16], room: &mut [u32], work: &mut [u32]) -> u32
+fn run_in(
+    file: i32,
+    text: &mut [u8],
+    numbers: &mut [u16],
+    room: &mut [u32],
+    work: &mut [u32],
+) -> u32
     ensures { λ r. ⌜ Runs (now (text .exit)) (now (numbers .entry)) (now (numbers .exit)) (now (room .entry)) (now (room .exit))
         (now (work .entry)) (now (work .exit)) r ⌝ }
 {
-    let n = read_text(text);
+    let n = read_text(file, text);
     let read = text::read_numbers(&text[..n], numbers);
     let number = read.number;
     if number != 0 {
@@ -148,13 +154,20 @@ fn workspace() -> [u32; WORK]
     [0; WORK]
 }
 
-// The whole program. Gives the number that it printed behind `refused`, or 0 where it printed an index.
-pub fn run() -> u32
+// The whole program on an open file. Gives the number that it printed behind `refused`, or 0 where it printed an index.
+pub fn run_on(file: i32) -> u32
     ensures { λ r. ⌜ r ≤ 18 ⌝ }
 {
     let mut text = text_buffer();
     let mut numbers = number_buffer();
     let mut room = index_room();
     let mut work = workspace();
-    run_in(&mut text, &mut numbers, &mut room, &mut work)
+    run_in(file, &mut text, &mut numbers, &mut room, &mut work)
+}
+
+// The whole program on standard input.
+pub fn run() -> u32
+    ensures { λ r. ⌜ r ≤ 18 ⌝ }
+{
+    run_on(STDIN_FILENO)
 }

@@ -8,12 +8,13 @@ use Rattle.laws.specs.Lists.{has, look, range, times}
 use Rattle.measure.proofs.Metric.{query-point}
 use Rattle.measure.specs.Table.{between, from}
 use Rattle.nearest.proofs.Refusals.{fits}
-use Rattle.nearest.specs.Calls.{Answered, Found, Lent, Serves, Settled, Sound}
+use Rattle.nearest.specs.Calls.{Answered, Serves}
+use Rattle.seek.specs.Found.{Found, Lent, Settled, Sound}
 use Rattle.tree.proofs.Accepted.{each-once, shape-of}
 use Rattle.tree.proofs.Answers.{near-at, passes-all}
 use Rattle.tree.proofs.Rows.{rows-tree}
 use Rattle.tree.proofs.Theorems.{home-below, same-row}
-use Rattle.tree.specs.Calls.{saidNearest}
+use Rattle.nearest.specs.Numbers.{saidNearest}
 use Rattle.tree.specs.Grove.{Grove, treeOf}
 use Rattle.tree.specs.Homes.{homes}
 use Rattle.tree.specs.Nearest.{answers, candidates, isMeasured, measured, nearHow, passes, sort}

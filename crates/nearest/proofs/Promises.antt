@@ -11,11 +11,12 @@ use Rattle.limits.specs.Limits.{maxRows}
 use Rattle.measure.proofs.Metric.{query-point}
 use Rattle.measure.specs.Table.{between, from, row, rowsOf}
 use Rattle.nearest.proofs.Contract.{byte-measured, same-answers}
-use Rattle.nearest.proofs.HowBytes.{near-length}
 use Rattle.nearest.proofs.Ranking.{answers-ranked}
 use Rattle.nearest.proofs.Refusals.{clear}
-use Rattle.nearest.specs.Calls.{Answered, Serves, Settled}
+use Rattle.nearest.specs.Calls.{Answered, Serves}
 use Rattle.nearest.specs.Ranked.{ahead}
+use Rattle.seek.proofs.HowBytes.{near-length}
+use Rattle.seek.specs.Found.{Settled}
 use Rattle.tree.proofs.Answers.{answers-length, near-at, passes-all, passes-near}
 use Rattle.tree.proofs.Sorted.{sort-every, sort-sorted, sorted-take, under-last}
 use Rattle.tree.proofs.Theorems.{home-below}

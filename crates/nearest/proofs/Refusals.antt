@@ -5,8 +5,8 @@ use Rattle.limits.proofs.Faults.{fault-first, fault-next, fault-none, numberOf,
 use Rattle.limits.proofs.Sized.{Sized, sized, table-numbered}
 use Rattle.limits.specs.Said.{Said, fault, said, tableFaults}
 use Rattle.measure.specs.Table.{rowsOf}
-use Rattle.nearest.specs.Calls.{Lent}
-use Rattle.tree.specs.Calls.{saidNearest}
+use Rattle.nearest.specs.Numbers.{saidNearest}
+use Rattle.seek.specs.Found.{Lent}
 use Rattle.words.proofs.Headers.{words-whole}
 use Rattle.words.proofs.Index.{index-tests, over}
 use Rattle.words.specs.Calls.{indexFaults}

@@ -1,50 +1,17 @@
-// The nearest call: its refusals, the search, and the answers handed out.
+// The nearest call: its refusals, and the search.
 ghost use Prim.Native.Nat.{_≤_, min};
-ghost use Rattle.nearest.specs.Calls.{Answered, Found, Lent};
-ghost use Rattle.tree.specs.Calls.{saidNearest};
+ghost use Rattle.nearest.specs.Calls.{Answered};
+ghost use Rattle.nearest.specs.Numbers.{saidNearest};
 ghost use lib.ListN.{length};
 ghost use mathlib.Core.Path.{_≡_};
-use crate::giving::give;
-use buffers::clear_bytes;
-use buffers::clear_words;
-use seek::searching::search;
+use seek::find;
 use tree::how::tally;
-
-mod giving;
 
 // What a call gives: 0 or why it was refused; on success how many answers, and how many rows were measured.
 pub struct Given {
     pub number: u32,
     pub given: usize,
     pub measured: usize,
-}
-
-// The search on an index that is known to be in shape, with what is lent known to fit it: so that many searches take one test. Gives how many
-// answers there are.
-pub fn find(
-    table: &[u16],
-    c: usize,
-    index: &[u32],
-    query: &[u16],
-    wanted: usize,
-    rows: &mut [u32],
-    distances: &mut [u32],
-    how: &mut [u8],
-    work: &mut [u32],
-) -> usize
-    requires { ⌜ Lent (now table) c (now index) (now query) wanted (now rows) (now distances) (now how) (now work) ⌝ }
-    ensures { λ k. ⌜ Found (now (table .entry)) c (now (index .entry)) (now (query .entry)) wanted (now (rows .entry)) (now (rows .exit))
-        (now (distances .entry)) (now (distances .exit)) (now (how .entry)) (now (how .exit)) (now (work .entry)) (now (work .exit)) k ⌝ }
-{
-    let n = words::places::rows(index);
-    clear_bytes(how, n);
-    if n == 0 {
-        return 0;
-    }
-    let k = search(table, c, query, index, wanted, how, work);
-    give(rows, distances, how, work, n, k);
-    clear_words(work, 6 * n);
-    k
 }
 
 // The lesser of two.

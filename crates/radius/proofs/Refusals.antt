@@ -4,8 +4,8 @@ use Rattle.limits.proofs.Faults.{fault-first, fault-next, fault-none, numberOf,
 use Rattle.limits.proofs.Sized.{Sized, sized, table-numbered}
 use Rattle.limits.specs.Said.{Said, fault, said, tableFaults}
 use Rattle.measure.specs.Table.{rowsOf}
-use Rattle.radius.specs.Lent.{Lent}
-use Rattle.tree.specs.Calls.{saidRadius}
+use Rattle.marking.specs.Lent.{Lent}
+use Rattle.radius.specs.Numbers.{saidRadius}
 use Rattle.words.proofs.Headers.{words-whole}
 use Rattle.words.proofs.Index.{index-tests, over}
 use Rattle.words.specs.Calls.{indexFaults}
@@ -105,10 +105,13 @@ fits T c w q h z =
     let C = clear T c w q (length h) z in
     let same : n# w ≡ rowsOf T c = C .index .rows in
     record {
-      shape = C .index .shape;
-      edition = C .edition;
-      table = subst (λ (n : ℕ). c * n ≤ length T) (sym same) (C .table .inside);
-      columns = C .table .few;
+      tested =
+          record {
+            shape = C .index .shape;
+            edition = C .edition;
+            table = subst (λ (n : ℕ). c * n ≤ length T) (sym same) (C .table .inside);
+            columns = C .table .few;
+          };
       query = C .query;
       how = omega (arith, C .bytes);
     }

@@ -15,7 +15,7 @@ use Rattle.regrow.specs.Calls.{Regrowable, regrownOf}
 use Rattle.regrow.specs.Pieces.{newReach}
 use Rattle.split.specs.Groups.{stretch}
 use Rattle.tree.specs.Build.{build, grow, leafOf}
-use Rattle.tree.specs.Calls.{roomOf}
+use Rattle.build.specs.Numbers.{roomOf}
 use Rattle.tree.specs.Encode.{encode}
 use Rattle.tree.specs.Grove.{Grove, Reach, bare, fork, leaf, members#, treeOf}
 use Rattle.words.specs.InShape.{InShape}

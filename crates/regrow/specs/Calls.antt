@@ -14,7 +14,7 @@ use Rattle.regrow.specs.Stages.{Change}
 use Rattle.split.specs.Groups.{stretch}
 use Rattle.split.specs.Runs.{laid}
 use Rattle.tree.specs.Build.{grow}
-use Rattle.tree.specs.Calls.{roomOf}
+use Rattle.build.specs.Numbers.{roomOf}
 use Rattle.tree.specs.Encode.{numbered}
 use Rattle.tree.specs.Grove.{Grove, Reach, bare}
 use Rattle.words.specs.Shape.{treeFits}

@@ -7,11 +7,9 @@ use Rattle.laws.proofs.Ones.{is-not, is-self}
 use Rattle.laws.proofs.Sums.{sum-add, sum-below-same, sum-below-zero, sum-change}
 use Rattle.laws.specs.Bags.{is, total}
 use Rattle.laws.specs.Upto.{sumTo}
-use Rattle.seek.specs.Answers.{greatestWord, lastOf}
-use Rattle.seek.specs.Frontier.{amiss, still}
+use Rattle.seek.specs.Rounds.{amiss, still}
 use Rattle.words.specs.InShape.{InShape}
 use Rattle.words.specs.Words.{count#, first#, n#, row#, start#}
-use borrow.Author.Tests.{lt-ltb}
 use mathlib.Core.List.{List, [], _∷_}
 use mathlib.Core.Path.{_∙_, _≡_, refl}
 use native.Mathlib.Omega.{arith}
@@ -74,9 +72,3 @@ module _ (w : List ℕ) (S : InShape w) (filled : 1 ≤ n# w) where
       sum-rows (λ (i : ℕ). row# w (start# w 0 + suc i)) (n# w) (count# w 0 - 1)
       (λ i l. S .place (start# w 0 + suc i) (omega (arith, S .root filled .start, S .root filled .count)) .row)
       ∙ omega (arith, S .root filled .count)
-
--- ---- the last distance
--- where fewer are held than are wanted, no bound lies beyond it
-pub last-short : (work : List ℕ) (b w k : ℕ) → k < w → lastOf work b w k ≡ greatestWord
-unfolding lastOf
-last-short work b w k h = rw (lt-ltb k w h)

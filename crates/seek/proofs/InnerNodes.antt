@@ -1,5 +1,9 @@
 -- Taking an inner node, as it changes the workspace: its centres are measured, and its children wait. Assumes nothing.
 use Prim.Native.Nat.{_*_, _+_, _-_, _<_, _≤_, suc, zero, ℕ}
+use Rattle.answers_held.specs.Answers.{lastOf}
+use Rattle.frontier.proofs.Reading.{item-node, opened}
+use Rattle.frontier.specs.Waiting.{More, Room, atMost, itemOf, items, leastKept, noded}
+use Rattle.frontier.specs.Workspace.{kept}
 use Rattle.items.proofs.Leasts.{least-same}
 use Rattle.items.proofs.Opening.{inner-some, kid-in, kid-some, kids-count}
 use Rattle.items.specs.Items.{boundOf, centreAt, childOf, measuredBy, measuresAt, nearestAt, node, openedBy, opensAt, weight}
@@ -10,12 +14,10 @@ use Rattle.laws.specs.Outside.{Outside}
 use Rattle.measure.specs.Table.{from}
 use Rattle.queue.specs.Queue.{Queue, entries}
 use Rattle.seek.proofs.Growing.{firstsTo, grew-as, grew-front}
-use Rattle.seek.proofs.Reading.{item-node, opened}
 use Rattle.seek.proofs.Rounds.{first-seen, id-small, node-there}
 use Rattle.seek.proofs.Staying.{front-alone, frontier-stays, last-then, ready-at}
-use Rattle.seek.specs.Answers.{lastOf}
-use Rattle.seek.specs.Frontier.{More, Room, Taken, Takes, atMost, itemOf, items, leastKept, noded}
-use Rattle.seek.specs.Standing.{Ready, Took, kept}
+use Rattle.seek.specs.Rounds.{Taken, Takes}
+use Rattle.seek.specs.Standing.{Ready, Took}
 use Rattle.tree.specs.Grove.{reach#}
 use Rattle.tree.specs.Homes.{childBound}
 use Rattle.words.specs.InShape.{InShape}

@@ -1,17 +1,18 @@
 -- One row measured: its distance is kept, it is marked, and it is entered among the answers. Assumes nothing.
 use Prim.Native.Nat.{_*_, _+_, _<_, _≤_, ℕ}
+use Rattle.answers_held.proofs.Entering.{enter-most, enter-none, enter-one}
+use Rattle.answers_held.proofs.Holding.{enter-held}
+use Rattle.answers_held.proofs.RowEntries.{own-entry}
+use Rattle.answers_held.specs.Answers.{Entered, Full, Held, stray, turned}
+use Rattle.frontier.specs.Workspace.{kept}
 use Rattle.laws.proofs.Ones.{is-same, is-self}
 use Rattle.laws.specs.Bags.{is, total}
 use Rattle.limits.specs.Limits.{maxDistance}
 use Rattle.queue.proofs.Queued.{queue-stays}
 use Rattle.queue.specs.Queue.{Queue}
-use Rattle.seek.proofs.Entering.{enter-most, enter-none, enter-one}
 use Rattle.seek.proofs.Filling.{sum-one}
-use Rattle.seek.proofs.Holding.{enter-held}
-use Rattle.seek.proofs.RowEntries.{own-entry}
 use Rattle.seek.proofs.Staying.{answers-stay, held-stay}
-use Rattle.seek.specs.Answers.{Entered, Full, Held, turned}
-use Rattle.seek.specs.Standing.{Stands, Took, kept, stray}
+use Rattle.seek.specs.Standing.{Stands, Took}
 use Rattle.words.specs.Words.{at}
 use lib.ListN.{getD, length, length-set, set}
 use lib.Seq.{getD-set-other, getD-set-same}

@@ -1,10 +1,16 @@
 -- The search, round by round: what a round keeps, and how it ends. Assumes nothing.
 use Prim.Native.Nat.{_*_, _+_, _-_, _<_, _≤_, suc, ℕ}
+use Rattle.answers_held.proofs.LastOf.{last-room}
+use Rattle.answers_held.proofs.Stopping.{goes-on}
+use Rattle.answers_held.specs.Answers.{Held, lastOf}
 use Rattle.best.specs.Search.{Ended, found}
+use Rattle.frontier.proofs.Beyond.{above, above-last, parts-above}
+use Rattle.frontier.proofs.Reading.{item-bound}
+use Rattle.frontier.specs.Waiting.{atMost, itemOf, items}
 use Rattle.items.proofs.Exact.{taken-new}
 use Rattle.items.proofs.Leaving.{all-bag, leaves, leaves-off}
 use Rattle.items.specs.Fits.{Fits}
-use Rattle.items.specs.Items.{Item, boundOf, openedBy, spaceOf, weight}
+use Rattle.items.specs.Items.{Item, boundOf, greatestWord, openedBy, spaceOf, weight}
 use Rattle.items.specs.Run.{Running}
 use Rattle.laws.proofs.Bags.{same-map, total-append, total-le, total-map, total-neither, total-none}
 use Rattle.laws.specs.Bags.{SameBag, total}
@@ -12,14 +18,10 @@ use Rattle.measure.specs.Table.{from}
 use Rattle.queue.proofs.Queued.{entries-count}
 use Rattle.queue.specs.Entry.{keyOf}
 use Rattle.queue.specs.Queue.{Popped, entries}
-use Rattle.seek.proofs.Beyond.{above, above-last, parts-above}
-use Rattle.seek.proofs.Filling.{last-short, still-split}
-use Rattle.seek.proofs.Reading.{item-bound}
+use Rattle.seek.proofs.Filling.{still-split}
 use Rattle.seek.proofs.Staying.{held-stay, ready-on, since-then, since-work, stands-stay}
-use Rattle.seek.proofs.Stopping.{goes-on}
 use Rattle.seek.proofs.Weights.{amiss-on, cost, opened-amiss, opened-cost, opened-weight, some-weight}
-use Rattle.seek.specs.Answers.{Held, greatestWord, lastOf}
-use Rattle.seek.specs.Frontier.{Searched, State, Taken, Takes, amiss, atMost, itemOf, items, still}
+use Rattle.seek.specs.Rounds.{Searched, State, Taken, Takes, amiss, still}
 use Rattle.seek.specs.Standing.{Since, Stands}
 use Rattle.words.specs.InShape.{InShape}
 use Rattle.words.specs.Words.{at, edition#, n#}
@@ -188,7 +190,7 @@ module _ (t : List ℕ) (c : ℕ) (q w : List ℕ) (wanted : ℕ) (S : InShape w
               still-split w S x how item item-sound,
               queued (still w),
               total-none (still w) (λ (j : Item). (suc last′ - boundOf j) + (boundOf j - greatestWord)) out
-                  (λ j z p. omega (arith, last-short work₂ (3 * n# w) wanted held′ l)) out-far,
+                  (λ j z p. omega (arith, last-room work₂ (3 * n# w) wanted held′ l)) out-far,
             )
 
         -- A ROUND: the state is kept
@@ -234,7 +236,7 @@ module _ (t : List ℕ) (c : ℕ) (q w : List ℕ) (wanted : ℕ) (S : InShape w
           → (how₀ work₀ : List ℕ) → Since (n# w) how₀ how work₀ work → Searched t c q w wanted how₀ how work₀ work₁ held
       stops n d key en ed ek word far how₀ work₀ since = record {
         stands = popped-stands;
-        full = held-all (λ l. omega (arith, ed, last-short work₁ (3 * n) wanted held l));
+        full = held-all (λ l. omega (arith, ed, last-room work₁ (3 * n) wanted held l));
         since = popped-since how₀ work₀ since;
         ran = λ x′ F.
             let z = St .run x′ F in

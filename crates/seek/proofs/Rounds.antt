@@ -1,16 +1,18 @@
 -- Taking an item, as it changes the workspace: a position's row is measured, a leaf is opened. (An inner node: InnerNodes.) Assumes nothing.
 use Prim.Native.Nat.{_*_, _+_, _-_, _<_, _≤_, suc, ℕ}
+use Rattle.answers_held.specs.Answers.{lastOf}
+use Rattle.frontier.proofs.Reading.{item-place, node-read, opened, place-read}
+use Rattle.frontier.specs.Waiting.{More, itemOf, placed}
+use Rattle.frontier.specs.Workspace.{kept}
 use Rattle.items.specs.Items.{measuredBy, measuresAt, node, openedBy, opensAt, place, placeBound, placeOf}
 use Rattle.laws.specs.Bags.{is, total, upto}
 use Rattle.laws.specs.Outside.{Outside}
 use Rattle.measure.specs.Table.{from}
 use Rattle.queue.specs.Entry.{idOf, keyOf}
 use Rattle.seek.proofs.Growing.{grew-front, grew-none}
-use Rattle.seek.proofs.Reading.{item-place, node-read, opened, place-read}
 use Rattle.seek.proofs.Staying.{front-alone, frontier-stays, last-then, ready-at}
-use Rattle.seek.specs.Answers.{lastOf}
-use Rattle.seek.specs.Frontier.{More, Taken, Takes, itemOf, placed}
-use Rattle.seek.specs.Standing.{Ready, Took, kept}
+use Rattle.seek.specs.Rounds.{Taken, Takes}
+use Rattle.seek.specs.Standing.{Ready, Took}
 use Rattle.words.specs.InShape.{InShape}
 use Rattle.words.specs.Words.{N#, at, child#, count#, first#, n#, row#, start#}
 use mathlib.Core.List.{List, map}

@@ -1,6 +1,10 @@
 -- How a search begins: the root waits, and its first is measured. Assumes nothing.
 use Prim.Native.Nat.{_*_, _+_, _-_, _<_, _≤_, ℕ}
+use Rattle.answers_held.proofs.Holding.{over-not}
+use Rattle.answers_held.specs.Answers.{Held, code, over}
 use Rattle.best.specs.Search.{Reach, start}
+use Rattle.frontier.proofs.Reading.{item-node}
+use Rattle.frontier.specs.Waiting.{itemOf, items}
 use Rattle.items.specs.Items.{Item, rootOf, spaceOf, weight}
 use Rattle.items.specs.Run.{Running}
 use Rattle.laws.proofs.Ones.{is-bit, is-self}
@@ -11,11 +15,8 @@ use Rattle.measure.specs.Table.{from}
 use Rattle.queue.proofs.Queued.{empty-queue}
 use Rattle.queue.specs.Queue.{Pushed, entry}
 use Rattle.seek.proofs.Filling.{root-row, still-root, sum-one}
-use Rattle.seek.proofs.Holding.{over-not}
-use Rattle.seek.proofs.Reading.{item-node}
 use Rattle.seek.proofs.Staying.{held-stay, ready-on, since-then, since-work, stands-stay}
-use Rattle.seek.specs.Answers.{Held, code, over}
-use Rattle.seek.specs.Frontier.{State, amiss, itemOf, items, still}
+use Rattle.seek.specs.Rounds.{State, amiss, still}
 use Rattle.seek.specs.Standing.{Ready, Since, Stands, Took}
 use Rattle.words.specs.InShape.{InShape}
 use Rattle.words.specs.Words.{N#, at, first#, n#}

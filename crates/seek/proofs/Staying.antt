@@ -1,5 +1,7 @@
 -- What a search knows stays where the words that tell it stay, and what lies beyond its rooms stays always. Assumes nothing.
 use Prim.Native.Nat.{_*_, _+_, _<_, _≤_, ℕ}
+use Rattle.answers_held.specs.Answers.{Held, distanceOf, lastOf, stray}
+use Rattle.items.specs.Items.{greatestWord}
 use Rattle.laws.proofs.Outside.{outside-more}
 use Rattle.laws.specs.Bags.{total}
 use Rattle.laws.specs.Outside.{Outside}
@@ -8,8 +10,7 @@ use Rattle.queue.proofs.Entries.{entries-stay}
 use Rattle.queue.proofs.Queued.{queue-stays}
 use Rattle.queue.specs.Entry.{entryAt, packed}
 use Rattle.queue.specs.Queue.{Queue, entries}
-use Rattle.seek.specs.Answers.{Held, distanceOf, greatestWord, lastOf}
-use Rattle.seek.specs.Standing.{Ready, Since, Stands, stray}
+use Rattle.seek.specs.Standing.{Ready, Since, Stands}
 use Rattle.words.specs.Words.{n#}
 use lib.Dec.{ltb}
 use lib.ListN.{getD, length}

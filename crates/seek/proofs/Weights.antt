@@ -7,7 +7,7 @@ use Rattle.laws.proofs.Ones.{is-self}
 use Rattle.laws.proofs.Sums.{sum-add, sum-below-same, sum-below-zero, sum-ones, sum-part}
 use Rattle.laws.specs.Bags.{is, total, upto}
 use Rattle.laws.specs.Upto.{sumTo}
-use Rattle.seek.specs.Frontier.{amiss}
+use Rattle.seek.specs.Rounds.{amiss}
 use Rattle.words.specs.InShape.{InShape}
 use Rattle.words.specs.Shape.{inner}
 use Rattle.words.specs.Words.{N#, at, child#, count#, first#, m#, n#, row#, start#}

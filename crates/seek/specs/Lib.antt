@@ -1,3 +1,3 @@
-pub mod Answers
 pub mod Standing
-pub mod Frontier
+pub mod Rounds
+pub mod Found

@@ -1,25 +1,17 @@
--- What a search knows between two steps: which rows are measured, how far they are, and the best of them. The workspace has 6n words: 2n for the
--- frontier, n for the distances by row, 2n for the answers, and n to spare. A working notion, on which no promise rests. Assumes nothing.
-use Prim.Native.Nat.{_*_, _+_, _-_, _<_, _≤_, suc, ℕ}
+-- What a search knows between two steps: which rows are measured, how far they are, and the best of them. A working notion, on which
+-- no promise rests. Assumes nothing.
+use Prim.Native.Nat.{_*_, _+_, _-_, _<_, _≤_, ℕ}
+use Rattle.answers_held.specs.Answers.{Held, stray}
+use Rattle.frontier.specs.Workspace.{distancesAt, kept, workWords}
 use Rattle.laws.specs.Bags.{total}
-use Rattle.laws.specs.Lists.{gap}
 use Rattle.laws.specs.Upto.{sumTo}
 use Rattle.limits.specs.Limits.{maxColumns, maxDistance, maxRows}
 use Rattle.measure.specs.Table.{from}
 use Rattle.queue.specs.Queue.{Queue, entries}
-use Rattle.seek.specs.Answers.{Held, rowOf, turned}
 use Rattle.words.specs.Words.{at}
 use lib.ListN.{getD, length}
 use mathlib.Core.List.{List}
 use mathlib.Core.Path.{_≡_}
-
--- the distance kept for row r
-abbrev pub kept : List ℕ → ℕ → ℕ → ℕ
-kept work n r = getD work (2 * n + r) 0
-
--- 0 where e is the entry of one of n rows at x, at a distance that there can be
-abbrev pub stray : (ℕ → ℕ) → ℕ → ℕ → ℕ
-stray x n e = gap e (turned (rowOf e) (x (rowOf e))) + (suc (rowOf e) - n) + (x (rowOf e) - maxDistance)
 
 -- Of n rows at x, at most w are held. This holds on every index in shape, whether or not a row stands there twice.
 pub record Stands (x : ℕ → ℕ) (n w : ℕ) (how work : List ℕ) (held : ℕ) : Type 0 where
@@ -29,16 +21,16 @@ pub record Stands (x : ℕ → ℕ) (n w : ℕ) (how work : List ℕ) (held : �
   pub far : (r : ℕ) → r < n → 0 < at how r → (kept work n r ≡ x r) × (x r ≤ maxDistance)
   pub bits : (r : ℕ) → r < n → at how r ≤ 1
   pub bytes : n ≤ length how
-  pub room : 6 * n ≤ length work
+  pub room : workWords n ≤ length work
   pub wanted : (1 ≤ w) × (w ≤ n)
   pub small : n ≤ maxRows
 
--- The how-bytes from n on and the workspace's words from 6n on are as they were.
+-- The how-bytes from n on and the words beyond the workspace are as they were.
 pub record Since (n : ℕ) (how how′ work work′ : List ℕ) : Type 0 where
   pub bytes : length how′ ≡ length how
   pub words : length work′ ≡ length work
   pub past : (i : ℕ) → n ≤ i → at how′ i ≡ at how i
-  pub over : (i : ℕ) → 6 * n ≤ i → getD work′ i 0 ≡ getD work i 0
+  pub over : (i : ℕ) → workWords n ≤ i → getD work′ i 0 ≡ getD work i 0
 
 -- The rows of g are measured besides; where fewer than w are held even then, each of them was entered. The last promise is for indexes in
 -- which no row stands twice: where the best were held and the rows of g are new, the best are held again.
@@ -54,7 +46,7 @@ pub record Grew (x : ℕ → ℕ) (n w : ℕ) (how how′ work work′ : List �
 -- and the frontier's words are as they were
 pub record Took (x : ℕ → ℕ) (n w : ℕ) (how how′ work work′ : List ℕ) (held held′ : ℕ) (g : ℕ → ℕ) : Type 0 where
   pub grew : Grew x n w how how′ work work′ held held′ g
-  pub front : (i : ℕ) → i < 2 * n → getD work′ i 0 ≡ getD work i 0
+  pub front : (i : ℕ) → i < distancesAt n → getD work′ i 0 ≡ getD work i 0
 
 -- n rows of the table t, of c columns, can be measured from the query q
 pub record Ready (t : List ℕ) (c : ℕ) (q : List ℕ) (n w : ℕ) (how work : List ℕ) (held : ℕ) : Type 0 where

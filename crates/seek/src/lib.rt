@@ -1,8 +1,39 @@
-// The nearest search itself: best first, over the nodes of an index and the single rows of its opened leaves.
-//
-// The workspace of 6n words holds, n being the number of rows: from word 0 the frontier, a queue of at most n entries (a node or, from 2n on, a
-// position, under its bound); from word 2n the distance of each row that is measured; from word 3n the answers, a queue of at most n entries.
-pub mod held;
-pub mod searching;
+// The nearest search itself: best first, over the nodes of an index and the single rows of its opened leaves, and the answers handed out.
+ghost use Rattle.seek.specs.Found.{Found, Lent};
+use crate::searching::search;
+use answers_held::give;
+use buffers::clear_bytes;
+use buffers::clear_words;
+use frontier::workspace::ANSWERS;
+use frontier::workspace::END;
+
+mod searching;
 mod taking;
-mod waiting;
+
+// The search on an index that is known to be in shape, with what is lent known to fit it: so that many searches take one test. Gives how many
+// answers there are.
+pub fn find(
+    table: &[u16],
+    c: usize,
+    index: &[u32],
+    query: &[u16],
+    wanted: usize,
+    rows: &mut [u32],
+    distances: &mut [u32],
+    how: &mut [u8],
+    work: &mut [u32],
+) -> usize
+    requires { ⌜ Lent (now table) c (now index) (now query) wanted (now rows) (now distances) (now how) (now work) ⌝ }
+    ensures { λ k. ⌜ Found (now (table .entry)) c (now (index .entry)) (now (query .entry)) wanted (now (rows .entry)) (now (rows .exit))
+        (now (distances .entry)) (now (distances .exit)) (now (how .entry)) (now (how .exit)) (now (work .entry)) (now (work .exit)) k ⌝ }
+{
+    let n = words::places::rows(index);
+    clear_bytes(how, n);
+    if n == 0 {
+        return 0;
+    }
+    let k = search(table, c, query, index, wanted, how, work);
+    give(rows, distances, how, work, ANSWERS * n, k);
+    clear_words(work, END * n);
+    k
+}

@@ -1,8 +1,9 @@
 // The search: best first, until what waits is farther than the last answer.
-ghost use Rattle.seek.specs.Frontier.{Blank, Searched};
-use crate::held::last;
+ghost use Rattle.seek.specs.Rounds.{Blank, Searched};
 use crate::taking::measure_row;
 use crate::taking::take_item;
+use answers_held::last;
+use frontier::workspace::ANSWERS;
 use queue::key_of;
 use queue::pop;
 use queue::push;
@@ -21,8 +22,8 @@ pub fn search(
     work: &mut [u32],
 ) -> usize
     requires { ⌜ Blank (now table) c (now query) (now index) w (now how) (now work) ⌝ }
-    ensures { λ k. ⌜ Searched (now (table .entry)) c (now (query .entry)) (now (index .entry)) w (now (how .entry)) (now (how .exit)) (now (work .entry))
-        (now (work .exit)) k ⌝ }
+    ensures { λ k. ⌜ Searched (now (table .entry)) c (now (query .entry)) (now (index .entry)) w
+        (now (how .entry)) (now (how .exit)) (now (work .entry)) (now (work .exit)) k ⌝ }
 {
     let n = rows(index);
     let base = pair_at(index, 0);
@@ -32,7 +33,7 @@ pub fn search(
     let mut len = 1;
     while 0 < len {
         let e = pop(work, 0, len);
-        if last(work, 3 * n, w, held) < key_of(e) {
+        if last(work, ANSWERS * n, w, held) < key_of(e) {
             return held;
         }
         let sizes = take_item(

@@ -1,20 +1,23 @@
 // Taking what waits: a row is measured, a leaf is opened, an inner node is opened.
 ghost use Prim.Native.Nat.{_+_, _-_, _*_, _<_, _≤_, suc, ℕ};
+ghost use Rattle.frontier.specs.Waiting.{itemOf};
 ghost use Rattle.items.specs.Items.{node};
 ghost use Rattle.laws.specs.Bags.{is};
 ghost use Rattle.laws.specs.Upto.{sumTo};
 ghost use Rattle.measure.specs.Table.{from};
-ghost use Rattle.seek.specs.Frontier.{Taken, Takes, itemOf};
+ghost use Rattle.seek.specs.Rounds.{Taken, Takes};
 ghost use Rattle.seek.specs.Standing.{Ready, Took};
 ghost use Rattle.words.specs.InShape.{InShape};
 ghost use Rattle.words.specs.Words.{N#, child#, first#, n#, pairAt};
 ghost use mathlib.Core.Path.{_≡_};
-use crate::held::enter;
-use crate::held::last;
-use crate::held::turn;
-use crate::waiting::nearest_centre;
-use crate::waiting::open_leaf;
-use crate::waiting::queue_children;
+use answers_held::enter;
+use answers_held::last;
+use answers_held::turn;
+use frontier::nearest_centre;
+use frontier::open_leaf;
+use frontier::queue_children;
+use frontier::workspace::ANSWERS;
+use frontier::workspace::DISTANCES;
 use measure::query_distance;
 use queue::id_of;
 use queue::key_of;
@@ -48,8 +51,8 @@ pub fn measure_row(
 {
     let d = query_distance(table, c, query, r);
     how[r] = 1;
-    work[2 * n + r] = d;
-    enter(work, 3 * n, w, held, turn(r as u32, d))
+    work[DISTANCES * n + r] = d;
+    enter(work, ANSWERS * n, w, held, turn(r as u32, d))
 }
 
 // Measures the firsts of the nodes from a + 1 up to e: the first child shares its parent's first, which is measured.
@@ -96,18 +99,18 @@ fn open_inner(
     k: usize,
     b: u32,
 ) -> Sizes
-    requires { ⌜ Takes (now table) c (now query) (now index) w (now how) (now work) len held (node k b (from (now table) c (now query) (first# (now index) k)))
-        ⌝ }
+    requires { ⌜ Takes (now table) c (now query) (now index) w (now how) (now work) len held
+        (node k b (from (now table) c (now query) (first# (now index) k))) ⌝ }
     requires { ⌜ (n ≡ n# (now index)) × (0 < child# (now index) k) ⌝ }
     ensures { λ s. ⌜ Taken (now (index .entry)) (from (now (table .entry)) c (now (query .entry))) w (now (how .entry)) (now (how .exit))
-        (now (work .entry)) (now (work .exit)) len (s .len) held (s .held) (node k b (from (now (table .entry)) c (now (query .entry)) (first# (now (index .entry)) k)))
-        ⌝ }
+        (now (work .entry)) (now (work .exit)) len (s .len) held (s .held)
+        (node k b (from (now (table .entry)) c (now (query .entry)) (first# (now (index .entry)) k))) ⌝ }
 {
     let a = node_child(index, k);
     let e = a + centres(index);
     let now_held = measure_centres(table, c, query, index, n, w, how, work, held, a, e);
     let y = nearest_centre(index, work, n, a, e);
-    let far = last(work, 3 * n, w, now_held);
+    let far = last(work, ANSWERS * n, w, now_held);
     let now_len = queue_children(index, work, n, len, a, e, b, y, far);
     Sizes {
         len: now_len,
@@ -130,15 +133,15 @@ fn open_node(
     k: usize,
     b: u32,
 ) -> Sizes
-    requires { ⌜ Takes (now table) c (now query) (now index) w (now how) (now work) len held (node k b (from (now table) c (now query) (first# (now index) k)))
-        ⌝ }
+    requires { ⌜ Takes (now table) c (now query) (now index) w (now how) (now work) len held
+        (node k b (from (now table) c (now query) (first# (now index) k))) ⌝ }
     requires { ⌜ n ≡ n# (now index) ⌝ }
     ensures { λ s. ⌜ Taken (now (index .entry)) (from (now (table .entry)) c (now (query .entry))) w (now (how .entry)) (now (how .exit))
-        (now (work .entry)) (now (work .exit)) len (s .len) held (s .held) (node k b (from (now (table .entry)) c (now (query .entry)) (first# (now (index .entry)) k)))
-        ⌝ }
+        (now (work .entry)) (now (work .exit)) len (s .len) held (s .held)
+        (node k b (from (now (table .entry)) c (now (query .entry)) (first# (now (index .entry)) k))) ⌝ }
 {
     if node_child(index, k) == 0 {
-        let far = last(work, 3 * n, w, held);
+        let far = last(work, ANSWERS * n, w, held);
         let now_len = open_leaf(index, work, n, len, k, b, far);
         return Sizes {
             len: now_len,
@@ -164,11 +167,12 @@ pub fn take_item(
     held: usize,
     e: u64,
 ) -> Sizes
-    requires { ⌜ Takes (now table) c (now query) (now index) w (now how) (now work) len held (itemOf (now index) (from (now table) c (now query)) e) ⌝ }
+    requires { ⌜ Takes (now table) c (now query) (now index) w (now how) (now work) len held
+        (itemOf (now index) (from (now table) c (now query)) e) ⌝ }
     requires { ⌜ (n ≡ n# (now index)) × (base ≡ pairAt (now index) 0) ⌝ }
     ensures { λ s. ⌜ Taken (now (index .entry)) (from (now (table .entry)) c (now (query .entry))) w (now (how .entry)) (now (how .exit))
-        (now (work .entry)) (now (work .exit)) len (s .len) held (s .held) (itemOf (now (index .entry)) (from (now (table .entry)) c (now (query .entry))) e)
-        ⌝ }
+        (now (work .entry)) (now (work .exit)) len (s .len) held (s .held)
+        (itemOf (now (index .entry)) (from (now (table .entry)) c (now (query .entry))) e) ⌝ }
 {
     let id = id_of(e) as usize;
     if id < 2 * n {

@@ -15,7 +15,6 @@ use Rattle.tree.proofs.Right.{Made, nodes-right}
 use Rattle.tree.proofs.Shaped.{Fine, below-fine, below-none}
 use Rattle.tree.proofs.Sound.{Sound}
 use Rattle.tree.proofs.Written.{Edition, each-words, encode-shape, read-nodes}
-use Rattle.tree.specs.Cases.{words}
 use Rattle.tree.specs.Check.{Accepted, faults}
 use Rattle.tree.specs.Encode.{below, broods, encode, family, levelNodes, nodeWords, nodes, numbered, pairWords, span, spans}
 use Rattle.tree.specs.Grove.{Grove, bare, entries, fork, leaf, rowsIn}

@@ -3,4 +3,3 @@ pub mod Shape
 pub mod Pass
 pub mod InShape
 pub mod Calls
-pub mod Image

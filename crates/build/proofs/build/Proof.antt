@@ -9,7 +9,7 @@ use Rattle.laws.proofs.Tests.{no, yes}
 use Rattle.limits.proofs.Ranges.{columns-are}
 use Rattle.limits.specs.Limits.{columnsOk, maxRows, shareOk}
 use Rattle.measure.specs.Table.{rowsOf}
-use Rattle.tree.specs.Calls.{saidBuild}
+use Rattle.build.specs.Numbers.{saidBuild}
 use borrow.Author.Needs.{needs}
 use lib.Dec.{eqb}
 use lib.ListN.{getD, length}

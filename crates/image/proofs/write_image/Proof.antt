@@ -7,7 +7,7 @@ use Rattle.image.proofs.write_image.Tie as tie
 use Rattle.laws.proofs.Tests.{no, yes}
 use Rattle.words.proofs.Headers.{words-whole}
 use Rattle.words.proofs.InShape.{header-possible, header-there, whole}
-use Rattle.words.specs.Image.{blocks, blocksFor, image}
+use Rattle.image.specs.Image.{blocks, blocksFor, image}
 use Rattle.words.specs.Words.{wordsOf, wordsOk}
 use borrow.Author.Needs.{needs}
 use lib.ListN.{drop, length, take}

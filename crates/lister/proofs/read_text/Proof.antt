@@ -8,10 +8,10 @@ use lib.ListN.{length}
 use mathlib.Core.Path.{_≡_}
 
 abbrev Inv-loop : tie.InvT-loop
-Inv-loop text₀ kept₀ left₀ text kept left = (kept ≤ length text) × (length text ≡ length text₀)
+Inv-loop file text₀ kept₀ left₀ text kept left = (kept ≤ length text) × (length text ≡ length text₀)
 
 abbrev μ-loop : tie.MeasureT-loop
-μ-loop text₀ kept₀ left₀ text kept left = left
+μ-loop file text₀ kept₀ left₀ text kept left = left
 
 pub read-text-spec : {M : Type 1} → statement M
 read-text-spec =

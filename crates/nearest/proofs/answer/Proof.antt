@@ -3,7 +3,7 @@
 use Rattle.nearest.proofs.Contract.{core-asks, done-is, refused-is}
 use Rattle.nearest.proofs.answer.Statement.{statement}
 use Rattle.nearest.proofs.answer.Tie as tie
-use Rattle.nearest.specs.Calls.{Lent}
+use Rattle.seek.specs.Found.{Lent}
 use borrow.Author.Needs.{needs}
 use mathlib.Core.Path.{refl}
 use native.Mathlib.Omega.{arith}

@@ -3,7 +3,14 @@
 use Rattle.analyst.proofs.answering.closest.Statement.{statement}
 use Rattle.analyst.proofs.answering.closest.Tie as tie
 use Rattle.finder.proofs.Theorems.{finds-exact}
+use Rattle.measure.proofs.Rows.{row-ends}
 use borrow.Author.Needs.{needs}
+use native.Mathlib.Omega.{arith}
+
+row-of-requires : tie.Need-row-of-requires
+row-of-requires c κs =
+    let start = c .before .before .before .before .before .before in
+    omega (arith, start .pre .0, row-ends (start .args .c) (start .args .n) (start .args .row) (start .pre .1))
 
 say-answers-requires : tie.Need-say-answers-requires
 say-answers-requires c κs =
@@ -19,6 +26,7 @@ closest-spec =
     (λ c κs. search needs)
     (λ c κs. search needs)
     (λ c κs. search needs)
+    row-of-requires
     (λ c. search needs)
     (λ c. search needs)
     (λ c. search needs)

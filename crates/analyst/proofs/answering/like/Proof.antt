@@ -8,7 +8,7 @@ use native.Mathlib.Omega.{arith}
 
 row-of-requires : tie.Need-row-of-requires
 row-of-requires c κs =
-    let start = c .before .before .before .before .before .before .before .before .before .before .before .before in
+    let start = c .before .before .before .before .before in
     omega (arith, start .pre .1, row-ends (start .args .c) (start .args .n) (start .args .row) (start .pre .2))
 
 pub like-spec : {M : Type 1} → statement M
@@ -18,13 +18,15 @@ like-spec =
     (λ c κs. search needs)
     (λ c κs. search needs)
     (λ c κs. search needs)
-    (λ c. search needs)
-    (λ c. search needs)
-    (λ c. search needs)
     (λ c κs. search needs)
-    (λ c κs. search needs)
-    (λ c. search needs)
     row-of-requires
+    (λ c. search needs)
+    (λ c. search needs)
+    (λ c. search needs)
+    (λ c. search needs)
+    (λ c κs. search needs)
+    (λ c κs. search needs)
+    (λ c. search needs)
     (λ c. search needs)
     (λ c κs. search needs)
     (λ c κs. search needs)

@@ -4,7 +4,7 @@ use Prim.Native.Nat.{_*_, _-_, _≤_, ℕ}
 use Rattle.image.proofs.Places.{words-check}
 use Rattle.image.proofs.check.block_check.Statement.{statement}
 use Rattle.image.proofs.check.block_check.Tie as tie
-use Rattle.words.specs.Image.{checkFrom, checkWord, wordsAt}
+use Rattle.image.specs.Image.{checkFrom, checkWord, wordsAt}
 use borrow.Author.Needs.{needs}
 use mathlib.Core.Path.{_∙_, _≡_, ap₂}
 use native.Mathlib.Omega.{arith}

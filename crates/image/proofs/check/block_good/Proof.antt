@@ -2,7 +2,7 @@
 -- Assumes nothing.
 use Rattle.image.proofs.check.block_good.Statement.{statement}
 use Rattle.image.proofs.check.block_good.Tie as tie
-use Rattle.words.specs.Image.{blockGood}
+use Rattle.image.specs.Image.{blockGood}
 use borrow.Author.Needs.{needs}
 use lib.Dec.{eqb}
 use mathlib.Core.Path.{ap₂}

@@ -2,7 +2,7 @@
 -- Assumes nothing.
 use Rattle.image.proofs.check.rotated.Statement.{statement}
 use Rattle.image.proofs.check.rotated.Tie as tie
-use Rattle.words.specs.Image.{rotate}
+use Rattle.image.specs.Image.{rotate}
 use borrow.Author.Needs.{needs}
 use native.Mathlib.Omega.{arith}
 

@@ -2,7 +2,7 @@
 -- Assumes nothing.
 use Rattle.image.proofs.check.stepped.Statement.{statement}
 use Rattle.image.proofs.check.stepped.Tie as tie
-use Rattle.words.specs.Image.{step}
+use Rattle.image.specs.Image.{step}
 use borrow.Author.Needs.{needs}
 
 returns : tie.Need-returns

@@ -7,7 +7,7 @@ use Rattle.image.proofs.reading.check_held.Tie as tie
 use Rattle.image.specs.Sound.{restZero}
 use Rattle.laws.proofs.Tests.{no, yes}
 use Rattle.limits.specs.Said.{said}
-use Rattle.words.specs.Image.{blocksFor, imageTotal, imageWords}
+use Rattle.image.specs.Image.{blocksFor, imageTotal, imageWords}
 use Rattle.words.specs.Words.{cardOk, wordsOf}
 use borrow.Author.Needs.{needs}
 use lib.ListN.{length}

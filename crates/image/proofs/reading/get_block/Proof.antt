@@ -6,7 +6,7 @@ use Rattle.image.proofs.Places.{image-length, image-more}
 use Rattle.image.proofs.reading.get_block.Statement.{statement}
 use Rattle.image.proofs.reading.get_block.Tie as tie
 use Rattle.laws.proofs.Parts.{store-more}
-use Rattle.words.specs.Image.{imageWord, imageWords}
+use Rattle.image.specs.Image.{imageWord, imageWords}
 use borrow.Author.Needs.{needs}
 use lib.ListN.{drop, length, length-set, take-append-drop}
 use mathlib.Core.List.{List, _++_}

@@ -4,7 +4,7 @@ use Prim.Native.Nat.{_*_, _-_, _≤_, min, ℕ}
 use Rattle.image.proofs.InBlocks.{front-read, read-on}
 use Rattle.image.proofs.reading.get_words.Statement.{statement}
 use Rattle.image.proofs.reading.get_words.Tie as tie
-use Rattle.words.specs.Image.{imageWords}
+use Rattle.image.specs.Image.{imageWords}
 use borrow.Author.Needs.{needs}
 use lib.ListN.{drop, length, take}
 use mathlib.Core.List.{List, _++_}

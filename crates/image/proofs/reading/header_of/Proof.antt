@@ -2,7 +2,7 @@
 -- Assumes nothing.
 use Rattle.image.proofs.reading.header_of.Statement.{statement}
 use Rattle.image.proofs.reading.header_of.Tie as tie
-use Rattle.words.specs.Image.{imageWords}
+use Rattle.image.specs.Image.{imageWords}
 use borrow.Author.Needs.{needs}
 use mathlib.Core.List.{append-nil}
 use mathlib.Core.Path.{_∙_}

@@ -6,7 +6,7 @@ use Rattle.image.proofs.reading.rest_zero.Statement.{statement}
 use Rattle.image.proofs.reading.rest_zero.Tie as tie
 use Rattle.image.specs.Sound.{restZero}
 use Rattle.laws.proofs.Ranges.{all-end, all-step, all-stop}
-use Rattle.words.specs.Image.{imageWord}
+use Rattle.image.specs.Image.{imageWord}
 use borrow.Author.Needs.{needs}
 use borrow.Author.Tests.{eq-eqb, ne-eqb}
 use lib.Dec.{eqb}

@@ -2,7 +2,7 @@
 -- Assumes nothing.
 use Rattle.image.proofs.word.blocks_for.Statement.{statement}
 use Rattle.image.proofs.word.blocks_for.Tie as tie
-use Rattle.words.specs.Image.{blocksFor}
+use Rattle.image.specs.Image.{blocksFor}
 use borrow.Author.Needs.{needs}
 
 returns : tie.Need-returns

@@ -2,7 +2,7 @@
 -- Assumes nothing.
 use Rattle.image.proofs.word.get_word.Statement.{statement}
 use Rattle.image.proofs.word.get_word.Tie as tie
-use Rattle.words.specs.Image.{wordAt}
+use Rattle.image.specs.Image.{wordAt}
 use borrow.Author.Needs.{needs}
 
 returns : tie.Need-returns

@@ -2,7 +2,7 @@
 -- Assumes nothing.
 use Rattle.image.proofs.word.image_word.Statement.{statement}
 use Rattle.image.proofs.word.image_word.Tie as tie
-use Rattle.words.specs.Image.{imageWord}
+use Rattle.image.specs.Image.{imageWord}
 use borrow.Author.Needs.{needs}
 
 returns : tie.Need-returns

@@ -3,7 +3,7 @@
 use Rattle.image.proofs.word.put_word.Statement.{statement}
 use Rattle.image.proofs.word.put_word.Tie as tie
 use Rattle.laws.proofs.Parts.{four-sets}
-use Rattle.words.specs.Image.{bytes}
+use Rattle.image.specs.Image.{bytes}
 use borrow.Author.Needs.{needs}
 use lib.ListN.{length-set}
 use native.Mathlib.Omega.{arith}

@@ -5,7 +5,7 @@ use Rattle.image.proofs.Blocks.{blocks-length, blocks-more}
 use Rattle.image.proofs.writing.put_blocks.Statement.{statement}
 use Rattle.image.proofs.writing.put_blocks.Tie as tie
 use Rattle.laws.proofs.Parts.{put-part}
-use Rattle.words.specs.Image.{block, blocks}
+use Rattle.image.specs.Image.{block, blocks}
 use borrow.Author.Needs.{needs}
 use borrow.Rule.Slice.PartMut.{mid-len, putMid}
 use lib.ListN.{drop, length}

@@ -1,5 +1,6 @@
 -- `seek::searching::search` meets its contract: each round takes the item with the least bound, while it is due; what is left falls with each.
 -- Assumes nothing.
+use Rattle.frontier.specs.Waiting.{items}
 use Rattle.laws.specs.Bags.{total}
 use Rattle.measure.specs.Table.{from}
 use Rattle.queue.proofs.Queued.{empty-queue}
@@ -9,7 +10,7 @@ use Rattle.seek.proofs.Staying.{ready-at, since-none}
 use Rattle.seek.proofs.Weights.{cost}
 use Rattle.seek.proofs.searching.search.Statement.{statement}
 use Rattle.seek.proofs.searching.search.Tie as tie
-use Rattle.seek.specs.Frontier.{State, items}
+use Rattle.seek.specs.Rounds.{State}
 use Rattle.seek.specs.Standing.{Since}
 use Rattle.words.specs.Words.{n#}
 use borrow.Author.Needs.{needs}

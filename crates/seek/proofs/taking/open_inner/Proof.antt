@@ -1,8 +1,8 @@
 -- `seek::taking::open_inner` meets its contract: its centres are measured before the least of them and the last distance are looked for, and
 -- these before its children are queued.
 -- Assumes nothing.
+use Rattle.frontier.proofs.Queueing.{node-words, room-less}
 use Rattle.seek.proofs.InnerNodes.{inner-asks, inner-done, inner-then}
-use Rattle.seek.proofs.Queueing.{node-words, room-less}
 use Rattle.seek.proofs.Rounds.{node-there}
 use Rattle.seek.proofs.taking.open_inner.Statement.{statement}
 use Rattle.seek.proofs.taking.open_inner.Tie as tie

@@ -1,6 +1,6 @@
 -- `seek::taking::open_node` meets its contract: a leaf and an inner node are told apart by the first child.
 -- Assumes nothing.
-use Rattle.seek.proofs.Queueing.{node-words, room-at}
+use Rattle.frontier.proofs.Queueing.{node-words, room-at}
 use Rattle.seek.proofs.Rounds.{node-there, taken-leaf}
 use Rattle.seek.proofs.taking.open_node.Statement.{statement}
 use Rattle.seek.proofs.taking.open_node.Tie as tie

@@ -1,7 +1,7 @@
 -- `seek::taking::take_item` meets its contract: the id tells a node from a position.
 -- Assumes nothing.
 use Prim.Native.Nat.{_*_, _+_, _-_, _<_, ℕ}
-use Rattle.seek.proofs.Queueing.{place-words}
+use Rattle.frontier.proofs.Queueing.{place-words}
 use Rattle.seek.proofs.Rounds.{node-taken, node-takes, place-row, place-taken, place-there}
 use Rattle.seek.proofs.taking.take_item.Statement.{statement}
 use Rattle.seek.proofs.taking.take_item.Tie as tie

@@ -1,0 +1,115 @@
+// One search after the other over one index, and what they found put together.
+ghost use Prim.Native.Nat.{_≤_};
+ghost use Rattle.finder.specs.Near.{Asked, Fit, fresh, merged, saidNear, sumFresh, united};
+ghost use Rattle.measure.specs.Table.{rowsOf};
+ghost use Rattle.tree.specs.Nearest.{measured};
+ghost use lib.ListN.{length, take};
+ghost use mathlib.Core.Path.{_≡_};
+use descent::search;
+use limits::Params;
+use measure::row_of;
+use radius::Found;
+use tree::how::tally;
+use words::places::rows;
+
+// A how-byte of 2 or 3 says that the row is in.
+const IN: u8 = 2;
+
+// Why the queries can't be searched for, or 0: rooms too short for n rows; none, a part of one, or more than an index has rows.
+pub fn why_not(n: usize, c: usize, asked: usize, how: usize, marks: usize) -> u32
+    requires { ⌜ 1 ≤ c ⌝ }
+    ensures { λ r. ⌜ r ≡ saidNear n c asked how marks ⌝ }
+{
+    if how < n {
+        return 5;
+    }
+    if marks < n {
+        return 5;
+    }
+    if asked % c != 0 {
+        return 6;
+    }
+    if asked / c == 0 {
+        return 6;
+    }
+    if Params::MOST_ROWS < asked / c {
+        return 6;
+    }
+    0
+}
+
+// A row's mark after one search more.
+fn merge(mark: u8, how: u8) -> u8
+    ensures { λ r. ⌜ r ≡ merged mark how ⌝ }
+{
+    if how < IN {
+        return mark;
+    }
+    1
+}
+
+// 1 for a row that no search before found, else 0.
+fn newly(mark: u8, how: u8) -> usize
+    ensures { λ r. ⌜ (r ≡ fresh mark how) × (r ≤ 1) ⌝ }
+{
+    if how < IN {
+        return 0;
+    }
+    if mark == 0 { 1 } else { 0 }
+}
+
+// How many rows a search measured.
+fn measured_rows(how: &[u8], n: usize) -> usize
+    requires { ⌜ n ≤ length (now how) ⌝ }
+    ensures { λ r. ⌜ (r ≡ measured (take n (now (how .entry)))) × (r ≤ n) ⌝ }
+{
+    tally(how, n).measured
+}
+
+// The rows that a search found join those marked before. Gives how many are new.
+fn join(how: &[u8], marks: &mut [u8], n: usize) -> usize
+    requires { ⌜ (n ≤ length (now how)) × (n ≤ length (now marks)) ⌝ }
+    ensures { λ k. ⌜ (now (marks .exit) ≡ united (now (how .entry)) (now (marks .entry)) n)
+        × (k ≡ sumFresh (now (how .entry)) (now (marks .entry)) n) × (k ≤ n) ⌝ }
+{
+    let mut new = 0;
+    let mut i = 0;
+    while i < n {
+        new += newly(marks[i], how[i]);
+        marks[i] = merge(marks[i], how[i]);
+        i += 1;
+    }
+    new
+}
+
+// Searches an index that was just built for each of the queries, over marks that are zero.
+pub fn mark_each(
+    table: &[u16],
+    c: usize,
+    index: &[u32],
+    queries: &[u16],
+    r: u32,
+    how: &mut [u8],
+    marks: &mut [u8],
+) -> Found
+    requires { ⌜ Fit (now index) (now table) c (now queries) (now how) (now marks) ⌝ }
+    ensures { λ f. ⌜ (f .number ≡ 0) × Asked (now (table .entry)) c (now (index .entry)) (now (queries .entry)) r
+        (rowsOf (now (queries .entry)) c) (now (how .entry)) (now (how .exit)) (now (marks .entry)) (now (marks .exit)) (f .inside) (f .measured) ⌝ }
+{
+    let n = rows(index);
+    let asked = queries.len() / c;
+    let mut inside = 0;
+    let mut measured = 0;
+    let mut k = 0;
+    while k < asked {
+        search(table, c, index, row_of(queries, c, k), r, how);
+        measured += measured_rows(how, n);
+        inside += join(how, marks, n);
+        k += 1;
+    }
+    Found {
+        number: 0,
+        inside,
+        measured,
+    }
+}

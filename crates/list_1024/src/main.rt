@@ -1,4 +1,0 @@
-// As many rows as a text can have.
-fn main() {
-    lister::run();
-}

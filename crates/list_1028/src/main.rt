@@ -1,4 +1,0 @@
-// One number too many.
-fn main() {
-    lister::run();
-}

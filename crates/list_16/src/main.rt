@@ -1,4 +1,0 @@
-// Sixteen columns, a number to a line.
-fn main() {
-    lister::run();
-}

@@ -1,4 +1,0 @@
-// Twenty-six equal rows.
-fn main() {
-    lister::run();
-}

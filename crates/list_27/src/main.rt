@@ -1,4 +1,0 @@
-// Twenty-seven equal rows.
-fn main() {
-    lister::run();
-}

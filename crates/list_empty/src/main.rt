@@ -1,4 +1,0 @@
-// The empty table.
-fn main() {
-    lister::run();
-}

@@ -1,4 +1,0 @@
-// A leaf size equal to the centres.
-fn main() {
-    lister::run();
-}

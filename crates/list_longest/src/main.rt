@@ -1,4 +1,0 @@
-// The longest readable text.
-fn main() {
-    lister::run();
-}

@@ -1,4 +1,0 @@
-// A length that is no multiple of the columns.
-fn main() {
-    lister::run();
-}
