@@ -1,15 +1,20 @@
 -- The cases that were worked out by hand are what the definitions say. Assumes nothing.
 use Rattle.laws.specs.Lists.{all}
-use Rattle.rowset.specs.Cases.{members, offices, right, rows, sets, singles, turns}
+use Rattle.rowset.specs.Cases.{bits, lengths, members, offices, right, rows, singles, turns}
 use Rattle.rowset.specs.Sets.{restored, struck}
 use mathlib.Core.Bool.{true}
 use mathlib.Core.List.{[], _∷_}
 use mathlib.Core.Path.{_≡_, refl}
 
--- which sets are refused
-pub sets-right : all right sets ≡ true
+-- which sets are refused by their length
+pub lengths-right : all right lengths ≡ true
 unfolding right
-sets-right = refl
+lengths-right = refl
+
+-- and which by a bit
+pub bits-right : all right bits ≡ true
+unfolding right
+bits-right = refl
 
 -- which rows
 pub rows-right : all right rows ≡ true

@@ -6,7 +6,7 @@ use Rattle.laws.proofs.Tests.{or-none, or-parts}
 use Rattle.laws.specs.Lists.{any, range}
 use Rattle.rowset.proofs.Digits.{digit, high-digit, low-word}
 use Rattle.rowset.proofs.Rows.{Has, beyond, digit-row}
-use Rattle.rowset.specs.Sets.{Narrow, bitOf, isIn, mask, setBad, wordOf, wordsFor}
+use Rattle.rowset.specs.Sets.{Narrow, bitOf, isIn, mask, setBad, tooHigh, wordOf, wordsFor}
 use borrow.Author.Tests.{eq-eqb, eqb-true, le-leb, lt-leb, ne-eqb, not-false}
 use lib.Dec.{eqb, leb}
 use lib.ListN.{getD, length}
@@ -33,12 +33,8 @@ all-fail : (f : ℕ → Bool) (a k : ℕ) → ((i : ℕ) → a ≤ i → i < a +
 all-fail f a k h = any-lost f a k (record { from = omega arith; to = omega arith; none = h; here = λ l. absurd (omega arith) })
 
 module _ (s : List ℕ) (n : ℕ) where
-  -- a bit n or above is on
-  abbrev pub tooHigh : Bool
-  tooHigh = any (isIn s) (range n (32 * length s - n))
-
-  -- none is: no row from n on is in
-  none-above : tooHigh ≡ false → (i : ℕ) → n ≤ i → isIn s i ≡ false
+  -- where no bit n or above is on, no row from n on is in
+  none-above : tooHigh s n ≡ false → (i : ℕ) → n ≤ i → isIn s i ≡ false
   none-above e i h = go (decLt (i / 32) (length s))
     where
       go : Dec (i / 32 < length s) → isIn s i ≡ false
@@ -49,18 +45,18 @@ module _ (s : List ℕ) (n : ℕ) where
   -- the words
   pub right-length : setBad s n ≡ false → length s ≡ wordsFor n
   unfolding setBad
-  right-length e = eqb-true (length s) (wordsFor n) (not-false (eqb (length s) (wordsFor n)) (or-parts (not (eqb (length s) (wordsFor n))) tooHigh e .0))
+  right-length e = eqb-true (length s) (wordsFor n) (not-false (eqb (length s) (wordsFor n)) (or-parts (not (eqb (length s) (wordsFor n))) (tooHigh s n) e .0))
 
   -- the rows
   pub right-above : setBad s n ≡ false → (i : ℕ) → n ≤ i → isIn s i ≡ false
   unfolding setBad
-  right-above e = none-above (or-parts (not (eqb (length s) (wordsFor n))) tooHigh e .1)
+  right-above e = none-above (or-parts (not (eqb (length s) (wordsFor n))) (tooHigh s n) e .1)
 
   -- and a set of which both are true is not refused
   pub right-of : length s ≡ wordsFor n → ((i : ℕ) → n ≤ i → isIn s i ≡ false) → setBad s n ≡ false
   unfolding setBad
   right-of e h =
-      or-none (not (eqb (length s) (wordsFor n))) tooHigh (ap not (eq-eqb (length s) (wordsFor n) e))
+      or-none (not (eqb (length s) (wordsFor n))) (tooHigh s n) (ap not (eq-eqb (length s) (wordsFor n) e))
       (all-fail (isIn s) n (32 * length s - n) (λ i l k. h i l))
 
   -- so one of the right length, whose words end with row n - 1, is not
@@ -74,13 +70,13 @@ module _ (s : List ℕ) (n : ℕ) where
   -- ---- by the last word
   module _ (narrow : Narrow s) (long : length s ≡ wordsFor n) where
     -- no bit n or above: the word of row n is below that row's mask
-    word-below : tooHigh ≡ false → wordOf s n < mask n
+    word-below : tooHigh s n ≡ false → wordOf s n < mask n
     word-below e =
         low-word (wordOf s n) (n % 32) (narrow (n / 32)) (omega arith)
         (λ k l h. digit-row s (n / 32) k h ∙ ap (λ (b : Bool). cond b 1 0) (none-above e (32 * (n / 32) + k) (omega arith)))
 
     -- it is below: there is no such bit, since all of them stand in that word
-    none-high : wordOf s n < mask n → tooHigh ≡ false
+    none-high : wordOf s n < mask n → tooHigh s n ≡ false
     unfolding bitOf
     none-high e = all-fail (isIn s) n (32 * length s - n) off
       where
@@ -92,10 +88,10 @@ module _ (s : List ℕ) (n : ℕ) where
             (λ q. omega (arith, none, subst (λ (j : ℕ). digit (getD s j 0) (i % 32) ≡ 1) here q))
 
     -- A BIT n OR ABOVE IS ON EXACTLY WHERE THE LAST WORD IS NOT BELOW THE MASK OF ROW n
-    pub high-bits : tooHigh ≡ leb (mask n) (wordOf s n)
-    high-bits = go tooHigh refl
+    pub high-bits : tooHigh s n ≡ leb (mask n) (wordOf s n)
+    high-bits = go (tooHigh s n) refl
       where
-        go : (b : Bool) → tooHigh ≡ b → b ≡ leb (mask n) (wordOf s n)
+        go : (b : Bool) → tooHigh s n ≡ b → b ≡ leb (mask n) (wordOf s n)
         go true e = sym (le-leb (mask n) (wordOf s n) (not-below (λ h. never (sym (none-high h) ∙ e))))
           where
             not-below : {a b : ℕ} → (a < b → ⊥) → b ≤ a

@@ -22,22 +22,27 @@ right (says s n r k) = eqb (saidOrder s n r .0) k
 right (holds s n rs) = same (keep (isIn s) (range 0 n)) rs
 right (leaves s os t) = same (after s os) t
 
--- 20: too few words and too many, no rows, n a multiple of 32, and the bit of row n or above; a set for more rows than a table may have is judged the same
-abbrev pub sets : List Case
-sets =
+-- 20 by the length: too few words and too many, for no rows, for a multiple of 32, and for more rows than a table may have
+abbrev pub lengths : List Case
+lengths =
     says [] 5 0 20
     ∷ says (0 ∷ 0 ∷ []) 5 0 20
-    ∷ says (32 ∷ []) 5 0 20
-    ∷ says (31 ∷ []) 5 0 0
-    ∷ says (2_147_483_648 ∷ []) 5 0 20
     ∷ says (0 ∷ []) 0 0 20
-    ∷ says (4_294_967_295 ∷ []) 32 0 0
-    ∷ says (4_294_967_295 ∷ []) 31 0 20
     ∷ says (0 ∷ 0 ∷ []) 32 0 20
     ∷ says (0 ∷ []) 33 0 20
+    ∷ says (0 ∷ []) 1_048_577 0 20
+    ∷ []
+
+-- 20 by a bit: that of row n, and others above it up to the last of a word
+abbrev pub bits : List Case
+bits =
+    says (32 ∷ []) 5 0 20
+    ∷ says (31 ∷ []) 5 0 0
+    ∷ says (2_147_483_648 ∷ []) 5 0 20
+    ∷ says (4_294_967_295 ∷ []) 32 0 0
+    ∷ says (4_294_967_295 ∷ []) 31 0 20
     ∷ says (0 ∷ 1 ∷ []) 33 0 0
     ∷ says (0 ∷ 2 ∷ []) 33 0 20
-    ∷ says (0 ∷ []) 1_048_577 0 20
     ∷ []
 
 -- 26: row n and those above it, and 20 comes first

@@ -35,9 +35,13 @@ restored s r = set s (r / 32) (bitAnd (wordOf s r) (4_294_967_295 - mask r))
 abbrev pub wordsFor : ℕ → ℕ
 wordsFor n = (n + 31) / 32
 
+-- a bit n or above is on, in one of the words
+abbrev pub tooHigh : List ℕ → ℕ → Bool
+tooHigh s n = any (isIn s) (range n (32 * length s - n))
+
 -- 02, R-5, refusal 20: the set's length is not n/32 rounded up, or a bit n or above is on
 unfoldable pub setBad : List ℕ → ℕ → Bool
-setBad s n = not (eqb (length s) (wordsFor n)) || any (isIn s) (range n (32 * length s - n))
+setBad s n = not (eqb (length s) (wordsFor n)) || tooHigh s n
 
 -- every word has 32 bits, as those of every lent set have
 abbrev pub Narrow : List ℕ → Type 0

@@ -10,7 +10,9 @@ returns : tie.Need-returns
 returns c = omega (arith, twenty _ _ (c .before .before .before .args .r) (sym (c .before .set-bad .ensures) ∙ c .if1 .taken))
 
 returns-2 : tie.Need-returns-2
-returns-2 c = twenty-six _ _ _ (sym (c .before .before .set-bad .ensures) ∙ c .before .if1 .left) (omega arith)
+returns-2 c =
+    let b = c .before .before in
+    omega (arith, twenty-six _ _ (b .before .before .args .r) (sym (b .set-bad .ensures) ∙ c .before .if1 .left) (omega arith))
 
 returns-3 : tie.Need-returns-3
 returns-3 c = none-said _ _ _ (sym (c .before .before .set-bad .ensures) ∙ c .before .if1 .left) (omega arith)
