@@ -51,7 +51,7 @@ fn first_row(names: bool, second: usize, top: usize) -> usize {
 pub fn read_rows(t: &[u8], table: &mut [u16]) -> Sheet {
     let top = text_start(t);
     let second = next_line(t, 0);
-    let first = sheet::feed(sheet::start(), part(t, 0, second), table);
+    let first = sheet::feed(sheet::start(0), part(t, 0, second), table);
     let all = sheet::feed(first, part(t, second, t.len()), table);
     let reader = sheet::finish(all, table);
     let names = is_names(first.rows, second, t.len());

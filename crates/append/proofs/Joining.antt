@@ -1,19 +1,19 @@
 -- From the index to the index that a row has joined: the leaf is found, its run is laid, and the tree is written anew with it. Assumes nothing.
 use Prim.Native.Nat.{_*_, _+_, _<_, _≤_, ℕ}
-use Rattle.append.specs.Joining.{Joinable, Joins}
 use Rattle.appending.specs.Append.{appended}
+use Rattle.append.specs.Joining.{Joinable, Joins}
 use Rattle.buffers.proofs.Whole.{wiped-whole}
 use Rattle.buffers.specs.Wiped.{wiped}
 use Rattle.laws.specs.Lists.{times}
-use Rattle.leafward.proofs.Handing.{ready-long, ready-rows}
-use Rattle.leafward.specs.Lay.{Laying, Lays, ready}
+use Rattle.laying.proofs.Handing.{ready-long, ready-rows}
+use Rattle.laying.specs.Lay.{Laying, Lays, ready}
 use Rattle.leafward.specs.Way.{Found, Lent}
 use Rattle.limits.specs.Limits.{maxRows}
 use Rattle.measure.specs.Table.{between}
 use Rattle.refill.proofs.Linking.{leaf-under, limitOf, regrown-appended, run-once}
 use Rattle.refill.specs.Calls.{Refilled, regrownWords}
 use Rattle.regrow.specs.Calls.{Regrowable, regrownOf}
-use Rattle.split.specs.Groups.{stretch}
+use Rattle.rounds.specs.Stretch.{stretch}
 use Rattle.split.specs.Runs.{laid}
 use Rattle.tree.specs.Encode.{encode, numbered}
 use Rattle.tree.specs.Grove.{Grove}

@@ -1,29 +1,26 @@
 -- The call's outcomes: a refusal, the build of one row, and the index that a row has joined. Assumes nothing.
 use Prim.Native.Nat.{_*_, _+_, _<_, _≤_, ℕ}
 use Rattle.append.proofs.Refusals.{Clear, clear}
-use Rattle.append.specs.Calls.{Appends, saidAppend}
+use Rattle.append.specs.Calls.{Appends}
 use Rattle.append.specs.Joining.{Joinable, Joins}
+use Rattle.append.specs.Numbers.{saidAppend}
 use Rattle.appending.proofs.Appending.{append-one, share-ok}
 use Rattle.appending.proofs.Back.{tree-fits}
 use Rattle.appending.specs.Append.{appended}
 use Rattle.build.proofs.Outcomes.{small as sixteen}
-use Rattle.build.proofs.Refusals.{by-lengths, by-rooms}
+use Rattle.build.proofs.Refusals.{clear-none}
 use Rattle.build.proofs.Small.{build-small}
 use Rattle.build.specs.Calls.{Builds}
-use Rattle.build.specs.Filled.{shortOf}
-use Rattle.laws.proofs.Tests.{or-none}
-use Rattle.limits.proofs.Numbers.{none-of-length}
-use Rattle.limits.proofs.Sized.{sized-columns}
 use Rattle.limits.specs.Limits.{maxRows}
 use Rattle.measure.specs.Table.{rowsOf}
 use Rattle.tree.specs.Build.{build}
-use Rattle.tree.specs.Calls.{roomOf, saidBuild}
+use Rattle.build.specs.Numbers.{roomOf, saidBuild}
 use Rattle.words.proofs.Headers.{words-whole}
 use Rattle.words.proofs.InShape.{in-shape}
 use Rattle.words.specs.InShape.{InShape}
 use Rattle.words.specs.Words.{N#, l#, m#, n#}
-use borrow.Author.Tests.{le-ltb, ne-eqb}
-use lib.Dec.{eqb, ltb}
+use borrow.Author.Tests.{ne-eqb}
+use lib.Dec.{eqb}
 use lib.ListN.{drop, getD, length, replicate, take}
 use lib.Seq.{length-take-le}
 use mathlib.Core.Bool.{false}
@@ -82,12 +79,8 @@ module _ {T : List ℕ} {c : ℕ} {w room work : List ℕ} (passed : Passed T c 
   builds-none : 0 ≡ saidBuild T c 2 (m# w) (l# w) (length room) (length work) .0
   builds-none =
       let C = cleared in
-      let n : ℕ = rowsOf T c in
-      let short : false ≡ shortOf n (length room) (length work) =
-      sym (or-none (ltb (length room) (roomOf n)) (ltb (length work) (6 * n)) (le-ltb (length room) (roomOf n) (C .space))
-      (le-ltb (length work) (6 * n) (C .words))) in
-      by-lengths T c 2 (m# w) (l# w) (length room) (length work) (sized-columns (length T) c (C .table)) (rw (share-ok w shape-is))
-      (by-rooms (length T) c (length room) (length work) (none-of-length (length T) c (C .table .whole) (C .table .rows)) refl short)
+      clear-none T c 2 (m# w) (l# w) (length room) (length work)
+      (record { table = C .table; share = share-ok w shape-is; edition = refl; space = C .space; words = C .words })
 
   -- the build of one row: the contract is met
   pub built-appends : {m l : ℕ} {room′ work′ : List ℕ} {number words nodes : ℕ} → n# w ≡ 0 → m ≡ m# w → l ≡ l# w

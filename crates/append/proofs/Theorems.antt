@@ -7,7 +7,7 @@ use Rattle.appending.proofs.Appending.{Longer, append-accepted as words-accepte
 use Rattle.appending.proofs.Order.{Order}
 use Rattle.appending.specs.Append.{appended}
 use Rattle.laws.specs.Every.{Every}
-use Rattle.limits.proofs.Sized.{Sized}
+use Rattle.limits.proofs.Numbers.{Sized}
 use Rattle.measure.specs.Table.{between, rowsOf}
 use Rattle.tree.specs.Build.{build}
 use Rattle.tree.specs.Check.{Accepted}

@@ -1,29 +1,17 @@
 -- What the call promises: 02, R-2. Assumes nothing.
-use Prim.Native.Nat.{_*_, _+_, _≤_, ℕ}
+use Prim.Native.Nat.{_*_, _≤_, ℕ}
 use Rattle.appending.specs.Append.{appended}
 use Rattle.laws.specs.Every.{Every}
 use Rattle.limits.specs.Limits.{maxRows}
-use Rattle.limits.specs.Said.{Said, fault, said, tableFaults}
 use Rattle.measure.specs.Table.{rowsOf}
-use Rattle.tree.specs.Calls.{roomOf}
-use Rattle.words.specs.Shape.{shapeOk}
-use Rattle.words.specs.Words.{N#, c#, n#, wordsOk}
-use lib.Dec.{eqb, ltb}
+use Rattle.append.specs.Numbers.{saidAppend}
+use Rattle.build.specs.Numbers.{roomOf}
+use Rattle.words.specs.Words.{N#}
+use lib.Dec.{eqb}
 use lib.ListN.{drop, length, replicate}
-use mathlib.Core.Bool.{_&&_, _||_, cond, not}
+use mathlib.Core.Bool.{cond}
 use mathlib.Core.List.{List, _++_}
 use mathlib.Core.Path.{_≡_}
-
--- 8 and 9, for a table of n rows of c columns: words are missing, the header is impossible, or the table has not just one row more than it, or other
--- columns; then the shape
-unfoldable pub olderFaults : List ℕ → ℕ → ℕ → List Said
-olderFaults w n c = fault 8 (not (wordsOk w && eqb (n# w + 1) n && eqb (c# w) c)) ++ fault 9 (not (shapeOk w))
-
--- append: 1, 3, 4, 5, 8, 9. All but 8 are counted for the table's rows; `room` and `work` are the lengths of what is lent
-unfoldable pub saidAppend : List ℕ → ℕ → List ℕ → ℕ → ℕ → Said
-saidAppend T c w room work =
-    let n = rowsOf T c in
-    said (tableFaults (length T) c ++ fault 5 (ltb room (roomOf n) || ltb work (6 * n)) ++ olderFaults w n c)
 
 -- For every input: the number is the lowest that applies. On 0 the index with the table's last row in it stands at the front of the room and the
 -- first 6n words of the workspace are zero, both as they were beyond that; on a refusal both are as they were and the counts are 0

@@ -1,6 +1,6 @@
 -- What the call says to tables and indexes that are not each other's: one column. Assumes nothing.
 use Prim.Native.Nat.{ℕ}
-use Rattle.append.specs.Calls.{saidAppend}
+use Rattle.append.specs.Numbers.{saidAppend}
 use Rattle.tree.specs.Cases.{five, fiveWords}
 use lib.Dec.{eqb}
 use lib.ListN.{set}

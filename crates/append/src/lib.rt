@@ -1,5 +1,6 @@
 // Appending a row: the index of a table that has one row more.
-ghost use Rattle.append.specs.Calls.{Appends, saidAppend};
+ghost use Rattle.append.specs.Calls.{Appends};
+ghost use Rattle.append.specs.Numbers.{saidAppend};
 ghost use Rattle.append.specs.Joining.{Joinable, Joins};
 ghost use Prim.Native.Nat.{_≤_};
 ghost use Rattle.limits.specs.Limits.{maxRows};
@@ -11,15 +12,15 @@ use buffers::clear_words;
 use build::Built;
 use build::build;
 use build::refused;
-use build::too_short;
-use leafward::lay::lay_leaf;
-use leafward::way::leaf_for;
+use build::writer_number;
+use copies::Growth;
+use laying::lay_leaf;
+use leafward::leaf_for;
 use limits::Params;
-use limits::table_number;
+use limits::rows_in;
 use refill::refill;
-use regrow::Growth;
-use split::groups::WIDTH;
-use words::listing::index_number;
+use split::WIDTH;
+use words::index::index_number;
 use words::places::HEADER;
 use words::places::centres;
 use words::places::leaf_size;
@@ -29,14 +30,11 @@ use words::places::rows;
 fn refusal_of(table: &[u16], c: usize, index: &[u32], room: usize, work: usize) -> u32
     ensures { λ r. ⌜ r ≡ saidAppend (now (table .entry)) c (now (index .entry)) room work .0 ⌝ }
 {
-    let by_table = table_number(table.len(), c);
-    if by_table != 0 {
-        return by_table;
+    let number = writer_number(table.len(), c, false, room, work);
+    if number != 0 {
+        return number;
     }
-    let n = table.len() / c;
-    if too_short(n, room, work) {
-        return 5;
-    }
+    let n = rows_in(table.len(), c);
     if n == 0 {
         return 8;
     }

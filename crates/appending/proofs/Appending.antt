@@ -1,9 +1,10 @@
 -- The index with one row more: the full check accepts it, and all groups but one keep their order. Assumes nothing.
 use Prim.Native.Nat.{_*_, _+_, _/_, _<_, _≤_, suc, zero, ℕ}
 use Rattle.appending.proofs.Agree.{Agree, good-agree}
-use Rattle.appending.proofs.Back.{entries-tree, numbered-is, tree-fits}
+use Rattle.appending.proofs.Back.{entries-tree, tree-fits}
 use Rattle.appending.proofs.Joined.{Appended, fresh-in, join-good}
 use Rattle.appending.proofs.Nodes.{Made, Once, good-made}
+use Rattle.appending.proofs.Numbered.{numbered-is}
 use Rattle.appending.proofs.Onesplit.{join-size, numbered-size}
 use Rattle.appending.proofs.Order.{Order, groups-entries, join-order, together}
 use Rattle.appending.proofs.Read.{encode-length, encode-tree}
@@ -223,7 +224,7 @@ module _ {d : ℕ → ℕ → ℕ} {T : List ℕ} {c : ℕ} {w : List ℕ} (L : 
 
 -- ---- a row appended to a table
 -- the rows of the table stay
-row-front : (U r : List ℕ) (c n i : ℕ) → length U ≡ c * n → i < n → row (U ++ r) c i ≡ row U c i
+pub row-front : (U r : List ℕ) (c n i : ℕ) → length U ≡ c * n → i < n → row (U ++ r) c i ≡ row U c i
 row-front U r c n i e h =
     let q = row-ends c n i h in
     ap (take c) (drop-append-le (c * i) U r (omega arith)) ∙ take-append-le c (drop (c * i) U) r (simp length-drop (omega arith))

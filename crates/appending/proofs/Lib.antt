@@ -1,4 +1,5 @@
 pub mod Read
+pub mod Numbered
 pub mod Back
 pub mod Wellmade
 pub mod Lowest

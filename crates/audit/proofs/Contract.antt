@@ -1,17 +1,16 @@
 -- The contract: on a refusal, and past all of them. Assumes nothing.
 use Prim.Native.Nat.{_*_, _≤_, ℕ}
 use Rattle.audit.proofs.Faults.{Late, faults-late}
-use Rattle.audit.proofs.Refusals.{refusals-early, refusals-numbered}
 use Rattle.audit.specs.Calls.{Checks}
-use Rattle.audit.specs.Refusals.{refusals}
 use Rattle.audit.specs.Workspace.{clears}
 use Rattle.buffers.specs.Wiped.{wiped}
 use Rattle.laws.specs.Every.{Every}
-use Rattle.limits.proofs.Faults.{Early, early-low, early-placeless, numberOf, says-first, says-next}
+use Rattle.limits.proofs.Faults.{Early, early-low, early-numbered, early-placeless, numberOf, says-first, says-next}
 use Rattle.limits.specs.Said.{Said, said}
 use Rattle.measure.specs.Table.{between, rowsOf}
-use Rattle.tree.specs.Calls.{saidCheck}
+use Rattle.audit.specs.Numbers.{checkAsks, refusals, saidCheck}
 use Rattle.tree.specs.Check.{faults}
+use Rattle.words.proofs.Indexes.{call-early}
 use Rattle.words.specs.Words.{n#}
 use borrow.Author.Tests.{le-leb, lt-leb, ne-eqb}
 use lib.Dec.{eqb}
@@ -23,7 +22,7 @@ use native.Mathlib.Omega.{arith}
 
 -- THE CALL SAYS ITS FIRST REFUSAL, ELSE ITS FIRST FAULT
 pub said-check : (T : List ℕ) (c : ℕ) (w : List ℕ) (room : ℕ) → saidCheck T c w room ≡ said (refusals T c w room ++ faults (between T c) w)
-unfolding saidCheck refusals
+unfolding saidCheck
 said-check T c w room = refl
 
 -- ---- the workspace
@@ -50,7 +49,7 @@ module _ (T : List ℕ) (c : ℕ) (w work : List ℕ) where
   pub refused : {r : ℕ} → r ≡ said early .0 → (r ≡ 0 → ⊥) → Checks T c w work work r 0 0
   refused {r} e h =
       let s : said early ≡ saidCheck T c w (length work) = says-first early late (λ z. h (e ∙ z)) ∙ sym (said-check T c w (length work)) in
-      let all : Every Early early = refusals-early T c w (length work) in
+      let all : Every Early early = call-early (checkAsks T c (length work)) w in
       let p = early-placeless early all in
       record {
         said = e ∙ ap numberOf s;
@@ -63,7 +62,7 @@ module _ (T : List ℕ) (c : ℕ) (w work : List ℕ) where
       → work′ ≡ wiped (6 * n# w) work → Checks T c w work work′ number place second
   taken {number} {place} {second} z e says leaves =
       let s : (number, place, second) ≡ saidCheck T c w (length work) =
-      says ∙ says-next early late (refusals-numbered T c w (length work)) z ∙ sym (said-check T c w (length work)) in
+      says ∙ says-next early late (early-numbered early (call-early (checkAsks T c (length work)) w)) z ∙ sym (said-check T c w (length work)) in
       record {
         said = ap numberOf s;
         placed = (ap (λ (s : Said). s .1) s, ap (λ (s : Said). s .2) s);

@@ -2,21 +2,22 @@
 use Prim.Native.Nat.{_*_, _≤_, ℕ}
 use Rattle.audit.proofs.Contract.{said-check}
 use Rattle.audit.proofs.Faults.{Late, Small, faults-late, faults-small}
-use Rattle.audit.proofs.Refusals.{clear, clear-none, refusals-early, refusals-numbered}
 use Rattle.audit.specs.Calls.{Checks, Passed}
-use Rattle.audit.specs.Refusals.{refusals}
+use Rattle.audit.specs.Numbers.{checkAsks, refusals}
 use Rattle.audit.specs.Workspace.{clears}
 use Rattle.buffers.specs.Wiped.{wiped}
 use Rattle.laws.proofs.Every.{every-of}
 use Rattle.laws.specs.Every.{Every}
-use Rattle.limits.proofs.Faults.{Early, Numbered, none-listed, numberOf, says-next, says-none}
-use Rattle.limits.proofs.Sized.{sized-of}
+use Rattle.limits.proofs.Faults.{Early, Numbered, early-numbered, none-listed, numberOf, says-next, says-none}
+use Rattle.limits.proofs.Numbers.{sized-of}
 use Rattle.limits.specs.Limits.{maxRows}
 use Rattle.limits.specs.Said.{Said, said}
+use Rattle.limits.specs.declared.Asked.{Asked}
 use Rattle.measure.specs.Table.{between, rowsOf}
 use Rattle.tree.specs.Check.{faults}
 use Rattle.words.proofs.Headers.{whole-words, words-whole}
-use Rattle.words.proofs.InShape.{in-shape}
+use Rattle.words.proofs.Indexes.{call-early, clear, clear-none, clear-shape}
+use borrow.Author.Tests.{le-ltb, ltb-false}
 use lib.ListN.{length}
 use mathlib.Core.Bool.{cond}
 use mathlib.Core.List.{List, [], _++_, _∷_}
@@ -59,7 +60,11 @@ said-small (s ∷ l) m h k = (omega (arith, h .0 .placeless .0), omega (arith, h
 
 -- ---- an outcome of the call
 module _ {T : List ℕ} {c : ℕ} {w work work′ : List ℕ} {number place second : ℕ} (C : Checks T c w work work′ number place second) where
-  -- the call's refusals
+  -- what the call asks of numbers
+  abbrev asks : Asked
+  asks = checkAsks T c (length work)
+
+  -- its refusals
   abbrev early : List Said
   early = refusals T c w (length work)
 
@@ -82,31 +87,39 @@ module _ {T : List ℕ} {c : ℕ} {w work work′ : List ℕ} {number place seco
   -- 0 is given: no refusal meets the call, and the index is accepted
   zero-passed : number ≡ 0 → Passed T c w work
   zero-passed z =
-      let b = says-none early late (refusals-numbered T c w (length work)) (sym number-is ∙ z) in
-      let P = clear T c w (length work) (b .0) in
+      let b = says-none early late (early-numbered early (call-early asks w)) (sym number-is ∙ z) in
+      let P = clear asks w (b .0) in
+      let t = P .numbers .table in
       record {
-        columns = (P .table .some, P .table .few);
-        multiple = P .table .whole;
-        few = P .table .rows;
-        room = P .words;
-        same-rows = P .index .rows;
-        same-columns = P .index .columns;
-        edition = words-whole w (P .there) .0;
-        accepted = record { words = words-whole w (P .there) .1; shape = P .shape; sound = none-listed late (faults-numbered (between T c) w) (b .1) };
+        columns = (t .some, t .few);
+        multiple = t .whole;
+        few = t .rows;
+        room = ltb-false (length work) (6 * rowsOf T c) (P .numbers .room);
+        same-rows = P .rows;
+        same-columns = P .columns;
+        edition = words-whole w (P .whole) .0;
+        accepted = record { words = words-whole w (P .whole) .1; shape = P .shape; sound = none-listed late (faults-numbered (between T c) w) (b .1) };
       }
 
   -- no refusal meets the call, and the index is accepted: 0 is given
   passed-zero : Passed T c w work → number ≡ 0
   passed-zero P =
       let A = P .accepted in
-      let none = clear-none T c w (length work) (record {
-        table = sized-of (length T) c (P .columns) (P .multiple) (P .few);
-        index = record { shape = in-shape w (A .words) (A .shape); rows = P .same-rows; columns = P .same-columns };
-        there = whole-words w (P .edition) (A .words);
+      let none = clear-none asks w (record {
+        numbers =
+            record {
+              table = sized-of (length T) c (P .columns) (P .multiple) (P .few);
+              fit = refl;
+              room = le-ltb (length work) (6 * rowsOf T c) (P .room);
+              like = refl;
+              some = refl;
+            };
+        whole = whole-words w (P .edition) (A .words);
+        rows = P .same-rows;
+        columns = P .same-columns;
         shape = A .shape;
-        words = P .room;
       }) in
-      number-is ∙ ap numberOf (sym (says-next early late (refusals-numbered T c w (length work)) (sym none))) ∙ ap (λ l. said l .0) (A .sound)
+      number-is ∙ ap numberOf (sym (says-next early late (early-numbered early (call-early asks w)) (sym none))) ∙ ap (λ l. said l .0) (A .sound)
 
   -- CHECK-EXACT: 0 IS GIVEN EXACTLY WHERE NO REFUSAL MEETS THE CALL, THE INDEX IS THE TABLE'S, AND IT IS ACCEPTED
   pub check-exact : (number ≡ 0) ↔ Passed T c w work
@@ -115,12 +128,12 @@ module _ {T : List ℕ} {c : ℕ} {w work work′ : List ℕ} {number place seco
   -- CHECK-PLACELESS: 0 AND THE REFUSALS 1 TO 9 NAME NO PLACE
   pub check-placeless : number ≤ 9 → (place ≡ 0) × (second ≡ 0)
   check-placeless low =
-      let p = low-placeless early late (refusals-early T c w (length work)) (faults-late (between T c) w) (omega (arith, number-is)) in
+      let p = low-placeless early late (call-early asks w) (faults-late (between T c) w) (omega (arith, number-is)) in
       (place-is ∙ p .0, second-is ∙ p .1)
 
   -- CHECK-SMALL: THE FIRST PLACE IS AT MOST TWICE THE MOST ROWS, THE SECOND AT MOST THE MOST ROWS, so that 32 bits hold them
   pub check-small : (place ≤ 2 * maxRows) × (second ≤ maxRows)
   check-small =
-      let P = said-small early late (refusals-early T c w (length work))
-      (λ z. faults-small (between T c) w (clear T c w (length work) (ap (λ l. said l .0) z) .index .shape)) in
+      let P = said-small early late (call-early asks w)
+      (λ z. faults-small (between T c) w (clear-shape asks w (clear asks w (ap (λ l. said l .0) z)))) in
       (rw place-is (P .0), rw second-is (P .1))

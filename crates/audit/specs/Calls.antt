@@ -4,7 +4,7 @@ use Rattle.audit.specs.Workspace.{clears}
 use Rattle.buffers.specs.Wiped.{wiped}
 use Rattle.limits.specs.Limits.{maxColumns, maxRows}
 use Rattle.measure.specs.Table.{between, rowsOf}
-use Rattle.tree.specs.Calls.{saidCheck}
+use Rattle.audit.specs.Numbers.{saidCheck}
 use Rattle.tree.specs.Check.{Accepted}
 use Rattle.words.specs.Words.{c#, edition#, n#}
 use lib.ListN.{length}

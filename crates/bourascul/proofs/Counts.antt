@@ -2,15 +2,15 @@
 use Prim.Native.Nat.{_<_, _^_, _≤_, min, ℕ}
 use Rattle.nearest.proofs.Promises.{nearest-small}
 use Rattle.nearest.specs.Calls.{Answered}
+use Rattle.nearest_search.specs.Asked.{NearestAsked, NearestLent}
 use lib.ListN.{length}
-use mathlib.Core.List.{List}
 use mathlib.Core.Path.{_≡_}
 use native.Mathlib.Omega.{arith}
 
 -- there is room in each, before and after
-pub given-each : {t : List ℕ} {c : ℕ} {w q : List ℕ} {wanted own : ℕ} {rs rs′ ds ds′ how how′ work work′ : List ℕ} {number given met : ℕ}
-    → Answered t c w q wanted (min own (min (length rs) (length ds))) rs rs′ ds ds′ how how′ work work′ number given met
-    → length rs′ ≡ length rs → length ds′ ≡ length ds → (given ≤ own) × (given ≤ length rs′) × (given ≤ length ds′)
+pub given-each : {asked : NearestAsked} {own : ℕ} {lent lent′ : NearestLent} {number given met : ℕ}
+    → Answered asked (min own (min (length (lent .rows)) (length (lent .distances)))) lent lent′ number given met
+    → length (lent′ .rows) ≡ length (lent .rows) → length (lent′ .distances) ≡ length (lent .distances) → (given ≤ own) × (given ≤ length (lent′ .rows)) × (given ≤ length (lent′ .distances))
 given-each s er ed =
     let g = nearest-small s .2 in
     (omega arith, omega arith, omega arith)

@@ -16,21 +16,24 @@ use Rattle.build.specs.Calls.{Builds}
 use Rattle.card.proofs.RoundTrip.{round-trip}
 use Rattle.card.proofs.Spoilt.{spoilt-block, spoilt-word}
 use Rattle.card.proofs.Theorems.{read-accepted, read-clear, read-headed, read-placed, read-refused as call-refused, read-wide}
-use Rattle.card.specs.Cards.{cardWords}
+use Rattle.card_words.specs.Cards.{cardWords}
 use Rattle.image.proofs.RoundTrip.{written-ok}
 use Rattle.image.proofs.Small.{write-small, write-whole}
 use Rattle.image.specs.Below.{Below}
 use Rattle.image.specs.Calls.{Writes}
 use Rattle.image.specs.Changed.{Moved}
+use Rattle.blocks.specs.Blocks.{wordAt}
+use Rattle.index_space.specs.Fits.{homeBound}
 use Rattle.laws.specs.Lists.{has, last, range, tally, times}
-use Rattle.limits.proofs.Sized.{Sized, sized-of}
+use Rattle.limits.proofs.Numbers.{Sized, sized-of}
 use Rattle.meaning.proofs.Meaning.{accepted-means}
 use Rattle.meaning.specs.Conditions.{Conditions}
 use Rattle.measure.specs.Table.{between, from, row, rowsOf}
-use Rattle.nearest.proofs.Promises.{nearest-counted, nearest-counted-all, nearest-exact as call-exact, nearest-measured, nearest-measured-all, nearest-ranked, nearest-two-tables}
-use Rattle.nearest.specs.Calls.{Answered, Settled}
+use Rattle.nearest.proofs.Promises.{nearest-counted, nearest-counted-all, nearest-exact as call-exact, nearest-measured, nearest-measured-all, nearest-ranked, nearest-two-tables, same-lent}
+use Rattle.nearest.specs.Calls.{Answered}
 use Rattle.nearest.specs.Ranked.{ahead}
-use Rattle.items.specs.Fits.{homeBound}
+use Rattle.nearest_search.specs.Asked.{NearestAsked, NearestLent, asks}
+use Rattle.nearest_search.specs.Found.{Settled}
 use Rattle.radius.proofs.Promises.{radius-call-beyond, radius-call-exact, radius-call-two-tables}
 use Rattle.radius.specs.Calls.{Searched}
 use Rattle.tree.proofs.Theorems.{one-home}
@@ -41,7 +44,7 @@ use Rattle.tree.specs.Nearest.{answers, isMeasured, lastDistance, measured}
 use Rattle.tree.specs.Widen.{widen}
 use Rattle.words.proofs.Listed.{list-only, node-there, part-none, part-pairs}
 use Rattle.words.specs.Calls.{Lists, listed, lists}
-use Rattle.words.specs.Image.{wordAt}
+use Rattle.blocks.specs.Blocks.{wordAt}
 use Rattle.words.specs.Shape.{shapeOk}
 use Rattle.words.specs.Words.{c#, edition#, n#, wordsOf}
 use borrow.Author.Tests.{le-leb, lt-leb, ne-eqb}
@@ -80,15 +83,13 @@ pub radius-refused : {t : List ℕ} {c : ℕ} {w q : List ℕ} {r : ℕ} {before
 radius-refused s = s .refused
 
 -- a refused nearest search
-pub nearest-refused : {t : List ℕ} {c : ℕ} {w q : List ℕ} {wanted room : ℕ} {rs rs′ ds ds′ how how′ work work′ : List ℕ} {number given met : ℕ}
-    → Answered t c w q wanted room rs rs′ ds ds′ how how′ work work′ number given met
-    → (number ≡ 0 → ⊥) → (given ≡ 0) × (met ≡ 0) × (rs′ ≡ rs) × (ds′ ≡ ds) × (how′ ≡ how) × (work′ ≡ work)
+pub nearest-refused : {asked : NearestAsked} {room : ℕ} {lent lent′ : NearestLent} {number given met : ℕ} → Answered asked room lent lent′ number given met
+    → (number ≡ 0 → ⊥) → (given ≡ 0) × (met ≡ 0) × (lent′ ≡ lent)
 nearest-refused s = s .refused
 
 -- a refused nearest search with records
-pub answers-refused : {t : List ℕ} {c : ℕ} {w q : List ℕ} {wanted : ℕ} {as₀ as₁ : List Answer} {rs rs′ ds ds′ how how′ work work′ : List ℕ} {number given met : ℕ}
-    → Recorded t c w q wanted as₀ as₁ rs rs′ ds ds′ how how′ work work′ number given met
-    → (number ≡ 0 → ⊥) → (as₁ ≡ as₀) × ((given ≡ 0) × (met ≡ 0) × (rs′ ≡ rs) × (ds′ ≡ ds) × (how′ ≡ how) × (work′ ≡ work))
+pub answers-refused : {asked : NearestAsked} {as₀ as₁ : List Answer} {lent lent′ : NearestLent} {number given met : ℕ}
+    → Recorded asked as₀ as₁ lent lent′ number given met → (number ≡ 0 → ⊥) → (as₁ ≡ as₀) × ((given ≡ 0) × (met ≡ 0) × (lent′ ≡ lent))
 answers-refused s k = (refused-records s k, s .plain .refused k)
 
 -- a refused writing of an image
@@ -167,13 +168,13 @@ module _ {t : List ℕ} {c : ℕ} {w work₀ work₁ : List ℕ} {place second :
   radius-exact s = radius-call-exact s refl (passed ok .accepted)
 
   -- a nearest search gives the first of all rows by distance, then row number
-  pub nearest-exact : {q : List ℕ} {wanted room : ℕ} {rs rs′ ds ds′ how how′ work work′ : List ℕ} {given met : ℕ}
-      → Answered t c w q wanted room rs rs′ ds ds′ how how′ work work′ 0 given met → Settled (from t c q) w wanted rs rs′ ds ds′ how how′ given
+  pub nearest-exact : {q : List ℕ} {wanted room : ℕ} {lent lent′ : NearestLent} {given met : ℕ}
+      → Answered (asks t c w q wanted) room lent lent′ 0 given met → Settled (from t c q) w wanted lent lent′ given
   nearest-exact s = call-exact s refl (passed ok .accepted)
 
   -- and as records the same
-  pub answers-exact : {q : List ℕ} {wanted : ℕ} {as₀ as₁ : List Answer} {rs rs′ ds ds′ how how′ work work′ : List ℕ} {given met : ℕ}
-      → Recorded t c w q wanted as₀ as₁ rs rs′ ds ds′ how how′ work work′ 0 given met
+  pub answers-exact : {q : List ℕ} {wanted : ℕ} {as₀ as₁ : List Answer} {lent lent′ : NearestLent} {given met : ℕ}
+      → Recorded (asks t c w q wanted) as₀ as₁ lent lent′ 0 given met
       → as₁ ≡ map (λ a. made (a .0) (a .1)) (answers (from t c q) (n# w) wanted) ++ drop (min wanted (n# w)) as₀
   answers-exact s = records-exact s refl (passed ok .accepted)
 
@@ -270,58 +271,59 @@ module _ {t : List ℕ} {c : ℕ} {w work₀ work₁ : List ℕ} {place second :
   pub home-once : (q : List ℕ) (i : ℕ) → i < n# w → times i (map (λ h. h .0) (homes (from t c q) (treeOf w))) ≡ 1
   home-once q i h = one-home (between t c) w (passed ok .accepted) (from t c q) i h
 
-  module _ {q : List ℕ} {wanted room : ℕ} {rs rs′ ds ds′ how how′ work work′ : List ℕ} {given met : ℕ}
-      (s : Answered t c w q wanted room rs rs′ ds ds′ how how′ work work′ 0 given met) where
+  module _ {q : List ℕ} {wanted room : ℕ} {lent lent′ : NearestLent} {given met : ℕ}
+      (s : Answered (asks t c w q wanted) room lent lent′ 0 given met) where
     -- a row is measured exactly if its home bound is at most the last distance in the answer
     pub measured-by-home : wanted ≤ n# w → (i : ℕ) → i < n# w
-        → T (isMeasured (getD how′ i 0)) ↔ (homeBound w (from t c q) i ≤ lastDistance (answers (from t c q) (n# w) wanted))
+        → T (isMeasured (getD (lent′ .how) i 0)) ↔ (homeBound w (from t c q) i ≤ lastDistance (answers (from t c q) (n# w) wanted))
     measured-by-home = nearest-measured s refl (passed ok .accepted)
 
     -- that is the last distance given
-    pub last-given : last (take given ds′) ≡ lastDistance (answers (from t c q) (n# w) wanted)
+    pub last-given : last (take given (lent′ .distances)) ≡ lastDistance (answers (from t c q) (n# w) wanted)
     last-given = last-is (nearest-exact ok s)
 
     -- every row, if there are fewer than wanted
-    pub measured-all : n# w < wanted → (i : ℕ) → i < n# w → T (isMeasured (getD how′ i 0))
+    pub measured-all : n# w < wanted → (i : ℕ) → i < n# w → T (isMeasured (getD (lent′ .how) i 0))
     measured-all = nearest-measured-all s refl (passed ok .accepted)
 
     -- another table that differs only in rows not measured gets the same outcome, whether or not the index fits it, from a call that is not refused
-    pub same-elsewhere : {t₂ rs₂ rs₂′ ds₂ ds₂′ how₂ how₂′ work₂ work₂′ : List ℕ} {room₂ given₂ met₂ : ℕ}
-        → Answered t₂ c w q wanted room₂ rs₂ rs₂′ ds₂ ds₂′ how₂ how₂′ work₂ work₂′ 0 given₂ met₂
-        → ((i : ℕ) → i < n# w → T (isMeasured (getD how′ i 0)) → row t c i ≡ row t₂ c i)
-        → (given ≡ given₂) × (met ≡ met₂) × (take (min wanted (n# w)) rs′ ≡ take (min wanted (n# w)) rs₂′)
-        × (take (min wanted (n# w)) ds′ ≡ take (min wanted (n# w)) ds₂′) × (take (n# w) how′ ≡ take (n# w) how₂′)
+    pub same-elsewhere : {t₂ : List ℕ} {lent₂ lent₂′ : NearestLent} {room₂ given₂ met₂ : ℕ}
+        → Answered (asks t₂ c w q wanted) room₂ lent₂ lent₂′ 0 given₂ met₂
+        → ((i : ℕ) → i < n# w → T (isMeasured (getD (lent′ .how) i 0)) → row t c i ≡ row t₂ c i)
+        → (given ≡ given₂) × (met ≡ met₂) × (take (min wanted (n# w)) (lent′ .rows) ≡ take (min wanted (n# w)) (lent₂′ .rows))
+        × (take (min wanted (n# w)) (lent′ .distances) ≡ take (min wanted (n# w)) (lent₂′ .distances)) × (take (n# w) (lent′ .how) ≡ take (n# w) (lent₂′ .how))
     same-elsewhere s₂ agree = nearest-two-tables s refl (passed ok .accepted) s₂ refl agree
 
     -- and where it is as long and its call is lent the same, all is the same: the number and every buffer
-    pub same-outcome : {t₂ rs₂ ds₂ how₂ work₂ : List ℕ} {number₂ given₂ met₂ : ℕ}
-        → Answered t₂ c w q wanted room rs rs₂ ds ds₂ how how₂ work work₂ number₂ given₂ met₂ → length t ≡ length t₂
-        → ((i : ℕ) → i < n# w → T (isMeasured (getD how′ i 0)) → row t c i ≡ row t₂ c i)
-        → (0 ≡ number₂) × (given ≡ given₂) × (met ≡ met₂) × (rs′ ≡ rs₂) × (ds′ ≡ ds₂) × (how′ ≡ how₂) × (work′ ≡ work₂)
-    same-outcome {t₂} {rs₂} {ds₂} {how₂} s₂ e agree =
-        let z = same-number s s₂ e in
+    pub same-outcome : {t₂ : List ℕ} {lent₂ : NearestLent} {number₂ given₂ met₂ : ℕ}
+        → Answered (asks t₂ c w q wanted) room lent lent₂ number₂ given₂ met₂ → length t ≡ length t₂
+        → ((i : ℕ) → i < n# w → T (isMeasured (getD (lent′ .how) i 0)) → row t c i ≡ row t₂ c i)
+        → (0 ≡ number₂) × (given ≡ given₂) × (met ≡ met₂) × (lent′ ≡ lent₂)
+    same-outcome {t₂} {lent₂} s₂ e agree =
+        let z = same-number s s₂ e refl refl in
         let E = nearest-two-tables s refl (passed ok .accepted) s₂ (sym z) agree in
         let b = s .beyond refl in
         let b₂ = s₂ .beyond (sym z) in
-        let rows = both-parts (min wanted (n# w)) rs′ rs₂ (E .2) (b .0 ∙ sym (b₂ .0)) in
-        let distances = both-parts (min wanted (n# w)) ds′ ds₂ (E .3) (b .1 ∙ sym (b₂ .1)) in
-        (z, E .0, E .1, rows, distances, both-parts (n# w) how′ how₂ (E .4) (b .2 ∙ sym (b₂ .2)), s .cleared refl ∙ sym (s₂ .cleared (sym z)))
+        let rows = both-parts (min wanted (n# w)) (lent′ .rows) (lent₂ .rows) (E .2) (b .0 ∙ sym (b₂ .0)) in
+        let distances = both-parts (min wanted (n# w)) (lent′ .distances) (lent₂ .distances) (E .3) (b .1 ∙ sym (b₂ .1)) in
+        let bytes = both-parts (n# w) (lent′ .how) (lent₂ .how) (E .4) (b .2 ∙ sym (b₂ .2)) in
+        (z, E .0, E .1, same-lent lent′ lent₂ rows distances bytes (s .cleared refl ∙ sym (s₂ .cleared (sym z))))
 
 -- the count is the number of rows so marked
-pub measured-counted : {t : List ℕ} {c : ℕ} {w q : List ℕ} {wanted room : ℕ} {rs rs′ ds ds′ how how′ work work′ : List ℕ} {given met : ℕ}
-    → Answered t c w q wanted room rs rs′ ds ds′ how how′ work work′ 0 given met → met ≡ measured (take (n# w) how′)
+pub measured-counted : {t : List ℕ} {c : ℕ} {w q : List ℕ} {wanted room : ℕ} {lent lent′ : NearestLent} {given met : ℕ}
+    → Answered (asks t c w q wanted) room lent lent′ 0 given met → met ≡ measured (take (n# w) (lent′ .how))
 measured-counted s = s .counted refl
 
 -- ---- DEMANDS 2 AND 3 OF A NEAREST SEARCH IN HER WORDS, AND DEMAND 3 OF A RADIUS SEARCH
 module _ {t : List ℕ} {c : ℕ} {w work₀ work₁ : List ℕ} {place second : ℕ} (ok : Checks t c w work₀ work₁ 0 place second) where
-  module _ {q : List ℕ} {wanted room : ℕ} {rs rs′ ds ds′ how how′ work work′ : List ℕ} {given met : ℕ}
-      (s : Answered t c w q wanted room rs rs′ ds ds′ how how′ work work′ 0 given met) where
+  module _ {q : List ℕ} {wanted room : ℕ} {lent lent′ : NearestLent} {given met : ℕ}
+      (s : Answered (asks t c w q wanted) room lent lent′ 0 given met) where
     -- a row is among the answers exactly if fewer rows come before it, by distance and then row number, than are wanted
-    pub answer-exactly : (i : ℕ) → i < n# w → T (has i (take given rs′)) ↔ (ahead (from t c q) (n# w) i < wanted)
+    pub answer-exactly : (i : ℕ) → i < n# w → T (has i (take given (lent′ .rows))) ↔ (ahead (from t c q) (n# w) i < wanted)
     answer-exactly = nearest-ranked s refl (passed ok .accepted)
 
     -- the count is the number of rows whose home bound is at most the last distance given
-    pub measured-number : wanted ≤ n# w → met ≡ tally (λ i. leb (homeBound w (from t c q) i) (last (take given ds′))) (range 0 (n# w))
+    pub measured-number : wanted ≤ n# w → met ≡ tally (λ i. leb (homeBound w (from t c q) i) (last (take given (lent′ .distances)))) (range 0 (n# w))
     measured-number few =
         nearest-counted s refl (passed ok .accepted) few
         ∙ ap (λ (D : ℕ). tally (λ i. leb (homeBound w (from t c q) i) D) (range 0 (n# w))) (sym (last-given ok s))

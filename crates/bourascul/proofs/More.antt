@@ -7,8 +7,10 @@ use Rattle.bourascul.proofs.Demands.{answers-exact, nearest-exact, radi
 use Rattle.bourascul.proofs.Firsts.{measured-still, same-first}
 use Rattle.bourascul.specs.Recorded.{Recorded}
 use Rattle.measure.specs.Table.{from}
-use Rattle.nearest.proofs.HowBytes.{near-length}
-use Rattle.nearest.specs.Calls.{Answered, Settled}
+use Rattle.nearest.specs.Calls.{Answered}
+use Rattle.nearest_search.proofs.HowBytes.{near-length}
+use Rattle.nearest_search.specs.Asked.{NearestLent, asks}
+use Rattle.nearest_search.specs.Found.{Settled}
 use Rattle.radius.proofs.Cases.{radius-call-cases}
 use Rattle.radius.specs.Calls.{Searched}
 use Rattle.tree.specs.Build.{build}
@@ -19,37 +21,37 @@ use Rattle.words.specs.Words.{n#}
 use lib.Dec.{T}
 use lib.ListN.{List·getD-append, drop, getD, length, take}
 use mathlib.Core.List.{List, [], _∷_}
-use mathlib.Core.Path.{_∙_, _≡_, ap, refl, subst, sym}
+use mathlib.Core.Path.{_∙_, _≡_, ap, subst, sym}
 use native.Mathlib.Omega.{arith}
 
 -- the how-byte of row i is the definition's
-byte-is : {x : ℕ → ℕ} {w : List ℕ} {wanted : ℕ} {rs rs′ ds ds′ how how′ : List ℕ} {given : ℕ} → Settled x w wanted rs rs′ ds ds′ how how′ given
-    → (i : ℕ) → i < n# w → getD how′ i 0 ≡ getD (nearHow x (n# w) (treeOf w) wanted) i 0
-byte-is {x} {w} {wanted} {how = how} Z i h =
+byte-is : {x : ℕ → ℕ} {w : List ℕ} {wanted : ℕ} {lent lent′ : NearestLent} {given : ℕ} → Settled x w wanted lent lent′ given
+    → (i : ℕ) → i < n# w → getD (lent′ .how) i 0 ≡ getD (nearHow x (n# w) (treeOf w) wanted) i 0
+byte-is {x} {w} {wanted} {lent} Z i h =
     let bytes : List ℕ = nearHow x (n# w) (treeOf w) wanted in
     ap (λ (l : List ℕ). getD l i 0) (Z .bytes)
-    ∙ List·getD-append bytes (drop (n# w) how) 0 i (subst (λ (n : ℕ). i < n) (sym (near-length x (n# w) (treeOf w) wanted)) h)
+    ∙ List·getD-append bytes (drop (n# w) (lent .how)) 0 i (subst (λ (n : ℕ). i < n) (sym (near-length x (n# w) (treeOf w) wanted)) h)
 
 -- an index of which a check gave 0
 module _ {t : List ℕ} {c : ℕ} {w work₀ work₁ : List ℕ} {place second : ℕ} (ok : Checks t c w work₀ work₁ 0 place second) where
   -- two nearest searches: fewer are wanted, and more; either may be more than there are rows
-  module _ {q : List ℕ} {few many room room₂ : ℕ} {rs rs′ ds ds′ how how′ work work′ rs₂ rs₂′ ds₂ ds₂′ how₂ how₂′ work₂ work₂′ : List ℕ}
-      {given met given₂ met₂ : ℕ} (s : Answered t c w q few room rs rs′ ds ds′ how how′ work work′ 0 given met)
-      (s₂ : Answered t c w q many room₂ rs₂ rs₂′ ds₂ ds₂′ how₂ how₂′ work₂ work₂′ 0 given₂ met₂) (more : few ≤ many) where
+  module _ {q : List ℕ} {few many room room₂ : ℕ} {lent lent′ lent₂ lent₂′ : NearestLent}
+      {given met given₂ met₂ : ℕ} (s : Answered (asks t c w q few) room lent lent′ 0 given met)
+      (s₂ : Answered (asks t c w q many) room₂ lent₂ lent₂′ 0 given₂ met₂) (more : few ≤ many) where
     -- THE FIRST TEN OF TWENTY ARE THE TEN: no fewer are given, and the first rows and distances are the same
-    pub first-of-more : (given ≤ given₂) × (take given rs₂′ ≡ take given rs′) × (take given ds₂′ ≡ take given ds′)
+    pub first-of-more : (given ≤ given₂) × (take given (lent₂′ .rows) ≡ take given (lent′ .rows)) × (take given (lent₂′ .distances) ≡ take given (lent′ .distances))
     first-of-more =
         let Z = nearest-exact ok s in
         let Z₂ = nearest-exact ok s₂ in
         let k : ℕ = min few (n# w) in
         let k₂ : ℕ = min many (n# w) in (
           omega (arith, Z .count, Z₂ .count),
-          same-first (from t c q) (n# w) (λ a. a .0) few many given (drop k rs) (drop k₂ rs₂) more (Z .count) (Z .rows) (Z₂ .rows),
-          same-first (from t c q) (n# w) (λ a. a .1) few many given (drop k ds) (drop k₂ ds₂) more (Z .count) (Z .distances) (Z₂ .distances),
+          same-first (from t c q) (n# w) (λ a. a .0) few many given (drop k (lent .rows)) (drop k₂ (lent₂ .rows)) more (Z .count) (Z .rows) (Z₂ .rows),
+          same-first (from t c q) (n# w) (λ a. a .1) few many given (drop k (lent .distances)) (drop k₂ (lent₂ .distances)) more (Z .count) (Z .distances) (Z₂ .distances),
         )
 
     -- EVERY ROW MEASURED FOR TEN IS MEASURED FOR TWENTY
-    pub measured-more : (i : ℕ) → i < n# w → T (isMeasured (getD how′ i 0)) → T (isMeasured (getD how₂′ i 0))
+    pub measured-more : (i : ℕ) → i < n# w → T (isMeasured (getD (lent′ .how) i 0)) → T (isMeasured (getD (lent₂′ .how) i 0))
     measured-more i h m =
         subst (λ (v : ℕ). T (isMeasured v)) (sym (byte-is (nearest-exact ok s₂) i h))
         (measured-still (from t c q) (n# w) (treeOf w) few many i more h
@@ -57,11 +59,11 @@ module _ {t : List ℕ} {c : ℕ} {w work₀ work₁ : List ℕ} {place second :
 
   -- the same with records
   module _ {q : List ℕ} {few many : ℕ} {as₀ as₁ as₂ as₃ : List Answer}
-      {rs rs′ ds ds′ how how′ work work′ rs₂ rs₂′ ds₂ ds₂′ how₂ how₂′ work₂ work₂′ : List ℕ} {given met given₂ met₂ : ℕ}
-      (s : Recorded t c w q few as₀ as₁ rs rs′ ds ds′ how how′ work work′ 0 given met)
-      (s₂ : Recorded t c w q many as₂ as₃ rs₂ rs₂′ ds₂ ds₂′ how₂ how₂′ work₂ work₂′ 0 given₂ met₂) (more : few ≤ many) where
+      {lent lent′ lent₂ lent₂′ : NearestLent} {given met given₂ met₂ : ℕ}
+      (s : Recorded (asks t c w q few) as₀ as₁ lent lent′ 0 given met)
+      (s₂ : Recorded (asks t c w q many) as₂ as₃ lent₂ lent₂′ 0 given₂ met₂) (more : few ≤ many) where
     -- THE FIRST TEN RECORDS OF TWENTY ARE THE TEN
-    pub records-of-more : (given ≤ given₂) × (take given as₃ ≡ take given as₁) × (take given rs₂′ ≡ take given rs′) × (take given ds₂′ ≡ take given ds′)
+    pub records-of-more : (given ≤ given₂) × (take given as₃ ≡ take given as₁) × (take given (lent₂′ .rows) ≡ take given (lent′ .rows)) × (take given (lent₂′ .distances) ≡ take given (lent′ .distances))
     records-of-more =
         let F = first-of-more (s .plain) (s₂ .plain) more in
         let same = same-first (from t c q) (n# w) (λ a. made (a .0) (a .1)) few many given (drop (min few (n# w)) as₀) (drop (min many (n# w)) as₂) more
@@ -69,7 +71,7 @@ module _ {t : List ℕ} {c : ℕ} {w work₀ work₁ : List ℕ} {place second :
         (F .0, same, F .1, F .2)
 
     -- EVERY ROW MEASURED FOR TEN IS MEASURED FOR TWENTY
-    pub records-measured-more : (i : ℕ) → i < n# w → T (isMeasured (getD how′ i 0)) → T (isMeasured (getD how₂′ i 0))
+    pub records-measured-more : (i : ℕ) → i < n# w → T (isMeasured (getD (lent′ .how) i 0)) → T (isMeasured (getD (lent₂′ .how) i 0))
     records-measured-more = measured-more (s .plain) (s₂ .plain) more
 
   -- A LARGER r NEVER LOSES A ROW

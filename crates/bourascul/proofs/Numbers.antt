@@ -4,24 +4,25 @@ use Prim.Native.Nat.{_*_, _≤_, min, ℕ}
 use Rattle.audit.proofs.Theorems.{check-exact}
 use Rattle.audit.specs.Calls.{Checks, Passed}
 use Rattle.laws.specs.Lists.{last}
-use Rattle.limits.proofs.Sized.{sized-none, sized-of}
-use Rattle.limits.specs.Said.{said, tableFaults}
+use Rattle.limits.proofs.Numbers.{sized-of}
+use Rattle.limits.specs.Said.{tabled}
 use Rattle.measure.specs.Table.{rowsOf}
 use Rattle.nearest.proofs.Contract.{same-answers}
 use Rattle.nearest.proofs.Refusals as near
-use Rattle.nearest.specs.Calls.{Answered, Settled}
+use Rattle.nearest.specs.Calls.{Answered}
+use Rattle.nearest.specs.Numbers.{saidNearest}
+use Rattle.nearest_search.specs.Asked.{NearestLent, asks}
+use Rattle.nearest_search.specs.Found.{Settled}
 use Rattle.radius.proofs.Refusals as within-radius
 use Rattle.radius.specs.Calls.{Searched}
+use Rattle.radius.specs.Numbers.{saidRadius}
 use Rattle.tree.proofs.Answers.{answers-length}
-use Rattle.tree.specs.Calls.{saidNearest, saidRadius}
 use Rattle.tree.specs.Nearest.{answers, lastDistance}
 use Rattle.words.proofs.Headers.{whole-words}
-use Rattle.words.proofs.Index.{none-wrong}
-use Rattle.words.specs.Calls.{indexFaults}
+use Rattle.words.proofs.Indexes.{Clear}
 use Rattle.words.specs.Words.{n#}
 use lib.ListN.{drop, length, length-map, take, take-append-drop}
 use lib.Seq.{take-at}
-use mathlib.Core.Bool.{true}
 use mathlib.Core.List.{List, _++_, map}
 use mathlib.Core.Path.{_∙_, _≡_, ap, ap₂, refl, sym}
 use native.Mathlib.Omega.{arith}
@@ -33,38 +34,47 @@ module _ {t : List ℕ} {c : ℕ} {w work₀ work₁ : List ℕ} {place second :
   passed = check-exact ok .0 refl
 
   -- no search refuses the table, nor the index
-  table-right : 0 ≡ said (tableFaults (length t) c) .0
-  table-right = sized-none (length t) c (sized-of (length t) c (passed .columns) (passed .multiple) (passed .few))
-
-  -- the index is not refused
-  index-right : 0 ≡ said (indexFaults w (rowsOf t c) c) .0
-  index-right =
-      none-wrong w (rowsOf t c) c (whole-words w (passed .edition) (passed .accepted .words)) (passed .same-rows) (passed .same-columns) (passed .accepted .shape)
+  right : Clear (tabled (length t) c) w
+  right =
+      record {
+        numbers =
+            record {
+              table = sized-of (length t) c (passed .columns) (passed .multiple) (passed .few);
+              fit = refl;
+              room = refl;
+              like = refl;
+              some = refl;
+            };
+        whole = whole-words w (passed .edition) (passed .accepted .words);
+        rows = passed .same-rows;
+        columns = passed .same-columns;
+        shape = passed .accepted .shape;
+      }
 
   -- A RADIUS SEARCH IS NOT REFUSED WHERE THE QUERY HAS c NUMBERS AND THERE IS A HOW-BYTE FOR EACH ROW
   pub radius-taken : {q : List ℕ} {r : ℕ} {before after : List ℕ} {number in# met : ℕ} → Searched t c w q r before after number in# met
       → length q ≡ c → n# w ≤ length before → number ≡ 0
   radius-taken {q} {before = before} s e h =
-      s .said ∙ sym (within-radius.by-index t c w q (length before) table-right refl (omega (arith, passed .same-rows)) e index-right)
+      s .said ∙ sym (within-radius.taken t c w q (length before) right (omega (arith, passed .same-rows)) e)
 
   -- NOR IS A NEAREST SEARCH WHERE SOME ARE WANTED AND THERE IS ROOM FOR THE ANSWERS, THE HOW-BYTES AND 6n WORDS
-  pub nearest-taken : {q : List ℕ} {wanted room : ℕ} {rs rs′ ds ds′ how how′ work work′ : List ℕ} {number given met : ℕ}
-      → Answered t c w q wanted room rs rs′ ds ds′ how how′ work work′ number given met
-      → length q ≡ c → 1 ≤ wanted → min wanted (n# w) ≤ room → n# w ≤ length how → 6 * n# w ≤ length work → number ≡ 0
-  nearest-taken {q} {wanted} {room} {how = how} {work = work} s e some a b d =
+  pub nearest-taken : {q : List ℕ} {wanted room : ℕ} {lent lent′ : NearestLent} {number given met : ℕ}
+      → Answered (asks t c w q wanted) room lent lent′ number given met
+      → length q ≡ c → 1 ≤ wanted → min wanted (n# w) ≤ room → n# w ≤ length (lent .how) → 6 * n# w ≤ length (lent .work) → number ≡ 0
+  nearest-taken {q} {wanted} {room} {lent} s e some a b d =
       let n = passed .same-rows in
-      s .said ∙ sym (near.by-index t c w q wanted room (length how) (length work) table-right refl refl (omega arith) (omega arith) (omega arith) e (λ z. omega arith) index-right)
+      s .said ∙ sym (near.taken t c w q wanted room (length (lent .how)) (length (lent .work)) right (omega arith, omega arith, omega arith) e (λ z. omega arith))
 
 -- ---- D
 -- THE LAST DISTANCE GIVEN IS D
-pub last-is : {x : ℕ → ℕ} {w : List ℕ} {wanted : ℕ} {rs rs′ ds ds′ how how′ : List ℕ} {given : ℕ} → Settled x w wanted rs rs′ ds ds′ how how′ given
-    → last (take given ds′) ≡ lastDistance (answers x (n# w) wanted)
-last-is {x} {w} {wanted} {ds = ds} s =
+pub last-is : {x : ℕ → ℕ} {w : List ℕ} {wanted : ℕ} {lent lent′ : NearestLent} {given : ℕ} → Settled x w wanted lent lent′ given
+    → last (take given (lent′ .distances)) ≡ lastDistance (answers x (n# w) wanted)
+last-is {x} {w} {wanted} {lent} s =
     let k : ℕ = min wanted (n# w) in
     let A : List (ℕ × ℕ) = answers x (n# w) wanted in
     let long : length (map (λ a. a .1) A) ≡ k =
     length-map A (λ a. a .1) ∙ ap length (sym (same-answers x (n# w) wanted k refl)) ∙ answers-length x (n# w) k (omega arith) in
-    ap last (ap₂ take (s .count) (s .distances) ∙ take-at (map (λ a. a .1) A) (drop k ds) k long)
+    ap last (ap₂ take (s .count) (s .distances) ∙ take-at (map (λ a. a .1) A) (drop k (lent .distances)) k long)
 
 -- ---- two calls
 -- lists that agree up to k and from k on are one
@@ -72,11 +82,11 @@ pub both-parts : (k : ℕ) (a b : List ℕ) → take k a ≡ take k b → drop k
 both-parts k a b e d = sym (take-append-drop k a) ∙ ap₂ (λ (x y : List ℕ). x ++ y) e d ∙ take-append-drop k b
 
 -- TWO NEAREST SEARCHES ON TABLES THAT ARE EQUALLY LONG, LENT AS MUCH, GIVE THE SAME NUMBER
-pub same-number : {t t₂ : List ℕ} {c : ℕ} {w q : List ℕ} {wanted room : ℕ} {rs rs′ ds ds′ how how′ work work′ : List ℕ} {number given met : ℕ}
-    {rs₂ rs₂′ ds₂ ds₂′ how₂′ work₂′ : List ℕ} {number₂ given₂ met₂ : ℕ} → Answered t c w q wanted room rs rs′ ds ds′ how how′ work work′ number given met
-    → Answered t₂ c w q wanted room rs₂ rs₂′ ds₂ ds₂′ how how₂′ work work₂′ number₂ given₂ met₂ → length t ≡ length t₂ → number ≡ number₂
+pub same-number : {t t₂ : List ℕ} {c : ℕ} {w q : List ℕ} {wanted room : ℕ} {lent lent′ lent₂ lent₂′ : NearestLent} {number given met number₂ given₂ met₂ : ℕ}
+    → Answered (asks t c w q wanted) room lent lent′ number given met → Answered (asks t₂ c w q wanted) room lent₂ lent₂′ number₂ given₂ met₂
+    → length t ≡ length t₂ → length (lent .how) ≡ length (lent₂ .how) → length (lent .work) ≡ length (lent₂ .work) → number ≡ number₂
 unfolding saidNearest
-same-number s s₂ e = s .said ∙ rw e (sym (s₂ .said))
+same-number s s₂ e h k = s .said ∙ rw (e, h, k) (sym (s₂ .said))
 
 -- AND SO DO TWO RADIUS SEARCHES
 pub same-radius-number : {t t₂ : List ℕ} {c : ℕ} {w q : List ℕ} {r : ℕ} {before after after₂ : List ℕ} {number in# met number₂ in₂ met₂ : ℕ}

@@ -2,14 +2,14 @@
 use Prim.Native.Nat.{_*_, _<_, _^_, ℕ}
 use Rattle.audit.specs.Calls.{Checks}
 use Rattle.card.proofs.RoundTrip.{inner-own, own-alike, own-shape}
-use Rattle.limits.specs.Said.{Said, fault, said, tableFaults}
+use Rattle.limits.specs.Said.{Said, fault, numberFaults, said}
 use Rattle.meaning.proofs.SameFaults.{faults-same}
 use Rattle.measure.specs.Table.{between, rowsOf}
-use Rattle.tree.specs.Calls.{saidCheck}
+use Rattle.audit.specs.Numbers.{checkAsks, saidCheck}
 use Rattle.tree.specs.Check.{faults}
 use Rattle.words.proofs.Headers.{edition-two, good-words, words-whole}
 use Rattle.words.proofs.InShape.{header-possible, in-shape, whole}
-use Rattle.words.specs.Calls.{indexFaults}
+use Rattle.words.specs.Index.{callFaults, fitFaults, indexFaults}
 use Rattle.words.specs.InShape.{InShape}
 use Rattle.words.specs.Shape.{shapeOk}
 use Rattle.words.specs.Words.{at, c#, cardOk, edition#, headerOk, n#, wordsOf, wordsOk}
@@ -59,7 +59,7 @@ module _ (w : List ℕ) (ok : wordsOk w ≡ true) (shape : shapeOk w ≡ true) w
 
   -- neither 8 nor 9 tells them from the index
   index-own : (n c : ℕ) → indexFaults own n c ≡ indexFaults w n c
-  unfolding indexFaults
+  unfolding fitFaults
   index-own n c =
       ap₂ (λ (a b : Bool). fault 8 (not a) ++ fault 9 (not b))
       (ap₂ (λ (a b : Bool). a && b) (ap₂ (λ (a : Bool) (k : ℕ). a && eqb k n) (words-own ∙ sym ok) (head-own 1 (lit< tt)))
@@ -72,10 +72,9 @@ module _ (w : List ℕ) (ok : wordsOk w ≡ true) (shape : shapeOk w ≡ true) w
 
   -- so that the call says the same
   said-own : (T : List ℕ) (c work : ℕ) → saidCheck T c own work ≡ saidCheck T c w work
-  unfolding saidCheck
+  unfolding saidCheck callFaults
   said-own T c work =
-      ap₂ (λ (x y : List Said). said (tableFaults (length T) c ++ fault 5 (ltb work (6 * rowsOf T c)) ++ x ++ y)) (index-own (rowsOf T c) c)
-      (faults-own (between T c))
+      ap₂ (λ (x y : List Said). said (numberFaults (checkAsks T c work) ++ x ++ y)) (index-own (rowsOf T c) c) (faults-own (between T c))
 
   -- CHECK-OWN: WHAT A CHECK GIVES OF ITS OWN WORDS IT GIVES OF THE INDEX, WHATEVER STANDS BEHIND IT
   pub check-own : {T : List ℕ} {c : ℕ} {work work′ : List ℕ} {number place second : ℕ} → Checks T c own work work′ number place second

@@ -10,11 +10,12 @@ use Rattle.card.proofs.Theorems.{read-only}
 use Rattle.measure.specs.Table.{between, from, row}
 use Rattle.nearest.proofs.Contract.{same-answers}
 use Rattle.nearest.proofs.Promises.{Same, nearest-exact, nearest-only, nearest-two-tables}
-use Rattle.nearest.specs.Calls.{Serves, Settled}
+use Rattle.nearest.specs.Calls.{Serves}
+use Rattle.nearest_search.specs.Asked.{NearestAsked, NearestLent, asks, away, due, rowsIn}
+use Rattle.nearest_search.specs.Found.{Settled}
 use Rattle.tree.proofs.Answers.{answers-length}
 use Rattle.tree.specs.Check.{Accepted}
 use Rattle.tree.specs.Nearest.{answers, isMeasured}
-use Rattle.words.specs.Words.{n#}
 use lib.Dec.{T}
 use lib.ListN.{drop, getD, length, take}
 use lib.Seq.{take-at}
@@ -23,78 +24,76 @@ use mathlib.Core.Path.{_∙_, _≡_, ap, ap₂, refl, sym}
 use native.Mathlib.Omega.{arith}
 
 -- ---- one outcome
-module _ {t : List ℕ} {c : ℕ} {w q : List ℕ} {wanted : ℕ} {as₀ as₁ : List Answer} {rs rs′ ds ds′ how how′ work work′ : List ℕ} {number given met : ℕ}
-    (s : Recorded t c w q wanted as₀ as₁ rs rs′ ds ds′ how how′ work work′ number given met) where
+module _ {asked : NearestAsked} {as₀ as₁ : List Answer} {lent lent′ : NearestLent} {number given met : ℕ}
+    (s : Recorded asked as₀ as₁ lent lent′ number given met) where
   -- A REFUSAL CHANGES NO RECORD
   pub refused-records : (number ≡ 0 → ⊥) → as₁ ≡ as₀
-  refused-records k = s .recorded ∙ ap (λ (given : ℕ). records rs′ ds′ given ++ drop given as₀) (s .plain .refused k .0)
+  refused-records k = s .recorded ∙ ap (λ (given : ℕ). records (lent′ .rows) (lent′ .distances) given ++ drop given as₀) (s .plain .refused k .0)
 
   -- RECORDS BEYOND WHAT IS WRITTEN STAY
-  pub records-stay : number ≡ 0 → drop (min wanted (n# w)) as₁ ≡ drop (min wanted (n# w)) as₀
+  pub records-stay : number ≡ 0 → drop (due asked) as₁ ≡ drop (due asked) as₀
   records-stay z =
-      ap (drop (min wanted (n# w))) (s .recorded)
-      ∙ records-beyond rs′ ds′ as₀ given (min wanted (n# w)) (omega (arith, s .plain .sound z .count))
+      ap (drop (due asked)) (s .recorded)
+      ∙ records-beyond (lent′ .rows) (lent′ .distances) as₀ given (due asked) (omega (arith, s .plain .sound z .count))
 
   -- the first of them are made of the numbers and distances that were handed out
-  first-records : take given as₁ ≡ records (take given rs′) (take given ds′) given
+  first-records : take given as₁ ≡ records (take given (lent′ .rows)) (take given (lent′ .distances)) given
   first-records =
-      ap (take given) (s .recorded) ∙ take-at (records rs′ ds′ given) (drop given as₀) given (length-records rs′ ds′ given) ∙ records-first rs′ ds′ given
+      ap (take given) (s .recorded) ∙ take-at (records (lent′ .rows) (lent′ .distances) given) (drop given as₀) given (length-records (lent′ .rows) (lent′ .distances) given) ∙ records-first (lent′ .rows) (lent′ .distances) given
 
   -- the records are those of the rows and distances that the plain call settles
-  settled-records : (x : ℕ → ℕ) → Settled x w wanted rs rs′ ds ds′ how how′ given
-      → as₁ ≡ map (λ a. made (a .0) (a .1)) (answers x (n# w) wanted) ++ drop (min wanted (n# w)) as₀
+  settled-records : (x : ℕ → ℕ) → Settled x (asked .index) (asked .wanted) lent lent′ given
+      → as₁ ≡ map (λ a. made (a .0) (a .1)) (answers x (rowsIn asked) (asked .wanted)) ++ drop (due asked) as₀
   settled-records x Z =
-      let k : ℕ = min wanted (n# w) in
-      let long : length (answers x (n# w) wanted) ≡ k =
-      ap length (sym (same-answers x (n# w) wanted k refl)) ∙ answers-length x (n# w) k (omega arith) in
+      let k : ℕ = due asked in
+      let long : length (answers x (rowsIn asked) (asked .wanted)) ≡ k =
+      ap length (sym (same-answers x (rowsIn asked) (asked .wanted) k refl)) ∙ answers-length x (rowsIn asked) k (omega arith) in
       s .recorded ∙ ap₂ (λ (l : List Answer) (k : ℕ). l ++ drop k as₀)
-      (records-of (answers x (n# w) wanted) rs′ ds′ (drop k rs) (drop k ds) given (Z .rows) (Z .distances) (Z .count ∙ sym long)) (Z .count)
+      (records-of (answers x (rowsIn asked) (asked .wanted)) (lent′ .rows) (lent′ .distances) (drop k (lent .rows)) (drop k (lent .distances)) given (Z .rows) (Z .distances) (Z .count ∙ sym long)) (Z .count)
 
   -- THE RECORDS ARE THE ANSWERS OF ANY TABLE THAT FITS THE INDEX AND WITH WHICH THE LENT ONE AGREES IN THE ROWS MEASURED
-  pub answers-served : number ≡ 0 → (t′ : List ℕ) → Serves t t′ c w q wanted
-      → as₁ ≡ map (λ a. made (a .0) (a .1)) (answers (from t′ c q) (n# w) wanted) ++ drop (min wanted (n# w)) as₀
-  answers-served z t′ A = settled-records (from t′ c q) (s .plain .found z t′ A)
+  pub answers-served : number ≡ 0 → (t′ : List ℕ) → Serves asked t′
+      → as₁ ≡ map (λ a. made (a .0) (a .1)) (answers (from t′ (asked .columns) (asked .query)) (rowsIn asked) (asked .wanted)) ++ drop (due asked) as₀
+  answers-served z t′ A = settled-records (from t′ (asked .columns) (asked .query)) (s .plain .found z t′ A)
 
-  module _ (done : number ≡ 0) (A : Accepted (between t c) w) where
+  module _ (done : number ≡ 0) (A : Accepted (between (asked .table) (asked .columns)) (asked .index)) where
     -- EXACT: THE RECORDS ARE THE FIRST OF ALL ROWS BY DISTANCE, THEN ROW NUMBER, EACH WITH ITS DISTANCE, BEFORE WHAT STOOD BEYOND
-    pub answers-exact : as₁ ≡ map (λ a. made (a .0) (a .1)) (answers (from t c q) (n# w) wanted) ++ drop (min wanted (n# w)) as₀
-    answers-exact = settled-records (from t c q) (nearest-exact (s .plain) done A)
+    pub answers-exact : as₁ ≡ map (λ a. made (a .0) (a .1)) (answers (away asked) (rowsIn asked) (asked .wanted)) ++ drop (due asked) as₀
+    answers-exact = settled-records (away asked) (nearest-exact (s .plain) done A)
 
 -- ---- two outcomes, on two tables: the first accepted with the index, the second agreeing with it in every row that was measured
-module _ {t t₂ : List ℕ} {c : ℕ} {w q : List ℕ} {wanted : ℕ} {as₀ as₁ bs₀ bs₁ : List Answer} {rs rs′ ds ds′ how how′ work work′ : List ℕ}
-    {rs₂ rs₂′ ds₂ ds₂′ how₂ how₂′ work₂ work₂′ : List ℕ} {number given met number₂ given₂ met₂ : ℕ}
-    (s : Recorded t c w q wanted as₀ as₁ rs rs′ ds ds′ how how′ work work′ number given met)
-    (s₂ : Recorded t₂ c w q wanted bs₀ bs₁ rs₂ rs₂′ ds₂ ds₂′ how₂ how₂′ work₂ work₂′ number₂ given₂ met₂) where
+module _ {asked : NearestAsked} {t₂ : List ℕ} {as₀ as₁ bs₀ bs₁ : List Answer} {lent lent′ lent₂ lent₂′ : NearestLent} {number given met number₂ given₂ met₂ : ℕ}
+    (s : Recorded asked as₀ as₁ lent lent′ number given met)
+    (s₂ : Recorded (asks t₂ (asked .columns) (asked .index) (asked .query) (asked .wanted)) bs₀ bs₁ lent₂ lent₂′ number₂ given₂ met₂) where
   -- TWO TABLES: A SEARCH ON THE SECOND THAT IS NOT REFUSED GIVES THE SAME RECORDS
-  pub answers-two-tables : number ≡ 0 → number₂ ≡ 0 → Accepted (between t c) w
-      → ((i : ℕ) → i < n# w → T (isMeasured (getD how′ i 0)) → row t c i ≡ row t₂ c i) → (given ≡ given₂) × (take given as₁ ≡ take given₂ bs₁)
+  pub answers-two-tables : number ≡ 0 → number₂ ≡ 0 → Accepted (between (asked .table) (asked .columns)) (asked .index)
+      → ((i : ℕ) → i < rowsIn asked → T (isMeasured (getD (lent′ .how) i 0)) → row (asked .table) (asked .columns) i ≡ row t₂ (asked .columns) i) → (given ≡ given₂) × (take given as₁ ≡ take given₂ bs₁)
   answers-two-tables z z₂ A agree =
       let E = nearest-two-tables (s .plain) z A (s₂ .plain) z₂ agree in
-      let k : given ≡ min wanted (n# w) = nearest-exact (s .plain) z A .count in
-      let r : take given rs′ ≡ take given₂ rs₂′ =
-      ap (λ (k : ℕ). take k rs′) k ∙ E .2 ∙ ap (λ (k : ℕ). take k rs₂′) (sym k ∙ E .0) in
-      let d : take given ds′ ≡ take given₂ ds₂′ =
-      ap (λ (k : ℕ). take k ds′) k ∙ E .3 ∙ ap (λ (k : ℕ). take k ds₂′) (sym k ∙ E .0) in (
+      let k : given ≡ due asked = nearest-exact (s .plain) z A .count in
+      let r : take given (lent′ .rows) ≡ take given₂ (lent₂′ .rows) =
+      ap (λ (k : ℕ). take k (lent′ .rows)) k ∙ E .2 ∙ ap (λ (k : ℕ). take k (lent₂′ .rows)) (sym k ∙ E .0) in
+      let d : take given (lent′ .distances) ≡ take given₂ (lent₂′ .distances) =
+      ap (λ (k : ℕ). take k (lent′ .distances)) k ∙ E .3 ∙ ap (λ (k : ℕ). take k (lent₂′ .distances)) (sym k ∙ E .0) in (
         E .0,
-        first-records s ∙ ap₂ (λ (rs ds : List ℕ). records rs ds given) r d ∙ ap (records (take given₂ rs₂′) (take given₂ ds₂′)) (E .0) ∙ sym (first-records s₂),
+        first-records s ∙ ap₂ (λ (r d : List ℕ). records r d given) r d ∙ ap (records (take given₂ (lent₂′ .rows)) (take given₂ (lent₂′ .distances))) (E .0) ∙ sym (first-records s₂),
       )
 
 -- ---- two outcomes of one call
-module _ {t : List ℕ} {c : ℕ} {w q : List ℕ} {wanted : ℕ} {as₀ as₁ as₂ : List Answer} {rs ds how work : List ℕ}
-    {rs₁ ds₁ how₁ work₁ rs₂ ds₂ how₂ work₂ : List ℕ} {number₁ given₁ met₁ number₂ given₂ met₂ : ℕ}
-    (s₁ : Recorded t c w q wanted as₀ as₁ rs rs₁ ds ds₁ how how₁ work work₁ number₁ given₁ met₁)
-    (s₂ : Recorded t c w q wanted as₀ as₂ rs rs₂ ds ds₂ how how₂ work work₂ number₂ given₂ met₂) where
+module _ {asked : NearestAsked} {as₀ as₁ as₂ : List Answer} {lent lent₁ lent₂ : NearestLent} {number₁ given₁ met₁ number₂ given₂ met₂ : ℕ}
+    (s₁ : Recorded asked as₀ as₁ lent lent₁ number₁ given₁ met₁)
+    (s₂ : Recorded asked as₀ as₂ lent lent₂ number₂ given₂ met₂) where
   -- ON ANY INDEX THE RECORDS FOLLOW FROM THE NUMBERS AND DISTANCES HANDED OUT
-  pub records-follow : given₁ ≡ given₂ → rs₁ ≡ rs₂ → ds₁ ≡ ds₂ → as₁ ≡ as₂
+  pub records-follow : given₁ ≡ given₂ → lent₁ .rows ≡ lent₂ .rows → lent₁ .distances ≡ lent₂ .distances → as₁ ≡ as₂
   records-follow g r d =
-      s₁ .recorded ∙ ap₂ (λ (rs ds : List ℕ). records rs ds given₁ ++ drop given₁ as₀) r d
-      ∙ ap (λ (given : ℕ). records rs₂ ds₂ given ++ drop given as₀) g ∙ sym (s₂ .recorded)
+      s₁ .recorded ∙ ap₂ (λ (r d : List ℕ). records r d given₁ ++ drop given₁ as₀) r d
+      ∙ ap (λ (given : ℕ). records (lent₂ .rows) (lent₂ .distances) given ++ drop given as₀) g ∙ sym (s₂ .recorded)
 
   -- NO SECOND OUTCOME FITS, where the call is refused or a table serves: everything lent is the same, the records too
-  pub answers-only : (t′ : List ℕ) → (number₁ ≡ 0 → Serves t t′ c w q wanted) → (number₁ ≡ number₂) × Same (s₁ .plain) (s₂ .plain) × (as₁ ≡ as₂)
+  pub answers-only : (t′ : List ℕ) → (number₁ ≡ 0 → Serves asked t′) → (number₁ ≡ number₂) × Same (s₁ .plain) (s₂ .plain) × (as₁ ≡ as₂)
   answers-only t′ serves =
       let E = nearest-only (s₁ .plain) (s₂ .plain) t′ serves in
-      (E .0, E .1, records-follow (E .1 .0) (E .1 .2) (E .1 .3))
+      (E .0, E .1, records-follow (E .1 .0) (ap (λ (l : NearestLent). l .rows) (E .1 .2)) (ap (λ (l : NearestLent). l .distances) (E .1 .2)))
 
 -- ---- reading an image, with the number of a wrong block in 32 bits
 -- NO SECOND OUTCOME FITS

@@ -8,6 +8,7 @@ ghost use Rattle.bourascul.specs.Recorded.{Recorded};
 ghost use Rattle.build.specs.Calls.{Builds};
 ghost use Rattle.image.specs.Calls.{Writes};
 ghost use Rattle.nearest.specs.Calls.{Answered};
+ghost use Rattle.nearest_search.specs.Asked.{asks, lends};
 ghost use Rattle.radius.specs.Calls.{Searched};
 ghost use Rattle.words.specs.Calls.{Lists};
 ghost use lib.ListN.{length};
@@ -164,9 +165,10 @@ pub extern "C" fn bourascul_nearest(
     how: &mut [u8],
     work: &mut [u32],
 ) -> Near
-    ensures { λ g. ⌜ Answered (now (table .entry)) c (now (index .entry)) (now (query .entry)) w (min (length (now (rows .entry))) (length (now (distances .entry))))
-        (now (rows .entry)) (now (rows .exit)) (now (distances .entry)) (now (distances .exit)) (now (how .entry)) (now (how .exit)) (now (work .entry))
-        (now (work .exit)) (g .number) (g .given) (g .measured) ⌝ }
+    ensures { λ g. ⌜ Answered (asks (now (table .entry)) c (now (index .entry)) (now (query .entry)) w)
+        (min (length (now (rows .entry))) (length (now (distances .entry))))
+        (lends (now (rows .entry)) (now (distances .entry)) (now (how .entry)) (now (work .entry)))
+        (lends (now (rows .exit)) (now (distances .exit)) (now (how .exit)) (now (work .exit))) (g .number) (g .given) (g .measured) ⌝ }
 {
     let near = nearest::nearest(
         table,
@@ -199,9 +201,10 @@ fn within(
     how: &mut [u8],
     work: &mut [u32],
 ) -> Near
-    ensures { λ g. ⌜ Answered (now (table .entry)) c (now (index .entry)) (now (query .entry)) w (min own (min (length (now (rows .entry))) (length (now (distances .entry)))))
-        (now (rows .entry)) (now (rows .exit)) (now (distances .entry)) (now (distances .exit)) (now (how .entry)) (now (how .exit)) (now (work .entry))
-        (now (work .exit)) (g .number) (g .given) (g .measured) ⌝ }
+    ensures { λ g. ⌜ Answered (asks (now (table .entry)) c (now (index .entry)) (now (query .entry)) w)
+        (min own (min (length (now (rows .entry))) (length (now (distances .entry)))))
+        (lends (now (rows .entry)) (now (distances .entry)) (now (how .entry)) (now (work .entry)))
+        (lends (now (rows .exit)) (now (distances .exit)) (now (how .exit)) (now (work .exit))) (g .number) (g .given) (g .measured) ⌝ }
 {
     let near = nearest::within(
         table,
@@ -237,9 +240,10 @@ pub extern "C" fn bourascul_nearest_answers(
     how: &mut [u8],
     work: &mut [u32],
 ) -> Near
-    ensures { λ g. ⌜ Recorded (now (table .entry)) c (now (index .entry)) (now (query .entry)) w (now (answers .entry)) (now (answers .exit))
-        (now (rows .entry)) (now (rows .exit)) (now (distances .entry)) (now (distances .exit)) (now (how .entry)) (now (how .exit)) (now (work .entry))
-        (now (work .exit)) (g .number) (g .given) (g .measured) ⌝ }
+    ensures { λ g. ⌜ Recorded (asks (now (table .entry)) c (now (index .entry)) (now (query .entry)) w)
+        (now (answers .entry)) (now (answers .exit))
+        (lends (now (rows .entry)) (now (distances .entry)) (now (how .entry)) (now (work .entry)))
+        (lends (now (rows .exit)) (now (distances .exit)) (now (how .exit)) (now (work .exit))) (g .number) (g .given) (g .measured) ⌝ }
 {
     let room = answers.len();
     let near = within(table, c, index, query, w, room, rows, distances, how, work);

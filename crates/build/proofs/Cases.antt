@@ -4,10 +4,11 @@ use Rattle.build.specs.Cases.{Comes, emptyWords, sevenWords, sevens, tab
 use Rattle.laws.specs.Every.{Every}
 use Rattle.laws.specs.Lists.{range}
 use Rattle.laws.specs.Upto.{sumTo}
+use Rattle.limits.specs.Said.{numberFaults}
 use Rattle.measure.specs.Distance.{l1}
 use Rattle.measure.specs.Table.{between, rowsOf}
 use Rattle.tree.specs.Build.{build, choose, grow, split}
-use Rattle.tree.specs.Calls.{roomOf, saidBuild}
+use Rattle.build.specs.Numbers.{roomOf, saidBuild}
 use Rattle.tree.specs.Cases.{five, fiveWords}
 use Rattle.tree.specs.Encode.{broods, encode, family, levelNodes, nodes, numbered}
 use Rattle.words.specs.Words.{N#, row#}
@@ -36,7 +37,7 @@ comes T ws is n said room work room′ work′ number words count hr hw b =
 
 -- EVERY CALL ON A TABLE OF 01 LEAVES ITS WORDS: THE FIVE ROWS; FOUR EQUAL ROWS, IN THE ORDER 0 3 2 1 UNDER FIVE NODES; NO ROWS
 pub build-cases : Every Comes table × (map (row# sevenWords) (range 0 4) ≡ 0 ∷ 3 ∷ 2 ∷ 1 ∷ []) × (N# sevenWords ≡ 5)
-unfolding saidBuild sumTo l1 between family broods levelNodes nodes numbered encode choose split grow build
+unfolding saidBuild numberFaults sumTo l1 between family broods levelNodes nodes numbered encode choose split grow build
 build-cases = (
   (
     comes five fiveWords refl refl (λ room work a b. rw (a, b)),

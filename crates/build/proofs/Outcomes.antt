@@ -7,7 +7,7 @@ use Rattle.build.specs.Filled.{Filled, Room}
 use Rattle.build.specs.Stages.{Fit}
 use Rattle.laws.specs.Every.{Every}
 use Rattle.limits.proofs.Ranges.{shared}
-use Rattle.limits.proofs.Sized.{sized-columns}
+use Rattle.limits.proofs.Numbers.{sized-columns}
 use Rattle.limits.proofs.Told.{refused-is, taken-is}
 use Rattle.limits.specs.Chosen.{chosen, told}
 use Rattle.limits.specs.Limits.{maxRows, shareOk}
@@ -18,7 +18,7 @@ use Rattle.measure.specs.Table.{between, rowsOf}
 use Rattle.split.specs.Places.{nodeAt}
 use Rattle.tree.proofs.Built.{build-accepted}
 use Rattle.tree.specs.Build.{build}
-use Rattle.tree.specs.Calls.{saidBuild}
+use Rattle.build.specs.Numbers.{saidBuild}
 use Rattle.tree.specs.Check.{Accepted}
 use Rattle.tree.specs.Encode.{encode}
 use borrow.Author.Tests.{ne-eqb}
@@ -71,6 +71,10 @@ module _ {T : List ℕ} {c e m l : ℕ} {room work : List ℕ} {p : Params} (pas
   -- every test is passed
   cleared : Clear T c e m l (length room) (length work)
   cleared = clear T c e m l (length room) (length work) (passed .none)
+
+  -- there is a column
+  pub columns-some : 1 ≤ c
+  columns-some = cleared .table .some
 
   -- few enough rows
   pub rows-most : rowsOf T c ≤ maxRows

@@ -2,8 +2,8 @@
 use Prim.Native.Nat.{_*_, _+_, _-_, _<_, _≤_, ℕ}
 use Rattle.build.specs.Filled.{pairsIn}
 use Rattle.laws.proofs.Parts.{store-more}
-use Rattle.split.proofs.Parts.{stretch-three}
-use Rattle.split.specs.Groups.{stretch}
+use Rattle.rounds.proofs.Parts.{stretch-three}
+use Rattle.rounds.specs.Stretch.{stretch}
 use lib.ListN.{drop, getD, length, length-append, length-drop, length-set, set, take}
 use lib.Seq.{drop-drop, length-take-le, take-add, take-all}
 use mathlib.Core.List.{List, [], _++_, _∷_, append-assoc}

@@ -1,39 +1,53 @@
--- Why a build is refused: one law for each return of the code, and what holds where nothing is refused. Assumes nothing.
-use Prim.Native.Nat.{_*_, _/_, _≤_, ℕ}
-use Rattle.build.specs.Filled.{shortOf}
-use Rattle.laws.proofs.Tests.{and-l, and-r, holds, is-true, or-parts}
-use Rattle.limits.proofs.Faults.{fault-first, fault-next, fault-none, fault-not, numberOf, says-first, says-next, says-none}
-use Rattle.limits.proofs.Ranges.{columns-are}
-use Rattle.limits.proofs.Sized.{Sized, length-numbered, length-right, sized-of}
-use Rattle.limits.specs.Limits.{columnsOk, shareOk}
-use Rattle.limits.specs.Said.{Said, columnsFault, fault, lengthFaults, said}
+-- What a build says, by what its parameters answer, and what holds where nothing is refused. Assumes nothing.
+use Prim.Native.Nat.{_*_, _+_, _-_, _≤_, ℕ}
+use Rattle.build.specs.Numbers.{roomOf, saidBuild, shortOf, writerAsks}
+use Rattle.laws.proofs.Tests.{and-l, and-r, holds, is-true, or-none, or-parts}
+use Rattle.limits.proofs.Numbers.{Passed, Sized, passed, passed-none}
+use Rattle.limits.specs.Limits.{shareOk}
+use Rattle.limits.specs.Said.{numberFaults, said}
 use Rattle.measure.specs.Table.{rowsOf}
-use Rattle.tree.specs.Calls.{roomOf, saidBuild}
-use borrow.Author.Tests.{eqb-true, ltb-false, not-false}
+use borrow.Author.Tests.{eq-eqb, eqb-true, le-ltb, lt-ltb, ltb-false, ltb-true, not-false}
 use lib.Dec.{eqb, ltb}
 use lib.ListN.{length}
-use mathlib.Core.Bool.{Bool, _&&_, false, not, true}
-use mathlib.Core.List.{List, _++_, append-assoc}
-use mathlib.Core.Path.{_∙_, _≡_, ap, sym}
+use mathlib.Core.Bool.{Bool, _&&_, cond, false, not, true}
+use mathlib.Core.List.{List}
+use mathlib.Core.Path.{_∙_, _≡_, ap, refl, sym}
 use native.Mathlib.Omega.{arith}
 
--- ---- the lengths: 3, 4, 5
-module _ (long c room work : ℕ) where
-  -- the room or the workspace is too short
-  abbrev short : Bool
-  short = shortOf (long / c) room work
+-- ---- the rooms
+-- a room that has the header's words is too short where it is so without them
+pub behind-header : (n room : ℕ) → 8 ≤ room → ltb (room - 8) (12 * n) ≡ ltb room (roomOf n)
+behind-header n room h = go (ltb (room - 8) (12 * n)) refl
+  where
+    go : (b : Bool) → ltb (room - 8) (12 * n) ≡ b → b ≡ ltb room (roomOf n)
+    go true e = sym (lt-ltb room (roomOf n) (omega (arith, ltb-true (room - 8) (12 * n) e)))
+    go false e = sym (le-ltb room (roomOf n) (omega (arith, ltb-false (room - 8) (12 * n) e)))
 
-  -- the table's length is refused
-  pub by-length : {v : ℕ} → v ≡ said (lengthFaults long c) .0 → (v ≡ 0 → ⊥) → v ≡ said (lengthFaults long c ++ fault 5 short) .0
-  by-length q h = q ∙ ap numberOf (says-first (lengthFaults long c) (fault 5 short) (λ z. h (q ∙ z)))
+-- rooms that are not too short, and the other way
+pub rooms : (n room work : ℕ) → shortOf n room work ≡ false → (roomOf n ≤ room) × (6 * n ≤ work)
+rooms n room work e =
+    let o = or-parts (ltb room (roomOf n)) (ltb work (6 * n)) e in
+    (ltb-false room (roomOf n) (o .0), ltb-false work (6 * n) (o .1))
 
-  -- the rooms decide
-  pub by-rooms : {v : ℕ} → v ≡ said (lengthFaults long c) .0 → v ≡ 0 → {s : Bool} → s ≡ short
-      → said (fault 5 s) .0 ≡ said (lengthFaults long c ++ fault 5 short) .0
-  by-rooms p z q =
-      ap (λ b. said (fault 5 b) .0) q ∙ ap numberOf (says-next (lengthFaults long c) (fault 5 short) (length-numbered long c) (sym p ∙ z))
+rooms-of : (n room work : ℕ) → roomOf n ≤ room → 6 * n ≤ work → shortOf n room work ≡ false
+rooms-of n room work a b = or-none (ltb room (roomOf n)) (ltb work (6 * n)) (le-ltb room (roomOf n) a) (le-ltb work (6 * n) b)
 
--- ---- all five
+-- ---- the parameters
+-- parameters that are refused refuse the call
+pub unfit-refused : (long c room work : ℕ) {v : ℕ} → v ≡ said (numberFaults (writerAsks long c true room work)) .0 → v ≡ 0 → ⊥
+unfit-refused long c room work e z = differ (passed (writerAsks long c true room work) (sym e ∙ z) .fit)
+  where
+    differ : true ≡ false → ⊥
+    differ e = omega (arith, ap {B = ℕ} (λ (b : Bool). cond b 1 0) e)
+
+module _ (T : List ℕ) (c e m l room work : ℕ) where
+  -- what numbers decide, with what the parameters answer, is what is said
+  pub says : {b : Bool} {v : ℕ} → (shareOk m l && eqb e 2) ≡ b → v ≡ said (numberFaults (writerAsks (length T) c (not b) room work)) .0
+      → v ≡ saidBuild T c e m l room work .0
+  unfolding saidBuild
+  says q h = h ∙ ap (λ b. said (numberFaults (writerAsks (length T) c (not b) room work)) .0) (sym q)
+
+-- ---- none
 -- WITH 0 NOTHING IS WRONG: the table, m and l, the edition, the room and the workspace
 pub record Clear (T : List ℕ) (c e m l room work : ℕ) : Type 0 where
   pub table : Sized (length T) c
@@ -43,65 +57,33 @@ pub record Clear (T : List ℕ) (c e m l room work : ℕ) : Type 0 where
   pub words : 6 * rowsOf T c ≤ work
 
 module _ (T : List ℕ) (c e m l room work : ℕ) where
-  -- how many rows there are
-  abbrev n : ℕ
-  n = rowsOf T c
-
-  -- what is said
-  abbrev says : Said
-  says = saidBuild T c e m l room work
-
   -- m and l are in range, and the edition is 2
   abbrev chosen : Bool
   chosen = shareOk m l && eqb e 2
 
-  -- the faults after them
-  abbrev last : List Said
-  last = lengthFaults (length T) c ++ fault 5 (shortOf n room work)
-
-  -- and after the columns
-  abbrev next : List Said
-  next = fault 2 (not chosen) ++ last
-
-  -- one after the other they decide what is said
-  in-turn : said (columnsFault c ++ next) ≡ says
+  pub clear : saidBuild T c e m l room work .0 ≡ 0 → Clear T c e m l room work
   unfolding saidBuild
-  in-turn = simp append-assoc
-
-  -- ---- the returns in the code's order
-  -- the columns are wrong
-  pub one : columnsOk c ≡ false → 1 ≡ says .0
-  one q = ap numberOf (fault-first 1 next (ap not q) ∙ in-turn)
-
-  module _ (q : columnsOk c ≡ true) where
-    -- past the columns the others decide
-    after-columns : said next ≡ says
-    after-columns = fault-next 1 next (ap not q) ∙ in-turn
-
-    -- m or l is out of range, or the edition is another
-    pub two : (shareOk m l && eqb e 2) ≡ false → 2 ≡ says .0
-    two s = ap numberOf (fault-first 2 last (ap not s) ∙ after-columns)
-
-    -- the lengths decide
-    pub by-lengths : {v : ℕ} → (shareOk m l && eqb e 2) ≡ true
-        → v ≡ said (lengthFaults (length T) c ++ fault 5 (shortOf (rowsOf T c) room work)) .0 → v ≡ says .0
-    by-lengths s h = h ∙ ap numberOf (fault-next 2 last (ap not s) ∙ after-columns)
-
-  -- ---- none
-  pub clear : says .0 ≡ 0 → Clear T c e m l room work
   clear z =
-      let a = ltb room (roomOf n) in
-      let b = ltb work (6 * n) in
-      let f = fault-none 1 (not (columnsOk c)) next (omega arith) (ap numberOf in-turn ∙ z) in
-      let g = fault-none 2 (not chosen) last (omega arith) (f .1) in
-      let t = holds chosen (not-false chosen (g .0)) in
-      let h = says-none (lengthFaults (length T) c) (fault 5 (shortOf n room work)) (length-numbered (length T) c) (g .1) in
-      let right = length-right (length T) c (h .0) in
-      let o = or-parts a b (fault-not 5 (shortOf n room work) (omega arith) (h .1)) in
+      let P : Passed (writerAsks (length T) c (not chosen) room work) = passed (writerAsks (length T) c (not chosen) room work) z in
+      let t = holds chosen (not-false chosen (P .fit)) in
+      let o = rooms (rowsOf T c) room work (P .room) in
       record {
-        table = sized-of (length T) c (columns-are c (not-false (columnsOk c) (f .0))) (right .0) (right .1);
+        table = P .table;
         share = is-true (shareOk m l) (and-l (shareOk m l) (eqb e 2) t);
         edition = eqb-true e 2 (is-true (eqb e 2) (and-r (shareOk m l) (eqb e 2) t));
-        space = ltb-false room (roomOf n) (o .0);
-        words = ltb-false work (6 * n) (o .1);
+        space = o .0;
+        words = o .1;
       }
+
+  -- and where nothing is wrong 0 is said
+  pub clear-none : Clear T c e m l room work → 0 ≡ saidBuild T c e m l room work .0
+  unfolding saidBuild
+  clear-none C =
+      passed-none (writerAsks (length T) c (not chosen) room work)
+      (record {
+        table = C .table;
+        fit = rw (C .share, eq-eqb e 2 (C .edition));
+        room = rooms-of (rowsOf T c) room work (C .space) (C .words);
+        like = refl;
+        some = refl;
+      })

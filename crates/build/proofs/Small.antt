@@ -13,19 +13,19 @@ use Rattle.laws.proofs.Ranges.{range-length}
 use Rattle.laws.specs.Every.{Every}
 use Rattle.laws.specs.Lists.{joined, range}
 use Rattle.limits.specs.Limits.{columnsOk, maxDepth, maxRows, shareOk}
-use Rattle.limits.specs.Said.{fault, said}
+use Rattle.limits.specs.Said.{fault, numberFaults, said}
 use Rattle.limits.specs.declared.Params.{Params}
 use Rattle.measure.specs.Table.{between, rowsOf}
 use Rattle.split.proofs.Laid.{split-joined}
 use Rattle.tree.proofs.Grow.{split-length, split-runs}
 use Rattle.tree.specs.Build.{Run, build, plant, split}
-use Rattle.tree.specs.Calls.{roomOf, saidBuild}
+use Rattle.build.specs.Numbers.{saidBuild, shortOf}
 use Rattle.tree.specs.Encode.{broods, encode, family, levelNodes, nodes, numbered}
 use Rattle.words.specs.Words.{N#}
 use borrow.Author.Tests.{eqb-true, leb-false}
 use lib.Dec.{eqb, leb, ltb}
 use lib.ListN.{length, length-append, length-map}
-use mathlib.Core.Bool.{Bool, _&&_, _||_, cond, false, not, true}
+use mathlib.Core.Bool.{Bool, _&&_, cond, false, not, true}
 use mathlib.Core.List.{List, [], _++_, _∷_}
 use mathlib.Core.Path.{_∙_, _≡_, ap, refl, subst, sym}
 use native.Mathlib.Omega.{arith}
@@ -161,20 +161,20 @@ build-small {T} {c} {e} {m} {l} {room} {work} {number = number} {words} {nodes} 
     go false q w k = (omega arith, omega arith)
 
 -- ---- the number
--- the first of the five refusals, or 0
-five-low : (a b c d e : Bool) → said (fault 1 a ++ fault 2 b ++ (fault 3 c ++ fault 4 d) ++ fault 5 e) .0 ≤ 5
-five-low true b c d e = omega arith
-five-low false true c d e = omega arith
-five-low false false true d e = omega arith
-five-low false false false true e = omega arith
-five-low false false false false true = omega arith
-five-low false false false false false = omega arith
-
 -- THE NUMBER IS AT MOST 5
 pub build-low : {T : List ℕ} {c e m l : ℕ} {room work room′ work′ : List ℕ} {number words nodes : ℕ}
     → Builds T c e m l room work room′ work′ number words nodes → number ≤ 5
-unfolding saidBuild
+unfolding saidBuild numberFaults
 build-low {T} {c} {e} {m} {l} {room} {work} b =
     subst (λ (k : ℕ). k ≤ 5) (sym (b .said))
     (five-low (not (columnsOk c)) (not (shareOk m l && eqb e 2)) (not (eqb (length T % c) 0)) (ltb maxRows (rowsOf T c))
-    (ltb (length room) (roomOf (rowsOf T c)) || ltb (length work) (6 * rowsOf T c)))
+    (shortOf (rowsOf T c) (length room) (length work)))
+  where
+    -- the first of the five refusals, or 0
+    five-low : (a b c d e : Bool) → said (fault 1 a ++ (fault 2 b ++ (fault 3 c ++ (fault 4 d ++ (fault 5 e ++ []))))) .0 ≤ 5
+    five-low true b c d e = omega arith
+    five-low false true c d e = omega arith
+    five-low false false true d e = omega arith
+    five-low false false false true e = omega arith
+    five-low false false false false true = omega arith
+    five-low false false false false false = omega arith

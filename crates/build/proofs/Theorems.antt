@@ -4,7 +4,7 @@ use Rattle.build.proofs.Refusals.{clear}
 use Rattle.build.proofs.Whole.{encode-words, positions}
 use Rattle.build.specs.Calls.{Builds}
 use Rattle.limits.proofs.Ranges.{shared}
-use Rattle.limits.proofs.Sized.{Sized}
+use Rattle.limits.proofs.Numbers.{Sized}
 use Rattle.limits.specs.Limits.{shareOk}
 use Rattle.measure.specs.Table.{between, rowsOf}
 use Rattle.tree.specs.Build.{build, plant}

@@ -7,7 +7,7 @@ use Rattle.laws.proofs.Times.{every-same}
 use Rattle.laws.specs.Every.{Every}
 use Rattle.laws.specs.Lists.{each, head, joined}
 use Rattle.split.proofs.Laid.{laid-long, runs-long, split-joined, under-rows}
-use Rattle.split.specs.Groups.{stretch}
+use Rattle.rounds.specs.Stretch.{stretch}
 use Rattle.split.specs.Runs.{laid, rows, runAt}
 use Rattle.tree.proofs.Grow.{split-length, split-runs, split-tally}
 use Rattle.tree.specs.Build.{Run, split}

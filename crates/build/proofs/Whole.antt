@@ -14,7 +14,7 @@ use Rattle.laws.proofs.Ranges.{range-length}
 use Rattle.laws.specs.Lists.{each, range}
 use Rattle.limits.specs.Limits.{maxDepth}
 use Rattle.measure.specs.Table.{between}
-use Rattle.split.specs.Groups.{stretch}
+use Rattle.rounds.specs.Stretch.{stretch}
 use Rattle.split.specs.Runs.{laid}
 use Rattle.tree.proofs.Good.{pairs-length}
 use Rattle.tree.proofs.Grow.{grown-tally}

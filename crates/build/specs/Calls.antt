@@ -2,7 +2,7 @@
 use Prim.Native.Nat.{_*_, ℕ}
 use Rattle.measure.specs.Table.{between, rowsOf}
 use Rattle.tree.specs.Build.{build}
-use Rattle.tree.specs.Calls.{saidBuild}
+use Rattle.build.specs.Numbers.{saidBuild}
 use Rattle.tree.specs.Check.{Accepted}
 use Rattle.words.specs.Words.{N#}
 use lib.Dec.{eqb}

@@ -8,12 +8,10 @@ use Rattle.limits.specs.Limits.{maxDepth}
 use Rattle.measure.specs.Table.{between}
 use Rattle.split.specs.Runs.{laid}
 use Rattle.tree.specs.Build.{plant}
-use Rattle.tree.specs.Calls.{roomOf}
+use Rattle.build.specs.Numbers.{roomOf}
 use Rattle.tree.specs.Encode.{encode, numbered, pairWords}
 use Rattle.tree.specs.Grove.{entries}
-use lib.Dec.{ltb}
 use lib.ListN.{drop, length, replicate, take}
-use mathlib.Core.Bool.{Bool, _||_}
 use mathlib.Core.List.{List, [], _++_, _∷_, map}
 use mathlib.Core.Path.{_≡_}
 
@@ -37,10 +35,6 @@ pub record RootLaid (d : ℕ → ℕ → ℕ) (n : ℕ) (work work′ : List ℕ
   pub far : radius ≡ mostTo (d 0) n
   pub near : inner ≡ lowest (map (d 0) (rest (range 0 n)))
   pub words : work′ ≡ each (entryOf0 d) (range 0 n) ++ drop (3 * n) work
-
--- 5: the room or the workspace is too short for n rows
-abbrev pub shortOf : ℕ → ℕ → ℕ → Bool
-shortOf n room work = ltb room (roomOf n) || ltb work (6 * n)
 
 -- ---- the root and the levels below it
 -- the root's item

@@ -1,27 +1,30 @@
 // The build of an index over a lent table. While it grows, the first half of the workspace holds an entry of three words for each
 // position: the row, its distance from the first of its run, and that first. The second half takes a run's entries as they are shared out.
-ghost use Prim.Native.Nat.{_*_, _+_, _/_, _≤_};
+ghost use Prim.Native.Nat.{_*_, _+_, _≤_};
 ghost use Rattle.build.specs.Calls.{Builds};
-ghost use Rattle.build.specs.Filled.{Filled, Grown, Leveled, Planted, Room, RootLaid, Rooted, headerOf, pairsIn, shortOf};
+ghost use Rattle.build.specs.Filled.{Filled, Grown, Leveled, Planted, Room, RootLaid, Rooted, headerOf, pairsIn};
+ghost use Rattle.build.specs.Numbers.{shortOf, writerAsks};
 ghost use Rattle.build.specs.Stages.{Fit, Level, Openable, Opened, Staged};
 ghost use Rattle.limits.specs.Limits.{maxColumns, maxRows};
-ghost use Rattle.limits.specs.Said.{fault, lengthFaults, said};
+ghost use Rattle.limits.specs.Said.{numberFaults, said};
 ghost use Rattle.measure.specs.Table.{between};
-ghost use Rattle.split.specs.Groups.{stretch};
+ghost use Rattle.rounds.specs.Stretch.{stretch};
 ghost use lib.ListN.{drop, length};
 ghost use mathlib.Core.List.{_++_};
 ghost use mathlib.Core.Path.{_≡_};
 use buffers::clear_words;
+use groups::least_of;
+use limits::Asked;
 use limits::Chosen;
 use limits::Params;
-use limits::columns_ok;
-use limits::length_number;
+use limits::is_short;
+use limits::number_of;
+use limits::rows_in;
 use measure::row_distance;
-use split::groups::WIDTH;
-use split::groups::greater;
-use split::groups::least_of;
-use split::groups::split_run;
-use split::rounds::put_entry;
+use numbers::larger;
+use rounds::put_entry;
+use split::WIDTH;
+use split::split_run;
 use words::places::HEADER;
 use words::places::word;
 use words::writing::put_node;
@@ -51,7 +54,7 @@ fn lay(table: &[u16], c: usize, n: usize, work: &mut [u32]) -> Reach
     let mut i = 0;
     while i < n {
         let d = row_distance(table, c, 0, i);
-        radius = greater(radius, d);
+        radius = larger(radius, d);
         inner = least_of(i, inner, d);
         let at = 3 * i;
         put_entry(&mut work[at..], i as u32, d, 0);
@@ -219,29 +222,28 @@ fn fill(table: &[u16], c: usize, p: Params, n: usize, room: &mut [u32], work: &m
 // ---- the public call
 
 // The room or the workspace is too short for n rows.
-pub fn too_short(n: usize, room: usize, work: usize) -> bool
-    requires { ⌜ n ≤ maxRows ⌝ }
+fn too_short(n: usize, room: usize, work: usize) -> bool
     ensures { λ r. ⌜ r ≡ shortOf n room work ⌝ }
 {
-    if room < 12 * n + HEADER {
+    if room < HEADER {
         return true;
     }
-    work < 6 * n
+    is_short(room - HEADER, 12, n) | is_short(work, 6, n)
 }
 
-// What is wrong with the lengths of a table of c columns, of the room and of the workspace: 3, 4, 5, or 0 for nothing.
-fn lengths_number(length: usize, c: usize, room: usize, work: usize) -> u32
-    requires { ⌜ 1 ≤ c ⌝ }
-    ensures { λ r. ⌜ r ≡ said (lengthFaults length c ++ fault 5 (shortOf (length / c) room work)) .0 ⌝ }
+// What numbers refuse of a call that writes an index over a table of this length and c columns, or 0. `room` and `work` are the lengths of what is lent.
+pub fn writer_number(length: usize, c: usize, unfit: bool, room: usize, work: usize) -> u32
+    ensures { λ r. ⌜ r ≡ said (numberFaults (writerAsks length c unfit room work)) .0 ⌝ }
 {
-    let number = length_number(length, c);
-    if number != 0 {
-        return number;
-    }
-    if too_short(length / c, room, work) {
-        return 5;
-    }
-    0
+    let n = rows_in(length, c);
+    number_of(Asked {
+        length,
+        columns: c,
+        unfit,
+        short: too_short(n, room, work),
+        unlike: false,
+        none: false,
+    })
 }
 
 // A refusal: its number, and zero counts.
@@ -268,13 +270,10 @@ pub fn build(
     ensures { λ r. ⌜ Builds (now (table .entry)) c edition m l (now (room .entry)) (now (work .entry)) (now (room .exit)) (now (work .exit))
         (r .number) (r .words) (r .nodes) ⌝ }
 {
-    if !columns_ok(c) {
-        return refused(1);
-    }
     let Chosen::Taken(p) = Params::new(m, l, edition) else {
-        return refused(2);
+        return refused(writer_number(table.len(), c, true, room.len(), work.len()));
     };
-    let number = lengths_number(table.len(), c, room.len(), work.len());
+    let number = writer_number(table.len(), c, false, room.len(), work.len());
     if number != 0 {
         return refused(number);
     }

@@ -1,16 +1,17 @@
 -- A damaged card, read over a table that 1, 3 and 4 do not meet: the fault of the image is what the call gives. Assumes nothing.
 use Prim.Native.Nat.{_%_, _/_, _<_, _^_, _≤_, ℕ}
+use Rattle.blocks.proofs.Wrong.{lowest-le}
+use Rattle.blocks.specs.Blocks.{blockGood}
 use Rattle.card.proofs.Refusals.{said-image}
 use Rattle.card.proofs.Theorems.{read-refused}
 use Rattle.card.specs.Calls.{Reads, saidRead}
 use Rattle.image.proofs.Found.{one-block, one-word, wrong-first, wrong-said}
 use Rattle.image.proofs.OneByte.{one-byte-said}
-use Rattle.image.proofs.Wrong.{lowest-le}
 use Rattle.image.specs.Below.{Below}
 use Rattle.image.specs.Changed.{Changed, Moved}
-use Rattle.limits.proofs.Sized.{Sized}
+use Rattle.image.specs.Image.{imageFaults}
+use Rattle.limits.proofs.Numbers.{Sized}
 use Rattle.limits.specs.Said.{Said, said}
-use Rattle.words.specs.Image.{blockGood, imageFaults}
 use Rattle.words.specs.Words.{at}
 use lib.ListN.{length, set}
 use mathlib.Core.Bool.{false, true}

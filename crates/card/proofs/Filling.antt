@@ -1,17 +1,16 @@
--- What a reading puts into the room: the widened header, and the words of either edition. Assumes nothing.
-use Prim.Native.Nat.{_*_, _+_, _/_, _<_, _≤_, ℕ}
-use Rattle.card.proofs.Cards.{card-at, card-long, card-total}
+-- What a reading puts into the room: the words of either edition. Assumes nothing.
+use Prim.Native.Nat.{_*_, _+_, _/_, _≤_, ℕ}
+use Rattle.blocks.specs.Blocks.{imageWords}
+use Rattle.card_widen.specs.Parts.{wideLong, withWide}
+use Rattle.card_words.proofs.Cards.{card-long, card-total}
+use Rattle.card_words.specs.Cards.{Held, cardWords}
 use Rattle.card.specs.Calls.{readTotal, readWords}
-use Rattle.card.specs.Cards.{Held, cardWords}
-use Rattle.card.specs.Parts.{topOf, wideLong, withWide}
+use Rattle.image.specs.Image.{imageTotal}
 use Rattle.measure.specs.Table.{between}
 use Rattle.tree.specs.Widen.{widen}
-use Rattle.words.proofs.Strides.{header-in}
-use Rattle.words.specs.Image.{imageTotal, imageWord, imageWords}
-use Rattle.words.specs.Words.{N#, at, edition#, n#, width}
+use Rattle.words.specs.Words.{N#, edition#, n#, width}
 use borrow.Author.Tests.{eq-eqb, ne-eqb}
-use lib.Dec.{eqb, lit<}
-use lib.ListN.{drop, length, set}
+use lib.ListN.{drop, length}
 use mathlib.Core.Bool.{Bool, cond}
 use mathlib.Core.List.{List, _++_}
 use mathlib.Core.Path.{_∙_, _≡_, ap, ap₂, refl, sym}
@@ -24,13 +23,6 @@ module _ (i : List ℕ) where
   total-wide = refl
 
   module _ (H : Held i) where
-    -- the header's words as they stand, but for the edition
-    pub top-put : (room : List ℕ) {r : List ℕ} → r ≡ imageWords i 8 ++ drop 8 room → set r 0 2 ≡ topOf (cardWords i) ++ drop 8 room
-    unfolding imageWords
-    top-put room e =
-        let f : (j : ℕ) → j < 8 → imageWord i j ≡ at (cardWords i) j = λ j h. card-at i j (omega (arith, header-in (cardWords i) (H .whole))) in
-        ap (λ l. set l 0 2) e ∙ rw (f 1 (lit< tt), f 2 (lit< tt), f 3 (lit< tt), f 4 (lit< tt), f 5 (lit< tt), f 6 (lit< tt), f 7 (lit< tt))
-
     -- what is read of an edition 2 card is as long as the card's index
     pub total-same : (edition# (cardWords i) ≡ 1 → ⊥) → readTotal i ≡ imageTotal i
     unfolding readTotal

@@ -1,88 +1,30 @@
 -- Why a reading is refused: one law for each return of the code, and what holds where nothing is refused. Assumes nothing.
 use Prim.Native.Nat.{_<_, _≤_, ℕ}
-use Rattle.card.proofs.Cards.{carded}
-use Rattle.card.proofs.Tabled.{card-tabled}
+use Rattle.card_widen.proofs.Tabled.{card-tabled}
+use Rattle.card_widen.specs.Tabled.{Tabled}
+use Rattle.card_words.proofs.Cards.{carded}
+use Rattle.card_words.specs.Cards.{Carded, cardWords}
 use Rattle.card.specs.Calls.{Tested, cardFaults, readTotal, saidRead}
-use Rattle.card.specs.Cards.{Carded, cardWords}
-use Rattle.card.specs.Tabled.{Tabled}
 use Rattle.image.proofs.Refusals.{faults-numbered, faults-placed}
+use Rattle.image.specs.Image.{imageFaults}
 use Rattle.image.specs.Sound.{Sound}
 use Rattle.laws.proofs.Every.{every-append}
-use Rattle.laws.proofs.Tests.{and-l, and-r, holds}
 use Rattle.laws.specs.Every.{Every}
-use Rattle.limits.proofs.Faults.{Early, early-numbered, early-placeless, fault-early, fault-first, fault-next, fault-none, fault-not, numberOf, says-first, says-next, says-none}
-use Rattle.limits.proofs.Sized.{Sized, sized, sized-none, table-early, table-numbered}
-use Rattle.limits.specs.Said.{Said, fault, said, tableFaults}
+use Rattle.limits.proofs.Faults.{Early, early-numbered, early-placeless, fault-early, fault-not, numberOf, says-first, says-next, says-none}
+use Rattle.limits.proofs.Numbers.{Sized, numbers-early, numbers-numbered, passed, passed-none}
+use Rattle.limits.specs.Said.{Said, fault, numberFaults, said, tabled}
+use Rattle.limits.specs.declared.Asked.{Asked}
 use Rattle.measure.specs.Table.{rowsOf}
-use Rattle.words.specs.Image.{imageFaults}
+use Rattle.words.proofs.Indexes.{by-shape, fit-early, fit-tests}
 use Rattle.words.specs.Shape.{shapeOk}
 use Rattle.words.specs.Words.{c#, n#}
-use borrow.Author.Tests.{eq-eqb, eqb-false, eqb-true, le-ltb, lt-ltb, ltb-false, ne-eqb, not-false}
-use lib.Dec.{eqb, eqb→eq, ltb}
+use borrow.Author.Tests.{eqb-false, eqb-true, le-ltb, lt-ltb, ltb-false, ne-eqb}
+use lib.Dec.{eqb, ltb}
 use lib.ListN.{length}
-use mathlib.Core.Bool.{Bool, _&&_, and-false, cond, false, not, true}
-use mathlib.Core.List.{List, _++_, append-assoc}
+use mathlib.Core.Bool.{Bool, cond, false, true}
+use mathlib.Core.List.{List, _++_}
 use mathlib.Core.Path.{_∙_, _≡_, ap, refl, sym}
 use native.Mathlib.Omega.{arith}
-
--- ---- the card and the table: 8 and 9
-module _ (T : List ℕ) (c : ℕ) (i : List ℕ) where
-  -- the header's rows and columns are the table's
-  abbrev fits : Bool
-  fits = eqb (n# (cardWords i)) (rowsOf T c) && eqb (c# (cardWords i)) c
-
-  -- the fault after 8
-  abbrev shapeFault : List Said
-  shapeFault = fault 9 (not (shapeOk (cardWords i)))
-
-  -- one of the tests for 8 fails
-  eight : fits ≡ false → 8 ≡ said (cardFaults T c i) .0
-  unfolding cardFaults
-  eight e = ap numberOf (fault-first 8 shapeFault (ap not e))
-
-  -- the card has another number of rows
-  pub eight-rows : (n# (cardWords i) ≡ rowsOf T c → ⊥) → 8 ≡ said (cardFaults T c i) .0
-  eight-rows h = eight (rw (ne-eqb (n# (cardWords i)) (rowsOf T c) h))
-
-  -- or of columns
-  pub eight-columns : (c# (cardWords i) ≡ c → ⊥) → 8 ≡ said (cardFaults T c i) .0
-  eight-columns h = eight (rw (ne-eqb (c# (cardWords i)) c h, and-false (eqb (n# (cardWords i)) (rowsOf T c))))
-
-  module _ (p : n# (cardWords i) ≡ rowsOf T c) (q : c# (cardWords i) ≡ c) where
-    -- past 8 the shape decides
-    by-shape : said shapeFault .0 ≡ said (cardFaults T c i) .0
-    unfolding cardFaults
-    by-shape =
-        let f : fits ≡ true = rw (eq-eqb (n# (cardWords i)) (rowsOf T c) p, eq-eqb (c# (cardWords i)) c q) in
-        ap numberOf (fault-next 8 shapeFault (ap not f))
-
-    -- it is wrong
-    pub nine-shape : shapeOk (cardWords i) ≡ false → 9 ≡ said (cardFaults T c i) .0
-    nine-shape s = ap (λ b. said (fault 9 (not b)) .0) (sym s) ∙ by-shape
-
-    -- nothing is wrong
-    pub none-wrong : shapeOk (cardWords i) ≡ true → 0 ≡ said (cardFaults T c i) .0
-    none-wrong s = ap (λ b. said (fault 9 (not b)) .0) (sym s) ∙ by-shape
-
-  -- 8 and 9 are early
-  card-early : Every Early (cardFaults T c i)
-  unfolding cardFaults
-  card-early =
-      every-append Early (fault 8 (not fits)) shapeFault (fault-early 8 (not fits) (omega arith) (omega arith))
-      (fault-early 9 (not (shapeOk (cardWords i))) (omega arith) (omega arith))
-
-  -- with 0 every test is passed
-  card-tests : said (cardFaults T c i) .0 ≡ 0 → (n# (cardWords i) ≡ rowsOf T c) × (c# (cardWords i) ≡ c) × (shapeOk (cardWords i) ≡ true)
-  unfolding cardFaults
-  card-tests z =
-      let r = eqb (n# (cardWords i)) (rowsOf T c) in
-      let k = eqb (c# (cardWords i)) c in
-      let p = fault-none 8 (not fits) shapeFault (omega arith) z in
-      let t = holds fits (not-false fits (p .0)) in (
-        eqb→eq (n# (cardWords i)) (rowsOf T c) (and-l r k t),
-        eqb→eq (c# (cardWords i)) c (and-r r k t),
-        not-false (shapeOk (cardWords i)) (fault-not 9 (not (shapeOk (cardWords i))) (omega arith) (p .1)),
-      )
 
 -- ---- the image
 -- where nothing is wrong with it its header and blocks are right
@@ -104,9 +46,13 @@ module _ (T : List ℕ) (c : ℕ) (i : List ℕ) (room : ℕ) where
   abbrev says : Said
   says = saidRead T c i room
 
+  -- what is asked of numbers: the table's parts
+  abbrev asks : Asked
+  asks = tabled (length T) c
+
   -- the table's faults
   abbrev first : List Said
-  first = tableFaults (length T) c
+  first = numberFaults asks
 
   -- the card's, and the room's
   abbrev last : List Said
@@ -116,12 +62,14 @@ module _ (T : List ℕ) (c : ℕ) (i : List ℕ) (room : ℕ) where
   abbrev next : List Said
   next = imageFaults i ++ last
 
+  -- the card's faults are early
+  card-early : Every Early (cardFaults T c i)
+  card-early = fit-early true (cardWords i) (rowsOf T c) c
+
   -- one after the other they decide what is said
   in-turn : said (first ++ next) ≡ says
   unfolding saidRead
-  in-turn =
-      ap said
-      (sym (append-assoc (first ++ imageFaults i) (cardFaults T c i) (fault 5 (ltb room (readTotal i))) ∙ append-assoc first (imageFaults i) last))
+  in-turn = refl
 
   -- a refusal counts no word
   none-counted : {number : ℕ} → (number ≡ 0 → ⊥) → 0 ≡ cond (eqb number 0) (readTotal i) 0
@@ -143,12 +91,12 @@ module _ (T : List ℕ) (c : ℕ) (i : List ℕ) (room : ℕ) where
       → Tested T c i room number place words
   by-table e h en ep ew =
       let n : said first .0 ≡ 0 → ⊥ = λ z. h (e ∙ z) in
-      refuses (says-first first next n ∙ in-turn) n (en ∙ e) (ep ∙ sym (early-placeless first (table-early (length T) c) .0)) ew
+      refuses (says-first first next n ∙ in-turn) n (en ∙ e) (ep ∙ sym (early-placeless first (numbers-early asks) .0)) ew
 
   module _ {v : ℕ} (e : v ≡ said first .0) (z : v ≡ 0) where
     -- past the table the others decide
     after-table : said next ≡ says
-    after-table = says-next first next (table-numbered (length T) c) (sym e ∙ z) ∙ in-turn
+    after-table = says-next first next (numbers-numbered asks) (sym e ∙ z) ∙ in-turn
 
     module _ {found at count : ℕ} (S : Sound i (imageFaults i) found at count) where
       -- the image is wrong
@@ -169,14 +117,14 @@ module _ (T : List ℕ) (c : ℕ) (i : List ℕ) (room : ℕ) where
           by-card h en ep ew =
               let n : said (cardFaults T c i) .0 ≡ 0 → ⊥ = λ z. h (f ∙ z) in
               refuses (says-first (cardFaults T c i) (fault 5 (ltb room (readTotal i))) n ∙ after-image) n (en ∙ f)
-              (ep ∙ sym (early-placeless (cardFaults T c i) (card-early T c i) .0)) ew
+              (ep ∙ sym (early-placeless (cardFaults T c i) card-early .0)) ew
 
           module _ (g : k ≡ 0) where
             -- past the card the room decides
             by-room : {b : Bool} → ltb room (readTotal i) ≡ b → said (fault 5 b) ≡ says
             by-room q =
                 ap (λ b. said (fault 5 b)) (sym q)
-                ∙ says-next (cardFaults T c i) (fault 5 (ltb room (readTotal i))) (early-numbered (cardFaults T c i) (card-early T c i)) (sym f ∙ g)
+                ∙ says-next (cardFaults T c i) (fault 5 (ltb room (readTotal i))) (early-numbered (cardFaults T c i) card-early) (sym f ∙ g)
                 ∙ after-image
 
             -- it is too short
@@ -190,34 +138,38 @@ module _ (T : List ℕ) (c : ℕ) (i : List ℕ) (room : ℕ) where
                 let e = by-room (le-ltb room (readTotal i) (rw (← et) h)) in
                 record { said = ap (λ (t : Said). t .0) e; placed = ap (λ (t : Said). t .1) e; counted = et }
 
+  -- a right table says nothing
+  right : Sized (length T) c → 0 ≡ said first .0
+  right S = passed-none asks (record { table = S; fit = refl; room = refl; like = refl; some = refl })
+
   -- ---- none
   pub clear : says .0 ≡ 0 → Clear T c i room
   clear z =
-      let t = says-none first next (table-numbered (length T) c) (ap numberOf in-turn ∙ z) in
+      let t = says-none first next (numbers-numbered asks) (ap numberOf in-turn ∙ z) in
       let m = says-none (imageFaults i) last (faults-numbered i) (t .1) in
       let b = ltb room (readTotal i) in
-      let k = says-none (cardFaults T c i) (fault 5 b) (early-numbered (cardFaults T c i) (card-early T c i)) (m .1) in
-      let r = card-tests T c i (k .0) in
+      let k = says-none (cardFaults T c i) (fault 5 b) (early-numbered (cardFaults T c i) card-early) (m .1) in
+      let r = fit-tests true (cardWords i) (rowsOf T c) c (k .0) in
       record {
-        table = sized (length T) c (t .0);
+        table = passed asks (t .0) .table;
         image = m .0;
-        rows = r .0;
-        columns = r .1;
-        shape = r .2;
+        rows = r .1;
+        columns = r .2;
+        shape = r .3;
         space = ltb-false room (readTotal i) (fault-not 5 b (omega arith) (k .1));
       }
 
   -- and where nothing is wrong 0 is said, with no place
   pub clear-none : Clear T c i room → (0, 0, 0) ≡ says
   clear-none C =
-      let k = none-wrong T c i (C .rows) (C .columns) (C .shape) in
+      let k = by-shape true (cardWords i) (rowsOf T c) c refl (C .rows) (C .columns) (sym (C .shape)) in
       ap (λ b. said (fault 5 b)) (sym (le-ltb room (readTotal i) (C .space)))
-      ∙ says-next (cardFaults T c i) (fault 5 (ltb room (readTotal i))) (early-numbered (cardFaults T c i) (card-early T c i)) (sym k)
-      ∙ says-next (imageFaults i) last (faults-numbered i) (C .image) ∙ after-table (sized-none (length T) c (C .table)) refl
+      ∙ says-next (cardFaults T c i) (fault 5 (ltb room (readTotal i))) (early-numbered (cardFaults T c i) card-early) (sym k)
+      ∙ says-next (imageFaults i) last (faults-numbered i) (C .image) ∙ after-table (right (C .table)) refl
 
   -- over a right table a fault of the image is what is said
   pub said-image : Sized (length T) c → (said (imageFaults i) .0 ≡ 0 → ⊥) → says ≡ said (imageFaults i)
-  said-image S h = sym (says-first (imageFaults i) last h ∙ after-table (sized-none (length T) c S) refl)
+  said-image S h = sym (says-first (imageFaults i) last h ∙ after-table (right S) refl)
 
   -- the card's index is in shape and the table's
   pub clear-tabled : Clear T c i room → Tabled T c i
@@ -227,7 +179,7 @@ module _ (T : List ℕ) (c : ℕ) (i : List ℕ) (room : ℕ) where
   -- the card's faults and the room's are early
   last-early : Every Early last
   last-early =
-      every-append Early (cardFaults T c i) (fault 5 (ltb room (readTotal i))) (card-early T c i)
+      every-append Early (cardFaults T c i) (fault 5 (ltb room (readTotal i))) card-early
       (fault-early 5 (ltb room (readTotal i)) (omega arith) (omega arith))
 
   -- no number but 15 has one
@@ -249,4 +201,4 @@ module _ (T : List ℕ) (c : ℕ) (i : List ℕ) (room : ℕ) where
           by-next (after-table refl (eqb-true (said first .0) 0 q)) (eqb (said (imageFaults i) .0) 0) refl
       by-first false q =
           ap (λ (t : Said). t .1) (sym (says-first first next (eqb-false (said first .0) 0 q) ∙ in-turn))
-          ∙ early-placeless first (table-early (length T) c) .0
+          ∙ early-placeless first (numbers-early asks) .0

@@ -1,21 +1,21 @@
 -- What is written is read back over its table, word for word. Assumes nothing.
 use Prim.Native.Nat.{_*_, _+_, _<_, _^_, _≤_, ℕ}
+use Rattle.card_words.specs.Cards.{cardWords}
 use Rattle.card.proofs.Filling.{total-wide}
 use Rattle.card.proofs.Refusals.{Clear}
 use Rattle.card.proofs.Theorems.{read-count, read-own, read-room, read-taken}
 use Rattle.card.specs.Calls.{Reads, readTotal}
-use Rattle.card.specs.Cards.{cardWords}
 use Rattle.image.proofs.RoundTrip.{image-sound, image-words, written-image, written-ok}
 use Rattle.image.specs.Below.{Below}
 use Rattle.image.specs.Calls.{Writes}
-use Rattle.limits.proofs.Sized.{Sized}
+use Rattle.image.specs.Image.{image}
+use Rattle.limits.proofs.Numbers.{Sized}
 use Rattle.limits.specs.Said.{said}
 use Rattle.measure.specs.Table.{rowsOf}
 use Rattle.tree.proofs.Alike.{Alike, shape-alike}
 use Rattle.words.proofs.Headers.{words-whole}
 use Rattle.words.proofs.InShape.{in-shape, whole}
 use Rattle.words.proofs.Strides.{stride}
-use Rattle.words.specs.Image.{image}
 use Rattle.words.specs.InShape.{Whole}
 use Rattle.words.specs.Shape.{shapeOk}
 use Rattle.words.specs.Words.{N#, at, c#, edition#, inner#, kept, n#, nodeAt, pairAt, width, wordsOf, wordsOk}

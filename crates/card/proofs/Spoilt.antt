@@ -1,5 +1,6 @@
 -- An index that was written, and spoilt before it is read: any one changed word, and any block at another's place, is found. Assumes nothing.
 use Prim.Native.Nat.{_%_, _*_, _+_, _/_, _<_, _^_, _≤_, ℕ}
+use Rattle.blocks.specs.Blocks.{blockGood, wordAt}
 use Rattle.card.proofs.Damage.{one-block-read, one-word-read, wrong-named}
 use Rattle.card.specs.Calls.{Reads}
 use Rattle.image.proofs.Found.{one-word}
@@ -9,9 +10,8 @@ use Rattle.image.proofs.WrittenBlocks.{written-bytes, written-good}
 use Rattle.image.specs.Below.{Below}
 use Rattle.image.specs.Calls.{Writes}
 use Rattle.image.specs.Changed.{Changed, Moved, blockWord}
-use Rattle.limits.proofs.Sized.{Sized}
+use Rattle.limits.proofs.Numbers.{Sized}
 use Rattle.limits.specs.Said.{Said}
-use Rattle.words.specs.Image.{blockGood, wordAt}
 use lib.ListN.{length, take}
 use mathlib.Core.Bool.{true}
 use mathlib.Core.List.{List}

@@ -1,13 +1,13 @@
 -- The theorems on reading: no second outcome fits, when it is taken, and what is read of a card of either edition. Assumes nothing.
 use Prim.Native.Nat.{_*_, _+_, _<_, _≤_, ℕ}
-use Rattle.card.proofs.Cards.{card-long}
+use Rattle.card_widen.proofs.Writing.{widen-long}
+use Rattle.card_words.proofs.Cards.{card-long}
+use Rattle.card_words.specs.Cards.{Held, cardWords}
 use Rattle.card.proofs.Filling.{total-same, total-wide}
 use Rattle.card.proofs.Refusals.{Clear, clear, clear-none, clear-tabled, placeless}
-use Rattle.card.proofs.Writing.{widen-long}
 use Rattle.card.specs.Calls.{Reads, readTotal, readWords}
-use Rattle.card.specs.Cards.{Held, cardWords}
 use Rattle.laws.specs.Every.{Every}
-use Rattle.limits.proofs.Sized.{sized-columns}
+use Rattle.limits.proofs.Numbers.{sized-columns}
 use Rattle.limits.specs.Limits.{maxRows, shareOk}
 use Rattle.limits.specs.Said.{Said}
 use Rattle.measure.proofs.Metric.{query-point}

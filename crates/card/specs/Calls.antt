@@ -1,15 +1,15 @@
 -- What reading a card over its table promises: 02, R-11. Assumes nothing.
 use Prim.Native.Nat.{_*_, _+_, ℕ}
-use Rattle.card.specs.Cards.{cardWords}
-use Rattle.limits.specs.Said.{Said, fault, said, tableFaults}
+use Rattle.card_words.specs.Cards.{cardWords}
+use Rattle.image.specs.Image.{imageFaults}
+use Rattle.limits.specs.Said.{Said, fault, numberFaults, said, tabled}
 use Rattle.measure.specs.Table.{between, rowsOf}
 use Rattle.tree.specs.Widen.{widen}
-use Rattle.words.specs.Image.{imageFaults}
-use Rattle.words.specs.Shape.{shapeOk}
-use Rattle.words.specs.Words.{N#, c#, edition#, headerWords, n#, width}
+use Rattle.words.specs.Index.{fitFaults}
+use Rattle.words.specs.Words.{N#, edition#, headerWords, n#, width}
 use lib.Dec.{eqb, ltb}
 use lib.ListN.{drop, length}
-use mathlib.Core.Bool.{_&&_, cond, not}
+use mathlib.Core.Bool.{cond, true}
 use mathlib.Core.List.{List, _++_}
 use mathlib.Core.Path.{_≡_}
 
@@ -25,15 +25,13 @@ readTotal i =
     let v = cardWords i in
     headerWords + width 2 * N# v + 2 * n# v
 
--- 8 and 9: the card and the table
-unfoldable pub cardFaults : List ℕ → ℕ → List ℕ → List Said
-cardFaults T c i =
-    let v = cardWords i in
-    fault 8 (not (eqb (n# v) (rowsOf T c) && eqb (c# v) c)) ++ fault 9 (not (shapeOk v))
+-- 8 and 9: the card and the table. That its words are there under a possible header is 16
+abbrev pub cardFaults : List ℕ → ℕ → List ℕ → List Said
+cardFaults T c i = fitFaults true (cardWords i) (rowsOf T c) c
 
 -- 1, 3, 4, then 14 to 17, then 8, 9, and 5 last. `room` is the number of words lent
 unfoldable pub saidRead : List ℕ → ℕ → List ℕ → ℕ → Said
-saidRead T c i room = said (tableFaults (length T) c ++ imageFaults i ++ cardFaults T c i ++ fault 5 (ltb room (readTotal i)))
+saidRead T c i room = said (numberFaults (tabled (length T) c) ++ (imageFaults i ++ (cardFaults T c i ++ fault 5 (ltb room (readTotal i)))))
 
 -- what refuses a reading into `room` words, with its place, or with 0 how many words are read
 pub record Tested (T : List ℕ) (c : ℕ) (i : List ℕ) (room number place words : ℕ) : Type 0 where

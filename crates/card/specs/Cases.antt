@@ -1,15 +1,18 @@
 -- The five-row index of 01 and the empty one, on a card of either edition, read over a table: one column, m = 2 and l = 2. Assumes nothing.
 use Prim.Native.Nat.{ℕ}
-use Rattle.card.specs.Calls.{cardFaults, readTotal, readWords, saidRead}
-use Rattle.card.specs.Cards.{cardWords}
+use Rattle.blocks.specs.Blocks.{block, blockGood, blocks, blocksFor, bytes, checkFrom, checkWord}
+use Rattle.blocks.specs.Blocks.{imageWord, imageWords, rotate, step, window, wordAt, wordsAt}
+use Rattle.card_words.specs.Cards.{cardWords}
+use Rattle.card.specs.Calls.{readTotal, readWords, saidRead}
+use Rattle.image.specs.Image.{image, imageFaults, imageTotal}
 use Rattle.laws.specs.Lists.{same}
 use Rattle.laws.specs.Upto.{sumTo}
-use Rattle.limits.specs.Said.{tableFaults}
+use Rattle.limits.specs.Said.{numberFaults}
 use Rattle.measure.specs.Distance.{l1}
 use Rattle.measure.specs.Table.{between}
 use Rattle.tree.specs.Cases.{five, fiveWords, oldWords}
 use Rattle.tree.specs.Widen.{widen}
-use Rattle.words.specs.Image.{block, blockGood, blocks, blocksFor, bytes, checkFrom, checkWord, image, imageFaults, imageTotal, imageWord, imageWords, rotate, step, window, wordAt, wordsAt}
+use Rattle.words.specs.Index.{fitFaults}
 use Rattle.words.specs.Shape.{born, level, nodeOk, shapeOk, tile}
 use Rattle.words.specs.Words.{cardOk}
 use lib.Dec.{eqb}
@@ -25,7 +28,8 @@ pub data Case : Type 0 where
 
 -- a case comes out as it says
 unfoldable pub right : Case → Bool
-unfolding sumTo tableFaults l1 between cardOk born level tile nodeOk shapeOk widen block blockGood blocks blocksFor bytes checkFrom checkWord image imageFaults imageTotal imageWord imageWords rotate step window wordAt wordsAt cardFaults cardWords readTotal readWords saidRead
+unfolding sumTo numberFaults l1 between cardOk born level tile nodeOk shapeOk widen block blockGood blocks blocksFor bytes checkFrom
+    checkWord image imageFaults imageTotal imageWord imageWords rotate step window wordAt wordsAt fitFaults cardWords readTotal readWords saidRead
 right (gives w T room v) = let i = image w in eqb (saidRead T 1 i room .0) 0 && same (readWords T 1 i) v
 right (says w T room k) = let i = image w in eqb (saidRead T 1 i room .0) k
 

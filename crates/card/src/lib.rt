@@ -1,12 +1,9 @@
-// An index on a card, read where it stands in the image's bytes: its words by place, the shape test, how near a node's members are, and reading.
+// Reading a card over its table, as a call: the tests, and the index in the room.
 ghost use Rattle.card.specs.Calls.{Reads};
 use crate::reading::put_index;
 use crate::reading::refusal_of;
 
-pub mod members;
-pub mod places;
 mod reading;
-pub mod shape;
 
 // What reading says: a number, the block that it names, and how many words it read.
 pub struct Read {
@@ -17,7 +14,8 @@ pub struct Read {
 
 // Reads a card over its table, of c columns, to the front of the room. The index need not be accepted: one in shape is enough.
 pub fn read_image(image: &[u8], table: &[u16], c: usize, room: &mut [u32]) -> Read
-    ensures { λ r. ⌜ Reads (now (table .entry)) c (now (image .entry)) (now (room .entry)) (now (room .exit)) (r .number) (r .place) (r .words) ⌝ }
+    ensures { λ r. ⌜ Reads (now (table .entry)) c (now (image .entry)) (now (room .entry)) (now (room .exit))
+        (r .number) (r .place) (r .words) ⌝ }
 {
     let told = refusal_of(image, table, c, room.len());
     if told.number != 0 {

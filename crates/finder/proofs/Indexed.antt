@@ -3,10 +3,12 @@ use Prim.Native.Nat.{_≤_, min, ℕ}
 use Rattle.build.specs.Calls.{Builds}
 use Rattle.finder.specs.Answers.{Closest}
 use Rattle.measure.specs.Table.{between, from, rowsOf}
-use Rattle.nearest.proofs.Contract.{same-answers}
+use Rattle.nearest.proofs.Contract.{fits, same-answers}
 use Rattle.nearest.proofs.Promises.{nearest-exact}
-use Rattle.nearest.proofs.Refusals.{clear, fits}
-use Rattle.nearest.specs.Calls.{Answered, Lent, Settled}
+use Rattle.nearest.proofs.Refusals.{not-refused}
+use Rattle.nearest.specs.Calls.{Answered}
+use Rattle.nearest_search.specs.Asked.{asks, lends}
+use Rattle.nearest_search.specs.Found.{Searchable, Settled}
 use Rattle.tree.proofs.Answers.{answers-length}
 use Rattle.tree.specs.Build.{build}
 use Rattle.tree.specs.Check.{Accepted}
@@ -33,20 +35,20 @@ words-there {t} {c} {e} {m} {l} {room} {words = words} b z =
 module _ {t : List ℕ} {c : ℕ} (q : List ℕ) {w : List ℕ} (a : Accepted (between t c) w) where
   -- a nearest search that is not refused
   module _ {rs rs′ ds ds′ how how′ work work′ : List ℕ} {wanted number given met : ℕ}
-      (x : Answered t c w q wanted (min (length rs) (length ds)) rs rs′ ds ds′ how how′ work work′ number given met) (z : number ≡ 0) where
+      (x : Answered (asks t c w q wanted) (min (length rs) (length ds)) (lends rs ds how work) (lends rs′ ds′ how′ work′) number given met) (z : number ≡ 0) where
     -- settles its answers
-    settled : Settled (from t c q) w wanted rs rs′ ds ds′ how how′ given
+    settled : Settled (from t c q) w wanted (lends rs ds how work) (lends rs′ ds′ how′ work′) given
     settled = nearest-exact x z a
 
     -- was lent room enough for them
-    lent : Lent t c w q (min wanted (n# w)) rs ds how work
+    lent : Searchable (asks t c w q (min wanted (n# w))) (lends rs ds how work)
     lent =
-        fits t c w q wanted (min (length rs) (length ds)) rs ds how work (omega arith, omega arith) (min wanted (n# w)) refl
+        fits (asks t c w q wanted) (min (length rs) (length ds)) (lends rs ds how work) (omega arith, omega arith) (min wanted (n# w)) refl
         (sym (x .said) ∙ z)
 
     -- and has as many rows in its index as in its table
     rows-are : n# w ≡ rowsOf t c
-    rows-are = clear t c w q wanted (min (length rs) (length ds)) (length how) (length work) (sym (x .said) ∙ z) .index .rows
+    rows-are = not-refused t c w q wanted (min (length rs) (length ds)) (length how) (length work) (sym (x .said) ∙ z) .rows
 
     -- its rows, or its distances, are min(wanted, n)
     part-length : (f : ℕ × ℕ → ℕ) → length (map f (answers (from t c q) (n# w) wanted)) ≡ min wanted (n# w)

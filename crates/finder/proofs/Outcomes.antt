@@ -6,9 +6,10 @@ use Rattle.build.specs.Calls.{Builds}
 use Rattle.finder.proofs.Why.{asked-well}
 use Rattle.finder.specs.Calls.{Finds, Near, centres, leafRows}
 use Rattle.finder.specs.Near.{Asked, Fit, firstOf, markOf, saidNear}
-use Rattle.limits.proofs.Sized.{Sized}
+use Rattle.limits.proofs.Numbers.{Sized}
 use Rattle.measure.specs.Table.{rowsOf}
 use Rattle.nearest.specs.Calls.{Answered}
+use Rattle.nearest_search.specs.Asked.{asks, lends}
 use Rattle.words.proofs.InShape.{in-shape}
 use Rattle.words.specs.Words.{n#}
 use lib.ListN.{drop, length, length-append, length-drop, length-replicate, replicate, take}
@@ -46,11 +47,14 @@ near-fit {t} {c} {qs} {room} {work} {how} marks {room′} {work′} {marks₁} {
     let a = asked-well (rowsOf t c) c (length qs) (length how) (length marks) (sym s ∙ y) in
     let w : n# (take words room′) ≡ rowsOf t c = h .1 in
     record {
-      shape = in-shape (take words room′) (b .accepted z .words) (b .accepted z .shape);
-      edition = h .4;
-      table = omega (arith, ap (λ (x : ℕ). c * x) w, h .0 .inside);
+      tested =
+          record {
+            shape = in-shape (take words room′) (b .accepted z .words) (b .accepted z .shape);
+            edition = h .4;
+            table = omega (arith, ap (λ (x : ℕ). c * x) w, h .0 .inside);
+            columns = h .0 .few;
+          };
       some = h .0 .some;
-      columns = h .0 .few;
       queries = a .3;
       bytes = omega (arith, a .0);
       room = omega (arith, a .1, ap length e, wiped-long (rowsOf t c) marks (a .1));
@@ -136,7 +140,7 @@ module _ {t : List ℕ} {c : ℕ} {q : List ℕ} {w : ℕ} {room work how rs ds 
 
   -- what it wrote was searched
   pub finds-answered : {work′ how′ rs′ ds′ : List ℕ} → made ≡ 0
-      → Answered t c (take words room′) q w (min (length rs) (length ds)) rs rs′ ds ds′ how how′ cleared work′ number given met
+      → Answered (asks t c (take words room′) q w) (min (length rs) (length ds)) (lends rs ds how cleared) (lends rs′ ds′ how′ work′) number given met
       → Finds t c q w room room′ work work′ how how′ rs rs′ ds ds′ number given met
   finds-answered z s =
       record {

@@ -10,8 +10,8 @@ use Rattle.limits.specs.Limits.{maxRows}
 use Rattle.measure.proofs.Rows.{row-ends}
 use Rattle.measure.specs.Table.{from, row, rowsOf}
 use Rattle.radius.proofs.How.{written-is, written-length}
-use Rattle.radius.specs.Lent.{Lent}
-use Rattle.radius.specs.Written.{write}
+use Rattle.marking.specs.Lent.{Lent}
+use Rattle.marking.specs.Written.{write}
 use Rattle.tree.specs.Grove.{treeOf}
 use Rattle.tree.specs.Nearest.{isMeasured, measured}
 use Rattle.tree.specs.Radius.{marks as marksOf}
@@ -173,7 +173,7 @@ query-there long c k s h = omega (arith, row-ends c (long / c) k h, mul-div-le l
 pub fit-lent : {w t : List ℕ} {c : ℕ} {qs how marks : List ℕ} → Fit w t c qs how marks → {q how₁ : List ℕ} → length q ≡ c → length how₁ ≡ length how
     → Lent w t c q how₁
 fit-lent F e l =
-    record { shape = F .shape; edition = F .edition; table = F .table; columns = F .columns; query = e; how = omega (arith, F .bytes) }
+    record { tested = F .tested; query = e; how = omega (arith, F .bytes) }
 
 -- k of the queries are searched for
 pub record Going (w t : List ℕ) (c : ℕ) (qs : List ℕ) (r : ℕ) (how₀ marks₀ : List ℕ) (n asked : ℕ) (how marks : List ℕ) (in# met k : ℕ) : Type 0 where
@@ -205,14 +205,14 @@ module _ {w t : List ℕ} {c : ℕ} {qs : List ℕ} {r : ℕ} {how₀ marks₀ :
     -- n is no more than an index has rows
     pub going-few : (n ≤ maxRows) × (asked ≤ maxRows)
     going-few =
-        (subst (λ (x : ℕ). x ≤ maxRows) (sym (G .rows)) (G .fit .shape .whole .rows), subst (λ (x : ℕ). x ≤ maxRows) (sym (G .all)) (G .fit .queries))
+        (subst (λ (x : ℕ). x ≤ maxRows) (sym (G .rows)) (G .fit .tested .shape .whole .rows), subst (λ (x : ℕ). x ≤ maxRows) (sym (G .all)) (G .fit .queries))
 
     -- one more
     pub going-next : {q how₂ marks₂ : List ℕ} {new more : ℕ} → k < asked → q ≡ row qs c k
         → how₂ ≡ write (marksOf (from t c q) r (treeOf w)) (wiped (n# w) how) → more ≡ measured (take n how₂) → marks₂ ≡ united how₂ marks n
         → new ≡ sumFresh how₂ marks n → new ≤ n → Going w t c qs r how₀ marks₀ n asked how₂ marks₂ (in# + new) (met + more) (k + 1)
     going-next {q} {how₂} {marks₂} {new} {more} l eq e m u f s =
-        let one = asked-next t c w qs r how₀ marks₀ (G .done) (G .fit .shape) eq e (m ∙ ap (λ (x : ℕ). measured (take x how₂)) (G .rows))
+        let one = asked-next t c w qs r how₀ marks₀ (G .done) (G .fit .tested .shape) eq e (m ∙ ap (λ (x : ℕ). measured (take x how₂)) (G .rows))
         (u ∙ ap (united how₂ marks) (G .rows)) (f ∙ ap (sumFresh how₂ marks) (G .rows)) in
         let long = asked-long t c w qs r how₀ marks₀ one (G .fit .bytes) (G .fit .room) in
         let top = going-few in

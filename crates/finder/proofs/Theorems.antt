@@ -11,8 +11,9 @@ use Rattle.laws.specs.Upto.{sumTo}
 use Rattle.measure.proofs.Metric.{query-point}
 use Rattle.measure.specs.Table.{between, from, row, rowsOf}
 use Rattle.nearest.proofs.Promises.{nearest-only}
-use Rattle.nearest.proofs.Refusals.{clear}
+use Rattle.nearest.proofs.Refusals.{not-refused}
 use Rattle.nearest.specs.Calls.{Answered}
+use Rattle.nearest_search.specs.Asked.{NearestLent, asks, lends}
 use Rattle.radius.proofs.How.{bytes-are}
 use Rattle.tree.proofs.Accepted.{once-of}
 use Rattle.tree.proofs.Theorems.{radius-exact}
@@ -206,21 +207,30 @@ module _ {t : List ℕ} {c : ℕ} {q : List ℕ} {w : ℕ} {room work how rs ds 
           )
       go (yes z) e v p d =
           let s₀ = subst
-          (λ (u : List ℕ). Answered t c u q w (min (length rs) (length ds)) rs rs₂ ds ds₂ how how₂ (b .cleared) work₂ number₂ given₂ met₂)
+          (λ (u : List ℕ). Answered (asks t c u q w) (min (length rs) (length ds)) (lends rs ds how (b .cleared)) (lends rs₂ ds₂ how₂ work₂) number₂ given₂ met₂)
           (sym v) (b .answered (sym e ∙ z)) in
           let s = subst
           (λ (u : List ℕ).
-          Answered t c (take (a .words) room₁) q w (min (length rs) (length ds)) rs rs₂ ds ds₂ how how₂ u work₂ number₂ given₂ met₂)
+          Answered (asks t c (take (a .words) room₁) q w) (min (length rs) (length ds)) (lends rs ds how u) (lends rs₂ ds₂ how₂ work₂) number₂ given₂ met₂)
           (sym d) s₀ in
           let n = nearest-only (a .answered z) s t
           (λ k.
           record {
             rows =
                 sym
-                (clear t c (take (a .words) room₁) q w (min (length rs) (length ds)) (length how) (length (a .cleared))
+                (not-refused t c (take (a .words) room₁) q w (min (length rs) (length ds)) (length how) (length (a .cleared))
                 (sym (a .answered z .said) ∙ k)
-                .index .rows);
+                .rows);
             accepted = a .built .accepted z;
             agree = λ j h m. refl;
           }) in
-          (n .0, n .1 .0, n .1 .1, p, n .1 .5, n .1 .4, n .1 .2, n .1 .3)
+          let l = n .1 .2 in (
+            n .0,
+            n .1 .0,
+            n .1 .1,
+            p,
+            ap (λ (l : NearestLent). l .work) l,
+            ap (λ (l : NearestLent). l .how) l,
+            ap (λ (l : NearestLent). l .rows) l,
+            ap (λ (l : NearestLent). l .distances) l,
+          )

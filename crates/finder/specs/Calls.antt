@@ -4,6 +4,7 @@ use Rattle.build.specs.Calls.{Builds}
 use Rattle.finder.specs.Near.{Asked, saidNear}
 use Rattle.measure.specs.Table.{rowsOf}
 use Rattle.nearest.specs.Calls.{Answered}
+use Rattle.nearest_search.specs.Asked.{asks, lends}
 use lib.ListN.{length, take}
 use mathlib.Core.List.{List}
 use mathlib.Core.Path.{_≡_}
@@ -46,4 +47,4 @@ pub record Finds (t : List ℕ) (c : ℕ) (q : List ℕ) (w : ℕ) (room room′
   pub refused : (made ≡ 0 → ⊥) → (number ≡ made) × (given ≡ 0) × (met ≡ 0) × (work′ ≡ cleared) × (how′ ≡ how) × (rs′ ≡ rs) × (ds′ ≡ ds)
   -- else the built words are searched for the w nearest to the query
   pub answered : made ≡ 0
-      → Answered t c (take words room′) q w (min (length rs) (length ds)) rs rs′ ds ds′ how how′ cleared work′ number given met
+      → Answered (asks t c (take words room′) q w) (min (length rs) (length ds)) (lends rs ds how cleared) (lends rs′ ds′ how′ work′) number given met

@@ -1,14 +1,14 @@
 -- Several searches over one index, one after the other, and what they found put together. Assumes nothing.
-use Prim.Native.Nat.{_%_, _*_, _/_, _≤_, suc, zero, ℕ}
+use Prim.Native.Nat.{_%_, _/_, _≤_, suc, zero, ℕ}
 use Rattle.laws.specs.Upto.{sumTo}
-use Rattle.limits.specs.Limits.{maxColumns, maxRows, within}
+use Rattle.limits.specs.Limits.{maxRows, within}
+use Rattle.marking.specs.Written.{write}
 use Rattle.measure.specs.Table.{from, row, rowsOf}
-use Rattle.radius.specs.Written.{write}
 use Rattle.tree.specs.Grove.{treeOf}
 use Rattle.tree.specs.Nearest.{measured}
 use Rattle.tree.specs.Radius.{marks}
-use Rattle.words.specs.InShape.{InShape}
-use Rattle.words.specs.Words.{edition#, n#}
+use Rattle.tree.specs.Tested.{Tested}
+use Rattle.words.specs.Words.{n#}
 use lib.Dec.{eqb, leb, ltb}
 use lib.ListN.{drop, getD, length, replicate}
 use mathlib.Core.Bool.{Bool, _&&_, _||_, cond, false}
@@ -85,11 +85,8 @@ sumFresh how marks n = sumTo (λ i. fresh (getD marks i 0) (getD how i 0)) n
 
 -- the index w is in shape and edition 2, and table, queries, how-bytes and marks fit it; the marks are zero
 pub record Fit (w t : List ℕ) (c : ℕ) (qs how marks : List ℕ) : Type 0 where
-  pub shape : InShape w
-  pub edition : edition# w ≡ 2
-  pub table : c * n# w ≤ length t
+  pub tested : Tested w t c
   pub some : 1 ≤ c
-  pub columns : c ≤ maxColumns
   pub queries : rowsOf qs c ≤ maxRows
   pub bytes : n# w ≤ length how
   pub room : n# w ≤ length marks

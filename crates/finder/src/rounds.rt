@@ -5,11 +5,11 @@ ghost use Rattle.measure.specs.Table.{rowsOf};
 ghost use Rattle.tree.specs.Nearest.{measured};
 ghost use lib.ListN.{length, take};
 ghost use mathlib.Core.Path.{_≡_};
+use descent::search;
 use limits::Params;
 use measure::row_of;
 use radius::Found;
-use radius::search;
-use tree::how::tally;
+use tallies::tally;
 use words::places::rows;
 
 // A how-byte of 2 or 3 says that the row is in.

@@ -1,8 +1,8 @@
 -- Writing: the words of a block, their bytes and their check, one word or block more at a time. Assumes nothing.
 use Prim.Native.Nat.{_*_, _+_, suc, zero, ℕ}
-use Rattle.image.proofs.Checks.{check-append}
+use Rattle.blocks.proofs.Checks.{check-append}
+use Rattle.blocks.specs.Blocks.{block, blocks, bytes, checkFrom, checkWord, step, window}
 use Rattle.laws.specs.Lists.{each}
-use Rattle.words.specs.Image.{block, blocks, bytes, checkFrom, checkWord, step, window}
 use Rattle.words.specs.Words.{at}
 use lib.ListN.{length, length-append}
 use mathlib.Core.List.{List, [], _++_, _∷_, append-assoc, append-nil}

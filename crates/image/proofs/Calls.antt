@@ -1,15 +1,16 @@
 -- The ends of writing: what each return of the code meets of its contract. Assumes nothing.
 use Prim.Native.Nat.{_*_, _<_, _≤_, ℕ}
+use Rattle.blocks.specs.Blocks.{blocksFor}
 use Rattle.image.specs.Calls.{Writes}
+use Rattle.image.specs.Image.{image, saidWrite}
 use Rattle.limits.specs.Said.{fault, said}
-use Rattle.words.specs.Image.{blocksFor, image, saidWrite}
 use Rattle.words.specs.Words.{wordsOf, wordsOk}
 use borrow.Author.Tests.{le-ltb, lt-ltb}
 use lib.Dec.{ltb}
 use lib.ListN.{drop, length}
 use mathlib.Core.Bool.{Bool, false, not, true}
 use mathlib.Core.List.{List, _++_}
-use mathlib.Core.Path.{_≡_, ap, ap₂, refl, sym}
+use mathlib.Core.Path.{_≡_, ap₂, refl, sym}
 
 module _ (w before : List ℕ) where
   -- how many bytes the image has

@@ -1,15 +1,16 @@
 -- A changed word, and a block at another block's place, are found. Assumes nothing.
 use Prim.Native.Nat.{_%_, _*_, _+_, _/_, _<_, _^_, suc, zero, ℕ}
-use Rattle.image.proofs.Checks.{check-append, check-place, from-lt, step-state, step-word}
+use Rattle.blocks.proofs.Checks.{check-append, check-place, from-lt, step-state, step-word}
+use Rattle.blocks.proofs.Wrong.{lowest-is, lowest-le, wrongAt}
+use Rattle.blocks.specs.Blocks.{blockGood, checkFrom, checkWord, step, wordAt, wordsAt}
+use Rattle.blocks.specs.Lowest.{lowest, wrongBlocks}
 use Rattle.image.proofs.Refusals.{fifteen}
-use Rattle.image.proofs.Wrong.{lowest-is, lowest-le, wrongAt}
 use Rattle.image.specs.Below.{Below}
 use Rattle.image.specs.Changed.{Changed, Moved, blockWord}
-use Rattle.image.specs.Lowest.{lowest, wrongBlocks}
+use Rattle.image.specs.Image.{imageFaults}
 use Rattle.laws.proofs.Tests.{is-true, refute}
 use Rattle.laws.specs.First.{First}
 use Rattle.limits.specs.Said.{said}
-use Rattle.words.specs.Image.{blockGood, checkFrom, checkWord, imageFaults, step, wordAt, wordsAt}
 use borrow.Author.Tests.{eqb-true, leb-false, leb-true}
 use lib.Dec.{leb}
 use lib.ListN.{length}

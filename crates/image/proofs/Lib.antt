@@ -1,8 +1,4 @@
-pub mod Checks
 pub mod Blocks
-pub mod Places
-pub mod InBlocks
-pub mod Wrong
 pub mod Refusals
 pub mod Calls
 pub mod Found

@@ -1,11 +1,12 @@
 -- One changed byte of an image whose blocks are all good: the fault that is found names its block. Assumes nothing.
 use Prim.Native.Nat.{_%_, _*_, _+_, _/_, _<_, suc, zero, ℕ}
+use Rattle.blocks.proofs.Places.{word-cong}
+use Rattle.blocks.specs.Blocks.{blockGood, checkWord, wordAt}
 use Rattle.image.proofs.Found.{one-word, same-words, wrong-first}
-use Rattle.image.proofs.Places.{word-cong}
 use Rattle.image.specs.Below.{Below}
 use Rattle.image.specs.Changed.{Changed, blockWord}
+use Rattle.image.specs.Image.{imageFaults}
 use Rattle.limits.specs.Said.{said}
-use Rattle.words.specs.Image.{blockGood, checkWord, imageFaults, wordAt}
 use Rattle.words.specs.Words.{at}
 use borrow.Author.Tests.{eqb-false, eqb-true}
 use lib.Dec.{eqb}

@@ -1,7 +1,8 @@
 -- No second outcome meets the contract of writing. Assumes nothing.
 use Prim.Native.Nat.{_*_, ℕ}
+use Rattle.blocks.specs.Blocks.{blocksFor}
 use Rattle.image.specs.Calls.{Writes}
-use Rattle.words.specs.Image.{blocksFor, image}
+use Rattle.image.specs.Image.{image}
 use Rattle.words.specs.Words.{wordsOf}
 use lib.Dec.{eqb}
 use lib.ListN.{drop}

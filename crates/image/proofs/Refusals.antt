@@ -1,13 +1,14 @@
 -- What is wrong with an image: one law for each return of the code. Assumes nothing.
 use Prim.Native.Nat.{_%_, _/_, _<_, _≤_, ℕ}
-use Rattle.image.proofs.Wrong.{wrong-some}
-use Rattle.image.specs.Lowest.{lowest, wrongBlocks}
+use Rattle.blocks.proofs.Wrong.{wrong-some}
+use Rattle.blocks.specs.Blocks.{blocksFor, imageWords}
+use Rattle.blocks.specs.Lowest.{lowest, wrongBlocks}
+use Rattle.image.specs.Image.{imageFaults, imageTotal}
 use Rattle.image.specs.Sound.{Sound, heldFaults, restZero}
 use Rattle.laws.proofs.Every.{every-all, every-append, every-map}
 use Rattle.laws.proofs.Tests.{or-l, or-none, or-r}
 use Rattle.limits.proofs.Faults.{Numbered, fault-first, fault-next, fault-numbered, numberOf}
 use Rattle.limits.specs.Said.{Said, fault, said}
-use Rattle.words.specs.Image.{blocksFor, imageFaults, imageTotal, imageWords}
 use Rattle.words.specs.Words.{cardOk}
 use borrow.Author.Tests.{eq-eqb, ne-eqb}
 use lib.Dec.{eqb}

@@ -1,18 +1,19 @@
 -- What is written has no fault, and its words are the index's. Assumes nothing.
 use Prim.Native.Nat.{_*_, _-_, _/_, _<_, _^_, _≤_, ℕ}
+use Rattle.blocks.proofs.Places.{blocks-hold}
+use Rattle.blocks.specs.Blocks.{blocks, blocksFor, imageWord, imageWords}
+use Rattle.blocks.specs.Lowest.{wrongBlocks}
 use Rattle.image.proofs.Blocks.{blocks-length}
-use Rattle.image.proofs.Places.{blocks-hold}
 use Rattle.image.proofs.Refusals.{by-held, none-held}
 use Rattle.image.proofs.Standing.{none-wrong, words-back, zero-back}
 use Rattle.image.specs.Below.{Below}
 use Rattle.image.specs.Calls.{Writes}
-use Rattle.image.specs.Lowest.{wrongBlocks}
+use Rattle.image.specs.Image.{image, imageFaults, imageTotal, saidWrite}
 use Rattle.image.specs.Sound.{restZero}
 use Rattle.laws.specs.Lists.{all, range}
 use Rattle.limits.specs.Said.{fault, said}
 use Rattle.words.proofs.Headers.{words-whole}
 use Rattle.words.proofs.InShape.{header-possible, whole}
-use Rattle.words.specs.Image.{blocks, blocksFor, image, imageFaults, imageTotal, imageWord, imageWords, saidWrite}
 use Rattle.words.specs.Words.{at, cardOk, wordsOf, wordsOk}
 use borrow.Author.Tests.{leb-false, leb-true}
 use lib.Dec.{eqb, leb, lit<, ltb}

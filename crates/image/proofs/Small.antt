@@ -1,5 +1,6 @@
 -- How much writing gives back at most, and what its 0 says: 01, The image. Assumes nothing.
 use Prim.Native.Nat.{_*_, _+_, _≤_, ℕ}
+use Rattle.blocks.specs.Blocks.{blocksFor}
 use Rattle.image.proofs.Calls.{writes-sixteen}
 use Rattle.image.proofs.Only.{write-only}
 use Rattle.image.proofs.RoundTrip.{written-ok}
@@ -9,7 +10,6 @@ use Rattle.limits.specs.Said.{said}
 use Rattle.words.proofs.Headers.{words-whole}
 use Rattle.words.proofs.InShape.{whole}
 use Rattle.words.proofs.Strides.{words-few}
-use Rattle.words.specs.Image.{blocksFor}
 use Rattle.words.specs.Words.{wordsOf, wordsOk}
 use lib.Dec.{eqb}
 use lib.ListN.{length}

@@ -1,16 +1,16 @@
 -- What stands in the blocks that are written: each of their words is read back, and their check words are right. Assumes nothing.
 use Prim.Native.Nat.{_%_, _*_, _+_, _-_, _/_, _<_, _^_, _≤_, suc, zero, ℕ}
+use Rattle.blocks.proofs.Checks.{check-lt}
+use Rattle.blocks.proofs.Places.{word-cong}
+use Rattle.blocks.specs.Blocks.{block, blockGood, blocks, bytes, checkWord, imageWord, imageWords, window, wordAt, wordsAt}
+use Rattle.blocks.specs.Lowest.{wrongBlocks}
 use Rattle.image.proofs.Blocks.{blocks-length, bytes-append, window-length}
-use Rattle.image.proofs.Checks.{check-lt}
-use Rattle.image.proofs.Places.{word-cong}
 use Rattle.image.specs.Below.{Below}
-use Rattle.image.specs.Lowest.{wrongBlocks}
 use Rattle.laws.proofs.Empty.{keep-none}
 use Rattle.laws.proofs.Every.{all-of}
 use Rattle.laws.proofs.Ranges.{at-every, range-every}
 use Rattle.laws.proofs.Tests.{eq-test, is-true}
 use Rattle.laws.specs.Lists.{all, each, range}
-use Rattle.words.specs.Image.{block, blockGood, blocks, bytes, checkWord, imageWord, imageWords, window, wordAt, wordsAt}
 use Rattle.words.specs.Words.{at}
 use borrow.Author.Tests.{eq-eqb, leb-false, leb-true}
 use lib.Dec.{T, eqb, leb}

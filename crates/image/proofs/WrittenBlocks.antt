@@ -1,5 +1,6 @@
 -- The blocks that a write left: their bytes are bytes, and every block is good. Assumes nothing.
 use Prim.Native.Nat.{_*_, _<_, _^_, suc, zero, ℕ}
+use Rattle.blocks.specs.Blocks.{block, blockGood, blocks, blocksFor, bytes, checkWord, window}
 use Rattle.image.proofs.RoundTrip.{image-is, low, written-image, written-ok}
 use Rattle.image.proofs.Standing.{good-in}
 use Rattle.image.specs.Below.{Below}
@@ -7,8 +8,7 @@ use Rattle.image.specs.Calls.{Writes}
 use Rattle.laws.proofs.Every.{every-append}
 use Rattle.laws.specs.Every.{Every}
 use Rattle.laws.specs.Lists.{each}
-use Rattle.words.specs.Image.{block, blockGood, blocks, blocksFor, bytes, checkWord, image, window}
-use Rattle.words.specs.Words.{at, wordsOf, wordsOk}
+use Rattle.words.specs.Words.{wordsOf, wordsOk}
 use lib.ListN.{length, take}
 use mathlib.Core.Bool.{true}
 use mathlib.Core.List.{List, [], _++_, _∷_}

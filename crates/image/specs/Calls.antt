@@ -1,6 +1,7 @@
 -- What writing promises: 01, The image and Numbers given back. Assumes nothing.
 use Prim.Native.Nat.{_*_, ℕ}
-use Rattle.words.specs.Image.{blocksFor, image, saidWrite}
+use Rattle.blocks.specs.Blocks.{blocksFor}
+use Rattle.image.specs.Image.{image, saidWrite}
 use Rattle.words.specs.Words.{wordsOf}
 use lib.Dec.{eqb}
 use lib.ListN.{drop, length}

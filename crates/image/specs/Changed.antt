@@ -1,6 +1,6 @@
 -- Images that differ in one word, and blocks that stand at another block's place: 01, The image. Assumes nothing.
 use Prim.Native.Nat.{_*_, _+_, _<_, ℕ}
-use Rattle.words.specs.Image.{wordAt}
+use Rattle.blocks.specs.Blocks.{wordAt}
 use mathlib.Core.List.{List}
 use mathlib.Core.Path.{_≡_}
 

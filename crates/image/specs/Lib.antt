@@ -1,5 +1,5 @@
+pub mod Image
 pub mod Calls
 pub mod Sound
-pub mod Lowest
 pub mod Below
 pub mod Changed

@@ -1,14 +1,12 @@
-// The image of an index: blocks of 512 bytes, each 127 words and their check word. Writing one, and what reading one takes.
+// The image of an index: writing one, and what reading one takes.
 ghost use Rattle.image.specs.Calls.{Writes};
-use crate::word::BLOCK;
-use crate::word::blocks_for;
-use crate::word::words_of;
 use crate::writing::put_blocks;
+use blocks::word::BLOCK;
+use blocks::word::blocks_for;
+use blocks::word::words_of;
 use words::header::words_ok;
 
-mod check;
 pub mod reading;
-pub mod word;
 mod writing;
 
 // What writing says: a number, and how many blocks it wrote.

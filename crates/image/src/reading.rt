@@ -1,18 +1,19 @@
 // Reading the index words, and what is wrong with an image.
 ghost use Prim.Native.Nat.{_*_, _+_, _/_, _<_, _≤_, min};
+ghost use Rattle.blocks.specs.Blocks.{imageWords};
+ghost use Rattle.image.specs.Image.{imageFaults};
 ghost use Rattle.image.specs.Sound.{Sound, heldFaults, restZero};
-ghost use Rattle.words.specs.Image.{imageFaults, imageWords};
 ghost use Rattle.words.specs.Words.{headerWords};
 ghost use lib.ListN.{drop, length, take};
 ghost use mathlib.Core.List.{_++_};
 ghost use mathlib.Core.Path.{_≡_};
-use crate::check::first_wrong;
-use crate::word::BLOCK;
-use crate::word::HELD;
-use crate::word::blocks_for;
-use crate::word::get_word;
-use crate::word::image_word;
-use crate::word::words_of;
+use blocks::check::first_wrong;
+use blocks::word::BLOCK;
+use blocks::word::HELD;
+use blocks::word::blocks_for;
+use blocks::word::get_word;
+use blocks::word::image_word;
+use blocks::word::words_of;
 use words::header::card_ok;
 use words::places::HEADER;
 

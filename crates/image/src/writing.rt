@@ -1,15 +1,15 @@
 // Writing the blocks.
 ghost use Prim.Native.Nat.{_*_, _<_, _≤_};
-ghost use Rattle.words.specs.Image.{block, blocks};
+ghost use Rattle.blocks.specs.Blocks.{block, blocks};
 ghost use lib.ListN.{drop, length};
 ghost use mathlib.Core.List.{_++_};
 ghost use mathlib.Core.Path.{_≡_};
-use crate::check::check_start;
-use crate::check::stepped;
-use crate::word::BLOCK;
-use crate::word::HELD;
-use crate::word::put_word;
-use crate::word::word_or_zero;
+use blocks::check::check_start;
+use blocks::check::stepped;
+use blocks::word::BLOCK;
+use blocks::word::HELD;
+use blocks::word::put_word;
+use blocks::word::word_or_zero;
 
 // Block b of the index, its check reckoned as the words are written.
 fn put_block(index: &[u32], b: usize, part: &mut [u8])

@@ -20,7 +20,7 @@ use Rattle.words.specs.InShape.{InShape}
 use Rattle.words.specs.Shape.{inner, tile}
 use Rattle.words.specs.Words.{N#, child#, count#, dist#, first#, l#, m#, row#, start#}
 use borrow.Author.Tests.{eq-eqb, ne-eqb}
-use lib.Dec.{T, eqb}
+use lib.Dec.{T}
 use lib.ListN.{length, length-map}
 use mathlib.Core.Bool.{Bool, cond, false, true}
 use mathlib.Core.List.{List, foldr, map}

@@ -1,11 +1,3 @@
 pub mod Choosing
 pub mod Walking
 pub mod Changing
-pub mod Halves
-pub mod Storing
-pub mod Ordering
-pub mod Lining
-pub mod Popping
-pub mod Seeing
-pub mod Finishing
-pub mod Handing

@@ -1,3 +1,2 @@
 pub mod Way
 pub mod Changed
-pub mod Lay

@@ -1,6 +1,6 @@
 -- The way from the root to the leaf that a new row joins: 02, R-2. Over the distance d between rows; z is the new row. A working notion, on which no
 -- promise rests. Assumes nothing.
-use Prim.Native.Nat.{_*_, _+_, _-_, _<_, _≤_, suc, zero, ℕ}
+use Prim.Native.Nat.{_*_, _+_, _<_, _≤_, suc, zero, ℕ}
 use Rattle.appending.specs.Append.{lowestAt}
 use Rattle.laws.specs.Lists.{range}
 use Rattle.limits.specs.Limits.{maxDepth}

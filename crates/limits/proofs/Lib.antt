@@ -1,5 +1,5 @@
 pub mod Ranges
 pub mod Faults
-pub mod Numbers
-pub mod Sized
 pub mod Told
+pub mod Numbers
+pub mod Rooms

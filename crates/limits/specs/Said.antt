@@ -1,8 +1,9 @@
 -- What a call says: 01, Numbers given back. Assumes nothing.
 use Prim.Native.Nat.{_%_, _/_, ℕ}
 use Rattle.limits.specs.Limits.{columnsOk, maxRows}
+use Rattle.limits.specs.declared.Asked.{Asked}
 use lib.Dec.{eqb, ltb}
-use mathlib.Core.Bool.{Bool, cond, not}
+use mathlib.Core.Bool.{Bool, cond, false, not}
 use mathlib.Core.List.{List, [], _++_, _∷_}
 
 -- a number and two places
@@ -18,14 +19,17 @@ said (f ∷ fs) = f
 abbrev pub fault : ℕ → Bool → List Said
 fault k b = cond b ((k, 0, 0) ∷ []) []
 
--- 1: the columns
-abbrev pub columnsFault : ℕ → List Said
-columnsFault c = fault 1 (not (columnsOk c))
+-- every refusal that numbers decide: 1 the columns, 2 m, l or the edition, 3 and 4 the table's length, 5 a lent room, 6 the query's length, 7 none wanted
+unfoldable pub numberFaults : Asked → List Said
+numberFaults a =
+    fault 1 (not (columnsOk (a .columns)))
+    ++ (fault 2 (a .unfit)
+    ++ (fault 3 (not (eqb (a .length % a .columns) 0))
+    ++ (fault 4 (ltb maxRows (a .length / a .columns))
+    ++ (fault 5 (a .short)
+    ++ (fault 6 (a .unlike)
+    ++ fault 7 (a .none))))))
 
--- 3 and 4: the table's length, as a multiple of its columns
-abbrev pub lengthFaults : ℕ → ℕ → List Said
-lengthFaults length c = fault 3 (not (eqb (length % c) 0)) ++ fault 4 (ltb maxRows (length / c))
-
--- 1, 3 and 4: every refusal that the table alone decides
-unfoldable pub tableFaults : ℕ → ℕ → List Said
-tableFaults length c = columnsFault c ++ lengthFaults length c
+-- what a call asks that has the table's parts alone: 1, 3 and 4
+abbrev pub tabled : ℕ → ℕ → Asked
+tabled length c = record { length = length; columns = c; unfit = false; short = false; unlike = false; none = false }

@@ -1,8 +1,9 @@
 // The index kind: its fixed limits, and the refusals that numbers alone decide.
-ghost use Prim.Native.Nat.{_≤_};
+ghost use Prim.Native.Nat.{_*_, _/_, _≤_};
+ghost use lib.Dec.{ltb};
 ghost use Rattle.limits.specs.Chosen.{chosen, told};
 ghost use Rattle.limits.specs.Limits.{columnsOk, editionOk, shareOk, within};
-ghost use Rattle.limits.specs.Said.{lengthFaults, said, tableFaults};
+ghost use Rattle.limits.specs.Said.{numberFaults, said};
 ghost use mathlib.Core.Path.{_≡_};
 
 // What an index is built with: the centres of an inner node, and the rows that a leaf may have.
@@ -84,26 +85,64 @@ pub fn edition_ok(edition: usize) -> bool
     is_within(Params::FIRST_EDITION, Params::LAST_EDITION, edition)
 }
 
-// What is wrong with the length of a table of c columns: 3, 4, or 0 for nothing.
-pub fn length_number(length: usize, c: usize) -> u32
-    requires { ⌜ 1 ≤ c ⌝ }
-    ensures { λ r. ⌜ r ≡ said (lengthFaults length c) .0 ⌝ }
-{
-    if length % c != 0 {
-        return 3;
-    }
-    if Params::MOST_ROWS < length / c {
-        return 4;
-    }
-    0
+// ---- the refusals that numbers decide
+
+// What numbers decide of a call: its table's length and columns, and for each other part whether it is met. A part that a call has not is never met.
+pub struct Asked {
+    pub length: usize,
+    pub columns: usize,
+    // 2: m, l or the edition is out of range
+    pub unfit: bool,
+    // 5: a lent room is too short
+    pub short: bool,
+    // 6: the query's length is not a row's
+    pub unlike: bool,
+    // 7: none are wanted
+    pub none: bool,
 }
 
-// What is wrong with a table of this length and c columns: 1, 3, 4, or 0 for nothing.
-pub fn table_number(length: usize, c: usize) -> u32
-    ensures { λ r. ⌜ r ≡ said (tableFaults length c) .0 ⌝ }
+// How many rows a table of this length and c columns has; none where it has no column.
+pub fn rows_in(length: usize, c: usize) -> usize
+    ensures { λ r. ⌜ r ≡ length / c ⌝ }
 {
-    if !columns_ok(c) {
+    if c == 0 {
+        return 0;
+    }
+    length / c
+}
+
+// A room of so many is too short for n rows, of which each takes so many. (The product may be more than a number holds.)
+pub fn is_short(room: usize, each: usize, n: usize) -> bool
+    requires { ⌜ 1 ≤ each ⌝ }
+    ensures { λ r. ⌜ r ≡ ltb room (each * n) ⌝ }
+{
+    room / each < n
+}
+
+// The first number that applies of those that numbers decide, or 0.
+pub fn number_of(asked: Asked) -> u32
+    ensures { λ r. ⌜ r ≡ said (numberFaults asked) .0 ⌝ }
+{
+    if !columns_ok(asked.columns) {
         return 1;
     }
-    length_number(length, c)
+    if asked.unfit {
+        return 2;
+    }
+    if asked.length % asked.columns != 0 {
+        return 3;
+    }
+    if Params::MOST_ROWS < asked.length / asked.columns {
+        return 4;
+    }
+    if asked.short {
+        return 5;
+    }
+    if asked.unlike {
+        return 6;
+    }
+    if asked.none {
+        return 7;
+    }
+    0
 }

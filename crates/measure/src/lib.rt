@@ -65,8 +65,8 @@ pub fn distance(a: &[u16], b: &[u16]) -> u32
     columns(a, b, 0, 0, c)
 }
 
-// The same for more than six columns. Sixteen, the most there can be, are compiled without a loop too. That is too large to stand where it is called, so
-// that the two calls below share it, and neither is in the way of the few columns' code.
+// The same for more than six columns. Sixteen, the most there can be, are compiled without a loop too. That is too large to stand where
+// it is called, so that the two calls below share it, and neither is in the way of the few columns' code.
 fn many(a: &[u16], b: &[u16]) -> u32
     requires { ⌜ (length (now a) ≡ length (now b)) × (length (now a) ≤ maxColumns) ⌝ }
     ensures { λ r. ⌜ (r ≡ l1 (length (now (a .entry))) (now (a .entry)) (now (b .entry))) × (r ≤ maxDistance) ⌝ }

@@ -198,7 +198,7 @@ fn odd_4() {
 // A text that is fed in pieces is read as the whole: its fault, line and column, rows and columns.
 fn in_pieces() {
     let mut table = [0; 32];
-    let first = sheet::feed(sheet::start(), b"\xef\xbb", &mut table);
+    let first = sheet::feed(sheet::start(0), b"\xef\xbb", &mut table);
     let second = sheet::feed(first, b"\xbf1,2\r", &mut table);
     let third = sheet::feed(second, b"\n3,", &mut table);
     let r = sheet::finish(third, &mut table);

@@ -3,11 +3,11 @@ use Prim.Native.Nat.{min, ℕ}
 use Rattle.laws.proofs.Every.{every-of}
 use Rattle.laws.specs.Every.{Every}
 use Rattle.laws.specs.Upto.{sumTo}
-use Rattle.limits.specs.Said.{said, tableFaults}
+use Rattle.limits.specs.Said.{numberFaults, said, tabled}
 use Rattle.measure.specs.Distance.{l1}
 use Rattle.measure.specs.Table.{between, from}
 use Rattle.nearest.proofs.Promises.{count-is, nearest-exact}
-use Rattle.nearest.proofs.Refusals.{by-index}
+use Rattle.nearest.proofs.Refusals.{taken}
 use Rattle.nearest.specs.Cases.{Case, Gets, asked}
 use Rattle.tree.proofs.Built.{build-accepted}
 use Rattle.tree.specs.Build.{build, choose, grow, split}
@@ -17,7 +17,8 @@ use Rattle.tree.specs.Encode.{broods, encode, family, levelNodes, nodes, number
 use Rattle.tree.specs.Grove.{treeAt, treeOf}
 use Rattle.tree.specs.Homes.{homes, homesIn}
 use Rattle.tree.specs.Nearest.{answers, measured, nearHow, passes}
-use Rattle.words.specs.Calls.{indexFaults}
+use Rattle.words.proofs.Indexes.{clear}
+use Rattle.words.specs.Index.{callFaults, fitFaults}
 use Rattle.words.specs.Shape.{born, level, nodeOk, shapeOk, tile}
 use Rattle.words.specs.Words.{cardOk, headerOk, wholeOk, wordsOk}
 use lib.ListN.{drop, length}
@@ -65,30 +66,25 @@ right-all = (
   ),
 )
 
--- the table has no fault
-no-table-fault : 0 ≡ said (tableFaults 5 1) .0
-unfolding tableFaults
-no-table-fault = refl
-
--- nor has the index
-no-index-fault : 0 ≡ said (indexFaults fiveWords 5 1) .0
-unfolding cardOk headerOk wholeOk wordsOk born level tile nodeOk shapeOk indexFaults
-no-index-fault = refl
+-- neither the table nor the index has a fault
+none-wrong : said (callFaults (tabled 5 1) fiveWords) .0 ≡ 0
+unfolding numberFaults cardOk headerOk wholeOk wordsOk born level tile nodeOk shapeOk fitFaults callFaults
+none-wrong = refl
 
 -- where the definition gives it, so does every outcome of the call
 gets : (k : Case) → Right k → Gets k
-gets k R rs rs′ ds ds′ how how′ work work′ number given met a b d e s =
+gets k R b b′ number given met f g d e s =
     let n : number ≡ 0 =
     s .said
-    ∙ sym (by-index five 1 fiveWords (k .query ∷ []) (k .wanted) (min (length rs) (length ds)) (length how) (length work) no-table-fault refl refl
-    (omega (arith, R .count)) d e refl (R .some) no-index-fault) in
+    ∙ sym (taken five 1 fiveWords (k .query ∷ []) (k .wanted) (min (length (b .rows)) (length (b .distances))) (length (b .how)) (length (b .work))
+    (clear (tabled 5 1) fiveWords none-wrong) (omega (arith, R .count), d, e) refl (R .some)) in
     let Z = nearest-exact s n accepted in (
       n,
       Z .count ∙ R .count,
       count-is s n (x (k .query)) Z ∙ ap measured (R .near) ∙ R .met,
-      Z .rows ∙ ap₂ (λ (as′ : List (ℕ × ℕ)) (m : ℕ). map (λ a. a .0) as′ ++ drop m rs) (R .first) (R .count),
-      Z .distances ∙ ap₂ (λ (as′ : List (ℕ × ℕ)) (m : ℕ). map (λ a. a .1) as′ ++ drop m ds) (R .first) (R .count),
-      Z .bytes ∙ ap (λ (l : List ℕ). l ++ drop 5 how) (R .near),
+      Z .rows ∙ ap₂ (λ (as′ : List (ℕ × ℕ)) (m : ℕ). map (λ a. a .0) as′ ++ drop m (b .rows)) (R .first) (R .count),
+      Z .distances ∙ ap₂ (λ (as′ : List (ℕ × ℕ)) (m : ℕ). map (λ a. a .1) as′ ++ drop m (b .distances)) (R .first) (R .count),
+      Z .bytes ∙ ap (λ (l : List ℕ). l ++ drop 5 (b .how)) (R .near),
     )
 
 -- EVERY CASE COMES OUT, WHATEVER THE CALL IS LENT

@@ -1,27 +1,32 @@
 -- What the code did is what the contract says: a refusal, and a search. Assumes nothing.
-use Prim.Native.Nat.{_<_, _≤_, min, ℕ}
-use Rattle.items.proofs.Ranks.{all-pass}
-use Rattle.items.specs.Fits.{Fits, homeBound}
+use Prim.Native.Nat.{_*_, _<_, _≤_, min, ℕ}
+use Rattle.index_space.proofs.Ranks.{all-pass}
+use Rattle.index_space.specs.Fits.{IndexFits, homeBound}
 use Rattle.laws.proofs.Maps.{map-same}
 use Rattle.laws.proofs.Ranges.{at-every}
 use Rattle.laws.specs.Lists.{has, look, range, times}
 use Rattle.measure.proofs.Metric.{query-point}
-use Rattle.measure.specs.Table.{between, from}
-use Rattle.nearest.proofs.Refusals.{fits}
-use Rattle.nearest.specs.Calls.{Answered, Found, Lent, Serves, Settled, Sound}
+use Rattle.measure.specs.Table.{between, from, rowsOf}
+use Rattle.nearest_search.specs.Asked.{NearestAsked, NearestLent, asks, away, due, rowsIn}
+use Rattle.nearest_search.specs.Found.{FoundNearest, Searchable, Settled, SoundAnswers}
+use Rattle.nearest.proofs.Refusals.{not-refused, rooms}
+use Rattle.nearest.specs.Calls.{Answered, Serves}
+use Rattle.nearest.specs.Numbers.{nearestAsks, saidNearest}
 use Rattle.tree.proofs.Accepted.{each-once, shape-of}
 use Rattle.tree.proofs.Answers.{near-at, passes-all}
 use Rattle.tree.proofs.Rows.{rows-tree}
+use Rattle.tree.proofs.Tested.{tested}
 use Rattle.tree.proofs.Theorems.{home-below, same-row}
-use Rattle.tree.specs.Calls.{saidNearest}
 use Rattle.tree.specs.Grove.{Grove, treeOf}
 use Rattle.tree.specs.Homes.{homes}
 use Rattle.tree.specs.Nearest.{answers, candidates, isMeasured, measured, nearHow, passes, sort}
 use Rattle.words.specs.Words.{n#}
-use lib.Dec.{T}
+use borrow.Author.Tests.{eqb-false, eqb-true, not-false}
+use lib.Dec.{T, eqb}
 use lib.ListN.{drop, getD, length, take}
 use mathlib.Core.Bool.{Bool, cond, false, true}
 use mathlib.Core.List.{List, _++_, map}
+use mathlib.Core.Logic.{_≢_}
 use mathlib.Core.Path.{_∙_, _≡_, ap, ap₂, refl, subst, sym}
 use native.Mathlib.Decide.{decLt}
 use native.Mathlib.Omega.{arith}
@@ -70,7 +75,7 @@ module _ (x : ℕ → ℕ) (n wanted k : ℕ) (ek : k ≡ min wanted n) where
           ap (λ (k : ℕ). passes x n k (look i (homes x g))) e
 
   -- answers that are sound for k are sound for as many as are wanted
-  sound-wanted : {rs′ ds′ how′ : List ℕ} {given : ℕ} → Sound x n k rs′ ds′ how′ given → Sound x n wanted rs′ ds′ how′ given
+  sound-wanted : {b′ : NearestLent} {given : ℕ} → SoundAnswers x n k b′ given → SoundAnswers x n wanted b′ given
   sound-wanted Z = record { count = Z .count ∙ same-count; own = Z .own; order = Z .order; marks = Z .marks }
 
 -- ---- a table that serves is one that fits
@@ -84,46 +89,82 @@ byte-measured x n g k i h p =
     go true = tt
     go false = rw p tt
 
-module _ (t t′ : List ℕ) (c : ℕ) (w q : List ℕ) (wanted k : ℕ) (ek : k ≡ min wanted (n# w)) (A : Serves t t′ c w q wanted) where
+module _ (a : NearestAsked) (t′ : List ℕ) (k : ℕ) (ek : k ≡ due a) (A : Serves a t′) where
+  -- how many rows there are
+  abbrev n : ℕ
+  n = rowsIn a
+
   -- how far the query is from a row of the table that serves
   abbrev x′ : ℕ → ℕ
-  x′ = from t′ c q
+  x′ = from t′ (a .columns) (a .query)
 
   -- no row of it is closer than its home bound
-  below : (i : ℕ) → i < n# w → homeBound w x′ i ≤ x′ i
-  below i h = home-below (between t′ c) w (A .accepted) x′ (query-point t′ c q) i h
+  below : (i : ℕ) → i < n → homeBound (a .index) x′ i ≤ x′ i
+  below i h = home-below (between t′ (a .columns)) (a .index) (A .accepted) x′ (query-point t′ (a .columns) (a .query)) i h
 
   -- the index fits its rows, with which the lent ones agree where it counts
-  serves-fits : Fits w k (from t c q) (from t′ c q)
+  serves-fits : IndexFits (a .index) k (away a) (from t′ (a .columns) (a .query))
   serves-fits = record {
-    once = λ i h. ap (times i) (sym (rows-tree w (shape-of (between t′ c) w (A .accepted)))) ∙ each-once (between t′ c) w (A .accepted) i h;
+    once = λ i h.
+        ap (times i) (sym (rows-tree (a .index) (shape-of (between t′ (a .columns)) (a .index) (A .accepted))))
+        ∙ each-once (between t′ (a .columns)) (a .index) (A .accepted) i h;
     under = below;
     agree = λ r h p.
-        same-row t t′ c q r
-        (A .agree r h (byte-measured x′ (n# w) (treeOf w) wanted r h (still-passes x′ (n# w) wanted k ek (homeBound w x′ r) p)));
+        same-row (a .table) t′ (a .columns) (a .query) r
+        (A .agree r h
+        (byte-measured x′ n (treeOf (a .index)) (a .wanted) r h (still-passes x′ n (a .wanted) k ek (homeBound (a .index) x′ r) p)));
   }
 
   -- answers and how-bytes that are settled for k are settled for as many as are wanted
-  settled-wanted : (rs rs′ ds ds′ how how′ : List ℕ) (given : ℕ) → Settled (from t′ c q) w k rs rs′ ds ds′ how how′ given
-      → Settled (from t′ c q) w wanted rs rs′ ds ds′ how how′ given
-  settled-wanted rs rs′ ds ds′ how how′ given Z =
-      let e = same-count x′ (n# w) wanted k ek in
-      let a = same-answers x′ (n# w) wanted k ek in
+  settled-wanted : (b b′ : NearestLent) (given : ℕ) → Settled (from t′ (a .columns) (a .query)) (a .index) k b b′ given
+      → Settled (from t′ (a .columns) (a .query)) (a .index) (a .wanted) b b′ given
+  settled-wanted b b′ given Z =
+      let e = same-count x′ n (a .wanted) k ek in
+      let as₀ = same-answers x′ n (a .wanted) k ek in
       record {
         count = Z .count ∙ e;
-        rows = Z .rows ∙ ap₂ (λ (as′ : List (ℕ × ℕ)) (m : ℕ). map (λ a. a .0) as′ ++ drop m rs) a e;
-        distances = Z .distances ∙ ap₂ (λ (as′ : List (ℕ × ℕ)) (m : ℕ). map (λ a. a .1) as′ ++ drop m ds) a e;
-        bytes = Z .bytes ∙ ap (λ (b : List ℕ). b ++ drop (n# w) how) (same-near x′ (n# w) wanted k ek (treeOf w) below);
+        rows = Z .rows ∙ ap₂ (λ (as′ : List (ℕ × ℕ)) (m : ℕ). map (λ a. a .0) as′ ++ drop m (b .rows)) as₀ e;
+        distances = Z .distances ∙ ap₂ (λ (as′ : List (ℕ × ℕ)) (m : ℕ). map (λ a. a .1) as′ ++ drop m (b .distances)) as₀ e;
+        bytes = Z .bytes ∙ ap (λ (l : List ℕ). l ++ drop n (b .how)) (same-near x′ n (a .wanted) k ek (treeOf (a .index)) below);
       }
 
 -- ---- the call
-module _ (t : List ℕ) (c : ℕ) (w q : List ℕ) (wanted : ℕ) (rs ds how work : List ℕ) {number room : ℕ}
-    (fit : (room ≤ length rs) × (room ≤ length ds)) (said-is : number ≡ saidNearest t c w q wanted room (length how) (length work) .0) where
+-- what is said of what is asked and lent
+abbrev pub saidOf : NearestAsked → ℕ → NearestLent → ℕ
+saidOf a room b = saidNearest (a .table) (a .columns) (a .index) (a .query) (a .wanted) room (length (b .how)) (length (b .work)) .0
+
+-- what is asked where only k are wanted
+abbrev pub butFor : NearestAsked → ℕ → NearestAsked
+butFor a k = asks (a .table) (a .columns) (a .index) (a .query) k
+
+-- where nothing is refused, the index is tested, and what is lent fits it
+pub fits : (a : NearestAsked) (room : ℕ) (b : NearestLent) → (room ≤ length (b .rows)) × (room ≤ length (b .distances)) → (k : ℕ) → k ≡ due a
+    → saidOf a room b ≡ 0 → Searchable (butFor a k) b
+fits a room b fit k ek z =
+    let t = a .table in
+    let c = a .columns in
+    let q = a .query in
+    let C = not-refused t c (a .index) q (a .wanted) room (length (b .how)) (length (b .work)) z in
+    let same : rowsIn a ≡ rowsOf t c = C .rows in
+    let h = rooms (rowsOf t c) (a .wanted) room (length (b .how)) (length (b .work)) (C .numbers .room) in
+    let some : a .wanted ≢ 0 = eqb-false (a .wanted) 0 (C .numbers .some) in
+    record {
+      tested = tested t c (nearestAsks t c q (a .wanted) room (length (b .how)) (length (b .work))) (a .index) refl refl C;
+      query = eqb-true (length q) c (not-false (eqb (length q) c) (C .numbers .like));
+      few = (omega arith, λ l. omega (arith, some));
+      rows = omega (arith, h .0, fit .0);
+      distances = omega (arith, h .0, fit .1);
+      bytes = omega (arith, h .1);
+      words = omega (arith, h .2);
+    }
+
+module _ (a : NearestAsked) (b : NearestLent) {number room : ℕ} (fit : (room ≤ length (b .rows)) × (room ≤ length (b .distances)))
+    (said-is : number ≡ saidOf a room b) where
   -- A REFUSAL MEETS THE CONTRACT
-  pub refused-is : (number ≡ 0 → ⊥) → Answered t c w q wanted room rs rs ds ds how how work work number 0 0
+  pub refused-is : (number ≡ 0 → ⊥) → Answered a room b b number 0 0
   refused-is h = record {
     said = said-is;
-    refused = λ k. (refl, refl, refl, refl, refl, refl);
+    refused = λ k. (refl, refl, refl);
     cleared = λ z. absurd (h z);
     beyond = λ z. absurd (h z);
     sound = λ z. absurd (h z);
@@ -131,32 +172,31 @@ module _ (t : List ℕ) (c : ℕ) (w q : List ℕ) (wanted : ℕ) (rs ds how wor
     found = λ z. absurd (h z);
   }
 
-  -- where nothing is refused, what is lent is what the core asks
-  pub core-asks : (n k : ℕ) → number ≡ 0 → n ≡ n# w → k ≡ min wanted n → Lent t c w q k rs ds how work
-  core-asks n k z en ek =
-      fits t c w q wanted room rs ds how work fit k (ek ∙ ap (λ (n : ℕ). min wanted n) en) (sym said-is ∙ z)
+  -- where nothing is refused, what is lent is what the search asks
+  pub core-asks : (n k : ℕ) → number ≡ 0 → n ≡ rowsIn a → k ≡ min (a .wanted) n → Searchable (butFor a k) b
+  core-asks n k z en ek = fits a room b fit k (ek ∙ ap (λ (n : ℕ). min (a .wanted) n) en) (sym said-is ∙ z)
 
   -- A SEARCH MEETS THE CONTRACT
-  pub done-is : (n k given given₀ met : ℕ) (rs′ ds′ how′ work′ : List ℕ) → number ≡ 0 → n ≡ n# w → k ≡ min wanted n
-      → Found t c w q k rs rs′ ds ds′ how how′ work work′ given₀ → given ≡ given₀ → met ≡ measured (take n how′)
-      → Answered t c w q wanted room rs rs′ ds ds′ how how′ work work′ 0 given met
-  done-is n k given given₀ met rs′ ds′ how′ work′ z en ek₀ D₀ eg em =
-      let ek : k ≡ min wanted (n# w) = ek₀ ∙ ap (λ (n : ℕ). min wanted n) en in
-      let D = subst (λ (g : ℕ). Found t c w q k rs rs′ ds ds′ how how′ work work′ g) (sym eg) D₀ in
+  pub done-is : (n k given given₀ met : ℕ) (b′ : NearestLent) → number ≡ 0 → n ≡ rowsIn a → k ≡ min (a .wanted) n
+      → FoundNearest (butFor a k) b b′ given₀ → given ≡ given₀ → met ≡ measured (take n (b′ .how)) → Answered a room b b′ 0 given met
+  done-is n k given given₀ met b′ z en ek₀ D₀ eg em =
+      let w = a .index in
+      let ek : k ≡ due a = ek₀ ∙ ap (λ (n : ℕ). min (a .wanted) n) en in
+      let D = subst (λ (g : ℕ). FoundNearest (butFor a k) b b′ g) (sym eg) D₀ in
       record {
         said = sym z ∙ said-is;
         refused = λ f. absurd (f refl);
         cleared = λ e. D .cleared;
-        beyond = λ e. subst (λ (k : ℕ). (drop k rs′ ≡ drop k rs) × (drop k ds′ ≡ drop k ds) × (drop (n# w) how′ ≡ drop (n# w) how)) ek (D .beyond);
-        sound = λ e. sound-wanted (from t c q) (n# w) wanted k ek (D .sound);
-        counted = λ e. em ∙ ap (λ (n : ℕ). measured (take n how′)) en;
-        found = λ e t′ A.
-            settled-wanted t t′ c w q wanted k ek A rs rs′ ds ds′ how how′ given (D .found (from t′ c q) (serves-fits t t′ c w q wanted k ek A));
+        beyond = λ e.
+            subst (λ (k : ℕ). (drop k (b′ .rows) ≡ drop k (b .rows)) × (drop k (b′ .distances) ≡ drop k (b .distances))
+            × (drop (n# w) (b′ .how) ≡ drop (n# w) (b .how)))
+            ek (D .beyond);
+        sound = λ e. sound-wanted (away a) (n# w) (a .wanted) k ek (D .sound);
+        counted = λ e. em ∙ ap (λ (n : ℕ). measured (take n (b′ .how))) en;
+        found = λ e t′ A. settled-wanted a t′ k ek A b b′ given (D .found (from t′ (a .columns) (a .query)) (serves-fits a t′ k ek A));
       }
 
 -- the same with the room said in another way
-pub room-is : {t : List ℕ} {c : ℕ} {w q : List ℕ} {wanted room room′ : ℕ} {rs rs′ ds ds′ how how′ work work′ : List ℕ} {number given met : ℕ}
-    → room ≡ room′ → Answered t c w q wanted room rs rs′ ds ds′ how how′ work work′ number given met
-    → Answered t c w q wanted room′ rs rs′ ds ds′ how how′ work work′ number given met
-room-is {t} {c} {w} {q} {wanted} {room} {room′} {rs} {rs′} {ds} {ds′} {how} {how′} {work} {work′} {number} {given} {met} e s =
-    subst (λ (room : ℕ). Answered t c w q wanted room rs rs′ ds ds′ how how′ work work′ number given met) e s
+pub room-is : {a : NearestAsked} {room room′ : ℕ} {b b′ : NearestLent} {number given met : ℕ} → room ≡ room′ → Answered a room b b′ number given met
+    → Answered a room′ b b′ number given met
+room-is {a} {room} {room′} {b} {b′} {number} {given} {met} e s = subst (λ (r : ℕ). Answered a r b b′ number given met) e s

@@ -1,9 +1,3 @@
-pub mod Handing
-pub mod Ordering
-pub mod Handouts
-pub mod Handed
-pub mod HowBytes
-pub mod Finding
 pub mod Refusals
 pub mod Contract
 pub mod Ranking

@@ -1,7 +1,7 @@
 -- What the contract of the nearest call says, in 01's words: it is exact on an accepted index, it measures the rows whose home bound is at most D,
 -- it rests on the rows that it measures, and no second outcome fits. Assumes nothing.
 use Prim.Native.Nat.{_+_, _<_, _≤_, min, suc, ℕ}
-use Rattle.items.specs.Fits.{homeBound}
+use Rattle.index_space.specs.Fits.{homeBound}
 use Rattle.laws.proofs.Every.{every-both, every-map, every-take, has-every}
 use Rattle.laws.proofs.Lists.{tally-length, tally-take}
 use Rattle.laws.proofs.Ranges.{at-every, range-length}
@@ -10,11 +10,13 @@ use Rattle.laws.specs.Lists.{has, range, tally}
 use Rattle.limits.specs.Limits.{maxRows}
 use Rattle.measure.proofs.Metric.{query-point}
 use Rattle.measure.specs.Table.{between, from, row, rowsOf}
+use Rattle.nearest_search.proofs.HowBytes.{near-length}
+use Rattle.nearest_search.specs.Asked.{NearestAsked, NearestLent, asks, away, due, lends, rowsIn}
+use Rattle.nearest_search.specs.Found.{Settled}
 use Rattle.nearest.proofs.Contract.{byte-measured, same-answers}
-use Rattle.nearest.proofs.HowBytes.{near-length}
 use Rattle.nearest.proofs.Ranking.{answers-ranked}
-use Rattle.nearest.proofs.Refusals.{clear}
-use Rattle.nearest.specs.Calls.{Answered, Serves, Settled}
+use Rattle.nearest.proofs.Refusals.{not-refused, rooms}
+use Rattle.nearest.specs.Calls.{Answered, Serves}
 use Rattle.nearest.specs.Ranked.{ahead}
 use Rattle.tree.proofs.Answers.{answers-length, near-at, passes-all, passes-near}
 use Rattle.tree.proofs.Sorted.{sort-every, sort-sorted, sorted-take, under-last}
@@ -22,7 +24,6 @@ use Rattle.tree.proofs.Theorems.{home-below}
 use Rattle.tree.specs.Check.{Accepted}
 use Rattle.tree.specs.Grove.{treeOf}
 use Rattle.tree.specs.Nearest.{answers, candidates, isMeasured, lastDistance, measured, nearHow, passes, sort}
-use Rattle.words.specs.Words.{n#}
 use borrow.Author.Tests.{le-leb, le-ltb, leb-true}
 use lib.Dec.{T, leb}
 use lib.ListN.{List·getD-append, drop, getD, length, length-map, take}
@@ -78,125 +79,126 @@ tally-rows f g (v ∷ l) a h =
     (tally-rows f g l (suc a) (λ i p. h (suc i) (omega arith) ∙ ap g (next i)))
 
 -- ---- a call that is not refused, where a table serves
-module _ {t : List ℕ} {c : ℕ} {w q : List ℕ} {wanted room : ℕ} {rs rs′ ds ds′ how how′ work work′ : List ℕ} {number given met : ℕ}
-    (s : Answered t c w q wanted room rs rs′ ds ds′ how how′ work work′ number given met) (done : number ≡ 0) where
+module _ {asked : NearestAsked} {room : ℕ} {lent lent′ : NearestLent} {number given met : ℕ} (s : Answered asked room lent lent′ number given met)
+    (done : number ≡ 0) where
   -- the table has as many rows as the index
-  rows-are : rowsOf t c ≡ n# w
-  rows-are = sym (clear t c w q wanted room (length how) (length work) (sym (s .said) ∙ done) .index .rows)
+  rows-are : rowsOf (asked .table) (asked .columns) ≡ rowsIn asked
+  rows-are =
+      sym (not-refused (asked .table) (asked .columns) (asked .index) (asked .query) (asked .wanted) room (length (lent .how)) (length (lent .work)) (sym (s .said) ∙ done) .rows)
 
-  module _ (x : ℕ → ℕ) (Z : Settled x w wanted rs rs′ ds ds′ how how′ given) where
+  module _ (x : ℕ → ℕ) (Z : Settled x (asked .index) (asked .wanted) lent lent′ given) where
     -- as many are given as are wanted or there are
-    part-length : (f : ℕ × ℕ → ℕ) → length (map f (answers x (n# w) wanted)) ≡ min wanted (n# w)
+    part-length : (f : ℕ × ℕ → ℕ) → length (map f (answers x (rowsIn asked) (asked .wanted))) ≡ due asked
     part-length f =
-        length-map (answers x (n# w) wanted) f ∙ ap length (sym (same-answers x (n# w) wanted (min wanted (n# w)) refl))
-        ∙ answers-length x (n# w) (min wanted (n# w)) (omega arith)
+        length-map (answers x (rowsIn asked) (asked .wanted)) f ∙ ap length (sym (same-answers x (rowsIn asked) (asked .wanted) (due asked) refl))
+        ∙ answers-length x (rowsIn asked) (due asked) (omega arith)
 
     -- the rows written are those of the answers
-    first-rows : take (min wanted (n# w)) rs′ ≡ map (λ a. a .0) (answers x (n# w) wanted)
+    first-rows : take (due asked) (lent′ .rows) ≡ map (λ a. a .0) (answers x (rowsIn asked) (asked .wanted))
     first-rows =
-        ap (take (min wanted (n# w))) (Z .rows)
-        ∙ take-at (map (λ a. a .0) (answers x (n# w) wanted)) (drop (min wanted (n# w)) rs) (min wanted (n# w)) (part-length (λ a. a .0))
+        ap (take (due asked)) (Z .rows)
+        ∙ take-at (map (λ a. a .0) (answers x (rowsIn asked) (asked .wanted))) (drop (due asked) (lent .rows)) (due asked) (part-length (λ a. a .0))
 
     -- and so are the distances
-    first-distances : take (min wanted (n# w)) ds′ ≡ map (λ a. a .1) (answers x (n# w) wanted)
+    first-distances : take (due asked) (lent′ .distances) ≡ map (λ a. a .1) (answers x (rowsIn asked) (asked .wanted))
     first-distances =
-        ap (take (min wanted (n# w))) (Z .distances)
-        ∙ take-at (map (λ a. a .1) (answers x (n# w) wanted)) (drop (min wanted (n# w)) ds) (min wanted (n# w)) (part-length (λ a. a .1))
+        ap (take (due asked)) (Z .distances)
+        ∙ take-at (map (λ a. a .1) (answers x (rowsIn asked) (asked .wanted))) (drop (due asked) (lent .distances)) (due asked) (part-length (λ a. a .1))
 
     -- the first n how-bytes are those of the definition
-    first-bytes : take (n# w) how′ ≡ nearHow x (n# w) (treeOf w) wanted
+    first-bytes : take (rowsIn asked) (lent′ .how) ≡ nearHow x (rowsIn asked) (treeOf (asked .index)) (asked .wanted)
     first-bytes =
-        ap (take (n# w)) (Z .bytes)
-        ∙ take-at (nearHow x (n# w) (treeOf w) wanted) (drop (n# w) how) (n# w) (near-length x (n# w) (treeOf w) wanted)
+        ap (take (rowsIn asked)) (Z .bytes)
+        ∙ take-at (nearHow x (rowsIn asked) (treeOf (asked .index)) (asked .wanted)) (drop (rowsIn asked) (lent .how)) (rowsIn asked) (near-length x (rowsIn asked) (treeOf (asked .index)) (asked .wanted))
 
     -- the count is that of the definition's how-bytes 1 and 3
-    pub count-is : met ≡ measured (nearHow x (n# w) (treeOf w) wanted)
+    pub count-is : met ≡ measured (nearHow x (rowsIn asked) (treeOf (asked .index)) (asked .wanted))
     count-is = s .counted done ∙ ap measured first-bytes
 
     -- a row's how-byte is that of the definition
-    byte-at : (i : ℕ) → i < n# w → getD how′ i 0 ≡ getD (nearHow x (n# w) (treeOf w) wanted) i 0
+    byte-at : (i : ℕ) → i < rowsIn asked → getD (lent′ .how) i 0 ≡ getD (nearHow x (rowsIn asked) (treeOf (asked .index)) (asked .wanted)) i 0
     byte-at i h =
         ap (λ (l : List ℕ). getD l i 0) (Z .bytes)
-        ∙ List·getD-append (nearHow x (n# w) (treeOf w) wanted) (drop (n# w) how) 0 i
-        (subst (λ (n : ℕ). i < n) (sym (near-length x (n# w) (treeOf w) wanted)) h)
+        ∙ List·getD-append (nearHow x (rowsIn asked) (treeOf (asked .index)) (asked .wanted)) (drop (rowsIn asked) (lent .how)) 0 i
+        (subst (λ (n : ℕ). i < n) (sym (near-length x (rowsIn asked) (treeOf (asked .index)) (asked .wanted))) h)
 
 -- ---- a call that is not refused, on an index that the full check accepts with its table
-module _ {t : List ℕ} {c : ℕ} {w q : List ℕ} {wanted room : ℕ} {rs rs′ ds ds′ how how′ work work′ : List ℕ} {number given met : ℕ}
-    (s : Answered t c w q wanted room rs rs′ ds ds′ how how′ work work′ number given met) (done : number ≡ 0) (A : Accepted (between t c) w) where
+module _ {asked : NearestAsked} {room : ℕ} {lent lent′ : NearestLent} {number given met : ℕ} (s : Answered asked room lent lent′ number given met)
+    (done : number ≡ 0) (A : Accepted (between (asked .table) (asked .columns)) (asked .index)) where
   -- how far the query is from a row
   abbrev x : ℕ → ℕ
-  x = from t c q
+  x = away asked
 
   -- a row's home bound
   abbrev hb : ℕ → ℕ
-  hb = homeBound w (from t c q)
+  hb = homeBound (asked .index) (away asked)
 
   -- EXACT: THE ANSWERS ARE THE FIRST OF ALL ROWS BY DISTANCE, THEN ROW NUMBER, AS MANY AS ARE WANTED OR THERE ARE, AND THE HOW-BYTES FOLLOW
   -- FROM HOME BOUNDS
-  pub nearest-exact : Settled (from t c q) w wanted rs rs′ ds ds′ how how′ given
-  nearest-exact = s .found done t (record { rows = rows-are s done; accepted = A; agree = λ i h m. refl })
+  pub nearest-exact : Settled (away asked) (asked .index) (asked .wanted) lent lent′ given
+  nearest-exact = s .found done (asked .table) (record { rows = rows-are s done; accepted = A; agree = λ i h m. refl })
 
   -- MEASURED: A ROW'S HOW-BYTE IS 1 OR 3 EXACTLY IF ITS HOME BOUND IS AT MOST D
-  pub nearest-measured : wanted ≤ n# w → (i : ℕ) → i < n# w
-      → T (isMeasured (getD how′ i 0)) ↔ (homeBound w (from t c q) i ≤ lastDistance (answers (from t c q) (n# w) wanted))
+  pub nearest-measured : (asked .wanted) ≤ rowsIn asked → (i : ℕ) → i < rowsIn asked
+      → T (isMeasured (getD (lent′ .how) i 0)) ↔ (homeBound (asked .index) (away asked) i ≤ lastDistance (answers (away asked) (rowsIn asked) (asked .wanted)))
   nearest-measured few i h =
-      subst (λ (v : ℕ). T (isMeasured v) ↔ (hb i ≤ lastDistance (answers x (n# w) wanted)))
-      (sym (byte-at s done x nearest-exact i h ∙ near-at x (n# w) (treeOf w) wanted i h))
-      (go (has i (map (λ a. a .0) (answers x (n# w) wanted))) (passes x (n# w) wanted (hb i)) refl refl)
+      subst (λ (v : ℕ). T (isMeasured v) ↔ (hb i ≤ lastDistance (answers x (rowsIn asked) (asked .wanted))))
+      (sym (byte-at s done x nearest-exact i h ∙ near-at x (rowsIn asked) (treeOf (asked .index)) (asked .wanted) i h))
+      (go (has i (map (λ a. a .0) (answers x (rowsIn asked) (asked .wanted)))) (passes x (rowsIn asked) (asked .wanted) (hb i)) refl refl)
     where
-      go : (a b : Bool) → has i (map (λ a. a .0) (answers x (n# w) wanted)) ≡ a → passes x (n# w) wanted (hb i) ≡ b
-          → T (isMeasured (cond a 3 (cond b 1 0))) ↔ (hb i ≤ lastDistance (answers x (n# w) wanted))
-      go true b ea eb = (λ m. answer-near x hb (n# w) wanted i (λ r l. home-below (between t c) w A x (query-point t c q) r l) ea, λ m. tt)
-      go false true ea eb = (λ m. passes-only x (n# w) wanted (hb i) few eb, λ m. tt)
-      go false false ea eb = (λ m. absurd m, λ m. subst T (sym (passes-near x (n# w) wanted (hb i) m) ∙ eb) tt)
+      go : (a b : Bool) → has i (map (λ a. a .0) (answers x (rowsIn asked) (asked .wanted))) ≡ a → passes x (rowsIn asked) (asked .wanted) (hb i) ≡ b
+          → T (isMeasured (cond a 3 (cond b 1 0))) ↔ (hb i ≤ lastDistance (answers x (rowsIn asked) (asked .wanted)))
+      go true b ea eb = (λ m. answer-near x hb (rowsIn asked) (asked .wanted) i (λ r l. home-below (between (asked .table) (asked .columns)) (asked .index) A x (query-point (asked .table) (asked .columns) (asked .query)) r l) ea, λ m. tt)
+      go false true ea eb = (λ m. passes-only x (rowsIn asked) (asked .wanted) (hb i) few eb, λ m. tt)
+      go false false ea eb = (λ m. absurd m, λ m. subst T (sym (passes-near x (rowsIn asked) (asked .wanted) (hb i) m) ∙ eb) tt)
 
   -- ALL ROWS IF MORE ARE WANTED THAN THERE ARE
-  pub nearest-measured-all : n# w < wanted → (i : ℕ) → i < n# w → T (isMeasured (getD how′ i 0))
+  pub nearest-measured-all : rowsIn asked < asked .wanted → (i : ℕ) → i < rowsIn asked → T (isMeasured (getD (lent′ .how) i 0))
   nearest-measured-all more i h =
       subst (λ (v : ℕ). T (isMeasured v)) (sym (byte-at s done x nearest-exact i h))
-      (byte-measured x (n# w) (treeOf w) wanted i h (passes-all x (n# w) wanted (hb i) more))
+      (byte-measured x (rowsIn asked) (treeOf (asked .index)) (asked .wanted) i h (passes-all x (rowsIn asked) (asked .wanted) (hb i) more))
 
   -- IN HER WORDS: A ROW IS AMONG THE ANSWERS EXACTLY IF FEWER THAN w ROWS COME BEFORE IT BY DISTANCE, THEN ROW NUMBER
-  pub nearest-ranked : (i : ℕ) → i < n# w → T (has i (take given rs′)) ↔ (ahead (from t c q) (n# w) i < wanted)
+  pub nearest-ranked : (i : ℕ) → i < rowsIn asked → T (has i (take given (lent′ .rows))) ↔ (ahead (away asked) (rowsIn asked) i < asked .wanted)
   nearest-ranked i h =
       let Z = nearest-exact in
-      subst (λ (l : List ℕ). T (has i l) ↔ (ahead x (n# w) i < wanted)) (sym (ap (λ (k : ℕ). take k rs′) (Z .count) ∙ first-rows s done x Z))
-      (answers-ranked x (n# w) i h wanted)
+      subst (λ (l : List ℕ). T (has i l) ↔ (ahead x (rowsIn asked) i < asked .wanted)) (sym (ap (λ (k : ℕ). take k (lent′ .rows)) (Z .count) ∙ first-rows s done x Z))
+      (answers-ranked x (rowsIn asked) i h (asked .wanted))
 
   -- the how-bytes of the definition, counted by a test that is theirs
-  counted-by : (f : ℕ → Bool) → ((i : ℕ) → i < n# w → isMeasured (getD how′ i 0) ≡ f i) → met ≡ tally f (range 0 (n# w))
+  counted-by : (f : ℕ → Bool) → ((i : ℕ) → i < rowsIn asked → isMeasured (getD (lent′ .how) i 0) ≡ f i) → met ≡ tally f (range 0 (rowsIn asked))
   counted-by f same =
       let Z = nearest-exact in
-      let e = near-length x (n# w) (treeOf w) wanted in
+      let e = near-length x (rowsIn asked) (treeOf (asked .index)) (asked .wanted) in
       let shift : (i : ℕ) → 0 + i ≡ i = λ i. omega arith in
       count-is s done x Z
-      ∙ tally-rows isMeasured f (nearHow x (n# w) (treeOf w) wanted) 0
-      (λ i l. let h : i < n# w = subst (λ (n : ℕ). i < n) e l in ap isMeasured (sym (byte-at s done x Z i h)) ∙ same i h ∙ ap f (sym (shift i)))
+      ∙ tally-rows isMeasured f (nearHow x (rowsIn asked) (treeOf (asked .index)) (asked .wanted)) 0
+      (λ i l. let h : i < rowsIn asked = subst (λ (n : ℕ). i < n) e l in ap isMeasured (sym (byte-at s done x Z i h)) ∙ same i h ∙ ap f (sym (shift i)))
       ∙ ap (λ (n : ℕ). tally f (range 0 n)) e
 
   -- THE COUNT IS THE NUMBER OF ROWS WHOSE HOME BOUND IS AT MOST D
-  pub nearest-counted : wanted ≤ n# w
-      → met ≡ tally (λ i. leb (homeBound w (from t c q) i) (lastDistance (answers (from t c q) (n# w) wanted))) (range 0 (n# w))
+  pub nearest-counted : (asked .wanted) ≤ rowsIn asked
+      → met ≡ tally (λ i. leb (homeBound (asked .index) (away asked) i) (lastDistance (answers (away asked) (rowsIn asked) (asked .wanted)))) (range 0 (rowsIn asked))
   nearest-counted few =
-      counted-by (λ i. leb (hb i) (lastDistance (answers x (n# w) wanted)))
-      (λ i h. test-is (isMeasured (getD how′ i 0)) (hb i) (lastDistance (answers x (n# w) wanted)) (nearest-measured few i h))
+      counted-by (λ i. leb (hb i) (lastDistance (answers x (rowsIn asked) (asked .wanted))))
+      (λ i h. test-is (isMeasured (getD (lent′ .how) i 0)) (hb i) (lastDistance (answers x (rowsIn asked) (asked .wanted))) (nearest-measured few i h))
 
   -- THE NUMBER OF ALL ROWS, IF MORE ARE WANTED THAN THERE ARE
-  pub nearest-counted-all : n# w < wanted → met ≡ n# w
+  pub nearest-counted-all : rowsIn asked < asked .wanted → met ≡ rowsIn asked
   nearest-counted-all more =
-      counted-by (λ i. true) (λ i h. is-true (isMeasured (getD how′ i 0)) (nearest-measured-all more i h))
-      ∙ tally-length (range 0 (n# w)) ∙ range-length 0 (n# w)
+      counted-by (λ i. true) (λ i h. is-true (isMeasured (getD (lent′ .how) i 0)) (nearest-measured-all more i h))
+      ∙ tally-length (range 0 (rowsIn asked)) ∙ range-length 0 (rowsIn asked)
 
   -- TWO TABLES: WHERE A SECOND TABLE AGREES WITH THIS ONE IN EVERY ROW THAT WAS MEASURED, A SEARCH ON IT THAT IS NOT REFUSED GIVES THE SAME ANSWERS,
   -- HOW-BYTES AND COUNTS. Nothing else is asked of the second table, and its call may be lent other rooms
-  pub nearest-two-tables : {t₂ rs₂ rs₂′ ds₂ ds₂′ how₂ how₂′ work₂ work₂′ : List ℕ} {room₂ number₂ given₂ met₂ : ℕ}
-      → Answered t₂ c w q wanted room₂ rs₂ rs₂′ ds₂ ds₂′ how₂ how₂′ work₂ work₂′ number₂ given₂ met₂ → number₂ ≡ 0
-      → ((i : ℕ) → i < n# w → T (isMeasured (getD how′ i 0)) → row t c i ≡ row t₂ c i)
-      → (given ≡ given₂) × (met ≡ met₂) × (take (min wanted (n# w)) rs′ ≡ take (min wanted (n# w)) rs₂′)
-      × (take (min wanted (n# w)) ds′ ≡ take (min wanted (n# w)) ds₂′) × (take (n# w) how′ ≡ take (n# w) how₂′)
+  pub nearest-two-tables : {t₂ : List ℕ} {lent₂ lent₂′ : NearestLent} {room₂ number₂ given₂ met₂ : ℕ}
+      → Answered (asks t₂ (asked .columns) (asked .index) (asked .query) (asked .wanted)) room₂ lent₂ lent₂′ number₂ given₂ met₂ → number₂ ≡ 0
+      → ((i : ℕ) → i < rowsIn asked → T (isMeasured (getD (lent′ .how) i 0)) → row (asked .table) (asked .columns) i ≡ row t₂ (asked .columns) i)
+      → (given ≡ given₂) × (met ≡ met₂) × (take (due asked) (lent′ .rows) ≡ take (due asked) (lent₂′ .rows))
+      × (take (due asked) (lent′ .distances) ≡ take (due asked) (lent₂′ .distances)) × (take (rowsIn asked) (lent′ .how) ≡ take (rowsIn asked) (lent₂′ .how))
   nearest-two-tables s₂ done₂ agree =
       let Z = nearest-exact in
-      let Z₂ = s₂ .found done₂ t
+      let Z₂ = s₂ .found done₂ (asked .table)
       (record {
         rows = rows-are s done;
         accepted = A;
@@ -210,13 +212,16 @@ module _ {t : List ℕ} {c : ℕ} {w q : List ℕ} {wanted room : ℕ} {rs rs′
       )
 
 -- ---- two outcomes of one call
-module _ {t : List ℕ} {c : ℕ} {w q : List ℕ} {wanted room : ℕ} {rs ds how work : List ℕ} {rs₁ ds₁ how₁ work₁ rs₂ ds₂ how₂ work₂ : List ℕ}
-    {number₁ given₁ met₁ number₂ given₂ met₂ : ℕ}
-    (s₁ : Answered t c w q wanted room rs rs₁ ds ds₁ how how₁ work work₁ number₁ given₁ met₁)
-    (s₂ : Answered t c w q wanted room rs rs₂ ds ds₂ how how₂ work work₂ number₂ given₂ met₂) where
+-- what is lent is known by its parts
+pub same-lent : (l m : NearestLent) → l .rows ≡ m .rows → l .distances ≡ m .distances → l .how ≡ m .how → l .work ≡ m .work → l ≡ m
+same-lent l m e₁ e₂ e₃ e₄ =
+    ap₂ (λ (r d : List ℕ). lends r d (l .how) (l .work)) e₁ e₂ ∙ ap₂ (λ (h k : List ℕ). lends (m .rows) (m .distances) h k) e₃ e₄
+
+module _ {asked : NearestAsked} {room : ℕ} {lent lent₁ lent₂ : NearestLent} {number₁ given₁ met₁ number₂ given₂ met₂ : ℕ}
+    (s₁ : Answered asked room lent lent₁ number₁ given₁ met₁) (s₂ : Answered asked room lent lent₂ number₂ given₂ met₂) where
   -- they have the same counts and buffers
   abbrev pub Same : Type 0
-  Same = (given₁ ≡ given₂) × (met₁ ≡ met₂) × (rs₁ ≡ rs₂) × (ds₁ ≡ ds₂) × (how₁ ≡ how₂) × (work₁ ≡ work₂)
+  Same = (given₁ ≡ given₂) × (met₁ ≡ met₂) × (lent₁ ≡ lent₂)
 
   -- they have the same number
   one-number : number₁ ≡ number₂
@@ -225,15 +230,15 @@ module _ {t : List ℕ} {c : ℕ} {w q : List ℕ} {wanted room : ℕ} {rs ds ho
   -- WHAT IS SETTLED ON ANY INDEX: ALL OF A REFUSAL; ELSE THE NUMBER, THE WORKSPACE, WHAT LIES BEYOND, THE COUNT BY THE HOW-BYTES, AND HOW MANY
   -- ARE GIVEN
   pub nearest-open : (number₁ ≡ number₂) × ((number₁ ≡ 0 → ⊥) → Same)
-      × (number₁ ≡ 0 → (work₁ ≡ work₂) × (drop (min wanted (n# w)) rs₁ ≡ drop (min wanted (n# w)) rs₂)
-      × (drop (min wanted (n# w)) ds₁ ≡ drop (min wanted (n# w)) ds₂) × (drop (n# w) how₁ ≡ drop (n# w) how₂)
-      × (take (n# w) how₁ ≡ take (n# w) how₂ → met₁ ≡ met₂) × (given₁ ≡ given₂))
+      × (number₁ ≡ 0 → ((lent₁ .work) ≡ lent₂ .work) × (drop (due asked) (lent₁ .rows) ≡ drop (due asked) (lent₂ .rows))
+      × (drop (due asked) (lent₁ .distances) ≡ drop (due asked) (lent₂ .distances)) × (drop (rowsIn asked) (lent₁ .how) ≡ drop (rowsIn asked) (lent₂ .how))
+      × (take (rowsIn asked) (lent₁ .how) ≡ take (rowsIn asked) (lent₂ .how) → met₁ ≡ met₂) × (given₁ ≡ given₂))
   nearest-open = (
     one-number,
     λ k.
         let f = s₁ .refused k in
         let g = s₂ .refused (λ z. k (one-number ∙ z)) in
-        (f .0 ∙ sym (g .0), f .1 ∙ sym (g .1), f .2 ∙ sym (g .2), f .3 ∙ sym (g .3), f .4 ∙ sym (g .4), f .5 ∙ sym (g .5)),
+        (f .0 ∙ sym (g .0), f .1 ∙ sym (g .1), f .2 ∙ sym (g .2)),
     λ z.
         let y : number₂ ≡ 0 = sym one-number ∙ z in
         let b = s₁ .beyond z in
@@ -248,7 +253,7 @@ module _ {t : List ℕ} {c : ℕ} {w q : List ℕ} {wanted room : ℕ} {rs ds ho
   )
 
   -- NO SECOND OUTCOME FITS, where the call is refused or a table serves
-  pub nearest-only : (t′ : List ℕ) → (number₁ ≡ 0 → Serves t t′ c w q wanted) → (number₁ ≡ number₂) × Same
+  pub nearest-only : (t′ : List ℕ) → (number₁ ≡ 0 → Serves asked t′) → (number₁ ≡ number₂) × Same
   nearest-only t′ serves = go (ℕ-discrete number₁ 0)
     where
       go : Dec (number₁ ≡ 0) → (number₁ ≡ number₂) × Same
@@ -261,26 +266,23 @@ module _ {t : List ℕ} {c : ℕ} {w q : List ℕ} {wanted room : ℕ} {rs ds ho
             one-number,
             (
               nearest-open .2 z .5,
-              nearest-open .2 z .4 (ap (take (n# w)) e),
-              Z₁ .rows ∙ sym (Z₂ .rows),
-              Z₁ .distances ∙ sym (Z₂ .distances),
-              e,
-              nearest-open .2 z .0,
+              nearest-open .2 z .4 (ap (take (rowsIn asked)) e),
+              same-lent lent₁ lent₂ (Z₁ .rows ∙ sym (Z₂ .rows)) (Z₁ .distances ∙ sym (Z₂ .distances)) e (nearest-open .2 z .0),
             ),
           )
 
 -- THE COUNTS ARE NO MORE THAN THE ROWS, so that 32 bits hold them, and there are no more answers than there is room for
-pub nearest-small : {t : List ℕ} {c : ℕ} {w q : List ℕ} {wanted room : ℕ} {rs rs′ ds ds′ how how′ work work′ : List ℕ} {number given met : ℕ}
-    → Answered t c w q wanted room rs rs′ ds ds′ how how′ work work′ number given met → (given ≤ maxRows) × (met ≤ maxRows) × (given ≤ room)
-nearest-small {t} {c} {w} {q} {wanted} {room} {how = how} {how′ = how′} {work = work} {number = number} {given = given} {met = met} s =
-    go (ℕ-discrete number 0)
+pub nearest-small : {asked : NearestAsked} {room : ℕ} {lent lent′ : NearestLent} {number given met : ℕ} → Answered asked room lent lent′ number given met
+    → (given ≤ maxRows) × (met ≤ maxRows) × (given ≤ room)
+nearest-small {asked} {room} {lent} {lent′} {number} {given} {met} s = go (ℕ-discrete number 0)
   where
     go : Dec (number ≡ 0) → (given ≤ maxRows) × (met ≤ maxRows) × (given ≤ room)
     go (no k) = (omega (arith, s .refused k .0), omega (arith, s .refused k .1), omega (arith, s .refused k .0))
     go (yes z) =
-        let C = clear t c w q wanted room (length how) (length work) (sym (s .said) ∙ z) in
-        let n = C .index .shape .whole .rows in (
-          omega (arith, s .sound z .count, n),
-          omega (arith, s .counted z, tally-take isMeasured (n# w) how′, n),
-          omega (arith, s .sound z .count, C .answers, C .index .rows),
+        let C = not-refused (asked .table) (asked .columns) (asked .index) (asked .query) (asked .wanted) room (length (lent .how)) (length (lent .work)) (sym (s .said) ∙ z) in
+        let h = rooms (rowsOf (asked .table) (asked .columns)) (asked .wanted) room (length (lent .how)) (length (lent .work)) (C .numbers .room) in
+        let n = C .numbers .table .rows in (
+          omega (arith, s .sound z .count, n, C .rows),
+          omega (arith, s .counted z, tally-take isMeasured (rowsIn asked) (lent′ .how), n, C .rows),
+          omega (arith, s .sound z .count, h .0, C .rows),
         )

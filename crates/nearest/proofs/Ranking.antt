@@ -1,6 +1,6 @@
 -- A row is among the answers exactly if fewer rows come before it than are wanted. Assumes nothing.
 use Prim.Native.Nat.{_+_, _<_, _≤_, min, suc, zero, ℕ}
-use Rattle.items.proofs.Ranks.{over-rows, total-sort}
+use Rattle.index_space.proofs.Ranks.{over-rows, total-sort}
 use Rattle.laws.proofs.Bags.{total-map}
 use Rattle.laws.proofs.Every.{every-both, every-map, every-of}
 use Rattle.laws.proofs.Ones.{is-bit, is-not, is-self}

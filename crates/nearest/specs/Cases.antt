@@ -1,5 +1,6 @@
 -- What the call gives in the nearest cases of 01, The five-row table, and in one of ours. Assumes nothing.
 use Prim.Native.Nat.{_≤_, min, ℕ}
+use Rattle.nearest_search.specs.Asked.{NearestLent, asks}
 use Rattle.nearest.specs.Calls.{Answered}
 use Rattle.tree.specs.Cases.{five, fiveWords}
 use lib.ListN.{drop, length}
@@ -28,7 +29,9 @@ asked =
 -- what was lent beyond them, and these counts
 abbrev pub Gets : Case → Type 0
 Gets k =
-    (rs rs′ ds ds′ how how′ work work′ : List ℕ) (number given met : ℕ) → length (k .answers) ≤ length rs → length (k .answers) ≤ length ds → 5 ≤ length how → 30 ≤ length work
-    → Answered five 1 fiveWords (k .query ∷ []) (k .wanted) (min (length rs) (length ds)) rs rs′ ds ds′ how how′ work work′ number given met
-    → (number ≡ 0) × (given ≡ length (k .answers)) × (met ≡ k .met) × (rs′ ≡ map (λ a. a .0) (k .answers) ++ drop (length (k .answers)) rs)
-    × (ds′ ≡ map (λ a. a .1) (k .answers) ++ drop (length (k .answers)) ds) × (how′ ≡ k .bytes ++ drop 5 how)
+    (b b′ : NearestLent) (number given met : ℕ) → length (k .answers) ≤ length (b .rows) → length (k .answers) ≤ length (b .distances)
+    → 5 ≤ length (b .how) → 30 ≤ length (b .work)
+    → Answered (asks five 1 fiveWords (k .query ∷ []) (k .wanted)) (min (length (b .rows)) (length (b .distances))) b b′ number given met
+    → (number ≡ 0) × (given ≡ length (k .answers)) × (met ≡ k .met)
+    × (b′ .rows ≡ map (λ a. a .0) (k .answers) ++ drop (length (k .answers)) (b .rows))
+    × (b′ .distances ≡ map (λ a. a .1) (k .answers) ++ drop (length (k .answers)) (b .distances)) × (b′ .how ≡ k .bytes ++ drop 5 (b .how))

@@ -1,4 +1,4 @@
-pub mod Giving
+pub mod Numbers
 pub mod Calls
 pub mod Ranked
 pub mod Cases

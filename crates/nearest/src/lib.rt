@@ -1,50 +1,21 @@
-// The nearest call: its refusals, the search, and the answers handed out.
+// The nearest call: its refusals, and the search.
 ghost use Prim.Native.Nat.{_≤_, min};
-ghost use Rattle.nearest.specs.Calls.{Answered, Found, Lent};
-ghost use Rattle.tree.specs.Calls.{saidNearest};
+ghost use Rattle.nearest_search.specs.Asked.{asks, lends};
+ghost use Rattle.nearest.specs.Calls.{Answered};
+ghost use Rattle.nearest.specs.Numbers.{saidNearest};
 ghost use lib.ListN.{length};
 ghost use mathlib.Core.Path.{_≡_};
-use crate::giving::give;
-use buffers::clear_bytes;
-use buffers::clear_words;
-use seek::searching::search;
-use tree::how::tally;
-
-mod giving;
+use limits::Asked;
+use limits::is_short;
+use limits::rows_in;
+use nearest_search::find;
+use tallies::tally;
 
 // What a call gives: 0 or why it was refused; on success how many answers, and how many rows were measured.
 pub struct Given {
     pub number: u32,
     pub given: usize,
     pub measured: usize,
-}
-
-// The search on an index that is known to be in shape, with what is lent known to fit it: so that many searches take one test. Gives how many
-// answers there are.
-pub fn find(
-    table: &[u16],
-    c: usize,
-    index: &[u32],
-    query: &[u16],
-    wanted: usize,
-    rows: &mut [u32],
-    distances: &mut [u32],
-    how: &mut [u8],
-    work: &mut [u32],
-) -> usize
-    requires { ⌜ Lent (now table) c (now index) (now query) wanted (now rows) (now distances) (now how) (now work) ⌝ }
-    ensures { λ k. ⌜ Found (now (table .entry)) c (now (index .entry)) (now (query .entry)) wanted (now (rows .entry)) (now (rows .exit))
-        (now (distances .entry)) (now (distances .exit)) (now (how .entry)) (now (how .exit)) (now (work .entry)) (now (work .exit)) k ⌝ }
-{
-    let n = words::places::rows(index);
-    clear_bytes(how, n);
-    if n == 0 {
-        return 0;
-    }
-    let k = search(table, c, query, index, wanted, how, work);
-    give(rows, distances, how, work, n, k);
-    clear_words(work, 6 * n);
-    k
 }
 
 // The lesser of two.
@@ -67,27 +38,16 @@ fn refusal(
 ) -> u32
     ensures { λ r. ⌜ r ≡ saidNearest (now (table .entry)) c (now (index .entry)) (now (query .entry)) wanted room how work .0 ⌝ }
 {
-    let number = limits::table_number(table.len(), c);
-    if number != 0 {
-        return number;
-    }
-    let n = table.len() / c;
-    if room < least(wanted, n) {
-        return 5;
-    }
-    if how < n {
-        return 5;
-    }
-    if work < 6 * n {
-        return 5;
-    }
-    if query.len() != c {
-        return 6;
-    }
-    if wanted == 0 {
-        return 7;
-    }
-    words::listing::index_number(index, n, c)
+    let n = rows_in(table.len(), c);
+    let asked = Asked {
+        length: table.len(),
+        columns: c,
+        unfit: false,
+        short: (room < least(wanted, n)) | (how < n) | is_short(work, 6, n),
+        unlike: query.len() != c,
+        none: wanted == 0,
+    };
+    words::index::refusal(asked, index)
 }
 
 // The rows nearest to the query, as `nearest` gives them, where there is room for so many.
@@ -104,9 +64,9 @@ fn answer(
     work: &mut [u32],
 ) -> Given
     requires { ⌜ (room ≤ length (now rows)) × (room ≤ length (now distances)) ⌝ }
-    ensures { λ g. ⌜ Answered (now (table .entry)) c (now (index .entry)) (now (query .entry)) wanted room (now (rows .entry)) (now (rows .exit))
-        (now (distances .entry)) (now (distances .exit)) (now (how .entry)) (now (how .exit)) (now (work .entry)) (now (work .exit)) (g .number)
-        (g .given) (g .measured) ⌝ }
+    ensures { λ g. ⌜ Answered (asks (now (table .entry)) c (now (index .entry)) (now (query .entry)) wanted) room
+        (lends (now (rows .entry)) (now (distances .entry)) (now (how .entry)) (now (work .entry)))
+        (lends (now (rows .exit)) (now (distances .exit)) (now (how .exit)) (now (work .exit))) (g .number) (g .given) (g .measured) ⌝ }
 {
     let number = refusal(table, c, index, query, wanted, room, how.len(), work.len());
     if number != 0 {
@@ -149,9 +109,10 @@ pub fn nearest(
     how: &mut [u8],
     work: &mut [u32],
 ) -> Given
-    ensures { λ g. ⌜ Answered (now (table .entry)) c (now (index .entry)) (now (query .entry)) wanted (min (length (now (rows .entry))) (length (now (distances .entry))))
-        (now (rows .entry)) (now (rows .exit)) (now (distances .entry)) (now (distances .exit)) (now (how .entry)) (now (how .exit)) (now (work .entry))
-        (now (work .exit)) (g .number) (g .given) (g .measured) ⌝ }
+    ensures { λ g. ⌜ Answered (asks (now (table .entry)) c (now (index .entry)) (now (query .entry)) wanted)
+        (min (length (now (rows .entry))) (length (now (distances .entry))))
+        (lends (now (rows .entry)) (now (distances .entry)) (now (how .entry)) (now (work .entry)))
+        (lends (now (rows .exit)) (now (distances .exit)) (now (how .exit)) (now (work .exit))) (g .number) (g .given) (g .measured) ⌝ }
 {
     let room = least(rows.len(), distances.len());
     answer(
@@ -181,9 +142,10 @@ pub fn within(
     how: &mut [u8],
     work: &mut [u32],
 ) -> Given
-    ensures { λ g. ⌜ Answered (now (table .entry)) c (now (index .entry)) (now (query .entry)) wanted (min own (min (length (now (rows .entry))) (length (now (distances .entry)))))
-        (now (rows .entry)) (now (rows .exit)) (now (distances .entry)) (now (distances .exit)) (now (how .entry)) (now (how .exit)) (now (work .entry))
-        (now (work .exit)) (g .number) (g .given) (g .measured) ⌝ }
+    ensures { λ g. ⌜ Answered (asks (now (table .entry)) c (now (index .entry)) (now (query .entry)) wanted)
+        (min own (min (length (now (rows .entry))) (length (now (distances .entry)))))
+        (lends (now (rows .entry)) (now (distances .entry)) (now (how .entry)) (now (work .entry)))
+        (lends (now (rows .exit)) (now (distances .exit)) (now (how .exit)) (now (work .exit))) (g .number) (g .given) (g .measured) ⌝ }
 {
     let room = least(own, least(rows.len(), distances.len()));
     answer(

@@ -4,8 +4,8 @@ use Rattle.measure.specs.Table.{from}
 use Rattle.radius.proofs.How.{written-is}
 use Rattle.radius.specs.Calls.{Searched}
 use Rattle.buffers.specs.Wiped.{wiped}
-use Rattle.radius.specs.Written.{write}
-use Rattle.tree.specs.Calls.{saidRadius}
+use Rattle.marking.specs.Written.{write}
+use Rattle.radius.specs.Numbers.{saidRadius}
 use Rattle.tree.specs.Grove.{treeOf}
 use Rattle.tree.specs.Nearest.{measured}
 use Rattle.tree.specs.Radius.{inside, marks}

@@ -5,11 +5,11 @@ use Rattle.laws.proofs.Ranges.{every-at}
 use Rattle.laws.proofs.Tests.{and-l, and-r, is-true}
 use Rattle.laws.specs.Lists.{all, range, same}
 use Rattle.laws.specs.Upto.{sumTo}
-use Rattle.limits.specs.Said.{said, tableFaults}
+use Rattle.limits.specs.Said.{numberFaults, said, tabled}
 use Rattle.measure.specs.Distance.{l1}
 use Rattle.measure.specs.Table.{between, from, rowsOf}
 use Rattle.radius.proofs.Promises.{first-bytes, radius-call-marks}
-use Rattle.radius.proofs.Refusals.{by-index}
+use Rattle.radius.proofs.Refusals.{taken}
 use Rattle.radius.specs.Cases.{Gives}
 use Rattle.radius.specs.Once.{Once}
 use Rattle.tree.specs.Build.{build, choose, grow, split}
@@ -19,7 +19,8 @@ use Rattle.tree.specs.Encode.{broods, encode, family, levelNodes, nodes, number
 use Rattle.tree.specs.Grove.{treeOf}
 use Rattle.tree.specs.Nearest.{measured}
 use Rattle.tree.specs.Radius.{inside, radiusHow}
-use Rattle.words.specs.Calls.{indexFaults}
+use Rattle.words.proofs.Indexes.{clear}
+use Rattle.words.specs.Index.{callFaults, fitFaults}
 use Rattle.words.specs.Shape.{born, level, nodeOk, shapeOk, tile}
 use Rattle.words.specs.Words.{cardOk, headerOk, n#, wholeOk, wordsOk}
 use borrow.Author.Tests.{not-true}
@@ -39,10 +40,10 @@ same-is (x ∷ a) (y ∷ b) h = ap₂ (λ z l. z ∷ l) (eqb→eq x y (and-l (eq
 
 -- the table of a case and the index built over it are not refused, and each row stands once
 unfoldable fit : List ℕ → Bool
-unfolding sumTo tableFaults l1 between cardOk headerOk wholeOk wordsOk born level tile nodeOk shapeOk indexFaults again family broods levelNodes nodes numbered encode choose split grow build
+unfolding sumTo numberFaults l1 between cardOk headerOk wholeOk wordsOk born level tile nodeOk shapeOk fitFaults callFaults again family broods levelNodes nodes numbered encode choose split grow build
 fit t =
     let w = build t 1 2 2 2 in
-    eqb (rowsOf t 1) (length t) && eqb (n# w) (length t) && eqb (said (tableFaults (length t) 1) .0) 0 && eqb (said (indexFaults w (rowsOf t 1) 1) .0) 0
+    eqb (rowsOf t 1) (length t) && eqb (n# w) (length t) && eqb (said (callFaults (tabled (length t) 1) w) .0) 0
     && all (λ p. not (again w p)) (range 0 (n# w))
 
 module _ (t : List ℕ) (f : T (fit t)) where
@@ -50,24 +51,21 @@ module _ (t : List ℕ) (f : T (fit t)) where
   abbrev w : List ℕ
   w = build t 1 2 2 2
 
-  -- the five tests, each true
-  tests : (rowsOf t 1 ≡ length t) × (n# w ≡ length t) × (said (tableFaults (length t) 1) .0 ≡ 0) × (said (indexFaults w (rowsOf t 1) 1) .0 ≡ 0) × Once w
+  -- the four tests, each true
+  tests : (rowsOf t 1 ≡ length t) × (n# w ≡ length t) × (said (callFaults (tabled (length t) 1) w) .0 ≡ 0) × Once w
   unfolding fit
   tests =
       let a = eqb (rowsOf t 1) (length t) in
       let b = eqb (n# w) (length t) in
-      let d = eqb (said (tableFaults (length t) 1) .0) 0 in
-      let e = eqb (said (indexFaults w (rowsOf t 1) 1) .0) 0 in
+      let d = eqb (said (callFaults (tabled (length t) 1) w) .0) 0 in
       let g = all (λ p. not (again w p)) (range 0 (n# w)) in
-      let f4 = and-l (a && b && d && e) g f in
-      let f3 = and-l (a && b && d) e f4 in
+      let f3 = and-l (a && b && d) g f in
       let f2 = and-l (a && b) d f3 in (
         eqb→eq (rowsOf t 1) (length t) (and-l a b f2),
         eqb→eq (n# w) (length t) (and-r a b f2),
-        eqb→eq (said (tableFaults (length t) 1) .0) 0 (and-r (a && b) d f3),
-        eqb→eq (said (indexFaults w (rowsOf t 1) 1) .0) 0 (and-r (a && b && d) e f4),
+        eqb→eq (said (callFaults (tabled (length t) 1) w) .0) 0 (and-r (a && b) d f3),
         λ p h. every-at (λ p. again w p ≡ false) (n# w) p
-            (every-of (λ p. T (not (again w p))) (λ p. again w p ≡ false) (λ p k. not-true (again w p) (is-true (not (again w p)) k)) (range 0 (n# w)) (all-every (λ p. not (again w p)) (range 0 (n# w)) (and-r (a && b && d && e) g f))) h,
+            (every-of (λ p. T (not (again w p))) (λ p. again w p ≡ false) (λ p k. not-true (again w p) (is-true (not (again w p)) k)) (range 0 (n# w)) (all-every (λ p. not (again w p)) (range 0 (n# w)) (and-r (a && b && d) g f))) h,
       )
 
   module _ (q r : ℕ) (how : List ℕ) (i k : ℕ) where
@@ -88,13 +86,13 @@ module _ (t : List ℕ) (f : T (fit t)) where
     gives : T (right (radius t q r how i k)) → Gives t q r how i k
     gives ok before after number in# met room s =
         let ts = tests in
-        let once = ts .4 in
+        let once = ts .3 in
         let a = same bytes how in
         let b = eqb (inside bytes) i in
         let d = eqb (measured bytes) k in
         let f = right-is ok in
         let ab = and-l (a && b) d f in
-        let z : number ≡ 0 = s .said ∙ sym (by-index t 1 w (q ∷ []) (length before) refl (ts .2) (omega arith) refl (sym (ts .3))) in
+        let z : number ≡ 0 = s .said ∙ sym (taken t 1 w (q ∷ []) (length before) (clear (tabled (length t) 1) w (ts .2)) (omega arith) refl) in
         let same-bytes : radiusHow x r (n# w) (treeOf w) ≡ bytes = ap (λ (n : ℕ). radiusHow x r n (treeOf w)) (ts .1) in
         let first = first-bytes s z once ∙ same-bytes in (
           z,

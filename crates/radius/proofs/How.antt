@@ -4,10 +4,10 @@ use Rattle.laws.specs.Every.{Every}
 use Rattle.laws.proofs.Ranges.{range-length}
 use Rattle.laws.proofs.Times.{lefts, times-every}
 use Rattle.laws.specs.Lists.{look, times}
-use Rattle.radius.proofs.Written.{byte-length, write-length}
+use Rattle.marking.proofs.Written.{byte-length, write-length}
 use Rattle.radius.specs.Once.{Once}
 use Rattle.buffers.specs.Wiped.{wiped}
-use Rattle.radius.specs.Written.{byte, write}
+use Rattle.marking.specs.Written.{byte, write}
 use Rattle.tree.proofs.Marks.{how-at, marks-rows}
 use Rattle.tree.proofs.Rows.{full-tree, rows-low, rows-once}
 use Rattle.tree.specs.Grove.{rowsIn, treeOf}

@@ -1,9 +1,3 @@
-pub mod Written
-pub mod Fitted
-pub mod Distances
-pub mod Below
-pub mod Nodes
-pub mod Ways
 pub mod Refusals
 pub mod How
 pub mod Answered

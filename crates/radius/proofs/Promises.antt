@@ -9,7 +9,7 @@ use Rattle.radius.proofs.How.{bytes-are, how-length, written-length}
 use Rattle.radius.proofs.Refusals.{fits}
 use Rattle.radius.specs.Calls.{Searched}
 use Rattle.radius.specs.Once.{Once}
-use Rattle.radius.specs.Written.{write}
+use Rattle.marking.specs.Written.{write}
 use Rattle.tree.proofs.Accepted.{once-of}
 use Rattle.tree.proofs.Theorems.{radius-exact, radius-two-tables, same-row}
 use Rattle.tree.specs.Check.{Accepted}
@@ -39,7 +39,7 @@ module _ {t : List ℕ} {c : ℕ} {w q : List ℕ} {r : ℕ} {before after : Lis
   pub radius-call-marks : Once w → after ≡ radiusHow (from t c q) r (n# w) (treeOf w) ++ drop (n# w) before
   radius-call-marks once =
       s .written done
-      ∙ ap (λ (l : List ℕ). l ++ drop (n# w) before) (bytes-are (from t c q) r w (fits t c w q before (sym (s .said) ∙ done) .shape) once)
+      ∙ ap (λ (l : List ℕ). l ++ drop (n# w) before) (bytes-are (from t c q) r w (fits t c w q before (sym (s .said) ∙ done) .tested .shape) once)
 
 -- ---- the same, on an index in which each row stands once
 module _ {t : List ℕ} {c : ℕ} {w q : List ℕ} {r : ℕ} {before after : List ℕ} {number in# met : ℕ}
@@ -117,7 +117,7 @@ radius-small {t} {c} {w} {q} {r} {before} {after} {number} {in#} {met} s = go (�
     go : Dec (number ≡ 0) → (in# ≤ maxRows) × (met ≤ maxRows)
     go (no k) = (omega (arith, s .refused k .0), omega (arith, s .refused k .1))
     go (yes z) =
-        let few = fits t c w q before (sym (s .said) ∙ z) .shape .whole .rows in (
+        let few = fits t c w q before (sym (s .said) ∙ z) .tested .shape .whole .rows in (
           omega (arith, s .counts z .0, tally-take (leb 2) (n# w) after),
           omega (arith, s .counts z .1, tally-take isMeasured (n# w) after),
         )

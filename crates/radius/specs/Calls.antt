@@ -1,8 +1,8 @@
 -- What the radius call promises, for every input. Assumes nothing.
 use Prim.Native.Nat.{ℕ}
 use Rattle.measure.specs.Table.{from}
-use Rattle.radius.specs.Written.{write}
-use Rattle.tree.specs.Calls.{saidRadius}
+use Rattle.marking.specs.Written.{write}
+use Rattle.radius.specs.Numbers.{saidRadius}
 use Rattle.tree.specs.Grove.{treeOf}
 use Rattle.tree.specs.Nearest.{measured}
 use Rattle.tree.specs.Radius.{inside, marks}

@@ -1,6 +1,4 @@
-pub mod Written
+pub mod Numbers
 pub mod Once
-pub mod Lent
-pub mod Descent
 pub mod Calls
 pub mod Cases

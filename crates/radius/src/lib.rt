@@ -1,27 +1,12 @@
-// The radius search: a descent that calls itself, over the index words and the lent table.
-ghost use Rattle.measure.specs.Table.{from};
+// The radius call: what is refused, the search, and its counts.
 ghost use Rattle.radius.specs.Calls.{Searched};
-ghost use Rattle.radius.specs.Lent.{Lent};
-ghost use Rattle.buffers.specs.Wiped.{wiped};
-ghost use Rattle.radius.specs.Written.{write};
-ghost use Rattle.tree.specs.Calls.{saidRadius};
-ghost use Rattle.tree.specs.Grove.{treeOf};
-ghost use Rattle.tree.specs.Radius.{marks};
-ghost use Rattle.words.specs.Words.{n#};
+ghost use Rattle.radius.specs.Numbers.{saidRadius};
 ghost use mathlib.Core.Path.{_≡_};
-use crate::descent::descend;
-use crate::marking::measure_row;
-use buffers::clear_bytes;
-use limits::Params;
-use tree::how::tally;
-use words::places::node_first;
-use words::places::nodes;
+use descent::search;
+use limits::Asked;
+use limits::rows_in;
+use tallies::tally;
 use words::places::rows;
-
-mod centres;
-mod descent;
-mod leaf;
-mod marking;
 
 // What a call gives: 0 or why it was refused; on success how many rows are in, and how many were measured.
 pub struct Found {
@@ -30,36 +15,20 @@ pub struct Found {
     pub measured: usize,
 }
 
-// The search on an index that is known to be in shape, with what is lent known to fit it: so that many searches take one test.
-pub fn search(table: &[u16], c: usize, index: &[u32], query: &[u16], r: u32, how: &mut [u8])
-    requires { ⌜ Lent (now index) (now table) c (now query) (now how) ⌝ }
-    ensures { λ _. ⌜ now (how .exit) ≡ write (marks (from (now (table .entry)) c (now (query .entry))) r (treeOf (now (index .entry))))
-        (wiped (n# (now (index .entry))) (now (how .entry))) ⌝ }
-{
-    clear_bytes(how, rows(index));
-    if nodes(index) == 0 {
-        return;
-    }
-    let x = measure_row(table, c, query, node_first(index, 0), r, how);
-    descend(table, c, index, query, 0, x, 0, r, Params::MOST_DEPTH, how);
-}
-
 // Why a call is refused, or 0: of several, the lowest number. `room` is how many how-bytes are lent.
 fn refusal(table: &[u16], c: usize, index: &[u32], query: &[u16], room: usize) -> u32
     ensures { λ r. ⌜ r ≡ saidRadius (now (table .entry)) c (now (index .entry)) (now (query .entry)) room .0 ⌝ }
 {
-    let number = limits::table_number(table.len(), c);
-    if number != 0 {
-        return number;
-    }
-    let n = table.len() / c;
-    if room < n {
-        return 5;
-    }
-    if query.len() != c {
-        return 6;
-    }
-    words::listing::index_number(index, n, c)
+    let n = rows_in(table.len(), c);
+    let asked = Asked {
+        length: table.len(),
+        columns: c,
+        unfit: false,
+        short: room < n,
+        unlike: query.len() != c,
+        none: false,
+    };
+    words::index::refusal(asked, index)
 }
 
 // Which rows of the table are within r of the query, by the index. Of the first n how-bytes each says whether its row is in (2, 3),

@@ -1,11 +1,11 @@
 -- The five-row index with one row more, computed: 6 goes to a leaf that stays, 12 to one that is split. Assumes nothing.
+use Rattle.copies.specs.Copies.{holds, newReach}
 use Rattle.laws.specs.Upto.{sumTo}
 use Rattle.leafward.specs.Changed.{changedAt}
 use Rattle.measure.specs.Distance.{l1}
 use Rattle.measure.specs.Table.{between}
 use Rattle.refill.specs.Calls.{regrownWords}
 use Rattle.regrow.specs.Calls.{regrownOf}
-use Rattle.regrow.specs.Pieces.{holds, newReach}
 use Rattle.tree.specs.Build.{choose, grow, split}
 use Rattle.tree.specs.Cases.{five, fiveWords}
 use Rattle.tree.specs.Encode.{broods, encode, family, levelNodes, nodes, numbered}

@@ -1,10 +1,11 @@
 -- The tree that is grown anew when one row joins a leaf is the tree that takes the row: 02, R-2. Assumes nothing.
+use Rattle.copies.specs.Copies.{newReach}
 use Prim.Native.Nat.{_*_, _+_, _<_, _≤_, suc, zero, ℕ}
 use Rattle.appending.specs.Append.{appended, join, keepOwn}
 use Rattle.laws.specs.Lists.{range, times}
-use Rattle.leafward.proofs.Handing.{join-laid, leafAnew, ready-long, ready-rows, ready-run}
+use Rattle.laying.proofs.Handing.{join-laid, leafAnew, ready-long, ready-rows, ready-run}
 use Rattle.leafward.specs.Changed.{changedAt}
-use Rattle.leafward.specs.Lay.{Lays, ready, unsplit}
+use Rattle.laying.specs.Lay.{Lays, ready, unsplit}
 use Rattle.leafward.specs.Way.{Found}
 use Rattle.limits.specs.Limits.{maxDepth, maxRows}
 use Rattle.measure.specs.Table.{between}
@@ -12,10 +13,9 @@ use Rattle.refill.specs.Calls.{regrownWords}
 use Rattle.regrow.proofs.Changes.{one-reaches}
 use Rattle.regrow.proofs.Trees.{small-grown}
 use Rattle.regrow.specs.Calls.{Regrowable, regrownOf}
-use Rattle.regrow.specs.Pieces.{newReach}
-use Rattle.split.specs.Groups.{stretch}
+use Rattle.rounds.specs.Stretch.{stretch}
 use Rattle.tree.specs.Build.{build, grow, leafOf}
-use Rattle.tree.specs.Calls.{roomOf}
+use Rattle.build.specs.Numbers.{roomOf}
 use Rattle.tree.specs.Encode.{encode}
 use Rattle.tree.specs.Grove.{Grove, Reach, bare, fork, leaf, members#, treeOf}
 use Rattle.words.specs.InShape.{InShape}

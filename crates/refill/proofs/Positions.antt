@@ -1,5 +1,6 @@
 -- The positions of the tree that is grown anew: those of the old index before the run and behind it, and its leaves' members between.
 -- Assumes nothing.
+use Rattle.copies.specs.Copies.{end#, newReach}
 use Prim.Native.Nat.{_+_, _-_, _<_, _≤_, suc, zero, ℕ}
 use Rattle.appending.specs.Append.{keepOwn}
 use Rattle.build.proofs.Positions.{entries-leaves, pairsOf}
@@ -16,7 +17,7 @@ use Rattle.regrow.proofs.Found.{own-due}
 use Rattle.regrow.proofs.Trees.{keep-entries}
 use Rattle.regrow.specs.Calls.{regrownOf}
 use Rattle.regrow.specs.Pieces as pieces
-use Rattle.regrow.specs.Pieces.{due, end#, newReach, piece}
+use Rattle.regrow.specs.Pieces.{due, piece}
 use Rattle.tree.specs.Build.{grow}
 use Rattle.tree.specs.Grove.{Grove, Reach, bare, entries, fork, leaf, members#}
 use Rattle.words.proofs.Levels.{inner-is}

@@ -1,4 +1,5 @@
 -- The words of the whole index: header, nodes, positions. Assumes nothing.
+use Rattle.copies.specs.Copies.{end#}
 use Prim.Native.Nat.{_*_, _+_, _-_, _≤_, ℕ}
 use Rattle.build.proofs.Positions.{pairs-laid, pairsOf}
 use Rattle.build.proofs.Rooms.{room-long}
@@ -15,9 +16,8 @@ use Rattle.refill.proofs.Wording.{held-words}
 use Rattle.refill.specs.Calls.{Refilled, pairsThen}
 use Rattle.regrow.proofs.Around.{own-start}
 use Rattle.regrow.specs.Calls.{Regrowable, Regrown, regrownOf}
-use Rattle.regrow.specs.Pieces.{end#}
 use Rattle.split.proofs.Laid.{runs-long}
-use Rattle.split.specs.Groups.{stretch}
+use Rattle.rounds.specs.Stretch.{stretch}
 use Rattle.split.specs.Places.{nodeAt}
 use Rattle.split.specs.Runs.{laid}
 use Rattle.tree.proofs.Written.{each-words}

@@ -1,10 +1,10 @@
 -- The index whose tree is grown anew below one node, written into the room. A working notion, on which no promise rests. Assumes nothing.
+use Rattle.copies.specs.Copies.{end#}
 use Prim.Native.Nat.{_*_, _+_, _-_, _<_, _≤_, ℕ}
 use Rattle.build.specs.Filled.{pairsIn}
 use Rattle.limits.specs.Limits.{maxRows}
 use Rattle.regrow.specs.Calls.{Regrowable, regrownOf}
-use Rattle.regrow.specs.Pieces.{end#}
-use Rattle.split.specs.Groups.{stretch}
+use Rattle.rounds.specs.Stretch.{stretch}
 use Rattle.tree.specs.Encode.{encode, numbered}
 use Rattle.words.specs.Words.{N#, c#, count#, l#, m#, n#, pairAt, start#}
 use lib.ListN.{drop, length, take}

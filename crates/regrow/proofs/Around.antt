@@ -2,18 +2,20 @@
 -- other as before. Assumes nothing.
 use Prim.Native.Nat.{_+_, _-_, _<_, _≤_, suc, zero, ℕ}
 use Rattle.build.specs.Levels.{Able, Item}
+use Rattle.copies.specs.Copies.{copied, end#, newChild, newCount, newStart}
 use Rattle.laws.proofs.Every.{every-map}
 use Rattle.laws.proofs.Ranges.{every-range, range-every, range-length}
 use Rattle.laws.proofs.Tests.{holds}
 use Rattle.laws.specs.Every.{Every}
-use Rattle.laws.specs.Lists.{each, range}
+use Rattle.laws.specs.Lists.{range}
 use Rattle.leafward.specs.Changed.{Holds}
 use Rattle.limits.specs.Limits.{maxDepth}
 use Rattle.regrow.proofs.Dues.{both-none}
 use Rattle.regrow.proofs.Found.{child-same, dues, dues-down, j, kids, leaf-few, own-piece, stays-kept}
 use Rattle.regrow.proofs.Rows.{piece-node}
+use Rattle.copies.specs.Copies as copies
 use Rattle.regrow.specs.Pieces as pieces
-use Rattle.regrow.specs.Pieces.{Fitting, Follow, copied, due, end#, kept, newChild, newCount, newStart, pending, piece}
+use Rattle.regrow.specs.Pieces.{Fitting, Follow, due, pending, piece}
 use Rattle.regrow.specs.Stages.{Own}
 use Rattle.tree.specs.Encode.{Node}
 use Rattle.tree.specs.Grove.{members#}
@@ -26,7 +28,7 @@ use Rattle.words.specs.Words.{N#, child#, count#, dist#, l#, m#, row#, run#, st
 use borrow.Author.Tests.{eq-eqb, eqb-false, eqb-true, le-leb, lt-leb, ne-eqb, not-false}
 use lib.Dec.{T, eqb, leb}
 use lib.ListN.{length, length-map}
-use mathlib.Core.Bool.{Bool, _&&_, cond, false, not, true}
+use mathlib.Core.Bool.{Bool, _&&_, cond, false, true}
 use mathlib.Core.List.{List, [], _++_, _∷_, append-nil, cons≢nil, map}
 use mathlib.Core.Logic.{_⊎_, inl, inr}
 use mathlib.Core.Path.{_∙_, _≡_, ap, ap₂, refl, subst, sym}
@@ -64,12 +66,12 @@ module _ (t w : List ℕ) (v added limit : ℕ) (run : List ℕ) (fits : T (tree
 
   -- the count of a run that holds node v's
   count-holds : (k : ℕ) → Holds w v k → J .copy k .1 ≡ count# w k + added
-  unfolding copied newCount pieces.holds
+  unfolding copied newCount copies.holds
   count-holds k h = rw (le-leb (start# w k) (start# w v) (h .0), le-leb (end# w v) (end# w k) (h .1)) refl
 
   -- and of one that stands apart
   count-apart : (k : ℕ) → 1 ≤ count# w k → Apart k → J .copy k .1 ≡ count# w k
-  unfolding copied newCount pieces.holds
+  unfolding copied newCount copies.holds
   count-apart k c (inl h) = go (leb (start# w k) (start# w v)) (lt-leb (end# w v) (end# w k) (omega (arith, some)))
     where
       go : (b : Bool) → leb (end# w v) (end# w k) ≡ false → cond (b && leb (end# w v) (end# w k)) (count# w k + added) (count# w k) ≡ count# w k

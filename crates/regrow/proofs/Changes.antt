@@ -1,12 +1,13 @@
 -- The tree of an index with one node grown anew, told by pieces; and how far its nodes reach. Assumes nothing.
 use Prim.Native.Nat.{_<_, suc, zero, ℕ}
 use Rattle.appending.specs.Append.{keepOwn}
+use Rattle.copies.specs.Copies.{copied, end#, holds, newReach}
 use Rattle.laws.specs.Lists.{range}
 use Rattle.leafward.specs.Changed.{Holds, Reaches, changedAt}
 use Rattle.measure.specs.Table.{between}
 use Rattle.regrow.proofs.Found.{child-same, j}
 use Rattle.regrow.proofs.Trees.{grove, grown}
-use Rattle.regrow.specs.Pieces.{Job, copied, end#, fresh, holds, kept, newReach, piece}
+use Rattle.regrow.specs.Pieces.{Job, fresh, kept, piece}
 use Rattle.tree.specs.Build.{grow}
 use Rattle.tree.specs.Grove.{Grove, Reach, bare, fork, leaf, members#}
 use Rattle.words.specs.Shape.{treeFits}

@@ -5,7 +5,7 @@ use Rattle.build.specs.Levels.{Item, placed}
 use Rattle.laws.proofs.Empty.{append-nil-l, append-nil-r}
 use Rattle.laws.proofs.Joins.{each-append}
 use Rattle.laws.specs.Lists.{each}
-use Rattle.regrow.specs.Pieces.{Job, Piece, due, fresh, freshOf, kept, nextLevel, parts, piece, runOf, runsOf}
+use Rattle.regrow.specs.Pieces.{Job, Piece, due, fresh, freshOf, kept, nextLevel, parts, runOf, runsOf}
 use Rattle.tree.specs.Build.{split}
 use Rattle.tree.specs.Grove.{Reach}
 use lib.Dec.{leb}

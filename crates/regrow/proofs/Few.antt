@@ -5,7 +5,7 @@ use Rattle.build.proofs.Waiting.{able-run}
 use Rattle.build.specs.Levels.{placed}
 use Rattle.laws.proofs.Ranges.{range-length}
 use Rattle.laws.specs.Every.{Every}
-use Rattle.laws.specs.Lists.{each, joined, range}
+use Rattle.laws.specs.Lists.{joined, range}
 use Rattle.regrow.proofs.Rows.{all-more}
 use Rattle.regrow.proofs.Trees.{next-fits}
 use Rattle.regrow.specs.Pieces.{Fitting, Follow, Job, Piece, allNodes, fresh, freshOf, kept, nextLevel, parts, pending, piece}
@@ -17,7 +17,7 @@ use lib.Dec.{eqb, leb}
 use lib.ListN.{length, length-append, length-map}
 use mathlib.Core.Bool.{Bool, cond, false, true}
 use mathlib.Core.List.{List, [], _++_, _∷_, map}
-use mathlib.Core.Path.{_≡_, ap, refl}
+use mathlib.Core.Path.{_≡_, refl}
 use native.Mathlib.Omega.{arith}
 
 module _ (j : Job) (es : ℕ → List (ℕ × ℕ)) (many : ℕ) (m2 : 2 ≤ j .m) (ml : j .m ≤ j .limit) where

@@ -1,6 +1,7 @@
 -- An index in shape comes to each of its nodes once: the run of the node that is grown anew is due at the root, and no other. Assumes nothing.
 use Prim.Native.Nat.{_+_, _-_, _<_, _≤_, suc, zero, ℕ}
 use Rattle.build.specs.Levels.{Item}
+use Rattle.copies.specs.Copies.{copied, newChild}
 use Rattle.laws.proofs.Joins.{each-append}
 use Rattle.laws.proofs.Lists.{map-append}
 use Rattle.laws.proofs.Ranges.{range-append, range-every}
@@ -8,7 +9,7 @@ use Rattle.laws.proofs.Tests.{and-l, and-r}
 use Rattle.laws.specs.Every.{Every}
 use Rattle.laws.specs.Lists.{each, range}
 use Rattle.limits.specs.Limits.{maxDepth, maxDistance}
-use Rattle.regrow.specs.Pieces.{Job, copied, due, fresh, jobOf, kept, newChild, piece}
+use Rattle.regrow.specs.Pieces.{Job, due, fresh, jobOf, kept, piece}
 use Rattle.words.proofs.Levels.{born-inner, born-le, born-leaf, inner-is}
 use Rattle.words.proofs.Nodes.{closed, node-at, node-ok, not-orphan}
 use Rattle.words.specs.Shape.{born, inner, level, nodeOk, tile, treeFits}

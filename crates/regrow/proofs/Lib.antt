@@ -1,4 +1,3 @@
-pub mod Copies
 pub mod Opens
 pub mod Rows
 pub mod Paving

@@ -8,8 +8,8 @@ use Rattle.laws.proofs.Joins.{each-append, part-one, part-three, part-two}
 use Rattle.laws.specs.Every.{Every}
 use Rattle.laws.specs.Lists.{each, head, joined}
 use Rattle.regrow.specs.Stages.{Paved}
+use Rattle.rounds.specs.Stretch.{stretch}
 use Rattle.split.proofs.Laid.{laid-long, runs-long, under-rows}
-use Rattle.split.specs.Groups.{stretch}
 use Rattle.split.specs.Runs.{laid, rows, runAt}
 use Rattle.tree.proofs.Grow.{split-runs}
 use Rattle.tree.specs.Build.{Run, split}

@@ -2,6 +2,7 @@
 use Prim.Native.Nat.{_*_, _+_, _-_, _≤_, ℕ}
 use Rattle.build.specs.Levels.{Able}
 use Rattle.build.specs.Stages.{withNodes}
+use Rattle.copies.specs.Copies.{withCopies}
 use Rattle.limits.specs.Limits.{maxDepth}
 use Rattle.measure.specs.Table.{between}
 use Rattle.regrow.proofs.Around.{own-start, own-words, root-count, root-fits, root-start}
@@ -12,8 +13,8 @@ use Rattle.regrow.proofs.Rows.{piece-node}
 use Rattle.regrow.proofs.Trees.{fits-sound, numbered-pieces}
 use Rattle.regrow.specs.Calls.{Regrowable, Regrown, regrownOf}
 use Rattle.regrow.specs.Pieces.{Fitting, Job, allNodes, due, jobOf, piece}
-use Rattle.regrow.specs.Stages.{Leveled, Own, Planted, withCopies}
-use Rattle.split.specs.Groups.{stretch}
+use Rattle.regrow.specs.Stages.{Leveled, Own, Planted}
+use Rattle.rounds.specs.Stretch.{stretch}
 use Rattle.split.specs.Runs.{laid}
 use Rattle.tree.specs.Encode.{Node, numbered}
 use Rattle.tree.specs.Grove.{bare, members#}

@@ -2,7 +2,7 @@
 use Prim.Native.Nat.{_+_, _≤_, suc, zero, ℕ}
 use Rattle.build.specs.Levels.{Item, leafNode}
 use Rattle.laws.proofs.Joins.{each-append}
-use Rattle.laws.specs.Lists.{each, range}
+use Rattle.laws.specs.Lists.{range}
 use Rattle.regrow.specs.Pieces.{Job, Piece, allNodes, fresh, freshOf, kept, levelOut, nextLevel, withKids, parts, pending, piece}
 use Rattle.regrow.specs.Stages.{Own}
 use Rattle.tree.specs.Encode.{Node}

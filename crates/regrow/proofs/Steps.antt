@@ -5,7 +5,7 @@ use Rattle.build.proofs.Rooms.{run-nodes}
 use Rattle.build.proofs.Tiles.{joined-append}
 use Rattle.build.proofs.Waiting.{Next, next-waiting, small-opened}
 use Rattle.build.specs.Levels.{Item, opened, placed, waits}
-use Rattle.build.specs.Stages.{Openable, Opened}
+use Rattle.build.specs.Stages.{Opened}
 use Rattle.laws.proofs.Joins.{each-append}
 use Rattle.laws.proofs.Ranges.{range-length}
 use Rattle.laws.specs.Lists.{each, joined, keep, range}

@@ -9,7 +9,7 @@ use Rattle.laws.proofs.Every.{every-append}
 use Rattle.laws.proofs.Lists.{map-append, tally-length}
 use Rattle.laws.proofs.Ranges.{range-length}
 use Rattle.laws.specs.Every.{Every}
-use Rattle.laws.specs.Lists.{each, head, range}
+use Rattle.laws.specs.Lists.{head, range}
 use Rattle.levels.proofs.Singles.{numbered-items, singles-length}
 use Rattle.levels.specs.Singles.{Single, kidsOf, levelOf, levelsOf, lower, singles, wordsAt}
 use Rattle.limits.specs.Limits.{maxDepth}

@@ -6,9 +6,9 @@ use Rattle.build.specs.Stages.{withNodes}
 use Rattle.laws.proofs.Every.{every-append}
 use Rattle.laws.proofs.Joins.{each-append}
 use Rattle.laws.specs.Every.{Every}
-use Rattle.laws.specs.Lists.{each, joined, keep, range}
+use Rattle.laws.specs.Lists.{joined, keep, range}
 use Rattle.measure.specs.Table.{between}
-use Rattle.regrow.proofs.Halves.{Half, Levelling, behind, front, gone, job}
+use Rattle.regrow.proofs.Halves.{Half, Levelling, front, gone, job}
 use Rattle.regrow.proofs.Rows.{all-more, out-long}
 use Rattle.regrow.proofs.Steps.{half-open, half-step}
 use Rattle.regrow.specs.Pieces.{Job, Piece, Sound, fresh, freshOf, kept, levelOut, nextLevel, parts, pending, piece}

@@ -4,17 +4,17 @@ use Prim.Native.Nat.{_*_, _+_, _<_, _≤_, ℕ}
 use Rattle.appending.specs.Append.{keepOwn}
 use Rattle.build.specs.Levels.{leaves}
 use Rattle.build.specs.Stages.{withNodes}
+use Rattle.copies.specs.Copies.{Change, newReach}
 use Rattle.laws.specs.Every.{Every}
 use Rattle.laws.specs.Lists.{each, times}
 use Rattle.leafward.specs.Changed.{changedAt}
 use Rattle.limits.specs.Limits.{maxDepth}
 use Rattle.measure.specs.Table.{between}
-use Rattle.regrow.specs.Pieces.{due, jobOf, newReach, piece}
-use Rattle.regrow.specs.Stages.{Change}
-use Rattle.split.specs.Groups.{stretch}
+use Rattle.regrow.specs.Pieces.{due, jobOf, piece}
+use Rattle.rounds.specs.Stretch.{stretch}
 use Rattle.split.specs.Runs.{laid}
 use Rattle.tree.specs.Build.{grow}
-use Rattle.tree.specs.Calls.{roomOf}
+use Rattle.build.specs.Numbers.{roomOf}
 use Rattle.tree.specs.Encode.{numbered}
 use Rattle.tree.specs.Grove.{Grove, Reach, bare}
 use Rattle.words.specs.Shape.{treeFits}

@@ -1,54 +1,20 @@
 -- A tree of which most nodes are those of an old index, and one is grown anew from a run: level by level, as the code makes it. A working notion, on
 -- which no promise rests. Assumes nothing.
 use Prim.Native.Nat.{_+_, _≤_, suc, zero, ℕ}
-use Rattle.appending.specs.Append.{reachWith}
 use Rattle.build.specs.Levels.{Able, Item, placed}
+use Rattle.copies.specs.Copies.{copied}
 use Rattle.laws.specs.Every.{Every}
 use Rattle.laws.specs.Lists.{each, range}
 use Rattle.measure.specs.Table.{between}
 use Rattle.tree.specs.Build.{reach, split}
 use Rattle.tree.specs.Encode.{Node}
-use Rattle.tree.specs.Grove.{Reach, reach#}
-use Rattle.words.specs.Words.{c#, child#, count#, first#, m#, n#, start#}
-use lib.Dec.{eqb, leb, ltb}
+use Rattle.tree.specs.Grove.{Reach}
+use Rattle.words.specs.Words.{c#, m#}
+use lib.Dec.{eqb, leb}
 use lib.ListN.{length}
-use mathlib.Core.Bool.{Bool, _&&_, cond}
+use mathlib.Core.Bool.{cond}
 use mathlib.Core.List.{List, [], _++_, _∷_, map}
 use mathlib.Core.Path.{_≡_}
-
--- ---- an old node where it stands when `added` rows have come to the end of node v's run
--- where a node's run ends
-abbrev pub end# : List ℕ → ℕ → ℕ
-end# w k = start# w k + count# w k
-
--- node k's run holds node v's
-unfoldable pub holds : List ℕ → ℕ → ℕ → Bool
-holds w v k = leb (start# w k) (start# w v) && leb (end# w v) (end# w k)
-
--- its start: a run behind node v's has moved
-unfoldable pub newStart : List ℕ → ℕ → ℕ → ℕ → ℕ
-newStart w v added k = cond (leb (end# w v) (start# w k)) (start# w k + added) (start# w k)
-
--- its count
-unfoldable pub newCount : List ℕ → ℕ → ℕ → ℕ → ℕ
-newCount w v added k = cond (holds w v k) (count# w k + added) (count# w k)
-
--- how far it reaches: where its run holds node v's and rows have come, to the first of them too, which is row n of the old index
-unfoldable pub newReach : (ℕ → ℕ → ℕ) → List ℕ → ℕ → ℕ → ℕ → Reach
-newReach d w v added k =
-    cond (holds w v k && ltb 0 added) (reachWith (count# w k) (reach# w k) (d (first# w k) (n# w))) (reach# w k)
-
--- the two numbers of a reach
-abbrev pub Numbers : Reach → ℕ → ℕ → Type 0
-Numbers R radius inner = (radius ≡ R .outer) × (inner ≡ R .inner)
-
--- its first child's number in the old index; node v has no child yet
-unfoldable pub newChild : List ℕ → ℕ → ℕ → ℕ
-newChild w v k = cond (eqb k v) 0 (child# w k)
-
--- its words while it waits
-unfoldable pub copied : (ℕ → ℕ → ℕ) → List ℕ → ℕ → ℕ → ℕ → Node
-copied d w v added k = (newStart w v added k, newCount w v added k, newChild w v k, newReach d w v added k)
 
 -- ---- the work at hand
 -- the distance, how many centres, how many rows a run may have that is not split, an old node's words while it waits, the node that is grown anew,

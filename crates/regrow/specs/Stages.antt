@@ -3,33 +3,20 @@
 use Prim.Native.Nat.{_*_, _+_, _<_, _≤_, suc, ℕ}
 use Rattle.build.specs.Levels.{Able, leaves, opened, placed, waits}
 use Rattle.build.specs.Stages.{Openable, Opened, withNodes}
+use Rattle.copies.specs.Copies.{Change, copied, withCopies}
+use Rattle.copies.specs.Copies.{copied}
 use Rattle.laws.specs.Every.{Every}
-use Rattle.laws.specs.Lists.{each, keep, range}
-use Rattle.limits.specs.Limits.{maxDepth, maxRows}
+use Rattle.laws.specs.Lists.{each, keep}
+use Rattle.limits.specs.Limits.{maxDepth}
 use Rattle.measure.specs.Table.{between}
-use Rattle.regrow.specs.Pieces.{Job, Piece, Sound, allNodes, copied, due, jobOf, levelOut, nextLevel, pending, piece, runsOf}
+use Rattle.regrow.specs.Pieces.{Job, Piece, Sound, allNodes, due, jobOf, levelOut, nextLevel, pending, piece, runsOf}
 use Rattle.split.specs.Places.{child#, nodeAt}
 use Rattle.split.specs.Runs.{laid}
-use Rattle.tree.specs.Encode.{Node, nodeWords}
-use Rattle.words.specs.InShape.{InShape}
-use Rattle.words.specs.Words.{N#, c#, edition#, l#, m#, n#}
-use lib.ListN.{drop, length, set, take}
+use Rattle.tree.specs.Encode.{Node}
+use Rattle.words.specs.Words.{N#, c#, m#, n#}
+use lib.ListN.{length, set, take}
 use mathlib.Core.List.{List, [], _++_, _∷_, map}
 use mathlib.Core.Path.{_≡_}
-
--- an index of edition 2 in shape, one of its nodes, a table with `added` rows more than it, and a limit that no old leaf above depth 24 is over
-pub record Change (t w : List ℕ) (v added limit : ℕ) : Type 0 where
-  pub shape : InShape w
-  pub edition : edition# w ≡ 2
-  pub there : v < N# w
-  pub leafy : l# w ≤ limit
-  pub rows : n# w + added ≤ maxRows
-  pub table : c# w * (n# w + added) ≤ length t
-
--- the old nodes' words from o on, k of them, copied behind the first `made` nodes
-abbrev pub withCopies : (ℕ → Node) → ℕ → ℕ → List ℕ → ℕ → List ℕ
-withCopies copy o k room made =
-    take (nodeAt made) room ++ (each (nodeWords 2) (map copy (range o k)) ++ drop (nodeAt (made + k)) room)
 
 -- ---- one node
 -- node k is one of the nodes made. Where it has no child, it is opened as the build opens it; where it has, the old nodes are there and there is room

@@ -4,9 +4,10 @@ use Rattle.sheet.specs.Closing.{accepted, bare, closed, decided, endTrou
 use Rattle.sheet.specs.InLine.{along, digitAt, moved, settled}
 use Rattle.sheet.specs.Says.{differs, none, orRow, rowTrouble}
 use Rattle.sheet.specs.declared.Reader.{Reader}
-use Rattle.sheet.specs.declared.bytes.Kind.the-variants.{Digit}
+use Rattle.sheet.specs.declared.bytes.Kind.the-variants.{Digit, Other, Sign}
 use Rattle.sheet.specs.declared.bytes.Kind.{Kind}
 use Rattle.sheet.specs.declared.line.Line.{Line}
+use Rattle.sheet.specs.declared.line.Place.the-variants.{Strange}
 use Rattle.sheet.specs.declared.line.Place.{Place}
 use Rattle.sheet.specs.declared.line.Trouble.{Trouble}
 use borrow.Author.Tests.{eq-eqb, eqb-false, eqb-true, le-ltb, leb-false, lt-ltb, ltb-false, ltb-true, ne-eqb}
@@ -23,21 +24,47 @@ use native.Mathlib.Omega.{arith}
 pub along-digit : (l : Line) (k : Kind) (d : ℕ) (p : Place) (l′ : Line) → k ≡ Digit d → p ≡ digitAt (l .place) d → l′ ≡ moved l p true → l′ ≡ along l k
 along-digit l k d p l′ e q h = rw e (h ∙ ap (λ (x : Place). moved l x true) q)
 
+-- a sign
+pub along-sign : (l : Line) (k : Kind) (l′ : Line) → k ≡ Sign → l′ ≡ moved l Strange true → l′ ≡ along l k
+along-sign l k l′ e h = rw e h
+
+-- any other byte
+pub along-other : (l : Line) (k : Kind) (l′ : Line) → k ≡ Other → l′ ≡ moved l Strange false → l′ ≡ along l k
+along-other l k l′ e h = rw e h
+
+-- ---- a label's column
+-- there is none
+pub label-none : (label count : ℕ) → label ≡ 0 → false ≡ eqb label (count + 1)
+label-none label count e = sym (ne-eqb label (count + 1) (λ (q : label ≡ count + 1). omega arith))
+
+-- there is one: it is compared
+pub label-some : (label count : ℕ) → (label ≡ 0 → ⊥) → eqb (label - 1) count ≡ eqb label (count + 1)
+label-some label count k = go (eqb (label - 1) count) refl
+  where
+    go : (b : Bool) → eqb (label - 1) count ≡ b → b ≡ eqb label (count + 1)
+    go true e = sym (eq-eqb label (count + 1) (omega (arith, eqb-true (label - 1) count e, k)))
+    go false e =
+        sym
+        (ne-eqb label (count + 1)
+        (λ (q : label ≡ count + 1).
+        let z : label - 1 ≡ count = omega arith in
+        eqb-false (label - 1) count e z))
+
 -- ---- nothing is wrong with the row
 -- it is as wide as it may be and as the lines above, it is not one too many, and there is room
 pub record Fits (columns rows put n room : ℕ) : Type 0 where
   pub narrow : n ≤ 16
   pub even : differs columns n ≡ false
-  pub few : rows < 65_536
+  pub few : rows < 1_048_576
   pub space : put + n ≤ room
 
 module _ (columns rows put n room : ℕ) where
   -- a row in which nothing is wrong fits
   pub row-fits : rowTrouble columns rows put n room .kind ≡ 0 → Fits columns rows put n room
   unfolding rowTrouble
-  row-fits e = go (ltb 16 n) (differs columns n) (leb 65_536 rows) (ltb room (put + n)) refl refl refl refl e
+  row-fits e = go (ltb 16 n) (differs columns n) (leb 1_048_576 rows) (ltb room (put + n)) refl refl refl refl e
     where
-      go : (q d m s : Bool) → ltb 16 n ≡ q → differs columns n ≡ d → leb 65_536 rows ≡ m → ltb room (put + n) ≡ s
+      go : (q d m s : Bool) → ltb 16 n ≡ q → differs columns n ≡ d → leb 1_048_576 rows ≡ m → ltb room (put + n) ≡ s
           → cond {A = Trouble} q (record { kind = 3; column = 17 })
           (cond d (record { kind = 4; column = min columns n + 1 })
           (cond m (record { kind = 5; column = 1 }) (cond s (record { kind = 6; column = 1 }) none))) .kind ≡ 0
@@ -50,7 +77,7 @@ module _ (columns rows put n room : ℕ) where
           record {
             narrow = ltb-false 16 n b;
             even = c;
-            few = leb-false 65_536 rows f;
+            few = leb-false 1_048_576 rows f;
             space = ltb-false room (put + n) g;
           }
 

@@ -2,7 +2,7 @@
 use Prim.Native.Nat.{_+_, _≤_, ℕ}
 use Rattle.laws.specs.Lists.{all, joined}
 use Rattle.sheet.proofs.Sheets.{sheet-read}
-use Rattle.sheet.specs.Fields.{asName, asNumber, isDigit, value}
+use Rattle.sheet.specs.Fields.{asNames, asNumber, isDigit, value}
 use Rattle.sheet.specs.Lines.{fieldsOf, lines, named, numbers}
 use Rattle.sheet.specs.Reading.{begun, finished, run}
 use Rattle.sheet.specs.Says.{Told, lineTrouble, none, says, stopped, told, toldAll, toldBy, toldNames, trouble}
@@ -35,14 +35,14 @@ more-rows t line columns ns o rs i e = go (eqb (t .kind) 0) refl e
     go false p e = absurd (eqb-false (t .kind) 0 p e)
 
 -- these lines
-told-rows : (ls : List (List ℕ)) (room line columns rows put : ℕ) → told room line columns rows put ls .kind ≡ 0
-    → told room line columns rows put ls .rs ≡ map numbers ls
+told-rows : (label : ℕ) (ls : List (List ℕ)) (room line columns rows put : ℕ) → told label room line columns rows put ls .kind ≡ 0
+    → told label room line columns rows put ls .rs ≡ map (numbers label) ls
 unfolding told stopped
-told-rows [] room line columns rows put e = refl
-told-rows (l ∷ ls) room line columns rows put e =
-    more-rows (lineTrouble columns rows put room l) line columns (numbers l)
-    (told room (line + 1) (length (numbers l)) (rows + 1) (put + length (numbers l)) ls) (map numbers ls)
-    (told-rows ls room (line + 1) (length (numbers l)) (rows + 1) (put + length (numbers l)))
+told-rows label [] room line columns rows put e = refl
+told-rows label (l ∷ ls) room line columns rows put e =
+    more-rows (lineTrouble label columns rows put room l) line columns (numbers label l)
+    (told label room (line + 1) (length (numbers label l)) (rows + 1) (put + length (numbers label l)) ls) (map (numbers label) ls)
+    (told-rows label ls room (line + 1) (length (numbers label l)) (rows + 1) (put + length (numbers label l)))
     e
 
 -- the lines below a line of names
@@ -51,29 +51,29 @@ rowLines [] = []
 rowLines (l ∷ ls) = cond (named l) ls (l ∷ ls)
 
 -- of all lines
-all-rows : (ls : List (List ℕ)) (room : ℕ) → toldAll room ls .kind ≡ 0 → toldAll room ls .rs ≡ map numbers (rowLines ls)
+all-rows : (label : ℕ) (ls : List (List ℕ)) (room : ℕ) → toldAll label room ls .kind ≡ 0 → toldAll label room ls .rs ≡ map (numbers label) (rowLines ls)
 unfolding toldAll toldNames stopped
-all-rows [] room e = told-rows [] room 1 0 0 0 e
-all-rows (l ∷ ls) room e = go (named l) (eqb (trouble asName 0 (fieldsOf l) .kind) 0) refl e
+all-rows label [] room e = told-rows label [] room 1 0 0 0 e
+all-rows label (l ∷ ls) room e = go (named l) (eqb (trouble asNames 0 (fieldsOf l) .kind) 0) refl e
   where
-    go : (a b : Bool) → eqb (trouble asName 0 (fieldsOf l) .kind) 0 ≡ b
-        → cond a (cond b (told room 2 (length (fieldsOf l)) 0 0 ls) (stopped (trouble asName 0 (fieldsOf l)) 1 0)) (told room 1 0 0 0 (l ∷ ls)) .kind ≡ 0
-        → cond a (cond b (told room 2 (length (fieldsOf l)) 0 0 ls) (stopped (trouble asName 0 (fieldsOf l)) 1 0)) (told room 1 0 0 0 (l ∷ ls)) .rs
-        ≡ map numbers (cond a ls (l ∷ ls))
-    go true true p e = told-rows ls room 2 (length (fieldsOf l)) 0 0 e
-    go true false p e = absurd (eqb-false (trouble asName 0 (fieldsOf l) .kind) 0 p e)
-    go false b p e = told-rows (l ∷ ls) room 1 0 0 0 e
+    go : (a b : Bool) → eqb (trouble asNames 0 (fieldsOf l) .kind) 0 ≡ b
+        → cond a (cond b (told label room 2 (length (fieldsOf l)) 0 0 ls) (stopped (trouble asNames 0 (fieldsOf l)) 1 0)) (told label room 1 0 0 0 (l ∷ ls)) .kind ≡ 0
+        → cond a (cond b (told label room 2 (length (fieldsOf l)) 0 0 ls) (stopped (trouble asNames 0 (fieldsOf l)) 1 0)) (told label room 1 0 0 0 (l ∷ ls)) .rs
+        ≡ map (numbers label) (cond a ls (l ∷ ls))
+    go true true p e = told-rows label ls room 2 (length (fieldsOf l)) 0 0 e
+    go true false p e = absurd (eqb-false (trouble asNames 0 (fieldsOf l) .kind) 0 p e)
+    go false b p e = told-rows label (l ∷ ls) room 1 0 0 0 e
 
 -- NO ROW IS LOST: A TEXT IN WHICH NOTHING IS WRONG HAS A ROW FOR EACH LINE BELOW ITS NAMES
-pub sheet-rows : (t table : List ℕ) → length t + 2 ≤ 18_446_744_073_709_551_615 → finished (run (begun, table) t) .0 .fault ≡ 0
-    → (says (length table) t .rs ≡ map numbers (rowLines (lines t)))
-    × (finished (run (begun, table) t) .0 .rows ≡ length (rowLines (lines t)))
+pub sheet-rows : (label : ℕ) (t table : List ℕ) → length t + 2 ≤ 18_446_744_073_709_551_615 → finished (run (begun label, table) t) .0 .fault ≡ 0
+    → (says label (length table) t .rs ≡ map (numbers label) (rowLines (lines t)))
+    × (finished (run (begun label, table) t) .0 .rows ≡ length (rowLines (lines t)))
 unfolding says
-sheet-rows t table h e =
-    let i = sheet-read t table h in
-    let x : toldAll (length table) (lines t) .rs ≡ map numbers (rowLines (lines t)) =
-    all-rows (lines t) (length table) (sym (i .fault) ∙ e) in
-    (x, i .rows ∙ ap (λ (y : List (List ℕ)). length y) x ∙ length-map (rowLines (lines t)) numbers)
+sheet-rows label t table h e =
+    let i = sheet-read label t table h in
+    let x : toldAll label (length table) (lines t) .rs ≡ map (numbers label) (rowLines (lines t)) =
+    all-rows label (lines t) (length table) (sym (i .fault) ∙ e) in
+    (x, i .rows ∙ ap (λ (y : List (List ℕ)). length y) x ∙ length-map (rowLines (lines t)) (numbers label))
 
 -- ---- the fault of a field
 -- it is told exactly where it is
@@ -114,30 +114,30 @@ no-line {l} {ls} e = subst (λ (x : List (List ℕ)). T (isNone x)) e tt
     isNone (l ∷ ls) = false
 
 -- one line more in front, with which nothing is wrong
-stops-more : (room line columns rows put : ℕ) (l : List ℕ) (ls : List (List ℕ)) (o : Told)
-    → Stops room (line + 1) (rows + 1) (put + length (numbers l)) ls o
-    → Stops room line rows put (l ∷ ls) (record { kind = o .kind; line = o .line; column = o .column; columns = o .columns; rs = numbers l ∷ o .rs })
-stops-more room line columns rows put l ls o i =
-    let j : length (joined (numbers l ∷ map numbers (i .before))) ≡ length (numbers l) + length (joined (map numbers (i .before))) =
-    length-append (numbers l) (joined (map numbers (i .before))) in
+stops-more : (label room line columns rows put : ℕ) (l : List ℕ) (ls : List (List ℕ)) (o : Told)
+    → Stops label room (line + 1) (rows + 1) (put + length (numbers label l)) ls o
+    → Stops label room line rows put (l ∷ ls) (record { kind = o .kind; line = o .line; column = o .column; columns = o .columns; rs = numbers label l ∷ o .rs })
+stops-more label room line columns rows put l ls o i =
+    let j : length (joined (numbers label l ∷ map (numbers label) (i .before))) ≡ length (numbers label l) + length (joined (map (numbers label) (i .before))) =
+    length-append (numbers label l) (joined (map (numbers label) (i .before))) in
     let p : rows + 1 + length (i .before) ≡ rows + length (l ∷ i .before) = omega arith in
-    let q : put + length (numbers l) + length (joined (map numbers (i .before))) ≡ put + length (joined (numbers l ∷ map numbers (i .before))) =
+    let q : put + length (numbers label l) + length (joined (map (numbers label) (i .before))) ≡ put + length (joined (numbers label l ∷ map (numbers label) (i .before))) =
     omega (arith, j) in
     record {
       before = l ∷ i .before;
       behind = i .behind;
       whole = ap (λ (x : List (List ℕ)). l ∷ x) (i .whole);
       number = i .number ∙ omega arith;
-      above = ap (λ (x : List (List ℕ)). numbers l ∷ x) (i .above);
+      above = ap (λ (x : List (List ℕ)). numbers label l ∷ x) (i .above);
       why = λ m ms e. rw (← p, ← q) (i .why m ms e);
       none = λ e. let x = i .none e in (x .0, sym p ∙ x .1);
     }
 
 -- a line with which something is wrong
-stops-here : (room line columns rows put : ℕ) (l : List ℕ) (ls : List (List ℕ)) (t : Trouble) → t ≡ lineTrouble columns rows put room l
-    → Stops room line rows put (l ∷ ls) (stopped t line columns)
+stops-here : (label room line columns rows put : ℕ) (l : List ℕ) (ls : List (List ℕ)) (t : Trouble) → t ≡ lineTrouble label columns rows put room l
+    → Stops label room line rows put (l ∷ ls) (stopped t line columns)
 unfolding stopped
-stops-here room line columns rows put l ls t q =
+stops-here label room line columns rows put l ls t q =
     record {
       before = [];
       behind = l ∷ ls;
@@ -146,31 +146,31 @@ stops-here room line columns rows put l ls t q =
       above = refl;
       why =
           λ m ms e.
-          rw (add-zero rows, add-zero put) (ap (λ (x : List (List ℕ)). lineTrouble columns rows put room (first x)) (sym e) ∙ sym q);
+          rw (add-zero rows, add-zero put) (ap (λ (x : List (List ℕ)). lineTrouble label columns rows put room (first x)) (sym e) ∙ sym q);
       none = λ e. absurd (no-line (sym e));
     }
 
 -- any line, and the lines below it
-stops-by : (room line columns rows put : ℕ) (l : List ℕ) (ls : List (List ℕ)) (t : Trouble) (o : Told) → t ≡ lineTrouble columns rows put room l
-    → ((o .kind ≡ 0 → ⊥) → Stops room (line + 1) (rows + 1) (put + length (numbers l)) ls o)
-    → (toldBy t line columns (numbers l) o .kind ≡ 0 → ⊥) → Stops room line rows put (l ∷ ls) (toldBy t line columns (numbers l) o)
+stops-by : (label room line columns rows put : ℕ) (l : List ℕ) (ls : List (List ℕ)) (t : Trouble) (o : Told) → t ≡ lineTrouble label columns rows put room l
+    → ((o .kind ≡ 0 → ⊥) → Stops label room (line + 1) (rows + 1) (put + length (numbers label l)) ls o)
+    → (toldBy t line columns (numbers label l) o .kind ≡ 0 → ⊥) → Stops label room line rows put (l ∷ ls) (toldBy t line columns (numbers label l) o)
 unfolding toldBy
-stops-by room line columns rows put l ls t o q i n = go (eqb (t .kind) 0) n
+stops-by label room line columns rows put l ls t o q i n = go (eqb (t .kind) 0) n
   where
     go : (b : Bool)
-        → (cond {A = Told} b (record { kind = o .kind; line = o .line; column = o .column; columns = o .columns; rs = numbers l ∷ o .rs })
+        → (cond {A = Told} b (record { kind = o .kind; line = o .line; column = o .column; columns = o .columns; rs = numbers label l ∷ o .rs })
         (stopped t line columns) .kind ≡ 0 → ⊥)
-        → Stops room line rows put (l ∷ ls)
-        (cond {A = Told} b (record { kind = o .kind; line = o .line; column = o .column; columns = o .columns; rs = numbers l ∷ o .rs })
+        → Stops label room line rows put (l ∷ ls)
+        (cond {A = Told} b (record { kind = o .kind; line = o .line; column = o .column; columns = o .columns; rs = numbers label l ∷ o .rs })
         (stopped t line columns))
-    go true n = stops-more room line columns rows put l ls o (i n)
-    go false n = stops-here room line columns rows put l ls t q
+    go true n = stops-more label room line columns rows put l ls o (i n)
+    go false n = stops-here label room line columns rows put l ls t q
 
 -- no line
-stops-none : (room line columns rows put : ℕ) (q : Bool) → eqb rows 0 ≡ q → (stopped (cond q (record { kind = 8; column = 1 }) none) line columns .kind ≡ 0 → ⊥)
-    → Stops room line rows put [] (stopped (cond q (record { kind = 8; column = 1 }) none) line columns)
+stops-none : (label room line columns rows put : ℕ) (q : Bool) → eqb rows 0 ≡ q → (stopped (cond q (record { kind = 8; column = 1 }) none) line columns .kind ≡ 0 → ⊥)
+    → Stops label room line rows put [] (stopped (cond q (record { kind = 8; column = 1 }) none) line columns)
 unfolding stopped
-stops-none room line columns rows put true p n =
+stops-none label room line columns rows put true p n =
     record {
       before = [];
       behind = [];
@@ -180,36 +180,36 @@ stops-none room line columns rows put true p n =
       why = λ l ms e. absurd (no-line e);
       none = λ e. (refl, add-zero rows ∙ eqb-true rows 0 p);
     }
-stops-none room line columns rows put false p n = absurd (n refl)
+stops-none label room line columns rows put false p n = absurd (n refl)
 
 -- the first line that has a fault is told, with its number
-told-stops : (ls : List (List ℕ)) (room line columns rows put : ℕ) → (told room line columns rows put ls .kind ≡ 0 → ⊥)
-    → Stops room line rows put ls (told room line columns rows put ls)
+told-stops : (label : ℕ) (ls : List (List ℕ)) (room line columns rows put : ℕ) → (told label room line columns rows put ls .kind ≡ 0 → ⊥)
+    → Stops label room line rows put ls (told label room line columns rows put ls)
 unfolding told
-told-stops [] room line columns rows put n = stops-none room line columns rows put (eqb rows 0) refl n
-told-stops (l ∷ ls) room line columns rows put n =
-    stops-by room line columns rows put l ls (lineTrouble columns rows put room l)
-    (told room (line + 1) (length (numbers l)) (rows + 1) (put + length (numbers l)) ls) refl
-    (told-stops ls room (line + 1) (length (numbers l)) (rows + 1) (put + length (numbers l)))
+told-stops label [] room line columns rows put n = stops-none label room line columns rows put (eqb rows 0) refl n
+told-stops label (l ∷ ls) room line columns rows put n =
+    stops-by label room line columns rows put l ls (lineTrouble label columns rows put room l)
+    (told label room (line + 1) (length (numbers label l)) (rows + 1) (put + length (numbers label l)) ls) refl
+    (told-stops label ls room (line + 1) (length (numbers label l)) (rows + 1) (put + length (numbers label l)))
     n
 
 -- its names may have the fault
-all-stops : (ls : List (List ℕ)) (room : ℕ) → (toldAll room ls .kind ≡ 0 → ⊥) → StopsText room ls (toldAll room ls)
+all-stops : (label : ℕ) (ls : List (List ℕ)) (room : ℕ) → (toldAll label room ls .kind ≡ 0 → ⊥) → StopsText label room ls (toldAll label room ls)
 unfolding toldAll toldNames stopped
-all-stops [] room n = no-names (told-stops [] room 1 0 0 0 n)
-all-stops (l ∷ ls) room n = go (named l) (eqb (trouble asName 0 (fieldsOf l) .kind) 0) refl refl n
+all-stops label [] room n = no-names (told-stops label [] room 1 0 0 0 n)
+all-stops label (l ∷ ls) room n = go (named l) (eqb (trouble asNames 0 (fieldsOf l) .kind) 0) refl refl n
   where
-    go : (a b : Bool) → named l ≡ a → eqb (trouble asName 0 (fieldsOf l) .kind) 0 ≡ b
-        → (cond a (cond b (told room 2 (length (fieldsOf l)) 0 0 ls) (stopped (trouble asName 0 (fieldsOf l)) 1 0)) (told room 1 0 0 0 (l ∷ ls)) .kind ≡ 0
+    go : (a b : Bool) → named l ≡ a → eqb (trouble asNames 0 (fieldsOf l) .kind) 0 ≡ b
+        → (cond a (cond b (told label room 2 (length (fieldsOf l)) 0 0 ls) (stopped (trouble asNames 0 (fieldsOf l)) 1 0)) (told label room 1 0 0 0 (l ∷ ls)) .kind ≡ 0
         → ⊥)
-        → StopsText room (l ∷ ls)
-        (cond a (cond b (told room 2 (length (fieldsOf l)) 0 0 ls) (stopped (trouble asName 0 (fieldsOf l)) 1 0)) (told room 1 0 0 0 (l ∷ ls)))
-    go true true p q n = below-names refl p (eqb-true (trouble asName 0 (fieldsOf l) .kind) 0 q) (told-stops ls room 2 (length (fieldsOf l)) 0 0 n)
+        → StopsText label room (l ∷ ls)
+        (cond a (cond b (told label room 2 (length (fieldsOf l)) 0 0 ls) (stopped (trouble asNames 0 (fieldsOf l)) 1 0)) (told label room 1 0 0 0 (l ∷ ls)))
+    go true true p q n = below-names refl p (eqb-true (trouble asNames 0 (fieldsOf l) .kind) 0 q) (told-stops label ls room 2 (length (fieldsOf l)) 0 0 n)
     go true false p q n = at-names refl p refl refl
-    go false b p q n = no-names (told-stops (l ∷ ls) room 1 0 0 0 n)
+    go false b p q n = no-names (told-stops label (l ∷ ls) room 1 0 0 0 n)
 
 -- A FAULT IS TOLD OF THE FIRST LINE THAT HAS ONE, WITH THAT LINE'S NUMBER AND COLUMN, ALSO WHERE IT IS THE LAST AND LACKS ITS NEWLINE
-pub sheet-stops : (t table : List ℕ) → length t + 2 ≤ 18_446_744_073_709_551_615 → (finished (run (begun, table) t) .0 .fault ≡ 0 → ⊥)
-    → StopsText (length table) (lines t) (says (length table) t)
+pub sheet-stops : (label : ℕ) (t table : List ℕ) → length t + 2 ≤ 18_446_744_073_709_551_615 → (finished (run (begun label, table) t) .0 .fault ≡ 0 → ⊥)
+    → StopsText label (length table) (lines t) (says label (length table) t)
 unfolding says
-sheet-stops t table h n = all-stops (lines t) (length table) (λ (e : toldAll (length table) (lines t) .kind ≡ 0). n (sheet-read t table h .fault ∙ e))
+sheet-stops label t table h n = all-stops label (lines t) (length table) (λ (e : toldAll label (length table) (lines t) .kind ≡ 0). n (sheet-read label t table h .fault ∙ e))

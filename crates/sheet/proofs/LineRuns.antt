@@ -4,7 +4,7 @@ use Rattle.laws.specs.Lists.{all}
 use Rattle.sheet.proofs.FieldRuns.{Spot, at-behind, at-open, at-word, emit, ending, fields-rest, move, rest}
 use Rattle.sheet.specs.Closing.{bare}
 use Rattle.sheet.specs.Fields.{asNumber, behind, fields, grownBy, isBlank, isDigit, isFigure, value}
-use Rattle.sheet.specs.InLine.{added, along, blankAt, digitAt, emptied, grown, moved, opened, opens, settled, settledAt}
+use Rattle.sheet.specs.InLine.{added, addedAs, along, blankAt, digitAt, emptied, grown, moved, opened, opens, settled, settledAt}
 use Rattle.sheet.specs.declared.bytes.Kind.the-variants.{Blank, Digit, Other, Parting, Sign}
 use Rattle.sheet.specs.declared.bytes.Kind.{Kind}
 use Rattle.sheet.specs.declared.line.Line.{Line}
@@ -108,7 +108,7 @@ blank-word c u l = go (all isDigit (c ∷ u)) (leb (value (c ∷ u)) 65_535)
 -- the line l with another place and figure
 abbrev pub placed : Line → Place → Bool → Line
 placed l p figure =
-    record { place = p; figure = figure; count = l .count; row = l .row; numbers = l .numbers; names = l .names }
+    record { place = p; figure = figure; count = l .count; row = l .row; numbers = l .numbers; names = l .names; label = l .label }
 
 -- the line l, with a field so far
 abbrev pub at : Spot → Line → Line
@@ -151,7 +151,7 @@ word-moved l c u u′ p b e = rw (e, word-shut (c ∷ u), figure-kept (l .figure
 
 -- any byte
 step : (s : Spot) (l : Line) (k : Kind) → along (at s l) k ≡ at (move s k) (gather l (emit s k))
-unfolding gather addF added moved opened wordPlace value grownBy grown asNumber heldIn
+unfolding gather addF added addedAs moved opened wordPlace value grownBy grown asNumber heldIn
 step at-open l (Digit d) = refl
 step at-open l Blank = refl
 step at-open l Parting = refl
@@ -170,7 +170,7 @@ step (at-word c u) l Other = word-moved l c u (u ++ Other ∷ []) Strange false 
 
 -- the end
 finish : (s : Spot) (l : Line) → settled (at s l) ≡ at at-behind (gather l (ending s))
-unfolding gather addF added asNumber heldIn
+unfolding gather addF added addedAs asNumber heldIn
 finish at-open l = refl
 finish (at-word c u) l = settle-word c u (at (at-word c u) l)
 finish at-behind l = refl
@@ -185,14 +185,14 @@ through-rest (k ∷ t) s l =
     ∙ ap (at at-behind) (sym (gather-more (emit s k) (rest (move s k) t) l))
 
 -- A LINE'S FIELDS ARE JUDGED ONE AFTER THE OTHER
-pub line-fields : (t : List Kind) → settled (through emptied t) ≡ at at-behind (gather emptied (fields t))
+pub line-fields : (label : ℕ) (t : List Kind) → settled (through (emptied label) t) ≡ at at-behind (gather (emptied label) (fields t))
 unfolding emptied
-line-fields t = rw (fields-rest t) (through-rest t at-open emptied)
+line-fields label t = rw (fields-rest t) (through-rest t at-open (emptied label))
 
 -- ---- a blank line
 -- a field that has ended is not forgotten
 counts : (l : Line) (f : List Kind) → (addF l f .count ≡ 0 → ⊥)
-unfolding addF added
+unfolding addF added addedAs
 counts l f e = go (leb 16 (l .count)) e
   where
     go : (b : Bool) → cond b 17 (l .count + 1) ≡ 0 → ⊥
@@ -252,6 +252,6 @@ open-line (Sign ∷ t) l z = ap (λ (x : Line). bare (through x t)) (step at-ope
 open-line (Other ∷ t) l z = ap (λ (x : Line). bare (through x t)) (step at-open l Other) ∙ word-line t Other [] l
 
 -- A LINE IS BARE IF IT HAS BLANKS ALONE
-pub line-bare : (t : List Kind) → bare (through emptied t) ≡ all isBlank t
+pub line-bare : (label : ℕ) (t : List Kind) → bare (through (emptied label) t) ≡ all isBlank t
 unfolding emptied
-line-bare t = open-line t emptied refl
+line-bare label t = open-line t (emptied label) refl

@@ -7,7 +7,7 @@ use Rattle.sheet.proofs.Laying.{laid, laid-long, laid-more, laid-none}
 use Rattle.sheet.proofs.Runs.{pieces}
 use Rattle.sheet.proofs.Texts.{behindMark, lines-run, mark-run, whole, wholes, wholes-stay}
 use Rattle.sheet.specs.Closing.{counted, failed, firstBlank, onward}
-use Rattle.sheet.specs.Fields.{asName, asNumber, cut, cutAt, cutUp}
+use Rattle.sheet.specs.Fields.{asNames, asRow, cut, cutAt, cutUp}
 use Rattle.sheet.specs.Lines.{blankLine, fieldsOf, isNewline, kept, lines, named, numbers, onto, unmarked}
 use Rattle.sheet.specs.Reading.{begun, ended, finished, inside, next, run}
 use Rattle.sheet.specs.Reads.{Reads}
@@ -151,7 +151,7 @@ blank-stood (l ∷ ls) r table h z = go (blankLine l) refl (blank-stood ls)
     go false e i =
         swap (full-more (r .blank) (r .columns) (r .rows) l (kept ls))
         (ap (λ (s : Reader × List ℕ). done (wholes s ls)) (sym (below-closed r table l h e z)))
-        (fail-stood r table (ended-line l) (r .blank) (record { kind = 7; column = 1 }) ls (λ (n : _≡_ {A = ℕ} 7 0). omega arith))
+        (fail-stood r table (ended-line (r .label) l) (r .blank) (record { kind = 7; column = 1 }) ls (λ (n : _≡_ {A = ℕ} 7 0). omega arith))
 
 -- no blank line above
 none-above : (blank line : ℕ) → blank ≡ 0 → firstBlank blank line ≡ line
@@ -177,11 +177,11 @@ unfolding counted
 count-next line h = rw (lt-ltb line 18_446_744_073_709_551_615 h)
 
 -- what a blank line says, with what is kept below it
-blank-told : (l : List ℕ) (ks : List (List ℕ)) (room line columns rows put : ℕ) → blankLine l ≡ true
-    → afterBlank line columns rows ks ≡ told room line columns rows put (onto true l ks)
+blank-told : (label : ℕ) (l : List ℕ) (ks : List (List ℕ)) (room line columns rows put : ℕ) → blankLine l ≡ true
+    → afterBlank line columns rows ks ≡ told label room line columns rows put (onto true l ks)
 unfolding told toldBy
-blank-told l [] room line columns rows put e = refl
-blank-told l (m ∷ ms) room line columns rows put e = rw (blank-trouble l columns rows put room e)
+blank-told label l [] room line columns rows put e = refl
+blank-told label l (m ∷ ms) room line columns rows put e = rw (blank-trouble label l columns rows put room e)
 
 -- a line that is not blank is kept
 full-kept : (l : List ℕ) (ks : List (List ℕ)) → onto false l ks ≡ l ∷ ks
@@ -189,42 +189,42 @@ full-kept l [] = refl
 full-kept l (m ∷ ms) = refl
 
 -- a row in which nothing is wrong has room
-row-room : (columns rows put room : ℕ) (l : List ℕ) → lineTrouble columns rows put room l .kind ≡ 0 → put + length (numbers l) ≤ room
+row-room : (label columns rows put room : ℕ) (l : List ℕ) → lineTrouble label columns rows put room l .kind ≡ 0 → put + length (numbers label l) ≤ room
 unfolding lineTrouble
-row-room columns rows put room l e = or-fits (trouble asNumber 0 (fieldsOf l)) columns rows put (length (numbers l)) room e .space
+row-room label columns rows put room l e = or-fits (trouble (asRow label) 0 (fieldsOf l)) columns rows put (length (numbers label l)) room e .space
 
 -- what these lines leave of any reader that stands below the first line
 abbrev Below : List (List ℕ) → Type 0
 Below ls = (r : Reader) (table : List ℕ) → Fresh r → r .blank ≡ 0 → 2 ≤ r .line → r .line + length ls ≤ 18_446_744_073_709_551_615
-    → Stood (r .rows) (r .put) table (told (length table) (r .line) (r .columns) (r .rows) (r .put) (kept ls)) (done (wholes (r, table) ls))
+    → Stood (r .rows) (r .put) table (told (r .label) (length table) (r .line) (r .columns) (r .rows) (r .put) (kept ls)) (done (wholes (r, table) ls))
 
 module _ (l : List ℕ) (ls : List (List ℕ)) (r : Reader) (table : List ℕ) (h : Fresh r) (b : r .blank ≡ 0) (n : blankLine l ≡ false)
     (m : r .line + length (l ∷ ls) ≤ 18_446_744_073_709_551_615) (p : 1 ≤ r .line) (i : Below ls) where
   -- a row in which nothing is wrong
-  taken-stood : (eqb (r .line) 1 && named l) ≡ false → lineTrouble (r .columns) (r .rows) (r .put) (length table) l .kind ≡ 0
-      → r .put + length (numbers l) ≤ length table
-      → Stood (r .rows) (r .put) table (told (length table) (r .line) (r .columns) (r .rows) (r .put) (l ∷ kept ls))
+  taken-stood : (eqb (r .line) 1 && named l) ≡ false → lineTrouble (r .label) (r .columns) (r .rows) (r .put) (length table) l .kind ≡ 0
+      → r .put + length (numbers (r .label) l) ≤ length table
+      → Stood (r .rows) (r .put) table (told (r .label) (length table) (r .line) (r .columns) (r .rows) (r .put) (l ∷ kept ls))
       (done (wholes (whole (r, table) l) ls))
   unfolding told toldBy onward
   taken-stood y e f =
-      let k : ℕ = length (numbers l) in
+      let k : ℕ = length (numbers (r .label) l) in
       let c : counted (r .line) ≡ r .line + 1 = count-next (r .line) (omega arith) in
-      let table′ : List ℕ = laid table (r .put) (numbers l) in
+      let table′ : List ℕ = laid table (r .put) (numbers (r .label) l) in
       let x : Reader = onward r 0 k (r .rows + 1) (r .put + k) in
-      let g : length table′ ≡ length table = laid-long table (numbers l) (r .put) f in
-      let o : Told = told (length table) (r .line + 1) k (r .rows + 1) (r .put + k) (kept ls) in
+      let g : length table′ ≡ length table = laid-long table (numbers (r .label) l) (r .put) f in
+      let o : Told = told (r .label) (length table) (r .line + 1) k (r .rows + 1) (r .put + k) (kept ls) in
       let q : Stood (r .rows + 1) (r .put + k) table′ o (done (wholes (x, table′) ls)) =
-      swap (ap (λ (w : ℕ). told w (counted (r .line)) k (r .rows + 1) (r .put + k) (kept ls)) g
-      ∙ ap (λ (w : ℕ). told (length table) w k (r .rows + 1) (r .put + k) (kept ls)) c) refl
+      swap (ap (λ (w : ℕ). told (r .label) w (counted (r .line)) k (r .rows + 1) (r .put + k) (kept ls)) g
+      ∙ ap (λ (w : ℕ). told (r .label) (length table) w k (r .rows + 1) (r .put + k) (kept ls)) c) refl
       (i x table′ (onward-fresh r 0 k (r .rows + 1) (r .put + k) h) refl (omega (arith, c)) (omega (arith, c))) in
-      rw (eq-eqb (lineTrouble (r .columns) (r .rows) (r .put) (length table) l .kind) 0 e)
+      rw (eq-eqb (lineTrouble (r .label) (r .columns) (r .rows) (r .put) (length table) l .kind) 0 e)
       (swap refl (ap (λ (s : Reader × List ℕ). done (wholes s ls)) (sym (row-taken r table l h n b y e))) (more o q))
     where
-      more : (o : Told) {s : Reader × List ℕ} → Stood (r .rows + 1) (r .put + length (numbers l)) (laid table (r .put) (numbers l)) o s
+      more : (o : Told) {s : Reader × List ℕ} → Stood (r .rows + 1) (r .put + length (numbers (r .label) l)) (laid table (r .put) (numbers (r .label) l)) o s
           → Stood (r .rows) (r .put) table
-          (record { kind = o .kind; line = o .line; column = o .column; columns = o .columns; rs = numbers l ∷ o .rs }) s
+          (record { kind = o .kind; line = o .line; column = o .column; columns = o .columns; rs = numbers (r .label) l ∷ o .rs }) s
       more o q =
-          let j : length (joined (numbers l ∷ o .rs)) ≡ length (numbers l) + length (joined (o .rs)) = length-append (numbers l) (joined (o .rs)) in
+          let j : length (joined (numbers (r .label) l ∷ o .rs)) ≡ length (numbers (r .label) l) + length (joined (o .rs)) = length-append (numbers (r .label) l) (joined (o .rs)) in
           record {
             fault = q .fault;
             line = q .line;
@@ -232,29 +232,29 @@ module _ (l : List ℕ) (ls : List (List ℕ)) (r : Reader) (table : List ℕ) (
             columns = q .columns;
             count = omega (arith, q .count);
             sum = omega (arith, q .sum, j);
-            content = q .content ∙ laid-more table (numbers l) (r .put) f (joined (o .rs));
+            content = q .content ∙ laid-more table (numbers (r .label) l) (r .put) f (joined (o .rs));
           }
 
   -- any row
   row-stood : (eqb (r .line) 1 && named l) ≡ false
-      → Stood (r .rows) (r .put) table (told (length table) (r .line) (r .columns) (r .rows) (r .put) (l ∷ kept ls))
+      → Stood (r .rows) (r .put) table (told (r .label) (length table) (r .line) (r .columns) (r .rows) (r .put) (l ∷ kept ls))
       (done (wholes (whole (r, table) l) ls))
   unfolding told toldBy
-  row-stood y = go (eqb (lineTrouble (r .columns) (r .rows) (r .put) (length table) l .kind) 0) refl
+  row-stood y = go (eqb (lineTrouble (r .label) (r .columns) (r .rows) (r .put) (length table) l .kind) 0) refl
     where
-      go : (q : Bool) → eqb (lineTrouble (r .columns) (r .rows) (r .put) (length table) l .kind) 0 ≡ q
-          → Stood (r .rows) (r .put) table (told (length table) (r .line) (r .columns) (r .rows) (r .put) (l ∷ kept ls))
+      go : (q : Bool) → eqb (lineTrouble (r .label) (r .columns) (r .rows) (r .put) (length table) l .kind) 0 ≡ q
+          → Stood (r .rows) (r .put) table (told (r .label) (length table) (r .line) (r .columns) (r .rows) (r .put) (l ∷ kept ls))
           (done (wholes (whole (r, table) l) ls))
       go true e =
-          let z : lineTrouble (r .columns) (r .rows) (r .put) (length table) l .kind ≡ 0 =
-          eqb-true (lineTrouble (r .columns) (r .rows) (r .put) (length table) l .kind) 0 e in
-          taken-stood y z (row-room (r .columns) (r .rows) (r .put) (length table) l z)
+          let z : lineTrouble (r .label) (r .columns) (r .rows) (r .put) (length table) l .kind ≡ 0 =
+          eqb-true (lineTrouble (r .label) (r .columns) (r .rows) (r .put) (length table) l .kind) 0 e in
+          taken-stood y z (row-room (r .label) (r .columns) (r .rows) (r .put) (length table) l z)
       go false e =
-          let z : lineTrouble (r .columns) (r .rows) (r .put) (length table) l .kind ≡ 0 → ⊥ =
-          eqb-false (lineTrouble (r .columns) (r .rows) (r .put) (length table) l .kind) 0 e in
+          let z : lineTrouble (r .label) (r .columns) (r .rows) (r .put) (length table) l .kind ≡ 0 → ⊥ =
+          eqb-false (lineTrouble (r .label) (r .columns) (r .rows) (r .put) (length table) l .kind) 0 e in
           rw e
           (swap refl (ap (λ (s : Reader × List ℕ). done (wholes s ls)) (sym (row-failed r table l h n b y z)))
-          (fail-stood r table (ended-line l) (r .line) (lineTrouble (r .columns) (r .rows) (r .put) (length table) l) ls z))
+          (fail-stood r table (ended-line (r .label) l) (r .line) (lineTrouble (r .label) (r .columns) (r .rows) (r .put) (length table) l) ls z))
 
 -- lines below the first
 lines-stood : (ls : List (List ℕ)) → Below ls
@@ -267,73 +267,73 @@ lines-stood (l ∷ ls) r table h b p m = go (blankLine l) refl (lines-stood ls)
     later = ne-eqb (r .line) 1 (λ (e : r .line ≡ 1). omega arith)
 
     go : (q : Bool) → blankLine l ≡ q → Below ls
-        → Stood (r .rows) (r .put) table (told (length table) (r .line) (r .columns) (r .rows) (r .put) (onto q l (kept ls)))
+        → Stood (r .rows) (r .put) table (told (r .label) (length table) (r .line) (r .columns) (r .rows) (r .put) (onto q l (kept ls)))
         (done (wholes (whole (r, table) l) ls))
     go true e i =
-        swap (blank-told l (kept ls) (length table) (r .line) (r .columns) (r .rows) (r .put) e) refl
+        swap (blank-told (r .label) l (kept ls) (length table) (r .line) (r .columns) (r .rows) (r .put) e) refl
         (first-blank l ls r table h b (omega arith) e)
     go false e i =
-        swap (ap (told (length table) (r .line) (r .columns) (r .rows) (r .put)) (sym (full-kept l (kept ls)))) refl
+        swap (ap (told (r .label) (length table) (r .line) (r .columns) (r .rows) (r .put)) (sym (full-kept l (kept ls)))) refl
         (row-stood l ls r table h b e m (omega arith) i (rw later))
 
 -- ---- the first line
 -- what a blank first line says
-blank-all : (l : List ℕ) (ks : List (List ℕ)) (room : ℕ) → blankLine l ≡ true → afterBlank 1 0 0 ks ≡ toldAll room (onto true l ks)
+blank-all : (label : ℕ) (l : List ℕ) (ks : List (List ℕ)) (room : ℕ) → blankLine l ≡ true → afterBlank 1 0 0 ks ≡ toldAll label room (onto true l ks)
 unfolding toldAll told toldNames
-blank-all l [] room e = refl
-blank-all l (m ∷ ms) room e = let x = blank-names l e in rw (x .0, x .1)
+blank-all label l [] room e = refl
+blank-all label l (m ∷ ms) room e = let x = blank-names l e in rw (x .0, x .1)
 
 -- what any other first line says
-all-full : (l : List ℕ) (ks : List (List ℕ)) (room : ℕ)
-    → cond (named l) (toldNames (trouble asName 0 (fieldsOf l)) room (length (fieldsOf l)) ks) (told room 1 0 0 0 (l ∷ ks)) ≡ toldAll room (l ∷ ks)
+all-full : (label : ℕ) (l : List ℕ) (ks : List (List ℕ)) (room : ℕ)
+    → cond (named l) (toldNames (trouble asNames 0 (fieldsOf l)) label room (length (fieldsOf l)) ks) (told label room 1 0 0 0 (l ∷ ks)) ≡ toldAll label room (l ∷ ks)
 unfolding toldAll
-all-full l ks room = refl
+all-full label l ks room = refl
 
-module _ (l : List ℕ) (ls : List (List ℕ)) (table : List ℕ) (m : 1 + length (l ∷ ls) ≤ 18_446_744_073_709_551_615) where
+module _ (label : ℕ) (l : List ℕ) (ls : List (List ℕ)) (table : List ℕ) (m : 1 + length (l ∷ ls) ≤ 18_446_744_073_709_551_615) where
   -- the reader before it is fresh
-  begun-fresh : Fresh behindMark
+  begun-fresh : Fresh (behindMark label)
   unfolding begun inside
   begun-fresh = record { fine = refl; empty = refl; free = refl; column = refl }
 
   -- names
   names-stood : blankLine l ≡ false → named l ≡ true
-      → Stood 0 0 table (toldNames (trouble asName 0 (fieldsOf l)) (length table) (length (fieldsOf l)) (kept ls))
-      (done (wholes (whole (behindMark, table) l) ls))
+      → Stood 0 0 table (toldNames (trouble asNames 0 (fieldsOf l)) label (length table) (length (fieldsOf l)) (kept ls))
+      (done (wholes (whole (behindMark label, table) l) ls))
   unfolding toldNames begun inside onward
-  names-stood n y = go (eqb (trouble asName 0 (fieldsOf l) .kind) 0) refl
+  names-stood n y = go (eqb (trouble asNames 0 (fieldsOf l) .kind) 0) refl
     where
-      go : (q : Bool) → eqb (trouble asName 0 (fieldsOf l) .kind) 0 ≡ q
+      go : (q : Bool) → eqb (trouble asNames 0 (fieldsOf l) .kind) 0 ≡ q
           → Stood 0 0 table
-          (cond q (told (length table) 2 (length (fieldsOf l)) 0 0 (kept ls)) (stopped (trouble asName 0 (fieldsOf l)) 1 0))
-          (done (wholes (whole (behindMark, table) l) ls))
+          (cond q (told label (length table) 2 (length (fieldsOf l)) 0 0 (kept ls)) (stopped (trouble asNames 0 (fieldsOf l)) 1 0))
+          (done (wholes (whole (behindMark label, table) l) ls))
       go true e =
-          let z : trouble asName 0 (fieldsOf l) .kind ≡ 0 = eqb-true (trouble asName 0 (fieldsOf l) .kind) 0 e in
+          let z : trouble asNames 0 (fieldsOf l) .kind ≡ 0 = eqb-true (trouble asNames 0 (fieldsOf l) .kind) 0 e in
           let c : counted 1 ≡ 2 = count-next 1 (omega arith) in
-          swap (ap (λ (k : ℕ). told (length table) k (length (fieldsOf l)) 0 0 (kept ls)) c)
-          (ap (λ (s : Reader × List ℕ). done (wholes s ls)) (sym (names-taken behindMark table l begun-fresh n refl y z)))
-          (lines-stood ls (onward behindMark 0 (length (fieldsOf l)) 0 0) table (onward-fresh behindMark 0 (length (fieldsOf l)) 0 0 begun-fresh) refl
+          swap (ap (λ (k : ℕ). told label (length table) k (length (fieldsOf l)) 0 0 (kept ls)) c)
+          (ap (λ (s : Reader × List ℕ). done (wholes s ls)) (sym (names-taken (behindMark label) table l begun-fresh n refl y z)))
+          (lines-stood ls (onward (behindMark label) 0 (length (fieldsOf l)) 0 0) table (onward-fresh (behindMark label) 0 (length (fieldsOf l)) 0 0 begun-fresh) refl
           (omega (arith, c)) (omega (arith, c)))
       go false e =
-          let z : trouble asName 0 (fieldsOf l) .kind ≡ 0 → ⊥ = eqb-false (trouble asName 0 (fieldsOf l) .kind) 0 e in
-          swap refl (ap (λ (s : Reader × List ℕ). done (wholes s ls)) (sym (names-failed behindMark table l begun-fresh n refl y z)))
-          (fail-stood behindMark table (ended-line l) 1 (trouble asName 0 (fieldsOf l)) ls z)
+          let z : trouble asNames 0 (fieldsOf l) .kind ≡ 0 → ⊥ = eqb-false (trouble asNames 0 (fieldsOf l) .kind) 0 e in
+          swap refl (ap (λ (s : Reader × List ℕ). done (wholes s ls)) (sym (names-failed (behindMark label) table l begun-fresh n refl y z)))
+          (fail-stood (behindMark label) table (ended-line label l) 1 (trouble asNames 0 (fieldsOf l)) ls z)
 
   -- any first line
-  first-stood : Stood 0 0 table (toldAll (length table) (onto (blankLine l) l (kept ls))) (done (wholes (whole (behindMark, table) l) ls))
+  first-stood : Stood 0 0 table (toldAll label (length table) (onto (blankLine l) l (kept ls))) (done (wholes (whole (behindMark label, table) l) ls))
   unfolding begun inside
   first-stood = go (blankLine l) refl
     where
       full : (q : Bool) → named l ≡ q → blankLine l ≡ false
           → Stood 0 0 table
-          (cond q (toldNames (trouble asName 0 (fieldsOf l)) (length table) (length (fieldsOf l)) (kept ls)) (told (length table) 1 0 0 0 (l ∷ kept ls)))
-          (done (wholes (whole (behindMark, table) l) ls))
+          (cond q (toldNames (trouble asNames 0 (fieldsOf l)) label (length table) (length (fieldsOf l)) (kept ls)) (told label (length table) 1 0 0 0 (l ∷ kept ls)))
+          (done (wholes (whole (behindMark label, table) l) ls))
       full true y n = names-stood n y
-      full false y n = row-stood l ls behindMark table begun-fresh refl n m (omega arith) (lines-stood ls) y
+      full false y n = row-stood l ls (behindMark label) table begun-fresh refl n m (omega arith) (lines-stood ls) y
 
-      go : (q : Bool) → blankLine l ≡ q → Stood 0 0 table (toldAll (length table) (onto q l (kept ls))) (done (wholes (whole (behindMark, table) l) ls))
-      go true e = swap (blank-all l (kept ls) (length table) e) refl (first-blank l ls behindMark table begun-fresh refl (omega arith) e)
+      go : (q : Bool) → blankLine l ≡ q → Stood 0 0 table (toldAll label (length table) (onto q l (kept ls))) (done (wholes (whole (behindMark label, table) l) ls))
+      go true e = swap (blank-all label l (kept ls) (length table) e) refl (first-blank l ls (behindMark label) table begun-fresh refl (omega arith) e)
       go false e =
-          swap (all-full l (kept ls) (length table) ∙ ap (toldAll (length table)) (sym (full-kept l (kept ls)))) refl (full (named l) refl e)
+          swap (all-full label l (kept ls) (length table) ∙ ap (toldAll label (length table)) (sym (full-kept l (kept ls)))) refl (full (named l) refl e)
 
 -- ---- the whole text
 -- a text has no more lines than one more than its bytes
@@ -365,23 +365,23 @@ unfolding run
 run-last t s = pieces t (10 ∷ []) s
 
 -- behind the mark
-marked-past : 3 ≤ behindMark .mark
+marked-past : (label : ℕ) → 3 ≤ behindMark label .mark
 unfolding inside
-marked-past = omega arith
+marked-past label = omega arith
 
 -- WHAT A TEXT SAYS IS WHAT IS READ: its rows and no fault, or the first fault with its line and column, and the rows above it
-pub sheet-read : (t table : List ℕ) → length t + 2 ≤ 18_446_744_073_709_551_615
-    → Reads (says (length table) t) table (finished (run (begun, table) t))
+pub sheet-read : (label : ℕ) (t table : List ℕ) → length t + 2 ≤ 18_446_744_073_709_551_615
+    → Reads (says label (length table) t) table (finished (run (begun label, table) t))
 unfolding says lines kept wholes finished
-sheet-read t table h =
-    let s : Reader × List ℕ = next (run (begun, table) t) 10 in
-    let e : s ≡ wholes (behindMark, table) (cutUp isNewline (unmarked t)) =
-    sym (run-last t (begun, table)) ∙ mark-run table t ∙ lines-run (unmarked t) behindMark table marked-past in
-    let i : Stood 0 0 table (says (length table) t) (done s) =
+sheet-read label t table h =
+    let s : Reader × List ℕ = next (run (begun label, table) t) 10 in
+    let e : s ≡ wholes (behindMark label, table) (cutUp isNewline (unmarked t)) =
+    sym (run-last t (begun label, table)) ∙ mark-run label table t ∙ lines-run (unmarked t) (behindMark label) table (marked-past label) in
+    let i : Stood 0 0 table (says label (length table) t) (done s) =
     swap refl (ap (λ (x : Reader × List ℕ). done x) (sym e))
-    (first-stood (cut isNewline (unmarked t) .0) (cut isNewline (unmarked t) .1) table
+    (first-stood label (cut isNewline (unmarked t) .0) (cut isNewline (unmarked t) .1) table
     (omega (arith, cut-short (unmarked t), unmarked-short t))) in
-    let z : 0 + length (joined (says (length table) t .rs)) ≡ length (joined (says (length table) t .rs)) = omega arith in
+    let z : 0 + length (joined (says label (length table) t .rs)) ≡ length (joined (says label (length table) t .rs)) = omega arith in
     record {
       fault = i .fault;
       line = i .line;
@@ -389,5 +389,5 @@ sheet-read t table h =
       columns = i .columns;
       rows = i .count ∙ omega arith;
       put = i .sum ∙ z;
-      content = i .content ∙ ap (λ (k : ℕ). joined (says (length table) t .rs) ++ drop k table) z;
+      content = i .content ∙ ap (λ (k : ℕ). joined (says label (length table) t .rs) ++ drop k table) z;
     }

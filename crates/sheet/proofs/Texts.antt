@@ -166,53 +166,53 @@ lines-run (b ∷ t) r table m = go (eqb (r .fault) 0) (eqb b 10) refl refl (line
 
 -- ---- the mark
 -- before the first byte of a text behind its mark
-abbrev pub behindMark : Reader
-behindMark = inside begun 3 false emptied
+abbrev pub behindMark : ℕ → Reader
+behindMark label = inside (begun label) 3 false (emptied label)
 
 -- behind a byte or two that could have been the mark
-abbrev almost : Reader
-almost = inside begun 3 false (along emptied Other)
+abbrev almost : ℕ → Reader
+almost label = inside (begun label) 3 false (along (emptied label) Other)
 
-module _ (table : List ℕ) where
+module _ (label : ℕ) (table : List ℕ) where
   -- the first byte is not the mark's
-  first-other : (a : ℕ) → eqb a 239 ≡ false → next (begun, table) a ≡ next (behindMark, table) a
+  first-other : (a : ℕ) → eqb a 239 ≡ false → next (begun label, table) a ≡ next (behindMark label, table) a
   unfolding next marking markByte unmarking begun inside
   first-other a e = rw e
 
   -- or it is
-  first-mark : (a : ℕ) → eqb a 239 ≡ true → next (begun, table) a ≡ (inside begun 1 false emptied, table)
+  first-mark : (a : ℕ) → eqb a 239 ≡ true → next (begun label, table) a ≡ (inside (begun label) 1 false (emptied label), table)
   unfolding next marking markByte begun inside
   first-mark a e = rw e
 
   -- so is the second
-  second-other : (b : ℕ) → eqb b 187 ≡ false → next (inside begun 1 false emptied, table) b ≡ next (almost, table) b
+  second-other : (b : ℕ) → eqb b 187 ≡ false → next (inside (begun label) 1 false (emptied label), table) b ≡ next (almost label, table) b
   unfolding next marking markByte unmarking begun inside
   second-other b e = rw e
 
   -- or it is
-  second-mark : (b : ℕ) → eqb b 187 ≡ true → next (inside begun 1 false emptied, table) b ≡ (inside begun 2 false emptied, table)
+  second-mark : (b : ℕ) → eqb b 187 ≡ true → next (inside (begun label) 1 false (emptied label), table) b ≡ (inside (begun label) 2 false (emptied label), table)
   unfolding next marking markByte begun inside
   second-mark b e = rw e
 
   -- and the third
-  third-other : (c : ℕ) → eqb c 191 ≡ false → next (inside begun 2 false emptied, table) c ≡ next (almost, table) c
+  third-other : (c : ℕ) → eqb c 191 ≡ false → next (inside (begun label) 2 false (emptied label), table) c ≡ next (almost label, table) c
   unfolding next marking markByte unmarking begun inside
   third-other c e = rw e
 
   -- or it is
-  third-mark : (c : ℕ) → eqb c 191 ≡ true → next (inside begun 2 false emptied, table) c ≡ (behindMark, table)
+  third-mark : (c : ℕ) → eqb c 191 ≡ true → next (inside (begun label) 2 false (emptied label), table) c ≡ (behindMark label, table)
   unfolding next marking markByte begun inside
   third-mark c e = rw e
 
   -- the first byte of the mark is a byte of a field
-  first-plain : (a : ℕ) → eqb a 239 ≡ true → next (behindMark, table) a ≡ (almost, table)
+  first-plain : (a : ℕ) → eqb a 239 ≡ true → next (behindMark label, table) a ≡ (almost label, table)
   unfolding next read begun inside released kindOf parting signing
-  first-plain a e = subst (λ (x : ℕ). next (behindMark, table) x ≡ (almost, table)) (sym (eqb-true a 239 e)) refl
+  first-plain a e = subst (λ (x : ℕ). next (behindMark label, table) x ≡ (almost label, table)) (sym (eqb-true a 239 e)) refl
 
   -- so is the second
-  second-plain : (b : ℕ) → eqb b 187 ≡ true → next (almost, table) b ≡ (almost, table)
+  second-plain : (b : ℕ) → eqb b 187 ≡ true → next (almost label, table) b ≡ (almost label, table)
   unfolding next read begun inside released kindOf parting signing moved emptied
-  second-plain b e = subst (λ (x : ℕ). next (almost, table) x ≡ (almost, table)) (sym (eqb-true b 187 e)) refl
+  second-plain b e = subst (λ (x : ℕ). next (almost label, table) x ≡ (almost label, table)) (sym (eqb-true b 187 e)) refl
 
   -- a text whose first byte is not the mark's is read from there
   unmarked-first : (a : ℕ) (t : List ℕ) → eqb a 239 ≡ false → unmarked (a ∷ t) ≡ a ∷ t
@@ -228,50 +228,50 @@ module _ (table : List ℕ) where
   unmarked-second a b (c ∷ t) d e = rw (d, e)
 
   -- the text as it stands, behind a first byte of the mark
-  plain-first : (a : ℕ) (t : List ℕ) → eqb a 239 ≡ true → run (behindMark, table) (a ∷ t) ≡ run (almost, table) t
+  plain-first : (a : ℕ) (t : List ℕ) → eqb a 239 ≡ true → run (behindMark label, table) (a ∷ t) ≡ run (almost label, table) t
   unfolding run
   plain-first a t e = ap (λ (x : Reader × List ℕ). run x t) (first-plain a e)
 
   -- and behind a second
-  plain-second : (a b : ℕ) (t : List ℕ) → eqb a 239 ≡ true → eqb b 187 ≡ true → run (behindMark, table) (a ∷ b ∷ t) ≡ run (almost, table) t
+  plain-second : (a b : ℕ) (t : List ℕ) → eqb a 239 ≡ true → eqb b 187 ≡ true → run (behindMark label, table) (a ∷ b ∷ t) ≡ run (almost label, table) t
   unfolding run
   plain-second a b t d e = plain-first a (b ∷ t) d ∙ ap (λ (x : Reader × List ℕ). run x t) (second-plain b e)
 
   -- behind two bytes of the mark
   third-run : (a b : ℕ) (t : List ℕ) → eqb a 239 ≡ true → eqb b 187 ≡ true
-      → run (inside begun 2 false emptied, table) (t ++ 10 ∷ []) ≡ run (behindMark, table) (unmarked (a ∷ b ∷ t) ++ 10 ∷ [])
+      → run (inside (begun label) 2 false (emptied label), table) (t ++ 10 ∷ []) ≡ run (behindMark label, table) (unmarked (a ∷ b ∷ t) ++ 10 ∷ [])
   unfolding run unmarked
   third-run a b [] d e = third-other 10 refl ∙ sym (plain-second a b (10 ∷ []) d e)
   third-run a b (c ∷ t) d e = rw (d, e) (go (eqb c 191) refl)
     where
       go : (q : Bool) → eqb c 191 ≡ q
-          → run (next (inside begun 2 false emptied, table) c) (t ++ 10 ∷ []) ≡ run (behindMark, table) (cond q t (a ∷ b ∷ c ∷ t) ++ 10 ∷ [])
+          → run (next (inside (begun label) 2 false (emptied label), table) c) (t ++ 10 ∷ []) ≡ run (behindMark label, table) (cond q t (a ∷ b ∷ c ∷ t) ++ 10 ∷ [])
       go true f = ap (λ (x : Reader × List ℕ). run x (t ++ 10 ∷ [])) (third-mark c f)
       go false f =
           ap (λ (x : Reader × List ℕ). run x (t ++ 10 ∷ [])) (third-other c f) ∙ sym (plain-second a b (c ∷ (t ++ 10 ∷ [])) d e)
 
   -- behind one
   second-run : (a : ℕ) (t : List ℕ) → eqb a 239 ≡ true
-      → run (inside begun 1 false emptied, table) (t ++ 10 ∷ []) ≡ run (behindMark, table) (unmarked (a ∷ t) ++ 10 ∷ [])
+      → run (inside (begun label) 1 false (emptied label), table) (t ++ 10 ∷ []) ≡ run (behindMark label, table) (unmarked (a ∷ t) ++ 10 ∷ [])
   unfolding run unmarked
   second-run a [] d = second-other 10 refl ∙ sym (plain-first a (10 ∷ []) d)
   second-run a (b ∷ t) d = go (eqb b 187) refl
     where
       go : (q : Bool) → eqb b 187 ≡ q
-          → run (next (inside begun 1 false emptied, table) b) (t ++ 10 ∷ []) ≡ run (behindMark, table) (unmarked (a ∷ b ∷ t) ++ 10 ∷ [])
+          → run (next (inside (begun label) 1 false (emptied label), table) b) (t ++ 10 ∷ []) ≡ run (behindMark label, table) (unmarked (a ∷ b ∷ t) ++ 10 ∷ [])
       go true f = ap (λ (x : Reader × List ℕ). run x (t ++ 10 ∷ [])) (second-mark b f) ∙ third-run a b t d f
       go false f =
           ap (λ (x : Reader × List ℕ). run x (t ++ 10 ∷ [])) (second-other b f)
-          ∙ sym (ap (λ (x : List ℕ). run (behindMark, table) (x ++ 10 ∷ [])) (unmarked-second a b t d f) ∙ plain-first a (b ∷ (t ++ 10 ∷ [])) d)
+          ∙ sym (ap (λ (x : List ℕ). run (behindMark label, table) (x ++ 10 ∷ [])) (unmarked-second a b t d f) ∙ plain-first a (b ∷ (t ++ 10 ∷ [])) d)
 
   -- THE MARK IS PASSED OVER
-  pub mark-run : (t : List ℕ) → run (begun, table) (t ++ 10 ∷ []) ≡ run (behindMark, table) (unmarked t ++ 10 ∷ [])
+  pub mark-run : (t : List ℕ) → run (begun label, table) (t ++ 10 ∷ []) ≡ run (behindMark label, table) (unmarked t ++ 10 ∷ [])
   unfolding run unmarked
   mark-run [] = first-other 10 refl
   mark-run (a ∷ t) = go (eqb a 239) refl
     where
-      go : (q : Bool) → eqb a 239 ≡ q → run (next (begun, table) a) (t ++ 10 ∷ []) ≡ run (behindMark, table) (unmarked (a ∷ t) ++ 10 ∷ [])
+      go : (q : Bool) → eqb a 239 ≡ q → run (next (begun label, table) a) (t ++ 10 ∷ []) ≡ run (behindMark label, table) (unmarked (a ∷ t) ++ 10 ∷ [])
       go true f = ap (λ (x : Reader × List ℕ). run x (t ++ 10 ∷ [])) (first-mark a f) ∙ second-run a t f
       go false f =
           ap (λ (x : Reader × List ℕ). run x (t ++ 10 ∷ [])) (first-other a f)
-          ∙ sym (ap (λ (x : List ℕ). run (behindMark, table) (x ++ 10 ∷ [])) (unmarked-first a t f))
+          ∙ sym (ap (λ (x : List ℕ). run (behindMark label, table) (x ++ 10 ∷ [])) (unmarked-first a t f))

@@ -2,7 +2,7 @@
 use Prim.Native.Nat.{_*_, _+_, _≤_, ℕ}
 use Rattle.sheet.proofs.Closings.{Fits, closed-cases, decided-cases, line-fits, names-fit}
 use Rattle.sheet.specs.Closing.{bare, closed, decided, endTrouble, failed, firstBlank, onward, titles}
-use Rattle.sheet.specs.InLine.{added, along, blankAt, emptied, moved, opened, opens, settled, settledAt}
+use Rattle.sheet.specs.InLine.{added, addedAs, along, blankAt, emptied, moved, opened, opens, settled, settledAt}
 use Rattle.sheet.specs.Kinds.{kindOf}
 use Rattle.sheet.specs.Reading.{begun, ended, finished, inside, markByte, marking, next, read, released, run, unmarking}
 use Rattle.sheet.specs.Says.{differs}
@@ -27,19 +27,19 @@ use native.Mathlib.Omega.{arith}
 
 -- ---- a line's row has sixteen places
 -- before the first byte of a line
-emptied-slots : length (emptied .row) ≡ 16
+emptied-slots : (label : ℕ) → length (emptied label .row) ≡ 16
 unfolding emptied
-emptied-slots = refl
+emptied-slots label = refl
 
 module _ (l : Line) (h : length (l .row) ≡ 16) where
   -- behind a field
   added-slots : (k v : ℕ) → length (added l k v .row) ≡ 16
-  unfolding added
-  added-slots k v = go (leb 16 (l .count))
+  unfolding added addedAs
+  added-slots k v = go (leb 16 (l .count)) (cond (eqb (l .label) (l .count + 1)) 0 v)
     where
-      go : (b : Bool) → length (cond b (l .row) (set (l .row) (l .count) v)) ≡ 16
-      go true = h
-      go false = simp length-set h
+      go : (b : Bool) (w : ℕ) → length (cond b (l .row) (set (l .row) (l .count) w)) ≡ 16
+      go true w = h
+      go false w = simp length-set h
 
   -- where the line ends
   settled-slots : length (settled l .row) ≡ 16
@@ -71,7 +71,7 @@ module _ (l : Line) (h : length (l .row) ≡ 16) where
 
 -- a line that is not bare has a field when it has ended
 full-counts : (l : Line) → bare l ≡ false → (settled l .count ≡ 0 → ⊥)
-unfolding bare added
+unfolding bare added addedAs
 full-counts l e = go (l .place) e
   where
     some : (b : Bool) → cond b 17 (l .count + 1) ≡ 0 → ⊥
@@ -86,9 +86,9 @@ full-counts l e = go (l .place) e
     go Behind e = λ (z : l .count ≡ 0). never (sym e ∙ rw (eq-eqb (l .count) 0 z))
 
 -- ---- before the first byte
-pub begun-tidy : (room : ℕ) → Tidy room begun
+pub begun-tidy : (label room : ℕ) → Tidy room (begun label)
 unfolding begun
-begun-tidy room = record { put = refl; wide = omega arith; few = omega arith; space = omega arith; first = λ h. refl; slots = emptied-slots }
+begun-tidy label room = record { put = refl; wide = omega arith; few = omega arith; space = omega arith; first = λ h. refl; slots = emptied-slots label }
 
 -- ---- one byte more
 -- lines above have as many fields, or there are none
@@ -105,7 +105,7 @@ module _ (room : ℕ) (r : Reader) (h : Tidy room r) where
   -- a blank line
   bare-tidy : (blank : ℕ) → Tidy room (onward r blank (r .columns) (r .rows) (r .put))
   unfolding onward
-  bare-tidy blank = record { put = h .put; wide = h .wide; few = h .few; space = h .space; first = h .first; slots = emptied-slots }
+  bare-tidy blank = record { put = h .put; wide = h .wide; few = h .few; space = h .space; first = h .first; slots = emptied-slots (r .label) }
 
   -- a line that can't be taken
   failed-tidy : (l : Line) (line : ℕ) (t : Trouble) → length (l .row) ≡ 16 → Tidy room (failed r l line t)
@@ -115,7 +115,7 @@ module _ (room : ℕ) (r : Reader) (h : Tidy room r) where
   -- names
   titled-tidy : (n : ℕ) → n ≤ 16 → Tidy room (onward r 0 n 0 0)
   unfolding onward
-  titled-tidy n w = record { put = sym (mul-zero n); wide = w; few = omega arith; space = omega arith; first = λ z. refl; slots = emptied-slots }
+  titled-tidy n w = record { put = sym (mul-zero n); wide = w; few = omega arith; space = omega arith; first = λ z. refl; slots = emptied-slots (r .label) }
 
   -- one row more is as many numbers more
   grown : (n : ℕ) → differs (r .columns) n ≡ false → r .put + n ≡ n * (r .rows + 1)
@@ -137,7 +137,7 @@ module _ (room : ℕ) (r : Reader) (h : Tidy room r) where
         few = omega (arith, f .few);
         space = f .space;
         first = λ e. absurd (z e);
-        slots = emptied-slots;
+        slots = emptied-slots (r .label);
       }
 
   -- inside a line

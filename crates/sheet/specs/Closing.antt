@@ -51,7 +51,8 @@ onward r blank columns rows put =
       put = put;
       fault = r .fault;
       column = r .column;
-      here = emptied;
+      here = emptied (r .label);
+      label = r .label;
     }
 
 -- at a line that can't be taken
@@ -68,6 +69,7 @@ failed r l line t =
       fault = t .kind;
       column = t .column;
       here = l;
+      label = r .label;
     }
 
 -- a line in which nothing is wrong: names, above all rows, or a row that is put behind the others

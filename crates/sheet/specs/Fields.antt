@@ -3,7 +3,7 @@ use Prim.Native.Nat.{_*_, _+_, ℕ}
 use Rattle.laws.specs.Lists.{all, each, keep}
 use Rattle.sheet.specs.declared.bytes.Kind.the-variants.{Blank, Digit, Other, Parting, Sign}
 use Rattle.sheet.specs.declared.bytes.Kind.{Kind}
-use lib.Dec.{leb}
+use lib.Dec.{eqb, leb}
 use mathlib.Core.Bool.{Bool, cond, false, true}
 use mathlib.Core.List.{List, [], _∷_}
 
@@ -94,6 +94,19 @@ asNumber (k ∷ f) = cond (all isDigit (k ∷ f)) (cond (leb (value (k ∷ f)) 6
 unfoldable pub asName : List Kind → ℕ
 asName [] = 7
 asName (k ∷ f) = 0
+
+-- a field of a row: the label's, in column `label`, may be anything that a name may be; the column of this one is j + 1
+unfoldable pub asRow : ℕ → ℕ → List Kind → ℕ
+asRow label j f = cond (eqb label (j + 1)) (asName f) (asNumber f)
+
+-- a field of a line of names, in any column
+abbrev pub asNames : ℕ → List Kind → ℕ
+asNames j f = asName f
+
+-- the numbers that the fields of a row say, the first of them in column j + 1: a label counts as 0
+unfoldable pub worths : ℕ → ℕ → List (List Kind) → List ℕ
+worths label j [] = []
+worths label j (f ∷ fs) = cond (eqb label (j + 1)) 0 (value f) ∷ worths label (j + 1) fs
 
 -- a digit, a sign or a point
 abbrev pub isFigure : Kind → Bool

@@ -20,17 +20,24 @@ marked t kind column = cond (eqb (t .kind) 0) (cond (eqb kind 0) t (record { kin
 unfoldable pub onlyEmpty : ℕ → ℕ
 onlyEmpty kind = cond (eqb kind 7) 7 0
 
--- a field ends, with what is wrong with it as a number, and the number: it stands behind the others of its line; a seventeenth is one too many (3)
-unfoldable pub added : Line → ℕ → ℕ → Line
-added l kind v =
+-- a field ends, with what is wrong with it in a row and in names, and the number: it stands behind the others of its line; a seventeenth is one too
+-- many (3)
+unfoldable pub addedAs : Line → ℕ → ℕ → ℕ → Line
+addedAs l kind named v =
     record {
       place = Behind;
       figure = l .figure;
       count = cond (leb 16 (l .count)) 17 (l .count + 1);
       row = cond (leb 16 (l .count)) (l .row) (set (l .row) (l .count) v);
       numbers = cond (leb 16 (l .count)) (marked (l .numbers) 3 17) (marked (l .numbers) kind (l .count + 1));
-      names = cond (leb 16 (l .count)) (marked (l .names) 3 17) (marked (l .names) (onlyEmpty kind) (l .count + 1));
+      names = cond (leb 16 (l .count)) (marked (l .names) 3 17) (marked (l .names) named (l .count + 1));
+      label = l .label;
     }
+
+-- the same, with what is wrong with it as a number: a label is judged as a name, and counts as 0
+unfoldable pub added : Line → ℕ → ℕ → Line
+added l kind v =
+    addedAs l (cond (eqb (l .label) (l .count + 1)) (onlyEmpty kind) kind) (onlyEmpty kind) (cond (eqb (l .label) (l .count + 1)) 0 v)
 
 -- the field ends in which the reader stands, which is empty if it is open
 abbrev pub settledAt : Place → Line → Line
@@ -75,6 +82,7 @@ moved l p figure =
       row = l .row;
       numbers = l .numbers;
       names = l .names;
+      label = l .label;
     }
 
 -- a blank ends a field, unless the field is open
@@ -87,7 +95,8 @@ blankAt Behind l = l
 
 -- behind a byte that parts a field is open
 unfoldable pub opened : Line → Line
-opened l = record { place = Open; figure = l .figure; count = l .count; row = l .row; numbers = l .numbers; names = l .names }
+opened l =
+    record { place = Open; figure = l .figure; count = l .count; row = l .row; numbers = l .numbers; names = l .names; label = l .label }
 
 -- the line after one more byte
 abbrev pub along : Line → Kind → Line
@@ -98,5 +107,5 @@ along l Sign = moved l Strange true
 along l Other = moved l Strange false
 
 -- before the first byte of a line
-unfoldable pub emptied : Line
-emptied = record { place = Open; figure = false; count = 0; row = replicate 16 0; numbers = none; names = none }
+unfoldable pub emptied : ℕ → Line
+emptied label = record { place = Open; figure = false; count = 0; row = replicate 16 0; numbers = none; names = none; label = label }

@@ -1,7 +1,7 @@
 -- The lines of a text. A text is a list of bytes. Assumes nothing.
 use Prim.Native.Nat.{ℕ}
 use Rattle.laws.specs.Lists.{all, any}
-use Rattle.sheet.specs.Fields.{cutUp, fields, figured, isBlank, value}
+use Rattle.sheet.specs.Fields.{cutUp, fields, figured, isBlank, worths}
 use Rattle.sheet.specs.Kinds.{kindOf}
 use Rattle.sheet.specs.declared.bytes.Kind.{Kind}
 use lib.Dec.{eqb}
@@ -35,9 +35,9 @@ blankLine l = all isBlank (kinds l)
 abbrev pub fieldsOf : List ℕ → List (List Kind)
 fieldsOf l = fields (kinds l)
 
--- the numbers that it says
-abbrev pub numbers : List ℕ → List ℕ
-numbers l = map value (fieldsOf l)
+-- the numbers that it says, where the column `label` holds a label
+abbrev pub numbers : ℕ → List ℕ → List ℕ
+numbers label l = worths label 0 (fieldsOf l)
 
 -- as a text's first line it is names: no field begins with a digit, a sign or a point
 unfoldable pub named : List ℕ → Bool

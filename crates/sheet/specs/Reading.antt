@@ -10,10 +10,22 @@ use lib.Dec.{eqb, leb}
 use mathlib.Core.Bool.{Bool, _&&_, cond, false, true}
 use mathlib.Core.List.{List, [], _∷_}
 
--- before the first byte of a text
-unfoldable pub begun : Reader
-begun =
-    record { mark = 0; held = false; line = 1; blank = 0; columns = 0; rows = 0; put = 0; fault = 0; column = 0; here = emptied }
+-- before the first byte of a text whose column `label` holds a label (0: none does)
+unfoldable pub begun : ℕ → Reader
+begun label =
+    record {
+      mark = 0;
+      held = false;
+      line = 1;
+      blank = 0;
+      columns = 0;
+      rows = 0;
+      put = 0;
+      fault = 0;
+      column = 0;
+      here = emptied label;
+      label = label;
+    }
 
 -- the reader inside a line: with a carriage return held back or not
 unfoldable pub inside : Reader → ℕ → Bool → Line → Reader
@@ -29,6 +41,7 @@ inside r mark held l =
       fault = r .fault;
       column = r .column;
       here = l;
+      label = r .label;
     }
 
 -- a carriage return that was held back is a byte as any other, since no newline follows it

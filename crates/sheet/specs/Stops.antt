@@ -1,7 +1,7 @@
 -- Which line of a text stops the reading, and why. A working notion, on which no promise rests. Assumes nothing.
 use Prim.Native.Nat.{_+_, _<_, _≤_, ℕ}
 use Rattle.laws.specs.Lists.{all, joined}
-use Rattle.sheet.specs.Fields.{asName, isDigit, value}
+use Rattle.sheet.specs.Fields.{asNames, isDigit, value}
 use Rattle.sheet.specs.Lines.{fieldsOf, named, numbers}
 use Rattle.sheet.specs.Says.{Told, lineTrouble, trouble}
 use Rattle.sheet.specs.declared.bytes.Kind.{Kind}
@@ -22,20 +22,21 @@ pub data Right : List Kind → Type 0 where
 
 -- these lines, the first of which has this number, below `rows` rows with `put` numbers, say o, in which something is wrong: nothing is wrong with the
 -- lines before, each of which is a row, and this is wrong with the next one; or there is none, and no row
-pub record Stops (room line rows put : ℕ) (ls : List (List ℕ)) (o : Told) : Type 0 where
+pub record Stops (label room line rows put : ℕ) (ls : List (List ℕ)) (o : Told) : Type 0 where
   pub before : List (List ℕ)
   pub behind : List (List ℕ)
   pub whole : ls ≡ before ++ behind
   pub number : o .line ≡ line + length before
-  pub above : o .rs ≡ map numbers before
+  pub above : o .rs ≡ map (numbers label) before
   pub why : (l : List ℕ) (ms : List (List ℕ)) → behind ≡ l ∷ ms
-      → lineTrouble (o .columns) (rows + length before) (put + length (joined (map numbers before))) room l ≡ record { kind = o .kind; column = o .column }
+      → lineTrouble label (o .columns) (rows + length before) (put + length (joined (map (numbers label) before))) room l
+      ≡ record { kind = o .kind; column = o .column }
   pub none : behind ≡ [] → (o .kind ≡ 8) × (rows + length before ≡ 0)
 
 -- the lines ls of a text say o, in which something is wrong: with its names, or below them, or there are none
-pub data StopsText (room : ℕ) (ls : List (List ℕ)) (o : Told) : Type 0 where
+pub data StopsText (label room : ℕ) (ls : List (List ℕ)) (o : Told) : Type 0 where
   at-names : {l : List ℕ} {ms : List (List ℕ)} → ls ≡ l ∷ ms → named l ≡ true
-      → trouble asName 0 (fieldsOf l) ≡ record { kind = o .kind; column = o .column } → o .line ≡ 1 → StopsText room ls o
-  below-names : {l : List ℕ} {ms : List (List ℕ)} → ls ≡ l ∷ ms → named l ≡ true → trouble asName 0 (fieldsOf l) .kind ≡ 0
-      → Stops room 2 0 0 ms o → StopsText room ls o
-  no-names : Stops room 1 0 0 ls o → StopsText room ls o
+      → trouble asNames 0 (fieldsOf l) ≡ record { kind = o .kind; column = o .column } → o .line ≡ 1 → StopsText label room ls o
+  below-names : {l : List ℕ} {ms : List (List ℕ)} → ls ≡ l ∷ ms → named l ≡ true → trouble asNames 0 (fieldsOf l) .kind ≡ 0
+      → Stops label room 2 0 0 ms o → StopsText label room ls o
+  no-names : Stops label room 1 0 0 ls o → StopsText label room ls o

@@ -8,7 +8,7 @@ use mathlib.Core.Path.{_≡_}
 pub record Tidy (room : ℕ) (r : Reader) : Type 0 where
   pub put : r .put ≡ r .columns * r .rows
   pub wide : r .columns ≤ 16
-  pub few : r .rows ≤ 65_536
+  pub few : r .rows ≤ 1_048_576
   pub space : r .put ≤ room
   -- before the first row there is none, and behind it a row has a number at least
   pub first : r .columns ≡ 0 → r .rows ≡ 0

@@ -29,6 +29,7 @@ pub struct Reader {
     pub fault: u32,
     pub column: usize,
     pub here: Line,
+    pub label: usize,
 }
 
 pub const UNEVEN: u32 = 4;
@@ -39,16 +40,16 @@ pub const TABLE_SHORT: u32 = 6;
 
 pub const NO_ROWS: u32 = 8;
 
-pub const MOST_ROWS: usize = 65_536;
+pub const MOST_ROWS: usize = 1_048_576;
 
 const MOST_LINES: u64 = 18_446_744_073_709_551_615;
 
 // The mark is over, or was none.
 const PAST: u32 = 3;
 
-// Before the first byte of a text.
-pub fn start() -> Reader
-    ensures { λ r. ⌜ r ≡ begun ⌝ }
+// Before the first byte of a text. The column `label` (from 1) holds a label, which may be anything but empty and is read as 0; 0: there is none.
+pub fn start(label: usize) -> Reader
+    ensures { λ r. ⌜ r ≡ begun label ⌝ }
 {
     Reader {
         mark: 0,
@@ -60,7 +61,8 @@ pub fn start() -> Reader
         put: 0,
         fault: 0,
         column: 0,
-        here: line::fresh(),
+        here: line::fresh(label),
+        label,
     }
 }
 
@@ -238,13 +240,14 @@ fn go_onward(r: Reader, blank: u64, columns: usize, rows: usize, put: usize) -> 
         put,
         fault: r.fault,
         column: r.column,
-        here: line::fresh(),
+        here: line::fresh(r.label),
+        label: r.label,
     }
 }
 
 // Behind a row of n numbers.
 fn take_row(r: Reader, n: usize, room: usize) -> Reader
-    requires { ⌜ (r .rows + 1 ≤ 65536) × (r .put + n ≤ room) ⌝ }
+    requires { ⌜ (r .rows + 1 ≤ 1048576) × (r .put + n ≤ room) ⌝ }
     ensures { λ s. ⌜ s ≡ onward r 0 n (r .rows + 1) (r .put + n) ⌝ }
 {
     go_onward(r, 0, n, r.rows + 1, r.put + n)
@@ -265,6 +268,7 @@ fn fail(r: Reader, ended: Line, line: u64, trouble: Trouble) -> Reader
         fault: trouble.kind,
         column: trouble.column,
         here: ended,
+        label: r.label,
     }
 }
 
@@ -330,6 +334,7 @@ fn stay(r: Reader, mark: u32, held: bool, here: Line) -> Reader
         fault: r.fault,
         column: r.column,
         here,
+        label: r.label,
     }
 }
 

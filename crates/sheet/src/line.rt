@@ -1,6 +1,8 @@
 // One line of a text of rows, byte by byte: what is known of its fields so far, and where its reader stands.
-ghost use Rattle.sheet.specs.InLine.{added, along as along·, blankAt, digitAt, emptied, grown, marked, moved, onlyEmpty, opened, opens, settled};
+ghost use Rattle.sheet.specs.InLine.{added, addedAs, along as along·, blankAt, digitAt, emptied, grown, marked, moved, onlyEmpty, opened, opens, settled};
 ghost use Rattle.sheet.specs.Says.{none};
+ghost use Prim.Native.Nat.{_+_};
+ghost use lib.Dec.{eqb};
 ghost use mathlib.Core.Bool.{_&&_, _||_};
 ghost use mathlib.Core.Path.{_≡_};
 use crate::bytes::Kind;
@@ -21,7 +23,7 @@ pub struct Trouble {
 }
 
 // The place, whether a field began with a digit, a sign or a point, how many fields have ended (17 for more than 16), their numbers, and the first
-// thing that is wrong with them as numbers and as names.
+// thing that is wrong with them as numbers and as names. The label's column (from 1; 0: there is none) may hold anything but nothing.
 pub struct Line {
     pub place: Place,
     pub figure: bool,
@@ -29,6 +31,7 @@ pub struct Line {
     pub row: [u16; 16],
     pub numbers: Trouble,
     pub names: Trouble,
+    pub label: usize,
 }
 
 pub const NOT_A_NUMBER: u32 = 1;
@@ -49,8 +52,8 @@ pub fn no_trouble() -> Trouble
 }
 
 // Before the first byte of a line.
-pub fn fresh() -> Line
-    ensures { λ r. ⌜ r ≡ emptied ⌝ }
+pub fn fresh(label: usize) -> Line
+    ensures { λ r. ⌜ r ≡ emptied label ⌝ }
 {
     Line {
         place: Place::Open,
@@ -59,6 +62,7 @@ pub fn fresh() -> Line
         row: [0; 16],
         numbers: no_trouble(),
         names: no_trouble(),
+        label,
     }
 }
 
@@ -85,9 +89,19 @@ fn name_trouble(kind: u32) -> u32
     0
 }
 
-// A field has ended: its number is kept behind the others, at most 16 in a line.
-fn add(line: Line, kind: u32, v: u16) -> Line
-    ensures { λ r. ⌜ r ≡ added line kind v ⌝ }
+// The field that ends stands in the label's column.
+fn is_label(label: usize, count: usize) -> bool
+    ensures { λ r. ⌜ r ≡ eqb label (count + 1) ⌝ }
+{
+    if label == 0 {
+        return false;
+    }
+    label - 1 == count
+}
+
+// A field has ended, with what is wrong with it in a row and in names: its number is kept behind the others, at most 16 in a line.
+fn add_field(line: Line, kind: u32, named: u32, v: u16) -> Line
+    ensures { λ r. ⌜ r ≡ addedAs line kind named v ⌝ }
 {
     let count = line.count;
     let mut row = line.row;
@@ -99,6 +113,7 @@ fn add(line: Line, kind: u32, v: u16) -> Line
             row,
             numbers: mark(line.numbers, TOO_WIDE, WIDEST + 1),
             names: mark(line.names, TOO_WIDE, WIDEST + 1),
+            label: line.label,
         };
     }
     row[count] = v;
@@ -108,8 +123,20 @@ fn add(line: Line, kind: u32, v: u16) -> Line
         count: count + 1,
         row,
         numbers: mark(line.numbers, kind, count + 1),
-        names: mark(line.names, name_trouble(kind), count + 1),
+        names: mark(line.names, named, count + 1),
+        label: line.label,
     }
+}
+
+// A field has ended: a label may be anything but empty, and counts as 0.
+fn add(line: Line, kind: u32, v: u16) -> Line
+    ensures { λ r. ⌜ r ≡ added line kind v ⌝ }
+{
+    let named = name_trouble(kind);
+    if is_label(line.label, line.count) {
+        return add_field(line, named, named, 0);
+    }
+    add_field(line, kind, named, v)
 }
 
 // The field ends in which the reader stands.
@@ -191,6 +218,7 @@ fn go_on(line: Line, place: Place, figure: bool) -> Line
         row,
         numbers,
         names,
+        label: line.label,
     }
 }
 
@@ -222,6 +250,7 @@ fn open(line: Line) -> Line
         row,
         numbers,
         names,
+        label: line.label,
     }
 }
 

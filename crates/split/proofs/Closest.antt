@@ -1,7 +1,7 @@
 -- A row's closest centre and its distance, as centres are added: what an entry of a row that waits holds. Assumes nothing.
 use Prim.Native.Nat.{_≤_, min, ℕ}
 use Rattle.laws.specs.Lists.{each, least}
-use Rattle.split.specs.Entries.{nearAll, nearOne}
+use Rattle.rounds.specs.Entries.{nearAll, nearOne}
 use Rattle.tree.proofs.Centres.{closest-least}
 use Rattle.tree.specs.Build.{closer, closest, nearness}
 use borrow.Author.Tests.{le-ltb, leb-false, leb-true, lt-leb, lt-ltb, ltb-false, ltb-true}

@@ -1,7 +1,7 @@
 -- The words from lo on are copied, one after the other, from words further on. Assumes nothing.
 use Prim.Native.Nat.{_+_, _-_, _<_, _≤_, suc, ℕ}
 use Rattle.laws.proofs.Parts.{store-more}
-use Rattle.split.specs.Groups.{stretch}
+use Rattle.rounds.specs.Stretch.{stretch}
 use lib.ListN.{drop, getD, length, length-append, length-drop, set, take, take-append-drop}
 use lib.Seq.{getD-append-add, getD-drop, length-take-le, take-suc}
 use mathlib.Core.List.{List, [], _++_, _∷_, append-assoc, append-nil}

@@ -2,10 +2,10 @@
 use Prim.Native.Nat.{_+_, _-_, _≤_, suc, zero, ℕ}
 use Rattle.laws.proofs.Joins.{each-append}
 use Rattle.laws.specs.Lists.{each, head, rest, without}
+use Rattle.rounds.specs.Entries.{ahead, aheadOf, allBut, far, nearAll, others, own, roundsOf}
 use Rattle.split.proofs.Closest.{held, near-held, nearness-closest}
-use Rattle.split.specs.Entries.{ahead, aheadOf, allBut, far, nearAll, others, own, roundsOf}
 use Rattle.split.specs.Runs.{laid}
-use Rattle.tree.specs.Build.{choose, closest, farther, farthest, nearness}
+use Rattle.tree.specs.Build.{choose, farther, farthest, nearness}
 use borrow.Author.Tests.{eq-eqb, le-leb, le-ltb, leb-false, leb-true, ltb-false, ltb-true, ne-eqb}
 use lib.Dec.{eqb, leb, ltb}
 use lib.ListN.{drop, getD, length, take}

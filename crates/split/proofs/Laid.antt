@@ -1,10 +1,10 @@
 -- Entries of rows that have one centre: how many words, what they say, and the rows read back; runs that follow each other. Assumes nothing.
 use Prim.Native.Nat.{_*_, _≤_, max, suc, ℕ}
+use Rattle.groups.specs.Groups.{distances, size, widest}
 use Rattle.laws.proofs.Lists.{tally-length}
 use Rattle.laws.specs.Every.{Every}
 use Rattle.laws.specs.Lists.{each, greatest, head, joined}
-use Rattle.split.specs.Entries.{Entries}
-use Rattle.split.specs.Groups.{distances, size, widest}
+use Rattle.rounds.specs.Entries.{Entries}
 use Rattle.split.specs.Runs.{laid, rows}
 use Rattle.tree.proofs.Grow.{split-tally}
 use Rattle.tree.specs.Build.{Run, split}

@@ -1,14 +1,6 @@
-pub mod Parts
-pub mod Entries
-pub mod Nearing
-pub mod Seeking
-pub mod Shifted
-pub mod Choosing
 pub mod Closest
 pub mod Held
 pub mod Laid
-pub mod Picks
-pub mod Gathered
 pub mod Sharing
 pub mod Copied
 pub mod SplitWords

@@ -1,10 +1,11 @@
 -- The groups of a run's centres, one after the other, with their nodes. Assumes nothing.
 use Prim.Native.Nat.{_*_, _+_, _-_, _<_, _≤_, suc, zero, ℕ}
+use Rattle.groups.proofs.Gathered.{group-size}
+use Rattle.groups.specs.Groups.{Gatherable, Gathered, group, narrowest, picked, size, widest}
 use Rattle.laws.proofs.Parts.{put-more}
-use Rattle.split.proofs.Gathered.{group-size}
-use Rattle.split.proofs.Parts.{read-front, stretch-front}
-use Rattle.split.specs.Groups.{Gatherable, Gathered, Sharable, Shared, centres, group, groupNodes, groupWords, narrowest, picked, shared, sharedNodes, size, stretch, waiting, widest}
+use Rattle.rounds.proofs.Parts.{read-front, stretch-front}
 use Rattle.split.specs.Places.{nodeAt}
+use Rattle.split.specs.Shares.{Sharable, Shared, centres, groupNodes, groupWords, shared, sharedNodes, waiting}
 use borrow.Rule.Slice.PartMut.{midOf, putMid}
 use lib.ListN.{drop, getD, length, length-append, length-drop, take, take-append-drop}
 use lib.Seq.{drop-append-add, drop-at, drop-drop, length-take-le, take-add, take-all, take-at}

@@ -4,15 +4,16 @@ use Rattle.laws.specs.Lists.{each, head}
 use Rattle.measure.proofs.Metric.{metric}
 use Rattle.measure.proofs.Rows.{row-ends}
 use Rattle.measure.specs.Table.{between}
+use Rattle.rounds.proofs.Parts.{stretch-front}
+use Rattle.rounds.specs.Entries.{Entries, InTable, roundsOf}
+use Rattle.rounds.specs.Stretch.{stretch}
 use Rattle.split.proofs.Held.{chosen-words, chosenWords}
 use Rattle.split.proofs.Laid.{laid-long, split-long, under-entries}
-use Rattle.split.proofs.Parts.{stretch-front}
 use Rattle.split.proofs.SplitWords.{group-nodes, group-words}
-use Rattle.split.specs.Entries.{Entries, InTable, roundsOf}
-use Rattle.split.specs.Groups.{Sharable, Shared, groupNodes, groupWords, stretch}
-use Rattle.split.specs.Runs.{Splittable, Splitted, laid, runAt, runNodes}
-use Rattle.tree.specs.Build.{split}
 use Rattle.split.specs.Places.{nodeAt}
+use Rattle.split.specs.Runs.{Splittable, Splitted, laid, runAt, runNodes}
+use Rattle.split.specs.Shares.{Sharable, Shared, groupNodes, groupWords}
+use Rattle.tree.specs.Build.{split}
 use borrow.Rule.Slice.PartMut.{mid-len, midOf, post-is, putMid}
 use lib.ListN.{drop, length, length-append, length-drop, take}
 use lib.Seq.{drop-at, length-take-le, take-append-add, take-append-le, take-at, take-take}

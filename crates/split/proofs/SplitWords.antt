@@ -1,12 +1,13 @@
 -- The groups of the words that the rounds leave are the runs of 01's `split`. Assumes nothing.
 use Prim.Native.Nat.{_*_, _+_, _-_, _≤_, ℕ}
+use Rattle.groups.specs.Groups.{distances, group, narrowest, picked, size, widest}
 use Rattle.laws.specs.Lists.{each, keep, lowest}
+use Rattle.rounds.specs.Entries.{own}
 use Rattle.split.proofs.Closest.{held, nearness-closest}
 use Rattle.split.proofs.Held.{chosen, chosenWords, unchosen}
 use Rattle.split.proofs.Laid.{under, under-distances, under-size, under-widest}
-use Rattle.split.specs.Entries.{own}
-use Rattle.split.specs.Groups.{centres, distances, group, groupNodes, groupWords, narrowest, picked, shared, sharedNodes, size, waiting, widest}
 use Rattle.split.specs.Runs.{laid, runNodes}
+use Rattle.split.specs.Shares.{centres, groupNodes, groupWords, shared, sharedNodes, waiting}
 use Rattle.tree.proofs.Grow.{split-length}
 use Rattle.tree.specs.Build.{closest, innerReach, nearness, radius, split}
 use borrow.Author.Tests.{eqb-true}

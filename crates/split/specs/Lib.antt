@@ -1,4 +1,3 @@
 pub mod Places
-pub mod Entries
-pub mod Groups
+pub mod Shares
 pub mod Runs

@@ -4,9 +4,9 @@ use Rattle.laws.specs.Every.{Every}
 use Rattle.laws.specs.Lists.{each, head, times}
 use Rattle.limits.specs.Limits.{maxColumns, maxRows}
 use Rattle.measure.specs.Table.{between}
-use Rattle.split.specs.Groups.{stretch}
-use Rattle.tree.specs.Build.{innerReach, radius, split}
+use Rattle.rounds.specs.Stretch.{stretch}
 use Rattle.split.specs.Places.{nodeAt}
+use Rattle.tree.specs.Build.{innerReach, radius, split}
 use lib.ListN.{drop, length, take}
 use mathlib.Core.List.{List, [], _++_, _∷_}
 use mathlib.Core.Path.{_≡_}
@@ -47,5 +47,7 @@ pub record Splittable (t : List ℕ) (c m n : ℕ) (room work : List ℕ) (s cou
 
 -- its words are now those of its children's runs, whose nodes stand from `made` on; the rest of the first half is as it was
 pub record Splitted (t : List ℕ) (c m n : ℕ) (room work : List ℕ) (s count made : ℕ) (room′ work′ : List ℕ) : Type 0 where
-  pub words : take (3 * n) work′ ≡ take (3 * s) work ++ (each (laid (between t c)) (split (between t c) m (runAt work s count)) ++ stretch work (3 * s + 3 * count) (3 * n))
-  pub nodes : room′ ≡ take (nodeAt made) room ++ (runNodes (between t c) s (split (between t c) m (runAt work s count)) ++ drop (nodeAt (made + m)) room)
+  pub words : take (3 * n) work′
+      ≡ take (3 * s) work ++ (each (laid (between t c)) (split (between t c) m (runAt work s count)) ++ stretch work (3 * s + 3 * count) (3 * n))
+  pub nodes : room′
+      ≡ take (nodeAt made) room ++ (runNodes (between t c) s (split (between t c) m (runAt work s count)) ++ drop (nodeAt (made + m)) room)

@@ -119,7 +119,8 @@ fn ended(place: Place, b: u8) -> usize
 // Puts the number that ends where the byte b follows, if one does. Gives the next free place.
 fn put_ended(place: Place, b: u8, room: &mut [u16], at: usize) -> usize
     requires { ⌜ at + length (endedBy place b) ≤ length (now room) ⌝ }
-    ensures { λ r. ⌜ (r ≡ at + length (endedBy place b)) × (now (room .exit) ≡ take at (now (room .entry)) ++ endedBy place b ++ drop r (now (room .entry))) ⌝ }
+    ensures { λ r. ⌜ (r ≡ at + length (endedBy place b))
+        × (now (room .exit) ≡ take at (now (room .entry)) ++ endedBy place b ++ drop r (now (room .entry))) ⌝ }
 {
     if !parts(b) {
         return at;

@@ -19,14 +19,13 @@ use Rattle.tree.specs.Check.{Accepted, faults, nearest#, wrongInner, wro
 use Rattle.words.proofs.Levels.{born-le, inner-is}
 use Rattle.words.proofs.Nodes.{closed, node-ok, root-ok}
 use Rattle.words.specs.InShape.{InShape}
-use Rattle.words.specs.Shape.{born, brood, inner, level, nodeOk, positionOk, rootFits, rootOk, shapeOk, tile, treeFits}
+use Rattle.words.specs.Shape.{born, inner, level, nodeOk, positionOk, rootOk, shapeOk, tile, treeFits}
 use Rattle.words.specs.Words.{N#, child#, count#, dist#, edition#, first#, inner#, kept, l#, m#, n#, radius#, row#, run#, start#, wholeOk}
 use borrow.Author.Tests.{eq-eqb, eqb-true, le-leb, not-false}
 use lib.Dec.{T, eqb, leb, le→leb, ltb, lt→ltb}
 use mathlib.Core.Bool.{Bool, _&&_, _||_, cond, false, not, true}
-use mathlib.Core.List.{List, [], map}
+use mathlib.Core.List.{List, map}
 use mathlib.Core.Path.{_∙_, _≡_, ap, ap₂, refl, subst, sym}
-use native.Mathlib.Nat.{add-suc, suc-add}
 use native.Mathlib.Omega.{arith}
 
 -- v reads as w does

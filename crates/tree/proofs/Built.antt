@@ -1,21 +1,20 @@
 -- The tree that the build grows is well made, and so its index is accepted. Assumes nothing.
 use Prim.Native.Nat.{_<_, _≤_, suc, zero, ℕ}
 use Rattle.laws.proofs.Every.{every-all, every-append, every-map}
-use Rattle.laws.specs.Every.{Every}
 use Rattle.laws.proofs.Lists.{tally-length}
 use Rattle.laws.proofs.Ranges.{range-every, range-length}
 use Rattle.laws.proofs.Times.{every-same, range-times}
+use Rattle.laws.specs.Every.{Every}
 use Rattle.laws.specs.Lists.{head, range, tally}
 use Rattle.limits.proofs.Ranges.{columns-are, shared}
 use Rattle.limits.specs.Limits.{columnsOk, editionOk, maxDepth, maxDistance, maxRows, shareOk}
 use Rattle.measure.proofs.Metric.{between-most, metric}
 use Rattle.measure.specs.Space.{Space}
 use Rattle.measure.specs.Table.{between, rowsOf}
-use Rattle.tree.proofs.Full.{Full}
 use Rattle.tree.proofs.Good.{Good, empty-accepted, encode-accepted}
 use Rattle.tree.proofs.Grow.{grown-even, grown-fine, grown-full, grown-span, grown-tally}
-use Rattle.tree.specs.Build.{Run, build, grow, leafOf, plant, reach, split}
 use Rattle.tree.proofs.Grown.{grown-sound}
+use Rattle.tree.specs.Build.{Run, build, grow, leafOf, plant, reach, split}
 use Rattle.tree.specs.Check.{Accepted}
 use Rattle.tree.specs.Encode.{encode}
 use Rattle.tree.specs.Grove.{Grove, bare, entries, fork, rowsIn}
@@ -23,7 +22,7 @@ use lib.Dec.{eqb, leb}
 use lib.ListN.{length, length-map}
 use mathlib.Core.Bool.{Bool, cond, false, true}
 use mathlib.Core.List.{List, [], _∷_, foldr, map}
-use mathlib.Core.Path.{_∙_, _≡_, refl, subst, sym}
+use mathlib.Core.Path.{_∙_, _≡_, subst, sym}
 use native.Mathlib.Nat.{add-zero, zero-add}
 use native.Mathlib.Omega.{arith}
 

@@ -1,10 +1,20 @@
--- The cases come out as they should. Assumes nothing.
+-- The cases come out as they should, group by group, so that a message shows which does not. Assumes nothing.
 use Rattle.laws.specs.Lists.{all}
-use Rattle.tree.specs.Cases.{marked, ours, right}
+use Rattle.tree.specs.Cases.{checked, grown, right, sought, swept}
 use lib.Dec.{T}
-use mathlib.Core.List.{_++_}
 
--- EVERY CASE OF THE TABLE IS RIGHT, COMPUTED
-pub cases : T (all right (marked ++ ours))
+pub grown-right : T (all right grown)
 unfolding right
-cases = tt
+grown-right = tt
+
+pub swept-right : T (all right swept)
+unfolding right
+swept-right = tt
+
+pub sought-right : T (all right sought)
+unfolding right
+sought-right = tt
+
+pub checked-right : T (all right checked)
+unfolding right
+checked-right = tt

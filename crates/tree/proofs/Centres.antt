@@ -1,9 +1,9 @@
 -- The centres of a run and the rows that are left: together they are the run's. Assumes nothing.
 use Prim.Native.Nat.{_+_, _-_, _≤_, suc, zero, ℕ}
 use Rattle.laws.proofs.Every.{every-of}
-use Rattle.laws.specs.Every.{Every}
 use Rattle.laws.proofs.Lists.{tally-append, tally-length}
 use Rattle.laws.proofs.Shares.{tally-split, without-tally}
+use Rattle.laws.specs.Every.{Every}
 use Rattle.laws.specs.Lists.{head, keep, rest, tally, times, without}
 use Rattle.tree.specs.Build.{Run, choose, closest, farthest, nearness, split}
 use borrow.Author.Tests.{eq-eqb, leb-false, leb-true}

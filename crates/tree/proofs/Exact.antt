@@ -2,8 +2,8 @@
 -- Assumes nothing.
 use Prim.Native.Nat.{_+_, _≤_, ℕ}
 use Rattle.laws.proofs.Every.{every-all, every-append, every-map, every-of, every-rest}
-use Rattle.laws.specs.Every.{Every}
 use Rattle.laws.proofs.Times.{lefts}
+use Rattle.laws.specs.Every.{Every}
 use Rattle.laws.specs.Lists.{gap, head, rest}
 use Rattle.measure.specs.Space.{Point}
 use Rattle.tree.proofs.Full.{Full}

@@ -2,11 +2,11 @@
 use Prim.Native.Nat.{_+_, _-_, _<_, _≤_, suc, ℕ}
 use Rattle.laws.proofs.Empty.{any-none, each-none, keep-none}
 use Rattle.laws.proofs.Every.{every-of}
-use Rattle.laws.specs.Every.{Every}
 use Rattle.laws.proofs.Lists.{map-append, tally-append}
 use Rattle.laws.proofs.Ranges.{at-every, every-at, every-range, range-append, range-every}
 use Rattle.laws.proofs.Tests.{and-l, and-none, and-r, holds}
 use Rattle.laws.proofs.Times.{zero-any}
+use Rattle.laws.specs.Every.{Every}
 use Rattle.laws.specs.Lists.{any, each, greatest, keep, range, times}
 use Rattle.limits.specs.Said.{Said}
 use Rattle.tree.proofs.Right.{Right}

@@ -1,9 +1,9 @@
 -- An index that the full check accepts has a tree that fits its table. Assumes nothing.
 use Prim.Native.Nat.{_+_, _-_, _<_, _≤_, suc, zero, ℕ}
 use Rattle.laws.proofs.Every.{every-map}
-use Rattle.laws.specs.Every.{Every}
 use Rattle.laws.proofs.Ranges.{range-every}
 use Rattle.laws.proofs.Times.{lefts}
+use Rattle.laws.specs.Every.{Every}
 use Rattle.laws.specs.Lists.{range, rest}
 use Rattle.tree.proofs.Forks.{kids-first, kids-rows}
 use Rattle.tree.proofs.Members.{held, kids-firsts, run-first}

@@ -6,7 +6,7 @@ use Rattle.tree.proofs.Members.{entries-at, firsts-at, kids-entries}
 use Rattle.tree.specs.Grove.{Grove, bare, first, firsts, fork, leaf, members#, reach#, rowsIn, treeAt}
 use Rattle.words.specs.InShape.{InShape}
 use Rattle.words.specs.Shape.{inner}
-use Rattle.words.specs.Words.{N#, child#, count#, first#, m#, radius#, start#}
+use Rattle.words.specs.Words.{N#, child#, count#, first#, m#, start#}
 use mathlib.Core.Bool.{Bool, cond, false, true}
 use mathlib.Core.List.{List, foldr}
 use mathlib.Core.Path.{_∙_, _≡_, ap, refl, sym}

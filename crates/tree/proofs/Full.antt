@@ -1,9 +1,9 @@
 -- Trees with no empty leaf and no childless inner node: their firsts are members. Assumes nothing.
 use Prim.Native.Nat.{_≤_, ℕ}
 use Rattle.laws.proofs.Every.{every-head, every-left, every-rest, every-right}
-use Rattle.laws.specs.Every.{Every}
 use Rattle.laws.proofs.Lists.{map-append}
 use Rattle.laws.proofs.Times.{lefts}
+use Rattle.laws.specs.Every.{Every}
 use Rattle.laws.specs.Lists.{head, rest}
 use Rattle.tree.specs.Grove.{Grove, bare, entries, first, firsts, fork, leaf, rowsIn}
 use lib.ListN.{length, length-map}

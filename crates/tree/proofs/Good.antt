@@ -1,8 +1,8 @@
 -- A well-made tree, numbered and written, is accepted by the full check. Assumes nothing.
 use Prim.Native.Nat.{_*_, _+_, _-_, _<_, _≤_, suc, zero, ℕ}
 use Rattle.laws.proofs.Every.{every-both, every-unmap}
-use Rattle.laws.specs.Every.{Every}
 use Rattle.laws.proofs.Tests.{and-of, holds, is-true}
+use Rattle.laws.specs.Every.{Every}
 use Rattle.laws.specs.Lists.{each, range, times}
 use Rattle.limits.proofs.Ranges.{shared, within-both}
 use Rattle.limits.specs.Limits.{columnsOk, editionOk, maxDepth, maxDistance, maxRows, shareOk}
@@ -15,7 +15,6 @@ use Rattle.tree.proofs.Right.{Made, nodes-right}
 use Rattle.tree.proofs.Shaped.{Fine, below-fine, below-none}
 use Rattle.tree.proofs.Sound.{Sound}
 use Rattle.tree.proofs.Written.{Edition, each-words, encode-shape, read-nodes}
-use Rattle.tree.specs.Cases.{words}
 use Rattle.tree.specs.Check.{Accepted, faults}
 use Rattle.tree.specs.Encode.{below, broods, encode, family, levelNodes, nodeWords, nodes, numbered, pairWords, span, spans}
 use Rattle.tree.specs.Grove.{Grove, bare, entries, fork, leaf, rowsIn}

@@ -1,11 +1,11 @@
 -- The tree that the build grows is well made: its runs have the rows that there were. Assumes nothing.
 use Prim.Native.Nat.{_+_, _-_, _≤_, suc, zero, ℕ}
 use Rattle.laws.proofs.Every.{every-all, every-both, every-map, every-of, greatest-under, lowest-under}
-use Rattle.laws.specs.Every.{Every}
 use Rattle.laws.proofs.Lists.{map-id, paired, tally-append, tally-length}
 use Rattle.laws.proofs.Shares.{every-∀, heads-tally, part-times, share}
 use Rattle.laws.proofs.Tests.{holds}
 use Rattle.laws.proofs.Times.{tally-lefts}
+use Rattle.laws.specs.Every.{Every}
 use Rattle.laws.specs.Lists.{head, joined, keep, rest, tally, times}
 use Rattle.limits.specs.Limits.{maxDistance}
 use Rattle.tree.proofs.Centres.{chosen, chosen-length, chosen-tally, groupOf, left, one-centre, split-is}

@@ -1,15 +1,15 @@
 -- The tree that the build grows fits its table. Assumes nothing.
 use Prim.Native.Nat.{_-_, _≤_, suc, zero, ℕ}
 use Rattle.laws.proofs.Every.{every-all, every-map, every-unmap, greatest-le, greatest-under, lowest-le, lowest-over}
-use Rattle.laws.specs.Every.{Every}
 use Rattle.laws.proofs.Lists.{map-id, paired}
 use Rattle.laws.proofs.Times.{every-same, lefts, times-split}
+use Rattle.laws.specs.Every.{Every}
 use Rattle.laws.specs.Lists.{greatest, head, keep, lowest, rest, times, without}
 use Rattle.tree.proofs.Centres.{chosen, closest-least, groupOf, left, split-is}
 use Rattle.tree.proofs.Full.{first-row}
 use Rattle.tree.proofs.Grow.{forest-full, forest-span, forest-tally, split-length, split-runs, split-tally}
-use Rattle.tree.specs.Build.{Run, choose, closest, farthest, grow, innerReach, leafOf, radius, reach, split}
 use Rattle.tree.proofs.Sound.{Close, Reaches, Sound}
+use Rattle.tree.specs.Build.{Run, choose, closest, farthest, grow, innerReach, leafOf, radius, reach, split}
 use Rattle.tree.specs.Grove.{Grove, Reach, bare, first, firsts, fork, leaf, rowsIn}
 use borrow.Author.Tests.{eqb-true, leb-false}
 use lib.Dec.{eqb, leb}

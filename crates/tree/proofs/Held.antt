@@ -1,5 +1,5 @@
 -- The positions from one on, by the pairs that they hold. Assumes nothing.
-use Prim.Native.Nat.{_*_, _+_, suc, ℕ}
+use Prim.Native.Nat.{_+_, suc, ℕ}
 use Rattle.laws.proofs.Times.{lefts}
 use Rattle.laws.specs.Every.{Every}
 use Rattle.laws.specs.Lists.{each, range}

@@ -30,4 +30,4 @@ pub mod Alike
 pub mod Widened
 pub mod WidenedBuild
 pub mod Theorems
-pub mod Tallies
+pub mod Tested

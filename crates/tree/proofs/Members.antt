@@ -8,7 +8,7 @@ use Rattle.tree.specs.Grove.{Grove, bare, entries, firsts, fork, leaf, m
 use Rattle.words.proofs.Tiles.{tile-first, tile-head, tile-le, tile-none, tile-tail}
 use Rattle.words.specs.InShape.{InShape}
 use Rattle.words.specs.Shape.{inner, tile}
-use Rattle.words.specs.Words.{N#, child#, count#, dist#, first#, m#, radius#, row#, start#}
+use Rattle.words.specs.Words.{N#, child#, count#, dist#, first#, m#, row#, start#}
 use lib.Dec.{T}
 use lib.ListN.{length, length-map}
 use mathlib.Core.Bool.{Bool, cond, false, true}

@@ -2,9 +2,9 @@
 use Prim.Native.Nat.{_+_, _-_, _<_, _≤_, suc, zero, ℕ}
 use Rattle.laws.proofs.Empty.{any-false, append-nil-l, append-nil-r, each-nil, keep-nil, map-nil}
 use Rattle.laws.proofs.Every.{every-of, every-unmap, greatest-le, lowest-le}
-use Rattle.laws.specs.Every.{Every}
 use Rattle.laws.proofs.Ranges.{every-at, every-range}
 use Rattle.laws.proofs.Tests.{and-second}
+use Rattle.laws.specs.Every.{Every}
 use Rattle.laws.specs.Lists.{any, each, greatest, keep, lowest, range, rest}
 use Rattle.limits.specs.Said.{Said}
 use Rattle.tree.proofs.Fitting.{Fits}
@@ -14,7 +14,7 @@ use Rattle.words.specs.Words.{N#, child#, count#, at, dist#, edition#, first#, 
 use borrow.Author.Tests.{eqb-true, le-leb, lt-ltb, ltb-false, not-false}
 use lib.Dec.{T, eqb, ltb}
 use mathlib.Core.Bool.{Bool, _&&_, _||_, cond, false, not, true}
-use mathlib.Core.List.{List, [], _++_, _∷_, map}
+use mathlib.Core.List.{List, [], _++_, map}
 use mathlib.Core.Path.{_≡_, ap, ap₂, refl, subst, sym}
 use native.Mathlib.Nat.{add-suc, not-suc-le-zero, suc-add}
 use native.Mathlib.Omega.{arith}

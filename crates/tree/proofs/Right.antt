@@ -1,10 +1,10 @@
 -- The words of a tree that fits its table have no fault. Assumes nothing.
 use Prim.Native.Nat.{_+_, _≤_, suc, zero, ℕ}
 use Rattle.laws.proofs.Every.{every-append, every-of, every-unmap}
-use Rattle.laws.specs.Every.{Every}
 use Rattle.laws.proofs.Lists.{map-map}
 use Rattle.laws.proofs.Ranges.{every-range-append}
 use Rattle.laws.proofs.Times.{lefts}
+use Rattle.laws.specs.Every.{Every}
 use Rattle.laws.specs.Lists.{greatest, head, lowest, range, rest}
 use Rattle.tree.proofs.Encode.{Even, Holds, fork-inner, level-first, level-length, level-others, nodes-head, nodes-length, nodes-rest}
 use Rattle.tree.proofs.Full.{Full, first-row}

@@ -1,10 +1,10 @@
 -- The rows of an index in shape's tree: those of its positions, below n, and each at most once where none stands twice. Assumes nothing.
 use Prim.Native.Nat.{_+_, _<_, _≤_, min, suc, zero, ℕ}
 use Rattle.laws.proofs.Every.{every-map}
-use Rattle.laws.specs.Every.{Every}
 use Rattle.laws.proofs.Lists.{map-append, tally-append}
 use Rattle.laws.proofs.Ranges.{at-every, range-append}
 use Rattle.laws.proofs.Times.{lefts, not-any}
+use Rattle.laws.specs.Every.{Every}
 use Rattle.laws.specs.Lists.{any, range, times}
 use Rattle.limits.specs.Limits.{maxDepth}
 use Rattle.tree.proofs.Full.{Full}

@@ -1,8 +1,8 @@
 -- A well-made tree, numbered and written, is in shape: each node passes its test, and each but the root is a child. Assumes nothing.
 use Prim.Native.Nat.{_+_, _<_, _≤_, suc, zero, ℕ}
 use Rattle.laws.proofs.Every.{every-append, every-left, every-right}
-use Rattle.laws.specs.Every.{Every}
 use Rattle.laws.proofs.Ranges.{every-range-append, range-append, range-every}
+use Rattle.laws.specs.Every.{Every}
 use Rattle.laws.specs.Lists.{range}
 use Rattle.limits.specs.Limits.{maxDepth, maxDistance}
 use Rattle.tree.proofs.Encode.{Even, Fams, Holds, Reached, below-even, family-born, fams-left, fams-right, fork-inner, level-born, level-fams, level-first, level-length, level-others, nodes-head, nodes-length, nodes-rest}

@@ -1,8 +1,8 @@
 -- A tree that fits its table, and bounds that are not above any distance. Assumes nothing.
-use Prim.Native.Nat.{_*_, _+_, _-_, _/_, _≤_, max, ℕ}
+use Prim.Native.Nat.{_*_, _+_, _-_, _≤_, max, ℕ}
 use Rattle.laws.proofs.Every.{every-all, every-append, every-both, every-map, every-of, every-rest, every-unmap}
-use Rattle.laws.specs.Every.{Every}
 use Rattle.laws.proofs.Times.{lefts}
+use Rattle.laws.specs.Every.{Every}
 use Rattle.laws.specs.Lists.{head, least, rest}
 use Rattle.measure.specs.Space.{Point}
 use Rattle.tree.proofs.Full.{Full, Others, firsts-rest, others-rest}

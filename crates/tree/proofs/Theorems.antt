@@ -1,9 +1,9 @@
 -- The theorems on an index that the full check accepts, over any distance and any query. Assumes nothing.
 use Prim.Native.Nat.{_<_, _≤_, min, ℕ}
 use Rattle.laws.proofs.Every.{every-map}
-use Rattle.laws.specs.Every.{Every}
 use Rattle.laws.proofs.Ranges.{at-every}
 use Rattle.laws.proofs.Times.{lefts, look-every, look-fact, times-every}
+use Rattle.laws.specs.Every.{Every}
 use Rattle.laws.specs.Lists.{has, keep, look, range, times}
 use Rattle.measure.specs.Distance.{l1}
 use Rattle.measure.specs.Space.{Point}

@@ -1,6 +1,6 @@
 -- An edition 1 index made edition 2: it reads as before, it is accepted where it was, and it is what a build in edition 2 gives.
 -- Assumes nothing.
-use Prim.Native.Nat.{_*_, _+_, _<_, _≤_, suc, zero, ℕ}
+use Prim.Native.Nat.{_+_, _<_, _≤_, suc, zero, ℕ}
 use Rattle.laws.proofs.Ranges.{every-at, range-length}
 use Rattle.laws.proofs.Tests.{and-l, and-of, and-r, holds, is-true}
 use Rattle.laws.specs.Every.{Every}
@@ -18,14 +18,13 @@ use Rattle.tree.specs.Encode.{Node, nodeWords, pairWords}
 use Rattle.tree.specs.Grove.{treeOf}
 use Rattle.tree.specs.Radius.{radiusHow}
 use Rattle.tree.specs.Widen.{widen, widened}
-use Rattle.words.specs.Words.{N#, at, c#, child#, count#, dist#, edition#, cardOk, inner#, kept, kind#, l#, last#, m#, n#, nodesOk, radius#, row#, start#, wordsOf, wholeOk}
+use Rattle.words.specs.Words.{N#, at, c#, dist#, edition#, cardOk, inner#, kept, kind#, l#, last#, m#, n#, nodesOk, row#, wordsOf, wholeOk}
 use lib.Dec.{T, eqb, leb, le→leb}
 use lib.ListN.{getD, length, length-append, length-map}
 use mathlib.Core.Bool.{Bool, _&&_, false, true}
 use mathlib.Core.List.{List, [], _++_, _∷_, append-assoc, map}
 use mathlib.Core.Logic.{_↔_}
 use mathlib.Core.Path.{_∙_, _≡_, ap, refl, subst, sym}
-use native.Mathlib.Nat.{mul-zero}
 use native.Mathlib.Omega.{arith}
 
 -- what one node's words hold

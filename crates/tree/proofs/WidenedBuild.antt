@@ -15,9 +15,9 @@ use Rattle.tree.proofs.Written.{Edition, each-words, read-nodes}
 use Rattle.tree.specs.Build.{build, plant}
 use Rattle.tree.specs.Check.{Accepted, nearest#}
 use Rattle.tree.specs.Encode.{Node, encode, nodeWords, numbered, pairWords}
-use Rattle.tree.specs.Grove.{Grove, Reach, entries, reaching}
+use Rattle.tree.specs.Grove.{Grove, entries, reaching}
 use Rattle.tree.specs.Widen.{widen, widened}
-use Rattle.words.specs.Words.{N#, child#, count#, dist#, edition#, inner#, kept, n#, radius#, row#, start#, width}
+use Rattle.words.specs.Words.{child#, count#, dist#, edition#, inner#, kept, n#, radius#, row#, start#, width}
 use lib.ListN.{length, length-append}
 use mathlib.Core.Bool.{true}
 use mathlib.Core.List.{List, [], _++_, _∷_, append-assoc, map}

@@ -1,8 +1,8 @@
 -- What encode writes is read back, and is in shape. Assumes nothing.
 use Prim.Native.Nat.{_*_, _+_, _<_, _≤_, suc, zero, ℕ}
 use Rattle.laws.proofs.Every.{all-of, every-of}
-use Rattle.laws.specs.Every.{Every}
 use Rattle.laws.proofs.Tests.{and-l, and-of, and-r, eq-test}
+use Rattle.laws.specs.Every.{Every}
 use Rattle.laws.specs.Lists.{all, each, range}
 use Rattle.limits.specs.Limits.{maxDepth, maxDistance}
 use Rattle.tree.proofs.Encode.{Even, Holds, family-tile, holds-left, nodes-head}

@@ -7,5 +7,4 @@ pub mod Widen
 pub mod Homes
 pub mod Nearest
 pub mod Radius
-pub mod Calls
 pub mod Cases

@@ -6,6 +6,6 @@ pub mod Fits
 pub mod Headers
 pub mod InShape
 pub mod Positions
-pub mod Index
+pub mod Indexes
 pub mod Listed
 pub mod Strides

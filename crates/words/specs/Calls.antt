@@ -1,17 +1,12 @@
--- What an index's words alone decide: two refusals, and the listing of a node. Assumes nothing.
+-- The listing of a node. Assumes nothing.
 use Prim.Native.Nat.{_*_, _+_, _<_, _≤_, ℕ}
-use Rattle.limits.specs.Said.{Said, fault}
 use Rattle.words.specs.Shape.{shapeOk}
-use Rattle.words.specs.Words.{N#, c#, count#, headerOk, n#, pairAt, start#, wordsOf, wordsOk}
-use lib.Dec.{eqb, ltb}
+use Rattle.words.specs.Words.{N#, count#, headerOk, pairAt, start#, wordsOf, wordsOk}
+use lib.Dec.{ltb}
 use lib.ListN.{drop, length, take}
-use mathlib.Core.Bool.{Bool, _&&_, cond, false, not}
-use mathlib.Core.List.{List, [], _++_}
+use mathlib.Core.Bool.{Bool, _&&_, cond, false}
+use mathlib.Core.List.{List, []}
 use mathlib.Core.Path.{_≡_}
-
--- 01, Numbers given back, 8 and 9, for a table of n rows of c columns
-unfoldable pub indexFaults : List ℕ → ℕ → ℕ → List Said
-indexFaults w n c = fault 8 (not (wordsOk w && eqb (n# w) n && eqb (c# w) c)) ++ fault 9 (not (shapeOk w))
 
 -- the part of the index words with the pairs of node k's run
 abbrev pub pairs : List ℕ → ℕ → List ℕ

@@ -2,5 +2,5 @@ pub mod Words
 pub mod Shape
 pub mod Pass
 pub mod InShape
+pub mod Index
 pub mod Calls
-pub mod Image

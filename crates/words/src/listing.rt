@@ -1,34 +1,12 @@
-// An index for a table, and the listing of a node.
-ghost use Rattle.limits.specs.Said.{said};
-ghost use Rattle.words.specs.Calls.{Lists, indexFaults, listed};
+// The listing of a node.
+ghost use Rattle.words.specs.Calls.{Lists, listed};
 ghost use mathlib.Core.Path.{_≡_};
 use crate::header::words_ok;
-use crate::places::columns;
 use crate::places::node_count;
 use crate::places::node_start;
 use crate::places::nodes;
 use crate::places::pair_at;
-use crate::places::rows;
 use crate::shape::shape_ok;
-
-// What is wrong with an index for a table of n rows of c columns: 8, 9, or 0 for nothing.
-pub fn index_number(index: &[u32], n: usize, c: usize) -> u32
-    ensures { λ r. ⌜ r ≡ said (indexFaults (now (index .entry)) n c) .0 ⌝ }
-{
-    if !words_ok(index) {
-        return 8;
-    }
-    if rows(index) != n {
-        return 8;
-    }
-    if columns(index) != c {
-        return 8;
-    }
-    if !shape_ok(index) {
-        return 9;
-    }
-    0
-}
 
 // Where among the index words a node's pairs stand: the first word's place, and how many words.
 pub struct Part {

@@ -1,7 +1,8 @@
 // The index words by place.
 ghost use Prim.Native.Nat.{_*_, _+_, _<_, _≤_};
 ghost use Rattle.words.specs.InShape.{InShape, Whole};
-ghost use Rattle.words.specs.Words.{N#, at, c#, child#, count#, dist#, edition#, first#, headerWords, inner#, l#, m#, n#, nodeAt, pairAt, radius#, row#, start#, width};
+ghost use Rattle.words.specs.Words.{N#, at, c#, child#, count#, dist#, edition#, first#, headerWords, inner#, l#, m#, n#};
+ghost use Rattle.words.specs.Words.{nodeAt, pairAt, radius#, row#, start#, width};
 ghost use lib.ListN.{length};
 ghost use mathlib.Core.Path.{_≡_};
 

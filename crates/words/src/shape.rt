@@ -21,6 +21,7 @@ use crate::places::rows;
 use crate::places::width;
 use crate::places::word;
 use limits::Params;
+use numbers::larger;
 
 // The runs of m nodes from number j on tile the positions s up to e, in order.
 fn tiles(index: &[u32], j: usize, m: usize, s: usize, e: usize) -> bool
@@ -55,7 +56,8 @@ fn has_room(index: &[u32], k: usize, next: usize) -> bool
 // Node k, whose words stand from `here` on, fits, at the given depth, if `next` is the number that its first child must have.
 fn node_fits(index: &[u32], k: usize, here: usize, next: usize, depth: usize) -> bool
     requires { ⌜ Whole (now index) ⌝ }
-    requires { ⌜ (k < N# (now index)) × (here ≡ nodeAt (now index) k) × (k < next) × (next ≤ maxCentres * k + 1) × (edition# (now index) ≡ 2) ⌝ }
+    requires { ⌜ (k < N# (now index)) × (here ≡ nodeAt (now index) k) × (k < next) × (next ≤ maxCentres * k + 1)
+        × (edition# (now index) ≡ 2) ⌝ }
     ensures { λ r. ⌜ r ≡ fits (now (index .entry)) k next depth ⌝ }
 {
     let count = word(index, here + 1);
@@ -147,13 +149,6 @@ fn tree_fits(index: &[u32]) -> bool
     next == total
 }
 
-// The greater of two.
-pub fn greater(a: u32, b: u32) -> u32
-    ensures { λ r. ⌜ r ≡ max a b ⌝ }
-{
-    if a < b { b } else { a }
-}
-
 // The positions: the greatest row number and the greatest distance are looked at once, at the end, so that the loop has no branch.
 fn positions_fit(index: &[u32]) -> bool
     requires { ⌜ Whole (now index) ⌝ }
@@ -168,8 +163,8 @@ fn positions_fit(index: &[u32]) -> bool
     let mut far: u32 = 0;
     let mut p = 0;
     while p < n {
-        row = greater(row, index[base + 2 * p]);
-        far = greater(far, index[base + 2 * p + 1]);
+        row = larger(row, index[base + 2 * p]);
+        far = larger(far, index[base + 2 * p + 1]);
         p += 1;
     }
     if n as u32 <= row {

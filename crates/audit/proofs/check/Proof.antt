@@ -1,15 +1,18 @@
 -- `audit::check` meets its contract: the call is refused, or past all refusals the passes can go.
 -- Assumes nothing.
 use Rattle.audit.proofs.Contract.{refused, taken}
-use Rattle.audit.proofs.Refusals.{Clear, clear}
 use Rattle.audit.proofs.check.Statement.{statement}
 use Rattle.audit.proofs.check.Tie as tie
-use Rattle.audit.specs.Refusals.{refusals}
+use Rattle.audit.specs.Numbers.{checkAsks, refusals}
+use Prim.Native.Nat.{_*_}
 use Rattle.limits.specs.Said.{said}
-use Rattle.words.proofs.Headers.{words-whole}
+use Rattle.measure.specs.Table.{rowsOf}
+use Rattle.tree.proofs.Tested.{tested}
+use Rattle.words.proofs.Indexes.{Clear, clear}
 use borrow.Author.Needs.{needs}
+use borrow.Author.Tests.{ltb-false}
 use lib.ListN.{length}
-use mathlib.Core.Path.{_∙_, _≡_, sym}
+use mathlib.Core.Path.{_∙_, _≡_, refl, sym}
 use native.Mathlib.Omega.{arith}
 
 -- the start, seen from the branch past the refusals
@@ -21,10 +24,10 @@ none : (c : tie.Else1) → said (refusals (start c .args .table .now) (start c .
 none c = sym (c .before .refusal-of .ensures) ∙ c .if1 .left
 
 -- table, workspace and index are what the passes need
-going : (c : tie.Else1) → Clear (start c .args .table .now) (start c .args .c) (start c .args .index .now) (length (start c .args .work .now))
+going : (c : tie.Else1) → Clear (checkAsks (start c .args .table .now) (start c .args .c) (length (start c .args .work .now))) (start c .args .index .now)
 going c =
     let a = start c .args in
-    clear (a .table .now) (a .c) (a .index .now) (length (a .work .now)) (none c)
+    clear (checkAsks (a .table .now) (a .c) (length (a .work .now))) (a .index .now) (none c)
 
 returns : tie.Need-returns
 returns c =
@@ -33,15 +36,18 @@ returns c =
 
 first-fault-requires : tie.Need-first-fault-requires
 first-fault-requires c κs =
-    let P = going (c .before) in
-    (P .index, (omega (arith, P .words, P .index .rows), words-whole _ (P .there) .0))
+    let a = start (c .before) .args in
+    let C = going (c .before) in
+    let room = ltb-false (length (a .work .now)) (6 * rowsOf (a .table .now) (a .c)) (C .numbers .room) in
+    let asks = checkAsks (a .table .now) (a .c) (length (a .work .now)) in
+    (tested (a .table .now) (a .c) asks (a .index .now) refl refl C, omega (arith, room, C .rows))
 
 returns-2 : tie.Need-returns-2
 returns-2 c =
     let e = c .before .before .before .before in
     let a = start e .args in
     let f = c .before .before .first-fault in
-    taken (a .table .now) (a .c) (a .index .now) (a .work .now) (none e) (going e .index .rows) (f .ensures .0) (f .ensures .1)
+    taken (a .table .now) (a .c) (a .index .now) (a .work .now) (none e) (going e .rows) (f .ensures .0) (f .ensures .1)
 
 pub check-spec : {M : Type 1} → statement M
 check-spec =

@@ -27,6 +27,7 @@ use Rattle.bourascul.proofs.within.Symbol.{name as #core}
 use Rattle.bourascul.specs.Recorded.{Recorded}
 use Rattle.bourascul.specs.declared.Near.{Near}
 use Rattle.nearest.specs.Calls.{Answered}
+use Rattle.nearest_search.specs.Asked.{asks, lends}
 use base.Fml.{Fml, GName, Lft, Share, fat, flft, fsep, ftrue}
 use base.Logic.{SProp, emp, ent, fst∗, id⊢, via}
 use contract.Monad.{Fun, fact}
@@ -217,7 +218,7 @@ module _ {M : Type 1} (𝓤 : URA M) (H : Heap 𝓤) (A : Atoms 𝓤) (W : Given
       ∷ ‵ (finally u32 γ₉ e₉) ∷ []
 
   exits : (r : Near) (e₆ e₇ e₈ e₉ : List ℕ) (zs : List Answer) → Is F.the-row r (mach r ∷ []) → length e₆ ≡ length c₆ → length e₇ ≡ length c₇ → length e₈ ≡ length c₈ → length e₉ ≡ length c₉ → length zs ≡ length c₅
-      → Recorded c₀ n₁ c₂ c₃ n₄ c₅ zs c₆ e₆ c₇ e₇ c₈ e₈ c₉ e₉ (r .number) (r .given) (r .measured)
+      → Recorded (asks c₀ n₁ c₂ c₃ n₄) c₅ zs (lends c₆ c₇ c₈ c₉) (lends e₆ e₇ e₈ e₉) (r .number) (r .given) (r .measured)
       → ent 𝓤 (⋆ 𝓤 H A (Had e₆ e₇ e₈ e₉ zs)) (Post (mach r))
   exits r e₆ e₇ e₈ e₉ zs is same₆ same₇ same₈ same₉ same₅ promised =
       qed W (Had e₆ e₇ e₈ e₉ zs) ∵
@@ -280,10 +281,10 @@ module _ {M : Type 1} (𝓤 : URA M) (H : Heap 𝓤) (A : Atoms 𝓤) (W : Given
         -- what it gives: the tokens, the result, the last values and what is known of them
         use1 W (later (some (λ (r : Near). ((‵ (flft κ₀ q₀) ⊛ ‵ (flft κ₂ q₂) ⊛ ‵ (flft κ₃ q₃) ⊛ ‵ (flft (ν₁ ∷ []) fullShare) ⊛ ‵ (flft (ν₂ ∷ []) fullShare) ⊛ ‵ (flft κ₈ q₈) ⊛ ‵ (flft κ₉ q₉) ⊛ ‵ ftrue) ⊛ ‵ (F.the-row .own r (v ∷ []))) ⊛ raw (ensured 𝓤 H A core.ended (core.clauses 𝓤 H A mem run) (κ₀, (κ₂, (κ₃, (ν₁ ∷ [], (ν₂ ∷ [], (κ₈, (κ₉, tt))))))) (core-args δ₁ δ₂) tt r)))) (id⊢ 𝓤 _) $
         await ! tt $ pick ! (λ r. split ! $ move ! (1 ∷ []) $
-        use1 W (some (λ (us : (Unit {0} × (Unit {0} × (Unit {0} × (Unit {0} × (Unit {0} × (Unit {0} × (List ℕ × (List ℕ × (List ℕ × (List ℕ × Unit {0}))))))))))). ‵ (lasts core.ended (κ₀, (κ₂, (κ₃, (ν₁ ∷ [], (ν₂ ∷ [], (κ₈, (κ₉, tt))))))) (core-args δ₁ δ₂) us) ⊛ raw (fact 𝓤 (Answered c₀ n₁ c₂ c₃ n₄ (min (length c₅) (min (length c₆) (length c₇))) c₆ (us .1 .1 .1 .1 .1 .1 .0) c₇ (us .1 .1 .1 .1 .1 .1 .1 .0) c₈ (us .1 .1 .1 .1 .1 .1 .1 .1 .0) c₉ (us .1 .1 .1 .1 .1 .1 .1 .1 .1 .0) (r .number) (r .given) (r .measured))))) (id⊢ 𝓤 _) $
+        use1 W (some (λ (us : (Unit {0} × (Unit {0} × (Unit {0} × (Unit {0} × (Unit {0} × (Unit {0} × (List ℕ × (List ℕ × (List ℕ × (List ℕ × Unit {0}))))))))))). ‵ (lasts core.ended (κ₀, (κ₂, (κ₃, (ν₁ ∷ [], (ν₂ ∷ [], (κ₈, (κ₉, tt))))))) (core-args δ₁ δ₂) us) ⊛ raw (fact 𝓤 (Answered (asks c₀ n₁ c₂ c₃ n₄) (min (length c₅) (min (length c₆) (length c₇))) (lends c₆ c₇ c₈ c₉) (lends (us .1 .1 .1 .1 .1 .1 .0) (us .1 .1 .1 .1 .1 .1 .1 .0) (us .1 .1 .1 .1 .1 .1 .1 .1 .0) (us .1 .1 .1 .1 .1 .1 .1 .1 .1 .0)) (r .number) (r .given) (r .measured))))) (id⊢ 𝓤 _) $
         pick ! (λ us. let e₆ : List ℕ = us .1 .1 .1 .1 .1 .1 .0 in let e₇ : List ℕ = us .1 .1 .1 .1 .1 .1 .1 .0 in let e₈ : List ℕ = us .1 .1 .1 .1 .1 .1 .1 .1 .0 in
         let e₉ : List ℕ = us .1 .1 .1 .1 .1 .1 .1 .1 .1 .0 in split ! $ move ! (1 ∷ []) $
-        heard ! (Answered c₀ n₁ c₂ c₃ n₄ (min (length c₅) (min (length c₆) (length c₇))) c₆ e₆ c₇ e₇ c₈ e₈ c₉ e₉ (r .number) (r .given) (r .measured)) (λ tells. fsplit ! $ lose ! $ fsplit ! $
+        heard ! (Answered (asks c₀ n₁ c₂ c₃ n₄) (min (length c₅) (min (length c₆) (length c₇))) (lends c₆ c₇ c₈ c₉) (lends e₆ e₇ e₈ e₉) (r .number) (r .given) (r .measured)) (λ tells. fsplit ! $ lose ! $ fsplit ! $
         lose ! $ fsplit ! $ lose ! $ fsplit ! $ lose ! $ fsplit ! $ lose ! $ fsplit ! $ lose ! $ fsplit ! $ fsplit ! $ move ! (1 ∷ []) $ feqL ! (λ same₆. move ! (1 ∷ []) $ fsplit ! $ fsplit ! $
         move ! (1 ∷ []) $ feqL ! (λ same₇. move ! (1 ∷ []) $ fsplit ! $ fsplit ! $ move ! (1 ∷ []) $ feqL ! (λ same₈. move ! (1 ∷ []) $ fsplit ! $ fsplit ! $ move ! (1 ∷ []) $ feqL ! (λ same₉.
         move ! (1 ∷ []) $ lose ! $ move ! (4 ∷ []) $ split ! $ move ! (1 ∷ []) $ peeks ! F.the-row (Is F.the-row) (shows 𝓤 H A F.the-row) r (v ∷ []) (λ is₀.

@@ -37,7 +37,7 @@ loop-again c =
     let s = g .before .before .before in
     let a = s .before .before .before .args in
     laying-step (s .loop .inv) (metric (a .table .now) (a .c) .self 0) (search needs) (search needs) (g .before .row-distance .ensures .0)
-    (g .greater .ensures) (b .least-of .ensures)
+    (g .larger .ensures) (b .least-of .ensures)
     (e .put-entry .ensures) (search needs)
 
 returns : tie.Need-returns Inv-loop μ-loop

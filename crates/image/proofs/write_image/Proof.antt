@@ -1,13 +1,14 @@
 -- `image::write_image` meets its contract: words that are no index end it, then a short room; else the blocks are written.
 -- Assumes nothing.
 use Prim.Native.Nat.{_*_, _<_, _≤_, ℕ}
+use Rattle.blocks.specs.Blocks.{blocks, blocksFor}
 use Rattle.image.proofs.Calls.{writes-done, writes-five, writes-sixteen}
 use Rattle.image.proofs.write_image.Statement.{statement}
 use Rattle.image.proofs.write_image.Tie as tie
+use Rattle.image.specs.Image.{image}
 use Rattle.laws.proofs.Tests.{no, yes}
 use Rattle.words.proofs.Headers.{words-whole}
 use Rattle.words.proofs.InShape.{header-possible, header-there, whole}
-use Rattle.words.specs.Image.{blocks, blocksFor, image}
 use Rattle.words.specs.Words.{wordsOf, wordsOk}
 use borrow.Author.Needs.{needs}
 use lib.ListN.{drop, length, take}

@@ -1,17 +1,19 @@
 -- `measure::query_distance` meets its contract: the row is a part of the table, of as many columns as the query.
 -- Assumes nothing.
+use Rattle.measure.proofs.Rows.{from-query}
 use Rattle.measure.proofs.query_distance.Statement.{statement}
 use Rattle.measure.proofs.query_distance.Tie as tie
-use Rattle.measure.specs.Table.{from}
 use borrow.Author.Needs.{needs}
 
 returns : tie.Need-returns
-unfolding from
-returns c = ((cc), search needs)
+returns c =
+    let b = c .before .before in
+    (from-query _ _ _ (b .row-of .ensures .0) _ (b .before .before .before .pre .2) (c .many .ensures .0), c .many .ensures .1)
 
 returns-2 : tie.Need-returns-2
-unfolding from
-returns-2 c = ((cc), search needs)
+returns-2 c =
+    let b = c .before .before in
+    (from-query _ _ _ (b .row-of .ensures .0) _ (b .before .before .before .pre .2) (c .distance .ensures .0), c .distance .ensures .1)
 
 pub query-distance-spec : {M : Type 1} → statement M
 query-distance-spec = tie.close (tie.spec (λ c κs. search needs) (λ c κs. search needs) returns (λ c κs. search needs) returns-2)

@@ -1,17 +1,19 @@
 -- `measure::row_distance` meets its contract: both rows are parts of the table, of c columns each.
 -- Assumes nothing.
+use Rattle.measure.proofs.Rows.{between-rows}
 use Rattle.measure.proofs.row_distance.Statement.{statement}
 use Rattle.measure.proofs.row_distance.Tie as tie
-use Rattle.measure.specs.Table.{between}
 use borrow.Author.Needs.{needs}
 
 returns : tie.Need-returns
-unfolding between
-returns c = ((cc), search needs)
+returns c =
+    let b = c .before .before in
+    (between-rows _ _ _ (b .row-of2 .ensures .0) _ (b .before .row-of .ensures) (c .many .ensures .0), c .many .ensures .1)
 
 returns-2 : tie.Need-returns-2
-unfolding between
-returns-2 c = ((cc), search needs)
+returns-2 c =
+    let b = c .before .before in
+    (between-rows _ _ _ (b .row-of2 .ensures .0) _ (b .before .row-of .ensures) (c .distance .ensures .0), c .distance .ensures .1)
 
 pub row-distance-spec : {M : Type 1} → statement M
 row-distance-spec =

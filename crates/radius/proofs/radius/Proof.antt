@@ -16,7 +16,7 @@ search-requires c κs = fits _ _ _ _ (c .before .before .before .before .before 
 
 rows-requires : tie.Need-rows-requires
 rows-requires c κs =
-    omega (arith, fits _ _ _ _ (c .before .before .before .before .before .before .before .before .before .before .before .args .how .now) (sym (c .before .before .before .before .before .before .refusal .ensures) ∙ c .before .before .before .before .before .if1 .left) .shape .whole .words)
+    omega (arith, fits _ _ _ _ (c .before .before .before .before .before .before .before .before .before .before .before .args .how .now) (sym (c .before .before .before .before .before .before .refusal .ensures) ∙ c .before .before .before .before .before .if1 .left) .tested .shape .whole .words)
 
 tally-requires : tie.Need-tally-requires
 tally-requires c κs =
@@ -28,7 +28,7 @@ returns-2 c =
     let how = c .before .before .before .before .before .before .before .before .before .before .before .before .before .args .how .now in
     let said = c .before .before .before .before .before .before .before .before .refusal .ensures in
     let none = c .before .before .before .before .before .before .before .if1 .left in
-    done-is _ _ _ _ _ how said _ none (fits _ _ _ _ how (sym said ∙ none) .shape) (c .before .rows .ensures .0) (c .before .before .before .before .before .search .ensures) (c .tally .ensures .0) (c .tally .ensures .1)
+    done-is _ _ _ _ _ how said _ none (fits _ _ _ _ how (sym said ∙ none) .tested .shape) (c .before .rows .ensures .0) (c .before .before .before .before .before .search .ensures) (c .tally .ensures .0) (c .tally .ensures .1)
 
 pub radius-spec : {M : Type 1} → statement M
 radius-spec =

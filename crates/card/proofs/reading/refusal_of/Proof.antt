@@ -1,10 +1,10 @@
 -- `card::reading::refusal_of` meets its contract: the table's refusals, the image's, the card's and the room's, in that order.
 -- Assumes nothing.
-use Rattle.card.proofs.Cards.{card-held}
+use Rattle.card_words.proofs.Cards.{card-held}
 use Rattle.card.proofs.Refusals.{by-card, by-image, by-table, five, image-right, none-refused}
 use Rattle.card.proofs.reading.refusal_of.Statement.{statement}
 use Rattle.card.proofs.reading.refusal_of.Tie as tie
-use Rattle.limits.proofs.Sized.{sized}
+use Rattle.limits.proofs.Numbers.{passed}
 use borrow.Author.Needs.{needs}
 use mathlib.Core.Path.{_∙_, sym}
 
@@ -25,7 +25,7 @@ card-number-requires c κs =
     let m = c .before .before in
     let t = m .before .before in (
       image-right _ (m .check-image .ensures) (c .if2 .left),
-      sized _ _ (sym (t .table-number .ensures) ∙ m .before .if1 .left) .some,
+      passed _ (sym (t .table-number .ensures) ∙ m .before .if1 .left) .table .some,
     )
 
 returns-3 : tie.Need-returns-3

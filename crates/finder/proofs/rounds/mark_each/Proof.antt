@@ -17,7 +17,7 @@ abbrev μ-loop : tie.MeasureT-loop
 
 rows-requires : tie.Need-rows-requires Inv-loop μ-loop
 rows-requires c κs =
-    omega (arith, c .before .before .before .before .before .pre .shape .whole .words)
+    omega (arith, c .before .before .before .before .before .pre .tested .shape .whole .words)
 
 div-asked : tie.Need-div-asked Inv-loop μ-loop
 div-asked c =

@@ -1,13 +1,14 @@
 -- `image::reading::check_held` meets its contract: each return is one end of the tests, in their order.
 -- Assumes nothing.
 use Prim.Native.Nat.{_/_, ℕ}
+use Rattle.blocks.specs.Blocks.{blocksFor, imageWords}
 use Rattle.image.proofs.Refusals.{none-held, seventeen, sixteen-count, sixteen-header, sound-found, sound-refused}
 use Rattle.image.proofs.reading.check_held.Statement.{statement}
 use Rattle.image.proofs.reading.check_held.Tie as tie
+use Rattle.image.specs.Image.{imageTotal}
 use Rattle.image.specs.Sound.{restZero}
 use Rattle.laws.proofs.Tests.{no, yes}
 use Rattle.limits.specs.Said.{said}
-use Rattle.words.specs.Image.{blocksFor, imageTotal, imageWords}
 use Rattle.words.specs.Words.{cardOk, wordsOf}
 use borrow.Author.Needs.{needs}
 use lib.ListN.{length}

@@ -1,8 +1,8 @@
 -- `image::reading::check_image` meets its contract: 14 and 15 first, and where neither is given the words decide.
 -- Assumes nothing.
 use Prim.Native.Nat.{_/_}
+use Rattle.blocks.proofs.Wrong.{wrong-none}
 use Rattle.image.proofs.Refusals.{by-held, fifteen, fourteen-empty, fourteen-ragged, sound-refused}
-use Rattle.image.proofs.Wrong.{wrong-none}
 use Rattle.image.proofs.reading.check_image.Statement.{statement}
 use Rattle.image.proofs.reading.check_image.Tie as tie
 use Rattle.image.specs.Sound.{Sound}

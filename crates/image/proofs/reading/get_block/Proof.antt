@@ -1,12 +1,12 @@
 -- `image::reading::get_block` meets its contract: after each turn one index word more stands at the room's front.
 -- Assumes nothing.
 use Prim.Native.Nat.{_*_, _+_, _-_, _<_, _≤_, ℕ}
-use Rattle.image.proofs.InBlocks.{block-word, inside-block}
-use Rattle.image.proofs.Places.{image-length, image-more}
+use Rattle.blocks.proofs.InBlocks.{block-word, inside-block}
+use Rattle.blocks.proofs.Places.{image-length, image-more}
+use Rattle.blocks.specs.Blocks.{imageWord, imageWords}
 use Rattle.image.proofs.reading.get_block.Statement.{statement}
 use Rattle.image.proofs.reading.get_block.Tie as tie
 use Rattle.laws.proofs.Parts.{store-more}
-use Rattle.words.specs.Image.{imageWord, imageWords}
 use borrow.Author.Needs.{needs}
 use lib.ListN.{drop, length, length-set, take-append-drop}
 use mathlib.Core.List.{List, _++_}

@@ -1,10 +1,10 @@
 -- `image::reading::get_words` meets its contract: after b turns the index words of the first b blocks stand at the room's front.
 -- Assumes nothing.
-use Prim.Native.Nat.{_*_, _-_, _≤_, min, ℕ}
-use Rattle.image.proofs.InBlocks.{front-read, read-on}
+use Prim.Native.Nat.{_*_, _-_, min, ℕ}
+use Rattle.blocks.proofs.InBlocks.{front-read, read-on}
+use Rattle.blocks.specs.Blocks.{imageWords}
 use Rattle.image.proofs.reading.get_words.Statement.{statement}
 use Rattle.image.proofs.reading.get_words.Tie as tie
-use Rattle.words.specs.Image.{imageWords}
 use borrow.Author.Needs.{needs}
 use lib.ListN.{drop, length, take}
 use mathlib.Core.List.{List, _++_}

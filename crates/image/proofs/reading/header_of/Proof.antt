@@ -1,8 +1,8 @@
 -- `image::reading::header_of` meets its contract: eight words fill a room of eight.
 -- Assumes nothing.
+use Rattle.blocks.specs.Blocks.{imageWords}
 use Rattle.image.proofs.reading.header_of.Statement.{statement}
 use Rattle.image.proofs.reading.header_of.Tie as tie
-use Rattle.words.specs.Image.{imageWords}
 use borrow.Author.Needs.{needs}
 use mathlib.Core.List.{append-nil}
 use mathlib.Core.Path.{_∙_}

@@ -1,12 +1,12 @@
 -- `image::reading::rest_zero` meets its contract: from t up to j every word is zero, so all are if those from j on are.
 -- Assumes nothing.
 use Prim.Native.Nat.{_*_, _-_, _/_, ℕ}
-use Rattle.image.proofs.Places.{inside}
+use Rattle.blocks.proofs.Places.{inside}
+use Rattle.blocks.specs.Blocks.{imageWord}
 use Rattle.image.proofs.reading.rest_zero.Statement.{statement}
 use Rattle.image.proofs.reading.rest_zero.Tie as tie
 use Rattle.image.specs.Sound.{restZero}
 use Rattle.laws.proofs.Ranges.{all-end, all-step, all-stop}
-use Rattle.words.specs.Image.{imageWord}
 use borrow.Author.Needs.{needs}
 use borrow.Author.Tests.{eq-eqb, ne-eqb}
 use lib.Dec.{eqb}

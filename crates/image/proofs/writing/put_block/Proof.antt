@@ -2,12 +2,12 @@
 -- them.
 -- Assumes nothing.
 use Prim.Native.Nat.{_%_, _*_, _+_, _-_, _^_, _≤_, ℕ}
+use Rattle.blocks.specs.Blocks.{block, bytes, checkFrom, checkWord, window}
 use Rattle.image.proofs.Blocks.{window-bytes, window-bytes-length, window-check}
 use Rattle.image.proofs.writing.put_block.Statement.{statement}
 use Rattle.image.proofs.writing.put_block.Tie as tie
 use Rattle.laws.proofs.Parts.{put-more}
 use Rattle.laws.specs.Lists.{each}
-use Rattle.words.specs.Image.{block, bytes, checkFrom, checkWord, window}
 use Rattle.words.specs.Words.{at}
 use borrow.Author.Needs.{needs}
 use borrow.Rule.Slice.PartMut.{midOf, putMid}

@@ -1,11 +1,11 @@
 -- `image::writing::put_blocks` meets its contract: after b turns the first b blocks stand at the image's front.
 -- Assumes nothing.
 use Prim.Native.Nat.{_*_, _+_, _-_, _≤_, ℕ}
+use Rattle.blocks.specs.Blocks.{block, blocks}
 use Rattle.image.proofs.Blocks.{blocks-length, blocks-more}
 use Rattle.image.proofs.writing.put_blocks.Statement.{statement}
 use Rattle.image.proofs.writing.put_blocks.Tie as tie
 use Rattle.laws.proofs.Parts.{put-part}
-use Rattle.words.specs.Image.{block, blocks}
 use borrow.Author.Needs.{needs}
 use borrow.Rule.Slice.PartMut.{mid-len, putMid}
 use lib.ListN.{drop, length}

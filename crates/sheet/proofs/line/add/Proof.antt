@@ -1,35 +1,26 @@
--- `sheet::line::add` meets its contract: a seventeenth field is refused.
+-- `sheet::line::add` meets its contract: a label, and any other field.
 -- Assumes nothing.
 use Rattle.sheet.proofs.line.add.Statement.{statement}
 use Rattle.sheet.proofs.line.add.Tie as tie
 use Rattle.sheet.specs.InLine.{added}
 use borrow.Author.Needs.{needs}
-use borrow.Author.Tests.{le-leb, lt-leb}
+use mathlib.Core.Path.{_∙_, sym}
 
 returns : tie.Need-returns
 unfolding added
-returns c = rw (le-leb _ _ (c .before .before .if1 .taken)) (cc)
+returns c = rw (sym (c .before .before .is-label .ensures) ∙ c .before .if1 .taken) (cc)
 
 returns-2 : tie.Need-returns-2
 unfolding added
-returns-2 c = rw (lt-leb _ _ (c .before .before .before .if1 .left)) (cc)
+returns-2 c = rw (sym (c .before .before .is-label .ensures) ∙ c .before .if1 .left) (cc)
 
 pub add-spec : {M : Type 1} → statement M
 add-spec =
     tie.close
     (tie.spec
-    (λ c. search needs)
-    (λ c. search needs)
     (λ c κs. search needs)
-    (λ c. search needs)
+    (λ c κs. search needs)
     (λ c κs. search needs)
     returns
-    (λ c. search needs)
-    (λ c. search needs)
-    (λ c. search needs)
-    (λ c. search needs)
-    (λ c κs. search needs)
-    (λ c κs. search needs)
-    (λ c. search needs)
     (λ c κs. search needs)
     returns-2)

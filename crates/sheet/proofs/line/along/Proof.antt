@@ -2,7 +2,7 @@
 -- Assumes nothing.
 use Rattle.sheet.proofs.line.along.Statement.{statement}
 use Rattle.sheet.proofs.line.along.Tie as tie
-use Rattle.sheet.proofs.Closings.{along-digit}
+use Rattle.sheet.proofs.Closings.{along-digit, along-other, along-sign}
 use borrow.Author.Needs.{needs}
 
 returns : tie.Need-returns
@@ -15,10 +15,10 @@ returns-3 : tie.Need-returns-3
 returns-3 c = cc
 
 returns-4 : tie.Need-returns-4
-returns-4 c = cc
+returns-4 c = along-sign _ (c .before .before .before .args .kind) _ (search needs) (c .go-on2 .ensures)
 
 returns-5 : tie.Need-returns-5
-returns-5 c = cc
+returns-5 c = along-other _ (c .before .before .before .args .kind) _ (search needs) (c .go-on3 .ensures)
 
 pub along-spec : {M : Type 1} → statement M
 along-spec =

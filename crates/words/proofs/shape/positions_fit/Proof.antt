@@ -32,9 +32,9 @@ loop-again c =
     let w = start .before .before .before .before .args .index .now in
     let p = at-loop .loop .p in (
       search needs,
-      c .before .before .greater .ensures ∙ ap₂ max (at-loop .loop .inv .1) (row-word w (start .pair-at .result) p (start .pair-at .ensures))
+      c .before .before .larger .ensures ∙ ap₂ max (at-loop .loop .inv .1) (row-word w (start .pair-at .result) p (start .pair-at .ensures))
           ∙ sym (most-next (row# w) p),
-      c .greater2 .ensures ∙ ap₂ max (at-loop .loop .inv .2) (dist-word w (start .pair-at .result) p (start .pair-at .ensures))
+      c .larger2 .ensures ∙ ap₂ max (at-loop .loop .inv .2) (dist-word w (start .pair-at .result) p (start .pair-at .ensures))
           ∙ sym (most-next (dist# w) p),
     )
 

@@ -1,0 +1,4 @@
+pub mod Checks
+pub mod Places
+pub mod InBlocks
+pub mod Wrong

@@ -1,0 +1,3 @@
+pub mod Below
+pub mod Nodes
+pub mod Ways

@@ -1,0 +1,4 @@
+pub mod LeastKept
+pub mod Beyond
+pub mod Queueing
+pub mod Reading

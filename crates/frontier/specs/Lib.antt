@@ -1,0 +1,2 @@
+pub mod Workspace
+pub mod Waiting

@@ -1,0 +1,4 @@
+pub mod Written
+pub mod Fitted
+pub mod Distances
+pub mod Did

@@ -1,0 +1,91 @@
+// An opened leaf: each of its rows but the first is decided by its stored distance, or measured.
+ghost use Prim.Native.Nat.{_+_, _<_, _≤_};
+ghost use Rattle.limits.specs.Limits.{maxDistance};
+ghost use Rattle.measure.specs.Table.{from};
+ghost use Rattle.marking.specs.Marks.{decision, leafAt, leafMark};
+ghost use Rattle.marking.specs.Lent.{Lent};
+ghost use Rattle.marking.specs.Written.{byte, marked};
+ghost use Rattle.words.specs.Words.{N#, count#, n#, pairAt, row#, start#};
+ghost use mathlib.Core.Path.{_≡_};
+use crate::row::measure_row;
+use numbers::apart;
+use words::places::node_count;
+use words::places::node_start;
+use words::places::pair_at;
+use words::places::word;
+
+// What the stored distance says of a row.
+pub enum Verdict {
+    In,
+    Out,
+    Measure,
+}
+
+// The leaf decision: x is the distance of the leaf's first, s the row's stored distance.
+fn decide(x: u32, s: u32, r: u32) -> Verdict
+    requires { ⌜ (x ≤ maxDistance) × (s ≤ maxDistance) ⌝ }
+    ensures { λ v. ⌜ v ≡ decision x s r ⌝ }
+{
+    if r < apart(x, s) {
+        return Verdict::Out;
+    }
+    if x + s <= r {
+        Verdict::In
+    } else {
+        Verdict::Measure
+    }
+}
+
+// The row at position p of an opened leaf whose first is at x. The positions' words stand from `base` on.
+fn leaf_row(
+    table: &[u16],
+    c: usize,
+    index: &[u32],
+    query: &[u16],
+    base: usize,
+    p: usize,
+    x: u32,
+    r: u32,
+    how: &mut [u8],
+)
+    requires { ⌜ Lent (now index) (now table) c (now query) (now how) ⌝ }
+    requires { ⌜ (p < n# (now index)) × (x ≤ maxDistance) × (base ≡ pairAt (now index) 0) ⌝ }
+    ensures { λ _. ⌜ now (how .exit) ≡ byte (row# (now (index .entry)) p)
+        (leafMark (from (now (table .entry)) c (now (query .entry))) r (now (index .entry)) x p) (now (how .entry)) ⌝ }
+{
+    let row = word(index, base + 2 * p);
+    let verdict = decide(x, index[base + 2 * p + 1], r);
+    let Verdict::Measure = verdict else {
+        if let Verdict::In = verdict {
+            how[row] = 2;
+        }
+        return;
+    };
+    measure_row(table, c, query, row, r, how);
+}
+
+// An opened leaf, node k, whose first is at x: each row but its first.
+pub fn open_leaf(
+    table: &[u16],
+    c: usize,
+    index: &[u32],
+    query: &[u16],
+    k: usize,
+    x: u32,
+    r: u32,
+    how: &mut [u8],
+)
+    requires { ⌜ Lent (now index) (now table) c (now query) (now how) ⌝ }
+    requires { ⌜ (k < N# (now index)) × (x ≤ maxDistance) ⌝ }
+    ensures { λ _. ⌜ now (how .exit) ≡ marked (leafAt (from (now (table .entry)) c (now (query .entry))) r (now (index .entry)) x)
+        (start# (now (index .entry)) k + 1) (start# (now (index .entry)) k + count# (now (index .entry)) k) (now (how .entry)) ⌝ }
+{
+    let start = node_start(index, k);
+    let end = start + node_count(index, k);
+    let base = pair_at(index, 0);
+    let mut p = start + 1;
+    while p < end {
+        leaf_row(table, c, index, query, base, p, x, r, how);
+        p += 1;
+    }
+}

@@ -1,0 +1,85 @@
+-- The answers handed out, place by place: what holds of them on every index in shape. Assumes nothing.
+use Prim.Native.Nat.{_<_, _≤_, min, suc, zero, ℕ}
+use Rattle.answers_held.proofs.Handouts.{both-zero, falling-sorted}
+use Rattle.answers_held.proofs.RowEntries.{entry-own, pair}
+use Rattle.answers_held.specs.Answers.{distanceOf, rowOf, stray}
+use Rattle.answers_held.specs.Giving.{Falling}
+use Rattle.laws.specs.Bags.{total}
+use Rattle.laws.specs.Every.{Every}
+use Rattle.laws.specs.Lists.{has}
+use Rattle.nearest_search.specs.Asked.{NearestLent}
+use Rattle.nearest_search.specs.Found.{SoundAnswers}
+use Rattle.tree.proofs.Sorted.{Le, Sorted}
+use Rattle.words.specs.Words.{at}
+use lib.Dec.{T}
+use lib.ListN.{drop, getD, length, length-map, take}
+use lib.Seq.{take-at}
+use mathlib.Core.Bool.{Bool, cond, false, true}
+use mathlib.Core.List.{List, [], _++_, _∷_, map}
+use mathlib.Core.Logic.{_↔_}
+use mathlib.Core.Path.{_∙_, _≡_, ap, refl, subst, sym}
+use native.Mathlib.Omega.{arith}
+
+-- ---- by places
+-- what f reads of the entries stands at their places
+put-at : (f : ℕ → ℕ) (s l : List ℕ) (j : ℕ) → j < length l → at (map f l ++ s) j ≡ f (getD l j 0)
+put-at f s [] j h = absurd (omega arith)
+put-at f s (e ∷ l) zero h = refl
+put-at f s (e ∷ l) (suc j) h = put-at f s l j (omega arith)
+
+-- where no entry has f, none at any place has it
+none-at : (f : ℕ → ℕ) (l : List ℕ) (j : ℕ) → j < length l → total f l ≡ 0 → f (getD l j 0) ≡ 0
+none-at f [] j h z = absurd (omega arith)
+none-at f (e ∷ l) zero h z = both-zero (f e) (total f l) z .0
+none-at f (e ∷ l) (suc j) h z = none-at f l j (omega arith) (both-zero (f e) (total f l) z .1)
+
+-- what holds of every answer holds at any place
+every-place : (Q : ℕ × ℕ → Type 0) (l : List ℕ) → Every Q (map pair l) → (j : ℕ) → j < length l → Q (pair (getD l j 0))
+every-place Q [] s j h = absurd (omega arith)
+every-place Q (e ∷ l) s zero h = s .0
+every-place Q (e ∷ l) s (suc j) h = every-place Q l (s .1) j (omega arith)
+
+-- in order, the one at an earlier place is no worse
+order-at : (l : List ℕ) → Sorted (map pair l) → (i j : ℕ) → i < j → j < length l → Le (pair (getD l i 0)) (pair (getD l j 0))
+order-at [] s i j h k = absurd (omega arith)
+order-at (e ∷ l) s i zero h k = absurd (omega arith)
+order-at (e ∷ l) s zero (suc j) h k = every-place (Le (pair e)) l (s .0) j (omega arith)
+order-at (e ∷ l) s (suc i) (suc j) h k = order-at l (s .1) i j (omega arith) (omega arith)
+
+-- the order, of numbers known by equations
+order-is : {a b c d a′ b′ c′ d′ : ℕ} → a′ ≡ a → b′ ≡ b → c′ ≡ c → d′ ≡ d → (a ≤ b) × (a ≡ b → c ≤ d) → (a′ ≤ b′) × (a′ ≡ b′ → c′ ≤ d′)
+order-is ea eb ec ed h = (omega (arith, h .0), λ q. omega (arith, h .1 (omega arith)))
+
+-- a how-byte that was 0 or 1, and is 3 where the row is an answer
+three : (b : Bool) (v v′ : ℕ) → v ≤ 1 → v′ ≡ cond b 3 v → ((v′ ≡ 3) ↔ T b) × ((v′ ≡ 3 → ⊥) → v′ ≤ 1)
+three true v v′ h e = ((λ z. tt, λ t. e), λ n. absurd (n e))
+three false v v′ h e = ((λ z. absurd (omega arith), λ t. absurd t), λ n. omega arith)
+
+-- ---- the entries l are handed out, each that of a row, none less than those after it
+module _ (x : ℕ → ℕ) (n k : ℕ) (l : List ℕ) (long : length l ≡ k) (own : total (stray x n) l ≡ 0) (fall : Falling l) where
+  -- WHAT IS HANDED OUT IS SOUND: rows with their distances, in order, and their how-bytes 3
+  pub sound-of : (wanted : ℕ) (b b′ : NearestLent) → k ≡ min wanted n
+      → b′ .rows ≡ map rowOf l ++ drop k (b .rows) → b′ .distances ≡ map distanceOf l ++ drop k (b .distances)
+      → ((i : ℕ) → i < n → at (b .how) i ≤ 1) → ((i : ℕ) → at (b′ .how) i ≡ cond (has i (map rowOf l)) 3 (at (b .how) i)) → SoundAnswers x n wanted b′ k
+  sound-of wanted b b′ count er ed bits marked = record {
+    count = count;
+    own = λ j h.
+        let o = entry-own x n (getD l j 0) (none-at (stray x n) l j (omega arith) own) in
+        (subst (λ (r : ℕ). r < n) (sym (row-at j h)) (o .0), distance-at j h ∙ o .1 ∙ ap x (sym (row-at j h)));
+    order = λ i j h p.
+        let before : i < k = omega arith in
+        order-is (distance-at i before) (distance-at j p) (row-at i before) (row-at j p)
+        (order-at l (falling-sorted x n l own fall) i j h (omega arith));
+    marks = λ i h.
+        subst (λ (u : Bool). ((at (b′ .how) i ≡ 3) ↔ T u) × ((at (b′ .how) i ≡ 3 → ⊥) → at (b′ .how) i ≤ 1)) (sym (ap (has i) given-rows))
+        (three (has i (map rowOf l)) (at (b .how) i) (at (b′ .how) i) (bits i h) (marked i));
+  }
+    where
+      row-at : (j : ℕ) → j < k → at (b′ .rows) j ≡ rowOf (getD l j 0)
+      row-at j h = ap (λ (s : List ℕ). at s j) er ∙ put-at rowOf (drop k (b .rows)) l j (omega arith)
+
+      distance-at : (j : ℕ) → j < k → at (b′ .distances) j ≡ distanceOf (getD l j 0)
+      distance-at j h = ap (λ (s : List ℕ). at s j) ed ∙ put-at distanceOf (drop k (b .distances)) l j (omega arith)
+
+      given-rows : take k (b′ .rows) ≡ map rowOf l
+      given-rows = ap (take k) er ∙ take-at (map rowOf l) (drop k (b .rows)) k (length-map l rowOf ∙ long)

@@ -1,0 +1,39 @@
+-- What is asked of a nearest search, and what it is lent. Assumes nothing.
+use Prim.Native.Nat.{min, ℕ}
+use Rattle.measure.specs.Table.{from}
+use Rattle.words.specs.Words.{n#}
+use mathlib.Core.List.{List}
+
+-- What is asked: of a table of so many columns, by its index, the rows nearest to the query, as many as are wanted.
+pub record NearestAsked : Type 0 where
+  pub table : List ℕ
+  pub columns : ℕ
+  pub index : List ℕ
+  pub query : List ℕ
+  pub wanted : ℕ
+
+-- What is lent: room for the answers' row numbers and for their distances, the how-bytes, and the workspace.
+pub record NearestLent : Type 0 where
+  pub rows : List ℕ
+  pub distances : List ℕ
+  pub how : List ℕ
+  pub work : List ℕ
+
+-- both, by their parts
+abbrev pub asks : List ℕ → ℕ → List ℕ → List ℕ → ℕ → NearestAsked
+asks t c w q wanted = record { table = t; columns = c; index = w; query = q; wanted = wanted }
+
+abbrev pub lends : List ℕ → List ℕ → List ℕ → List ℕ → NearestLent
+lends rs ds how work = record { rows = rs; distances = ds; how = how; work = work }
+
+-- how far the query is from a row of the table
+abbrev pub away : NearestAsked → ℕ → ℕ
+away a = from (a .table) (a .columns) (a .query)
+
+-- how many rows there are, by the index
+abbrev pub rowsIn : NearestAsked → ℕ
+rowsIn a = n# (a .index)
+
+-- how many answers there are: as many as are wanted, or all rows
+abbrev pub due : NearestAsked → ℕ
+due a = min (a .wanted) (n# (a .index))

@@ -1,0 +1,4 @@
+pub mod Standing
+pub mod Asked
+pub mod Rounds
+pub mod Found

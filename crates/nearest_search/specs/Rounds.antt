@@ -1,0 +1,72 @@
+-- The rounds of a search: what taking an item does, what is known between two rounds, and at the end. A working notion, on
+-- which no promise rests. Assumes nothing.
+use Prim.Native.Nat.{_+_, _-_, _<_, _≤_, suc, ℕ}
+use Rattle.answers_held.specs.Answers.{BestHeld, lastOf}
+use Rattle.frontier.specs.Waiting.{FrontierRoom, atMost, items}
+use Rattle.frontier.specs.Workspace.{answersAt}
+use Rattle.index_space.specs.Fits.{IndexFits}
+use Rattle.index_space.specs.Items.{IndexItem, boundOf, greatestWord, measuredBy, node, openedBy, place, waitsOf, weight}
+use Rattle.index_space.specs.Run.{RunSoFar, RunToEnd}
+use Rattle.laws.specs.Bags.{SameBag, total}
+use Rattle.laws.specs.Upto.{sumTo}
+use Rattle.nearest_search.specs.Asked.{NearestAsked, away, rowsIn}
+use Rattle.nearest_search.specs.Standing.{Grew, Ready, Since, Stands}
+use Rattle.queue.specs.Queue.{Queue, entries}
+use Rattle.tree.specs.Tested.{Tested}
+use Rattle.words.specs.Words.{N#, at, first#, n#}
+use lib.ListN.{length}
+use mathlib.Core.List.{List, _++_}
+use mathlib.Core.Path.{_≡_}
+
+-- ---- taking an item
+-- 0 where it is an item of the index, and a node's first is measured
+abbrev pub amiss : List ℕ → List ℕ → IndexItem → ℕ
+amiss w how (node k b x) = (suc k - N# w) + (1 - at how (first# w k))
+amiss w how (place p b) = suc p - n# w
+
+-- it can be taken: with it gone len entries wait, and there is room for all that it stands for
+pub record CanTake (a : NearestAsked) (how work : List ℕ) (len held : ℕ) (i : IndexItem) : Type 0 where
+  pub ready : Ready (a .table) (a .columns) (a .query) (rowsIn a) (a .wanted) how work held
+  pub room : FrontierRoom (a .index) work (rowsIn a) len (weight (a .index) i)
+  pub sound : amiss (a .index) how i ≡ 0
+
+-- it is taken: what it measures is measured, and what it opens, all under bounds of 32 bits, waits with the others, but for what lies beyond the last
+-- distance by then
+pub record Taken (w : List ℕ) (x : ℕ → ℕ) (wanted : ℕ) (how how′ work work′ : List ℕ) (len len′ held held′ : ℕ) (i : IndexItem) : Type 0 where
+  pub grew : Grew x (n# w) wanted how how′ work work′ held held′ (measuredBy w i)
+  pub queue : Queue work′ 0 len′
+  pub small : total (λ (j : IndexItem). boundOf j - greatestWord) (openedBy w x i) ≡ 0
+  pub queued : SameBag (items w x work′ len′) (atMost boundOf (lastOf work′ (answersAt (n# w)) wanted held′) (openedBy w x i) ++ items w x work len)
+
+-- ---- the whole search
+-- how often rows are still to be measured under an item
+abbrev pub still : List ℕ → IndexItem → ℕ
+still w i = sumTo (waitsOf w i) (n# w)
+
+-- Between two rounds. Where fewer are held than are wanted, nothing was left out: all n positions are held or wait. The last promise is for
+-- lent rows that are, where it counts, those of a table that the index fits.
+pub record SearchState (a : NearestAsked) (how work : List ℕ) (len held : ℕ) : Type 0 where
+  pub ready : Ready (a .table) (a .columns) (a .query) (rowsIn a) (a .wanted) how work held
+  pub queue : Queue work 0 len
+  pub sound : total (amiss (a .index) how) (items (a .index) (away a) work len) ≡ 0
+  pub room : total (weight (a .index)) (items (a .index) (away a) work len) ≤ rowsIn a
+  pub short : held < a .wanted → rowsIn a ≤ held + total (still (a .index)) (items (a .index) (away a) work len)
+  pub run : (x′ : ℕ → ℕ) → IndexFits (a .index) (a .wanted) (away a) x′
+      → BestHeld (away a) (at how) (rowsIn a) work (answersAt (rowsIn a)) (a .wanted) held
+      × RunSoFar (a .index) (a .wanted) (away a) (items (a .index) (away a) work len) (at how)
+
+-- Before it begins: the index is tested, and not empty, and no row is marked.
+pub record SearchStart (a : NearestAsked) (how work : List ℕ) : Type 0 where
+  pub tested : Tested (a .index) (a .table) (a .columns)
+  pub query : length (a .query) ≡ a .columns
+  pub stands : Stands (away a) (rowsIn a) (a .wanted) how work 0
+  pub filled : 1 ≤ rowsIn a
+  pub blank : (r : ℕ) → r < rowsIn a → at how r ≡ 0
+
+-- At its end: as many are held as are wanted, on every index in shape.
+pub record SearchEnd (a : NearestAsked) (how how′ work work′ : List ℕ) (held : ℕ) : Type 0 where
+  pub stands : Stands (away a) (rowsIn a) (a .wanted) how′ work′ held
+  pub full : held ≡ a .wanted
+  pub since : Since (rowsIn a) how how′ work work′
+  pub ran : (x′ : ℕ → ℕ) → IndexFits (a .index) (a .wanted) (away a) x′
+      → BestHeld (away a) (at how′) (rowsIn a) work′ (answersAt (rowsIn a)) (a .wanted) held × RunToEnd (a .index) (a .wanted) (away a) (at how′)

@@ -1,0 +1,58 @@
+// The search: best first, until what waits is farther than the last answer.
+ghost use Rattle.nearest_search.specs.Asked.{asks};
+ghost use Rattle.nearest_search.specs.Rounds.{SearchEnd, SearchStart};
+use crate::taking::measure_row;
+use crate::taking::take_item;
+use answers_held::last;
+use frontier::workspace::ANSWERS;
+use queue::key_of;
+use queue::pop;
+use queue::push;
+use words::places::node_first;
+use words::places::pair_at;
+use words::places::rows;
+
+// The best-first search of an index that is not empty, with all how-bytes 0: how many answers are held at its end.
+pub fn search(
+    table: &[u16],
+    c: usize,
+    query: &[u16],
+    index: &[u32],
+    w: usize,
+    how: &mut [u8],
+    work: &mut [u32],
+) -> usize
+    requires { ⌜ SearchStart (asks (now table) c (now index) (now query) w) (now how) (now work) ⌝ }
+    ensures { λ k. ⌜ SearchEnd (asks (now (table .entry)) c (now (index .entry)) (now (query .entry)) w)
+        (now (how .entry)) (now (how .exit)) (now (work .entry)) (now (work .exit)) k ⌝ }
+{
+    let n = rows(index);
+    let base = pair_at(index, 0);
+    let first = node_first(index, 0);
+    let mut held = measure_row(table, c, query, n, w, how, work, 0, first);
+    push(work, 0, 0, 0);
+    let mut len = 1;
+    while 0 < len {
+        let e = pop(work, 0, len);
+        if last(work, ANSWERS * n, w, held) < key_of(e) {
+            return held;
+        }
+        let sizes = take_item(
+            table,
+            c,
+            query,
+            index,
+            n,
+            base,
+            w,
+            how,
+            work,
+            len - 1,
+            held,
+            e,
+        );
+        len = sizes.len;
+        held = sizes.held;
+    }
+    held
+}

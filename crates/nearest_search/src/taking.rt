@@ -1,0 +1,201 @@
+// Taking what waits: a row is measured, a leaf is opened, an inner node is opened.
+ghost use Prim.Native.Nat.{_+_, _-_, _*_, _<_, _≤_, suc, ℕ};
+ghost use Rattle.frontier.specs.Waiting.{itemOf};
+ghost use Rattle.index_space.specs.Items.{node};
+ghost use Rattle.laws.specs.Bags.{is};
+ghost use Rattle.laws.specs.Upto.{sumTo};
+ghost use Rattle.measure.specs.Table.{from};
+ghost use Rattle.nearest_search.specs.Asked.{asks};
+ghost use Rattle.nearest_search.specs.Rounds.{CanTake, Taken};
+ghost use Rattle.nearest_search.specs.Standing.{GrewAlone, Ready};
+ghost use Rattle.words.specs.InShape.{InShape};
+ghost use Rattle.words.specs.Words.{N#, child#, first#, n#, pairAt};
+ghost use mathlib.Core.Path.{_≡_};
+use answers_held::enter;
+use answers_held::last;
+use answers_held::turn;
+use frontier::nearest_centre;
+use frontier::open_leaf;
+use frontier::queue_children;
+use frontier::workspace::ANSWERS;
+use frontier::workspace::DISTANCES;
+use measure::query_distance;
+use queue::id_of;
+use queue::key_of;
+use words::places::centres;
+use words::places::node_child;
+use words::places::node_first;
+use words::places::word;
+
+// How many entries the frontier and the answers have.
+pub struct Sizes {
+    pub len: usize,
+    pub held: usize,
+}
+
+// Measures row r, the only place that does: its distance is kept, it is marked, and it is entered among the answers.
+pub fn measure_row(
+    table: &[u16],
+    c: usize,
+    query: &[u16],
+    n: usize,
+    w: usize,
+    how: &mut [u8],
+    work: &mut [u32],
+    held: usize,
+    r: usize,
+) -> usize
+    requires { ⌜ Ready (now table) c (now query) n w (now how) (now work) held ⌝ }
+    requires { ⌜ r < n ⌝ }
+    ensures { λ k. ⌜ GrewAlone (from (now (table .entry)) c (now (query .entry))) n w (now (how .entry)) (now (how .exit)) (now (work .entry))
+        (now (work .exit)) held k (λ (s : ℕ). is s r) ⌝ }
+{
+    let d = query_distance(table, c, query, r);
+    how[r] = 1;
+    work[DISTANCES * n + r] = d;
+    enter(work, ANSWERS * n, w, held, turn(r as u32, d))
+}
+
+// Measures the firsts of the nodes from a + 1 up to e: the first child shares its parent's first, which is measured.
+fn measure_centres(
+    table: &[u16],
+    c: usize,
+    query: &[u16],
+    index: &[u32],
+    n: usize,
+    w: usize,
+    how: &mut [u8],
+    work: &mut [u32],
+    held: usize,
+    a: usize,
+    e: usize,
+) -> usize
+    requires { ⌜ Ready (now table) c (now query) n w (now how) (now work) held ⌝ }
+    requires { ⌜ (InShape (now index)) × (n ≡ n# (now index)) × (a < e) × (e ≤ N# (now index)) ⌝ }
+    ensures { λ k. ⌜ GrewAlone (from (now (table .entry)) c (now (query .entry))) n w (now (how .entry)) (now (how .exit)) (now (work .entry))
+        (now (work .exit)) held k (λ (s : ℕ). sumTo (λ (i : ℕ). is s (first# (now (index .entry)) (a + suc i))) (e - (a + 1))) ⌝ }
+{
+    let mut k = held;
+    let mut j = a + 1;
+    while j < e {
+        let r = node_first(index, j);
+        k = measure_row(table, c, query, n, w, how, work, k, r);
+        j += 1;
+    }
+    k
+}
+
+// Opens the inner node k, which has the bound b: its centres are measured, and its children wait.
+fn open_inner(
+    table: &[u16],
+    c: usize,
+    query: &[u16],
+    index: &[u32],
+    n: usize,
+    w: usize,
+    how: &mut [u8],
+    work: &mut [u32],
+    len: usize,
+    held: usize,
+    k: usize,
+    b: u32,
+) -> Sizes
+    requires { ⌜ CanTake (asks (now table) c (now index) (now query) w) (now how) (now work) len held
+        (node k b (from (now table) c (now query) (first# (now index) k))) ⌝ }
+    requires { ⌜ (n ≡ n# (now index)) × (0 < child# (now index) k) ⌝ }
+    ensures { λ s. ⌜ Taken (now (index .entry)) (from (now (table .entry)) c (now (query .entry))) w (now (how .entry)) (now (how .exit))
+        (now (work .entry)) (now (work .exit)) len (s .len) held (s .held)
+        (node k b (from (now (table .entry)) c (now (query .entry)) (first# (now (index .entry)) k))) ⌝ }
+{
+    let a = node_child(index, k);
+    let e = a + centres(index);
+    let now_held = measure_centres(table, c, query, index, n, w, how, work, held, a, e);
+    let y = nearest_centre(index, work, n, a, e);
+    let far = last(work, ANSWERS * n, w, now_held);
+    let now_len = queue_children(index, work, n, len, a, e, b, y, far);
+    Sizes {
+        len: now_len,
+        held: now_held,
+    }
+}
+
+// Opens node k, which has the bound b.
+fn open_node(
+    table: &[u16],
+    c: usize,
+    query: &[u16],
+    index: &[u32],
+    n: usize,
+    w: usize,
+    how: &mut [u8],
+    work: &mut [u32],
+    len: usize,
+    held: usize,
+    k: usize,
+    b: u32,
+) -> Sizes
+    requires { ⌜ CanTake (asks (now table) c (now index) (now query) w) (now how) (now work) len held
+        (node k b (from (now table) c (now query) (first# (now index) k))) ⌝ }
+    requires { ⌜ n ≡ n# (now index) ⌝ }
+    ensures { λ s. ⌜ Taken (now (index .entry)) (from (now (table .entry)) c (now (query .entry))) w (now (how .entry)) (now (how .exit))
+        (now (work .entry)) (now (work .exit)) len (s .len) held (s .held)
+        (node k b (from (now (table .entry)) c (now (query .entry)) (first# (now (index .entry)) k))) ⌝ }
+{
+    if node_child(index, k) == 0 {
+        let far = last(work, ANSWERS * n, w, held);
+        let now_len = open_leaf(index, work, n, len, k, b, far);
+        return Sizes {
+            len: now_len,
+            held: held,
+        };
+    }
+    open_inner(table, c, query, index, n, w, how, work, len, held, k, b)
+}
+
+// Takes the item of the entry e, which is out of the frontier: a node is opened, a position's row is measured. The positions' words stand from
+// `base` on.
+pub fn take_item(
+    table: &[u16],
+    c: usize,
+    query: &[u16],
+    index: &[u32],
+    n: usize,
+    base: usize,
+    w: usize,
+    how: &mut [u8],
+    work: &mut [u32],
+    len: usize,
+    held: usize,
+    e: u64,
+) -> Sizes
+    requires { ⌜ CanTake (asks (now table) c (now index) (now query) w) (now how) (now work) len held
+        (itemOf (now index) (from (now table) c (now query)) e) ⌝ }
+    requires { ⌜ (n ≡ n# (now index)) × (base ≡ pairAt (now index) 0) ⌝ }
+    ensures { λ s. ⌜ Taken (now (index .entry)) (from (now (table .entry)) c (now (query .entry))) w (now (how .entry)) (now (how .exit))
+        (now (work .entry)) (now (work .exit)) len (s .len) held (s .held)
+        (itemOf (now (index .entry)) (from (now (table .entry)) c (now (query .entry))) e) ⌝ }
+{
+    let id = id_of(e) as usize;
+    if id < 2 * n {
+        return open_node(
+            table,
+            c,
+            query,
+            index,
+            n,
+            w,
+            how,
+            work,
+            len,
+            held,
+            id,
+            key_of(e),
+        );
+    }
+    let r = word(index, base + 2 * (id - 2 * n));
+    let now_held = measure_row(table, c, query, n, w, how, work, held, r);
+    Sizes {
+        len: len,
+        held: now_held,
+    }
+}

@@ -1,0 +1,32 @@
+// The lesser and the greater of two numbers, and how far they are apart.
+ghost use Prim.Native.Nat.{_-_, max, min};
+ghost use Rattle.laws.specs.Lists.{gap};
+ghost use mathlib.Core.Path.{_≡_};
+
+// a - b, or 0 where b is more.
+pub fn less(a: u32, b: u32) -> u32
+    ensures { λ r. ⌜ r ≡ a - b ⌝ }
+{
+    if a < b { 0 } else { a - b }
+}
+
+// |a - b|
+pub fn apart(a: u32, b: u32) -> u32
+    ensures { λ r. ⌜ r ≡ gap a b ⌝ }
+{
+    if a < b { b - a } else { a - b }
+}
+
+// The greater of two.
+pub fn larger(a: u32, b: u32) -> u32
+    ensures { λ r. ⌜ r ≡ max a b ⌝ }
+{
+    if a < b { b } else { a }
+}
+
+// The lesser of two.
+pub fn smaller(a: u32, b: u32) -> u32
+    ensures { λ r. ⌜ r ≡ min a b ⌝ }
+{
+    if b < a { b } else { a }
+}

@@ -1,0 +1,19 @@
+-- What a radius search says: 01, Numbers given back. Assumes nothing.
+use Prim.Native.Nat.{ℕ}
+use Rattle.limits.specs.Said.{Said, said}
+use Rattle.limits.specs.declared.Asked.{Asked}
+use Rattle.measure.specs.Table.{rowsOf}
+use Rattle.words.specs.Index.{callFaults}
+use lib.Dec.{eqb, ltb}
+use lib.ListN.{length}
+use mathlib.Core.Bool.{false, not}
+use mathlib.Core.List.{List}
+
+-- what it asks of numbers: 1, 3, 4, 5 and 6. `how` is the number of how-bytes lent
+abbrev pub radiusAsks : List ℕ → ℕ → List ℕ → ℕ → Asked
+radiusAsks T c q how =
+    record { length = length T; columns = c; unfit = false; short = ltb how (rowsOf T c); unlike = not (eqb (length q) c); none = false }
+
+-- radius: 1, 3, 4, 5, 6, 8, 9
+unfoldable pub saidRadius : List ℕ → ℕ → List ℕ → List ℕ → ℕ → Said
+saidRadius T c w q how = said (callFaults (radiusAsks T c q how) w)

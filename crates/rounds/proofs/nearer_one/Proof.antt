@@ -1,0 +1,55 @@
+-- `rounds::nearer_one` meets its contract: the branch that writes is the one where the new centre is strictly closer.
+-- Assumes nothing.
+
+use Rattle.measure.specs.Table.{between}
+use Rattle.rounds.proofs.Nearing.{near-less, near-same}
+use Rattle.rounds.proofs.nearer_one.Statement.{statement}
+use Rattle.rounds.proofs.nearer_one.Tie as tie
+use borrow.Author.Needs.{needs}
+use lib.ListN.{getD}
+use mathlib.Core.Path.{_∙_, _≡_, ap₂}
+
+-- the start, seen from behind the measuring
+abbrev start : tie.After-row-distance → tie.Start
+start c = c .before .before .before .before .before .before
+
+-- what is measured is the entry's distance from the new centre
+measured : (c : tie.After-row-distance)
+    → c .row-distance .result ≡ between (start c .args .table .now) (start c .args .c) (start c .args .centre) (getD (start c .args .entry .now) 0 0)
+measured c =
+    let a = start c .args in
+    c .row-distance .ensures .0 ∙ ap₂ (between (a .table .now) (a .c)) (c .before .before .before .wide .ensures) (c .before .wide2 .ensures)
+
+row-distance-requires : tie.Need-row-distance-requires
+row-distance-requires c κs =
+    let s = c .before .before .before .before .before in
+    let i : c .before .before .wide .result ≡ s .args .centre = c .before .before .wide .ensures in
+    let j : c .wide2 .result ≡ getD (s .args .entry .now) 0 0 = c .wide2 .ensures in
+    (s .pre .0, rw i (s .pre .1), rw j (s .pre .3))
+
+returns : tie.Need-returns
+returns c =
+    let m = c .before .before in
+    let s = start m in
+    near-less (between (s .args .table .now) (s .args .c)) (s .args .centre) _ (s .args .entry .now) (s .pre .2) (measured m) (c .if1 .taken)
+
+returns-2 : tie.Need-returns-2
+returns-2 c =
+    let m = c .before .before in
+    let s = start m in
+    near-same (between (s .args .table .now) (s .args .c)) (s .args .centre) _ (s .args .entry .now) (s .pre .2) (measured m) (c .if1 .left)
+
+pub nearer-one-spec : {M : Type 1} → statement M
+nearer-one-spec =
+    tie.close
+    (tie.spec
+    (λ c κs. search needs)
+    (λ c. search needs)
+    (λ c κs. search needs)
+    row-distance-requires
+    (λ c. search needs)
+    (λ c. search needs)
+    (λ c. search needs)
+    (λ c. search needs)
+    returns
+    returns-2)

@@ -1,0 +1,122 @@
+// Choosing the centres of a run: farthest first. A run's part of the workspace has an entry of three words for each member: the row,
+// its least distance to the centres so far, and the centre that is so close.
+ghost use Prim.Native.Nat.{_%_, _*_, _+_, _-_, _≤_};
+ghost use Rattle.limits.specs.Limits.{maxColumns};
+ghost use Rattle.measure.specs.Table.{between};
+ghost use Rattle.rounds.specs.Entries.{Entries, InTable, ahead, allBut, far, nearAll, roundOf, roundsOf};
+ghost use lib.ListN.{drop, getD, length, take};
+ghost use mathlib.Core.List.{_++_, _∷_};
+ghost use mathlib.Core.Path.{_≡_};
+use measure::row_distance;
+
+// A row number of the workspace, as one to measure by.
+fn wide(x: u32) -> usize
+    ensures { λ r. ⌜ r ≡ x ⌝ }
+{
+    x as usize
+}
+
+// An entry's least distance and its centre, now that `centre` is one.
+fn nearer_one(table: &[u16], c: usize, centre: u32, entry: &mut [u32])
+    requires { ⌜ (c ≤ maxColumns) × InTable (now table) c centre × (length (now entry) ≡ 3)
+        × InTable (now table) c (getD (now entry) 0 0) ⌝ }
+    ensures { λ _. ⌜ now (entry .exit) ≡ nearAll (between (now (table .entry)) c) centre (now (entry .entry)) ⌝ }
+{
+    let d = row_distance(table, c, wide(centre), wide(entry[0]));
+    if d < entry[1] {
+        entry[1] = d;
+        entry[2] = centre;
+    }
+}
+
+// The same for every entry.
+fn nearer(table: &[u16], c: usize, centre: u32, part: &mut [u32])
+    requires { ⌜ (c ≤ maxColumns) × InTable (now table) c centre × Entries (InTable (now table) c) (now part) ⌝ }
+    ensures { λ _. ⌜ now (part .exit) ≡ nearAll (between (now (table .entry)) c) centre (now (part .entry)) ⌝ }
+{
+    let mut p = 0;
+    while p < part.len() {
+        let e = p + 3;
+        nearer_one(table, c, centre, &mut part[p..e]);
+        p = e;
+    }
+}
+
+// The entry at p is to be chosen before the one at b: it is farther from the centres, or as far with a row number that is no greater.
+fn precedes(part: &[u32], p: usize, b: usize) -> bool
+    requires { ⌜ (p + 3 ≤ length (now part)) × (b + 3 ≤ length (now part)) ⌝ }
+    ensures { λ r. ⌜ r ≡ ahead (getD (now (part .entry)) p 0) (getD (now (part .entry)) (p + 1) 0)
+        (getD (now (part .entry)) b 0) (getD (now (part .entry)) (b + 1) 0) ⌝ }
+{
+    if part[b + 1] < part[p + 1] {
+        return true;
+    }
+    if part[p + 1] < part[b + 1] {
+        return false;
+    }
+    part[p] <= part[b]
+}
+
+// Where the entry stands that is chosen next.
+fn farthest(part: &[u32]) -> usize
+    requires { ⌜ (3 ≤ length (now part)) × (length (now part) % 3 ≡ 0) ⌝ }
+    ensures { λ r. ⌜ (r ≡ far (now (part .entry))) × (r + 3 ≤ length (now (part .entry))) × (r % 3 ≡ 0) ⌝ }
+{
+    let mut p = part.len() - 3;
+    let mut b = p;
+    while 0 < p {
+        p -= 3;
+        if precedes(part, p, b) {
+            b = p;
+        }
+    }
+    b
+}
+
+// An entry at the front of a part.
+pub fn put_entry(part: &mut [u32], row: u32, least: u32, centre: u32)
+    requires { ⌜ 3 ≤ length (now part) ⌝ }
+    ensures { λ _. ⌜ now (part .exit) ≡ row ∷ least ∷ centre ∷ drop 3 (now (part .entry)) ⌝ }
+{
+    part[0] = row;
+    part[1] = least;
+    part[2] = centre;
+}
+
+// Moves the first b words three up, over an entry that stands at b.
+fn shift(part: &mut [u32], b: usize)
+    requires { ⌜ b + 3 ≤ length (now part) ⌝ }
+    ensures { λ _. ⌜ now (part .exit) ≡ take 3 (now (part .entry)) ++ allBut b (now (part .entry)) ⌝ }
+{
+    let mut k = b;
+    while 0 < k {
+        k -= 1;
+        part[k + 3] = part[k];
+    }
+}
+
+// One round: the entry that is farthest from the centres becomes a centre and moves to the front; the others keep their order and learn of it.
+fn round(table: &[u16], c: usize, part: &mut [u32])
+    requires { ⌜ (c ≤ maxColumns) × (3 ≤ length (now part)) × Entries (InTable (now table) c) (now part) ⌝ }
+    ensures { λ _. ⌜ now (part .exit) ≡ roundOf (between (now (table .entry)) c) (now (part .entry)) ⌝ }
+{
+    let b = farthest(part);
+    let row = part[b];
+    shift(part, b);
+    put_entry(part, row, 0, row);
+    nearer(table, c, row, &mut part[3..]);
+}
+
+// The rounds that leave m centres at the front of a run whose first is at the front.
+pub fn choose(table: &[u16], c: usize, m: usize, run: &mut [u32])
+    requires { ⌜ (c ≤ maxColumns) × (1 ≤ m) × (3 * m ≤ length (now run)) × Entries (InTable (now table) c) (now run) ⌝ }
+    ensures { λ _. ⌜ now (run .exit) ≡ take 3 (now (run .entry))
+        ++ roundsOf (between (now (table .entry)) c) (m - 1) (drop 3 (now (run .entry))) ⌝ }
+{
+    let mut r = 1;
+    while r < m {
+        let at = 3 * r;
+        round(table, c, &mut run[at..]);
+        r += 1;
+    }
+}
