@@ -12,7 +12,7 @@ abbrev μ-loop : tie.MeasureT-loop
 μ-loop names list c choice₀ i₀ choice i = 17 - i
 
 with-piece-requires : tie.Need-with-piece-requires Inv-loop μ-loop
-with-piece-requires c κs = (c .before .before .loop .inv .0, c .piece-at .ensures .inside)
+with-piece-requires c κs = (c .before .before .loop .inv .0, c .piece-at .ensures .inside .0, c .piece-at .ensures .inside .1)
 
 pub choose-list-spec : {M : Type 1} → statement M
 choose-list-spec =

@@ -17,11 +17,15 @@ row-of-requires c κs =
 
 -- src/naming.rt:70:25
 mul-copy : tie.Need-mul-copy
-mul-copy c = ?
+mul-copy c =
+    let s = c .before .before .before .before in
+    omega (arith, query-ends (s .args .c) (s .args .i) (s .pre .2) (s .pre .3))
 
 -- src/naming.rt:70:5
 copy-requires : tie.Need-copy-requires
-copy-requires c κs = ?
+copy-requires c κs =
+    let s = c .before .before .before .before in
+    omega (arith, query-ends (s .args .c) (s .args .i) (s .pre .2) (s .pre .3), s .pre .4, c .before .row-of .ensures .1)
 
 -- src/naming.rt:65:1
 same-length : tie.Need-same-length
@@ -29,7 +33,7 @@ same-length c = search needs
 
 -- src/naming.rt:65:1
 returns : tie.Need-returns
-returns c = ?
+returns c = cc
 
 pub put-row-spec : {M : Type 1} → statement M
 put-row-spec = tie.close (tie.spec row-of-requires mul-copy copy-requires same-length returns)
