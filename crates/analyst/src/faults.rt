@@ -1,4 +1,5 @@
 // What is wrong with a text, with the line and the column.
+ghost use Prim.Native.Nat.{_≤_};
 use crate::saying::say;
 use crate::saying::say_count;
 use crate::saying::say_number;
@@ -56,7 +57,9 @@ pub fn say_fault(file: i32, r: Reader) {
 }
 
 // The status of a text with this fault: 4 where there is no room for its rows, else 3.
-pub fn status_of(fault: u32) -> u32 {
+pub fn status_of(fault: u32) -> u32
+    ensures { λ r. ⌜ r ≤ 4 ⌝ }
+{
     if fault == sheet::TOO_MANY_ROWS {
         return 4;
     }

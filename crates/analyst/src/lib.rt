@@ -82,10 +82,17 @@ fn names_of(text: &[u8], names: bool) -> &[u8] {
     part(text, 0, 0)
 }
 
+// The line of row 0, which names may stand before.
+fn line_of_rows(names: bool) -> usize
+    ensures { λ r. ⌜ r ≤ 2 ⌝ }
+{
+    if names { 2 } else { 1 }
+}
+
 // A number times its factor is too great for the table.
 fn say_product(file: i32, row: usize, names: bool, column: usize) {
     say(file, b"line ");
-    let line = if names { 2 } else { 1 };
+    let line = line_of_rows(names);
     if row <= 1_048_576 {
         say_number(file, row + line);
     }
@@ -172,6 +179,35 @@ fn refuse(file: i32, number: u32) -> u32
     NO_ROOM
 }
 
+// Keeps where the rows' lines start, if these are to be shown.
+fn keep_starts(plan: Plan, text: &[u8], starts: &mut [u32]) {
+    if !plan.lines {
+        return;
+    }
+    places::keep_lines(text, plan.from, starts, plan.n);
+}
+
+// Writes the answers that were given, or their count.
+fn write_rows(
+    plan: Plan,
+    text: &[u8],
+    starts: &mut [u32],
+    rows: &[u32],
+    distances: &[u32],
+    given: usize,
+)
+    requires { ⌜ (given ≤ length (now rows)) × (given ≤ length (now distances)) ⌝ }
+{
+    if plan.count {
+        say_number(plan.out, given);
+        say(plan.out, b"\n");
+        return;
+    }
+    keep_starts(plan, text, starts);
+    answering::say_head(plan, names_of(text, plan.names));
+    answering::say_answers(plan, text, starts, rows, distances, given);
+}
+
 // Writes the answers that were given, or their count, and the closing line. Gives the status.
 fn write_given(
     plan: Plan,
@@ -185,16 +221,7 @@ fn write_given(
     requires { ⌜ (given ≤ length (now rows)) × (given ≤ length (now distances)) ⌝ }
     ensures { λ r. ⌜ r ≤ 4 ⌝ }
 {
-    if plan.count {
-        say_number(plan.out, given);
-        say(plan.out, b"\n");
-    } else {
-        if plan.lines {
-            places::keep_lines(text, plan.from, starts, plan.n);
-        }
-        answering::say_head(plan, names_of(text, plan.names));
-        answering::say_answers(plan, text, starts, rows, distances, given);
-    }
+    write_rows(plan, text, starts, rows, distances, given);
     saying::say_found(plan.err, given, measured, plan.n);
     if given == 0 { NOTHING_FOUND } else { ANSWERED }
 }
@@ -207,6 +234,34 @@ fn order(by_distance: bool, rows: &mut [u32], distances: &mut [u32], count: usiz
         return;
     }
     put_in_order(rows, distances, count, work);
+}
+
+// Writes the rows that are marked.
+fn write_marked(
+    plan: Plan,
+    text: &[u8],
+    table: &[u16],
+    queries: &[u16],
+    starts: &mut [u32],
+    work: &mut [u32],
+    marks: &[u8],
+    rows: &mut [u32],
+    distances: &mut [u32],
+    measured: usize,
+) -> u32
+    ensures { λ r. ⌜ r ≤ 4 ⌝ }
+{
+    let kept = keep_marked(
+        table,
+        plan.k,
+        queries,
+        plan.queries,
+        part(marks, 0, plan.n),
+        rows,
+        distances,
+    );
+    order(plan.by_distance, rows, distances, kept, work);
+    write_given(plan, text, starts, rows, distances, kept, measured)
 }
 
 // Every row within a distance of one of the queries.
@@ -229,17 +284,18 @@ fn answer_like(
     if number != 0 {
         return refuse(plan.err, number);
     }
-    let kept = keep_marked(
+    write_marked(
+        plan,
+        text,
         table,
-        plan.k,
         queries,
-        plan.queries,
-        part(marks, 0, plan.n),
+        room,
+        work,
+        marks,
         rows,
         distances,
-    );
-    order(plan.by_distance, rows, distances, kept, work);
-    write_given(plan, text, room, rows, distances, kept, found.measured)
+        found.measured,
+    )
 }
 
 // The rows nearest to the query.
@@ -277,7 +333,7 @@ fn answer_nearest(
 }
 
 // The plan of a question about a text that was read.
-fn plan_of(q: Question, ends: Ends, sheet: Sheet, k: usize, queries: usize) -> Plan {
+fn plan_of(q: Question, ends: Ends, sheet: Sheet) -> Plan {
     Plan {
         out: ends.out,
         err: ends.err,
@@ -289,9 +345,10 @@ fn plan_of(q: Question, ends: Ends, sheet: Sheet, k: usize, queries: usize) -> P
         lines: q.lines,
         from: sheet.from,
         names: sheet.names,
-        k,
+        k: 0,
         n: sheet.reader.rows,
-        queries,
+        used: 0,
+        queries: 0,
     }
 }
 
@@ -331,6 +388,17 @@ fn answer(
     answer_nearest(plan, text, table, queries, room, work, how, rows, distances)
 }
 
+// The plan for so many columns, and so many numbers of the table.
+fn with_table(plan: Plan, k: usize, used: usize) -> Plan
+    requires { ⌜ k ≤ 16 ⌝ }
+    ensures { λ r. ⌜ r .k ≤ 16 ⌝ }
+{
+    let mut full = plan;
+    full.k = k;
+    full.used = used;
+    full
+}
+
 // The plan with so many queries.
 fn with_queries(plan: Plan, queries: usize) -> Plan {
     let mut full = plan;
@@ -343,6 +411,9 @@ fn trouble_of(asks: u32, named: Named) -> u32 {
     if named.wrong != 0 {
         return named.wrong;
     }
+    if named.count == 0 {
+        return naming::NOT_A_ROW;
+    }
     if asks == asking::LIKE {
         return 0;
     }
@@ -350,6 +421,110 @@ fn trouble_of(asks: u32, named: Named) -> u32 {
         return naming::TOO_MANY_ROWS;
     }
     0
+}
+
+// Says what is wrong with what is asked about. Gives the status, 0 where nothing is.
+fn say_trouble(plan: Plan, named: Named, what: &[u8], n: usize, k: usize) -> u32
+    ensures { λ r. ⌜ r ≤ 4 ⌝ }
+{
+    let wrong = trouble_of(plan.asks, named);
+    if wrong == 0 {
+        return ANSWERED;
+    }
+    telling::say_named_wrong(plan.err, wrong, named.more, what, n, k);
+    ASKED_WRONGLY
+}
+
+// Puts the queries that the question is about. Gives how many; 0 where something is wrong with them, and is said.
+fn put_queries(
+    what: &[u8],
+    plan: Plan,
+    sheet: Sheet,
+    choice: Choice,
+    text: &[u8],
+    table: &[u16],
+    starts: &mut [u32],
+    queries: &mut [u16],
+) -> usize
+    requires { ⌜ (choice .k * sheet .reader .rows ≤ length (now table)) × (choice .k ≤ maxColumns) × (length (now queries) ≡ 1024) ⌝ }
+    ensures { λ r. ⌜ r ≤ 64 ⌝ }
+{
+    let named = put_named(text, sheet, what, choice, table, starts, queries);
+    let status = say_trouble(plan, named, what, sheet.reader.rows, choice.k);
+    if status != 0 {
+        return 0;
+    }
+    named.count
+}
+
+// Answers about the first so many queries.
+fn answer_queries(
+    plan: Plan,
+    count: usize,
+    text: &[u8],
+    table: &[u16],
+    queries: &[u16],
+    room: &mut [u32],
+    work: &mut [u32],
+    how: &mut [u8],
+    marks: &mut [u8],
+    rows: &mut [u32],
+    distances: &mut [u32],
+) -> u32
+    requires { ⌜ (plan .k ≤ 16) × (count ≤ 64) ⌝ }
+    ensures { λ r. ⌜ r ≤ 4 ⌝ }
+{
+    if count == 0 {
+        return ASKED_WRONGLY;
+    }
+    let end = product(plan.k, count);
+    answer(
+        with_queries(plan, count),
+        text,
+        numbers_part(table, 0, plan.used),
+        numbers_part(queries, 0, end),
+        room,
+        work,
+        how,
+        marks,
+        rows,
+        distances,
+    )
+}
+
+// Asks about the rows of a table that has room for them.
+fn ask_named(
+    what: &[u8],
+    plan: Plan,
+    sheet: Sheet,
+    choice: Choice,
+    text: &[u8],
+    table: &[u16],
+    room: &mut [u32],
+    work: &mut [u32],
+    how: &mut [u8],
+    marks: &mut [u8],
+    rows: &mut [u32],
+    distances: &mut [u32],
+) -> u32
+    requires { ⌜ (choice .k * sheet .reader .rows ≤ length (now table)) × (choice .k ≤ maxColumns) × (plan .k ≤ 16) ⌝ }
+    ensures { λ r. ⌜ r ≤ 4 ⌝ }
+{
+    let mut queries = query_room();
+    let count = put_queries(what, plan, sheet, choice, text, table, room, &mut queries);
+    answer_queries(
+        plan,
+        count,
+        text,
+        table,
+        &queries,
+        room,
+        work,
+        how,
+        marks,
+        rows,
+        distances,
+    )
 }
 
 // Asks about the rows of a text that has been read and whose columns are chosen.
@@ -381,19 +556,99 @@ fn ask_rows(
     if table.len() < used {
         return refuse(plan.err, 5);
     }
-    let mut queries = query_room();
-    let named = put_named(text, sheet, what, choice, table, room, &mut queries);
-    let wrong = trouble_of(plan.asks, named);
-    if wrong != 0 {
-        telling::say_named_wrong(plan.err, wrong, named.more, what, n, k);
-        return ASKED_WRONGLY;
-    }
-    let end = product(k, named.count);
-    answer(
-        with_queries(plan, named.count),
+    ask_named(
+        what,
+        with_table(plan, k, used),
+        sheet,
+        choice,
         text,
-        numbers_part(table, 0, used),
-        numbers_part(&queries, 0, end),
+        table,
+        room,
+        work,
+        how,
+        marks,
+        rows,
+        distances,
+    )
+}
+
+// Chooses the columns, in place. Gives the status, 0 where they are chosen.
+fn choose_columns(file: i32, sheet: Sheet, choice: Choice, table: &mut [u16]) -> u32
+    ensures { λ r. ⌜ r ≤ 4 ⌝ }
+{
+    let chosen = choice.chosen;
+    let factors = choice.factors;
+    let chose = columns::choose(
+        table,
+        sheet.reader.columns,
+        sheet.reader.rows,
+        chosen,
+        factors,
+        choice.k,
+    );
+    let number = chose.number;
+    if number == 0 {
+        return ANSWERED;
+    }
+    say_unchosen(
+        file,
+        number,
+        chose.row,
+        sheet.names,
+        chosen_at(choice, chose.column),
+    )
+}
+
+// Says what is wrong with the list of columns. Gives the status, 0 where nothing is.
+fn say_choice(file: i32, choice: Choice, list: &[u8], text: &[u8]) -> u32
+    ensures { λ r. ⌜ r ≤ 4 ⌝ }
+{
+    let wrong = choice.wrong;
+    if wrong == 0 {
+        return ANSWERED;
+    }
+    telling::say_columns_wrong(
+        file,
+        wrong,
+        part(list, choice.start, choice.end),
+        places::first_line(text),
+    );
+    ASKED_WRONGLY
+}
+
+// Answers a question about a text that was read into the table.
+fn ask_sheet(
+    words: &[u8],
+    q: Question,
+    ends: Ends,
+    sheet: Sheet,
+    text: &[u8],
+    table: &mut [u16],
+    room: &mut [u32],
+    work: &mut [u32],
+    how: &mut [u8],
+    marks: &mut [u8],
+    rows: &mut [u32],
+    distances: &mut [u32],
+) -> u32
+    ensures { λ r. ⌜ r ≤ 4 ⌝ }
+{
+    let choice = choice_of(words, q, names_of(text, sheet.names), sheet.reader.columns);
+    let wrong = say_choice(ends.err, choice, bytes_of(words, q.columns), text);
+    if wrong != 0 {
+        return wrong;
+    }
+    let unchosen = choose_columns(ends.err, sheet, choice, table);
+    if unchosen != 0 {
+        return unchosen;
+    }
+    ask_rows(
+        bytes_of(words, q.what),
+        plan_of(q, ends, sheet),
+        sheet,
+        choice,
+        text,
+        table,
         room,
         work,
         how,
@@ -421,46 +676,16 @@ fn ask_text(
 {
     let sheet = reading::read_rows(text, table);
     let reader = sheet.reader;
-    if reader.fault != 0 {
+    let fault = reader.fault;
+    if fault != 0 {
         faults::say_fault(ends.err, reader);
-        return faults::status_of(reader.fault);
+        return faults::status_of(fault);
     }
-    let choice = choice_of(words, q, names_of(text, sheet.names), reader.columns);
-    if choice.wrong != 0 {
-        let list = bytes_of(words, q.columns);
-        telling::say_columns_wrong(
-            ends.err,
-            choice.wrong,
-            part(list, choice.start, choice.end),
-            places::first_line(text),
-        );
-        return ASKED_WRONGLY;
-    }
-    let chosen = choice.chosen;
-    let factors = choice.factors;
-    let chose = columns::choose(
-        table,
-        reader.columns,
-        reader.rows,
-        chosen,
-        factors,
-        choice.k,
-    );
-    if chose.number != 0 {
-        return say_unchosen(
-            ends.err,
-            chose.number,
-            chose.row,
-            sheet.names,
-            chosen_at(choice, chose.column),
-        );
-    }
-    let plan = plan_of(q, ends, sheet, choice.k, 0);
-    ask_rows(
-        bytes_of(words, q.what),
-        plan,
+    ask_sheet(
+        words,
+        q,
+        ends,
         sheet,
-        choice,
         text,
         table,
         room,
