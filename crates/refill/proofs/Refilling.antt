@@ -1,10 +1,10 @@
 -- The words of the whole index: header, nodes, positions. Assumes nothing.
 use Prim.Native.Nat.{_*_, _+_, _-_, _≤_, ℕ}
 use Rattle.build.proofs.Positions.{pairs-laid, pairsOf}
-use Rattle.build.proofs.Rooms.{room-long}
+use Rattle.growing.proofs.Rooms.{room-long}
 use Rattle.build.proofs.Whole.{encode-words}
 use Rattle.build.specs.Filled.{headerOf, pairsIn}
-use Rattle.build.specs.Levels.{Able, leaves}
+use Rattle.growing.specs.Levels.{Able, leaves}
 use Rattle.laws.proofs.Joins.{each-append, part-two}
 use Rattle.laws.proofs.Parts.{put-more}
 use Rattle.laws.proofs.Ranges.{range-length}

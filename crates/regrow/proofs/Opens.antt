@@ -1,6 +1,6 @@
 -- One node is opened: what the two ways ask, and what they leave. Assumes nothing.
 use Prim.Native.Nat.{_+_, _≤_, ℕ}
-use Rattle.build.specs.Stages.{Openable, Opened}
+use Rattle.growing.specs.Stages.{Openable, Opened}
 use Rattle.measure.specs.Table.{between}
 use Rattle.regrow.specs.Pieces.{copied}
 use Rattle.regrow.specs.Stages.{Openable′, Opened′, withCopies}

@@ -2,7 +2,7 @@
 -- which no promise rests. Assumes nothing.
 use Prim.Native.Nat.{_+_, _≤_, suc, zero, ℕ}
 use Rattle.appending.specs.Append.{reachWith}
-use Rattle.build.specs.Levels.{Able, Item, placed}
+use Rattle.growing.specs.Levels.{Able, Item, placed}
 use Rattle.laws.specs.Every.{Every}
 use Rattle.laws.specs.Lists.{each, range}
 use Rattle.measure.specs.Table.{between}

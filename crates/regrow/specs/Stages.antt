@@ -1,8 +1,8 @@
 -- What stands in the room and in the workspace while a tree is grown anew below one node. A working notion, on which no promise rests. Assumes
 -- nothing.
 use Prim.Native.Nat.{_*_, _+_, _<_, _≤_, suc, ℕ}
-use Rattle.build.specs.Levels.{Able, leaves, opened, placed, waits}
-use Rattle.build.specs.Stages.{Openable, Opened, withNodes}
+use Rattle.growing.specs.Levels.{Able, leaves, opened, placed, waits}
+use Rattle.growing.specs.Stages.{Openable, Opened, withNodes}
 use Rattle.laws.specs.Every.{Every}
 use Rattle.laws.specs.Lists.{each, keep, range}
 use Rattle.limits.specs.Limits.{maxDepth, maxRows}

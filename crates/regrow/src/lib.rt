@@ -10,7 +10,7 @@ ghost use Rattle.words.specs.InShape.{InShape};
 ghost use Rattle.words.specs.Words.{N#, c#, m#, n#};
 ghost use lib.ListN.{length};
 ghost use mathlib.Core.Path.{_≡_};
-use build::Reach;
+use growing::Reach;
 use limits::Params;
 use measure::row_distance;
 use reach::node_end;
@@ -177,7 +177,7 @@ fn open_piece(
     let child = word(room, HEADER + WIDTH * k + 2);
     let m = centres(index);
     if child == 0 {
-        return build::open_node(
+        return growing::open_node(
             table,
             columns(index),
             m,
