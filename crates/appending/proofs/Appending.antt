@@ -223,7 +223,7 @@ module _ {d : ℕ → ℕ → ℕ} {T : List ℕ} {c : ℕ} {w : List ℕ} (L : 
 
 -- ---- a row appended to a table
 -- the rows of the table stay
-row-front : (U r : List ℕ) (c n i : ℕ) → length U ≡ c * n → i < n → row (U ++ r) c i ≡ row U c i
+pub row-front : (U r : List ℕ) (c n i : ℕ) → length U ≡ c * n → i < n → row (U ++ r) c i ≡ row U c i
 row-front U r c n i e h =
     let q = row-ends c n i h in
     ap (take c) (drop-append-le (c * i) U r (omega arith)) ∙ take-append-le c (drop (c * i) U) r (simp length-drop (omega arith))

@@ -53,7 +53,7 @@ module _ (d : ℕ → ℕ → ℕ) (m l : ℕ) (m2 : 2 ≤ m) (ml : m ≤ l) whe
       ∙ ap (leafOf d q) (forest-leaves deep gs (h .1))
 
   -- the parts of a run of l + 1 rows have at most l
-  split-short : (run : List ℕ) → Run run → length run ≡ l + 1 → Every (λ q. length q ≤ l) (split d m run)
+  pub split-short : (run : List ℕ) → Run run → length run ≡ l + 1 → Every (λ q. length q ≤ l) (split d m run)
   split-short run r e =
       let k : m ≤ length run = omega arith in
       let n : length (joined (split d m run)) ≡ length run =

@@ -1,7 +1,7 @@
 -- The contract: on a refusal, and past all of them. Assumes nothing.
 use Prim.Native.Nat.{_*_, _≤_, ℕ}
 use Rattle.audit.proofs.Faults.{Late, faults-late}
-use Rattle.audit.proofs.Refusals.{refusals-early, refusals-numbered}
+use Rattle.audit.proofs.Refusals.{Clear, refusals-early, refusals-numbered}
 use Rattle.audit.specs.Calls.{Checks}
 use Rattle.audit.specs.Refusals.{refusals}
 use Rattle.audit.specs.Workspace.{clears}
@@ -12,13 +12,15 @@ use Rattle.limits.specs.Said.{Said, said}
 use Rattle.measure.specs.Table.{between, rowsOf}
 use Rattle.audit.specs.Numbers.{saidCheck}
 use Rattle.tree.specs.Check.{faults}
+use Rattle.tree.specs.Tested.{Tested}
+use Rattle.words.proofs.Headers.{words-whole}
 use Rattle.words.specs.Words.{n#}
 use borrow.Author.Tests.{le-leb, lt-leb, ne-eqb}
 use lib.Dec.{eqb}
 use lib.ListN.{length}
 use mathlib.Core.Bool.{cond, false, or-true, true}
 use mathlib.Core.List.{List, [], _++_, _∷_}
-use mathlib.Core.Path.{_∙_, _≡_, ap, refl, sym}
+use mathlib.Core.Path.{_∙_, _≡_, ap, refl, subst, sym}
 use native.Mathlib.Omega.{arith}
 
 -- THE CALL SAYS ITS FIRST REFUSAL, ELSE ITS FIRST FAULT
@@ -35,6 +37,17 @@ late-clears (s ∷ l) h = rw (le-leb 10 (s .0) (h .0)) (or-true (eqb (s .0) 0))
 -- the numbers of the refusals leave it
 early-keeps : (r : ℕ) → (r ≡ 0 → ⊥) → r ≤ 9 → clears r ≡ false
 early-keeps r h q = rw (ne-eqb r 0 h, lt-leb 10 r (omega arith))
+
+-- ---- the passes
+-- where nothing is refused they may assume what was tested
+pub tested : {T : List ℕ} {c : ℕ} {w : List ℕ} {room : ℕ} → Clear T c w room → Tested w T c
+tested {T} {c} C =
+    record {
+      shape = C .index .shape;
+      edition = words-whole _ (C .there) .0;
+      table = subst (λ (n : ℕ). c * n ≤ length T) (sym (C .index .rows)) (C .table .inside);
+      columns = C .table .few;
+    }
 
 -- ---- the call's two ends
 module _ (T : List ℕ) (c : ℕ) (w work : List ℕ) where

@@ -1,6 +1,6 @@
 -- The passes one after the other: the first that finds a fault gives the number and the place. Assumes nothing.
 use Prim.Native.Nat.{_*_, _+_, _<_, _≤_, ℕ}
-use Rattle.audit.specs.Passes.{allStrays, measuredFaults, nodeStrays}
+use Rattle.audit.specs.Passes.{measuredFaults}
 use Rattle.laws.proofs.Every.{every-append, every-keep, every-map}
 use Rattle.laws.proofs.First.{first-at-end, first-empty, first-kept}
 use Rattle.laws.proofs.Ranges.{at-every, range-every}
@@ -9,6 +9,7 @@ use Rattle.laws.specs.First.{First}
 use Rattle.laws.specs.Lists.{each, keep, range}
 use Rattle.limits.specs.Limits.{maxRows}
 use Rattle.limits.specs.Said.{Said, said}
+use Rattle.nearness.specs.Strays.{allStrays, nodeStrays}
 use Rattle.tree.specs.Check.{again, faults, strays, wrongDist, wrongReach}
 use Rattle.words.specs.InShape.{InShape}
 use Rattle.words.specs.Words.{N#, count#, n#, start#}

@@ -1,10 +1,6 @@
-pub mod Pairing
-pub mod Searches
 pub mod Wiping
 pub mod Marks
 pub mod Distances
-pub mod Farthest
-pub mod Strays
 pub mod Faults
 pub mod Refusals
 pub mod Contract

@@ -7,9 +7,9 @@ use Rattle.limits.proofs.Faults.{Early, Numbered, early-numbered, fault-early, 
 use Rattle.limits.proofs.Sized.{Sized, sized, sized-none, table-early, table-numbered}
 use Rattle.limits.specs.Said.{Said, fault, said, tableFaults}
 use Rattle.measure.specs.Table.{rowsOf}
-use Rattle.reach.specs.Runs.{Paired}
 use Rattle.words.proofs.Index.{index-early, index-tests, none-wrong, over}
 use Rattle.words.specs.Calls.{indexFaults}
+use Rattle.words.specs.InShape.{Over}
 use Rattle.words.specs.Shape.{shapeOk}
 use Rattle.words.specs.Words.{wordsOk}
 use borrow.Author.Tests.{le-ltb, lt-ltb, ltb-false}
@@ -23,7 +23,7 @@ use native.Mathlib.Omega.{arith}
 -- WITH 0 NOTHING IS WRONG: the table, the workspace of `room` words, and the index
 pub record Clear (T : List ℕ) (c : ℕ) (w : List ℕ) (room : ℕ) : Type 0 where
   pub table : Sized (length T) c
-  pub index : Paired T c w
+  pub index : Over w (rowsOf T c) c
   -- the index's own tests
   pub there : wordsOk w ≡ true
   pub shape : shapeOk w ≡ true

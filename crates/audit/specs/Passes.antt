@@ -1,55 +1,28 @@
--- The tests of the full check by node and by child, as the passes make them. Over the distance d between rows. A working notion, on which no promise
+-- The tests of the full check as the passes make them. Over the distance d between rows. A working notion, on which no promise
 -- rests. Assumes nothing.
-use Prim.Native.Nat.{_+_, _<_, ℕ}
+use Prim.Native.Nat.{ℕ}
 use Rattle.audit.specs.declared.Checked.{Checked}
-use Rattle.laws.specs.First.{First}
-use Rattle.laws.specs.Lists.{any, each, keep, range}
+use Rattle.laws.specs.Lists.{keep, range}
 use Rattle.limits.specs.Said.{Said}
-use Rattle.tree.specs.Check.{inRun, strays, wrongDist, wrongReach}
+use Rattle.nearness.specs.Strays.{allStrays}
+use Rattle.tree.specs.Check.{inRun, wrongDist, wrongReach}
 use Rattle.words.specs.Shape.{inner}
-use Rattle.words.specs.Words.{N#, child#, count#, dist#, first#, m#, n#, row#, run#, start#}
-use lib.Dec.{eqb, ltb}
-use lib.ListN.{getD}
+use Rattle.words.specs.Words.{N#, dist#, first#, n#, row#}
+use lib.Dec.{eqb}
 use mathlib.Core.Bool.{Bool, _&&_, not}
 use mathlib.Core.List.{List, _++_, map}
-use mathlib.Core.Path.{_≡_}
 
 -- what the code hands back, as a number and two places
 abbrev pub told : Checked → Said
 told r = (r .number, r .place, r .second)
-
--- r is the first position of node k's run that passes f, or the run's end
-abbrev pub FirstIn : List ℕ → ℕ → (ℕ → Bool) → ℕ → Type 0
-FirstIn w k f r = First f (start# w k) (start# w k + count# w k) r
-
--- fs are the firsts of the m nodes from number j on
-pub record Firsts (w : List ℕ) (j : ℕ) (fs : List ℕ) : Type 0 where
-  pub at : (i : ℕ) → i < m# w → getD fs i 0 ≡ first# w (j + i)
-  pub low : (i : ℕ) → i < m# w → getD fs i 0 < n# w
 
 module _ (d : ℕ → ℕ → ℕ) (w : List ℕ) where
   -- 11, of one node: it is a leaf with position p, whose stored distance is wrong
   unfoldable pub leafWrong : ℕ → ℕ → Bool
   leafWrong k p = not (inner w k) && inRun w p k && not (eqb (dist# w p) (d (first# w k) (row# w p)))
 
-  -- 13, of one centre: the row at p is closer than x to the first of node i
-  abbrev pub closer : ℕ → ℕ → ℕ → Bool
-  closer p x i = ltb (d (first# w i) (row# w p)) x
-
-  -- 13, of node k's child j: it has position p, whose row is closer to the centre of another child
-  unfoldable pub kidStrays : ℕ → ℕ → ℕ → Bool
-  kidStrays k j p = inRun w p j && any (closer p (d (first# w j) (row# w p))) (range (child# w k) (m# w))
-
-  -- 13, of one node: its faults in the order of positions
-  unfoldable pub nodeStrays : ℕ → List Said
-  nodeStrays k = map (λ p. (13, k, p)) (keep (strays d w k) (run# w k))
-
-  -- 13, of all nodes
-  unfoldable pub allStrays : List Said
-  allStrays = each nodeStrays (range 0 (N# w))
-
   -- 11 to 13: the faults that distances show
   unfoldable pub measuredFaults : List Said
   measuredFaults =
       map (λ p. (11, p, 0)) (keep (wrongDist d w) (range 0 (n# w)))
-      ++ (map (λ k. (12, k, 0)) (keep (wrongReach d w) (range 0 (N# w))) ++ allStrays)
+      ++ (map (λ k. (12, k, 0)) (keep (wrongReach d w) (range 0 (N# w))) ++ allStrays d w)

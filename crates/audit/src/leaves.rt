@@ -3,11 +3,11 @@ ghost use Prim.Native.Nat.{_<_};
 ghost use Rattle.audit.specs.Passes.{leafWrong};
 ghost use Rattle.laws.specs.First.{First};
 ghost use Rattle.measure.specs.Table.{between};
-ghost use Rattle.reach.specs.Runs.{Paired};
 ghost use Rattle.tree.specs.Check.{wrongDist};
+ghost use Rattle.tree.specs.Tested.{Tested};
 ghost use Rattle.words.specs.Words.{N#, n#};
-use crate::lesser;
 use reach::apart;
+use reach::lesser;
 use reach::node_end;
 use words::places::node_child;
 use words::places::node_first;
@@ -18,7 +18,7 @@ use words::places::stored_at;
 
 // The lowest position where leaf k stores a wrong distance, or n.
 fn leaf_wrong(table: &[u16], c: usize, index: &[u32], k: usize) -> usize
-    requires { ⌜ Paired (now table) c (now index) ⌝ }
+    requires { ⌜ Tested (now index) (now table) c ⌝ }
     requires { ⌜ k < N# (now index) ⌝ }
     ensures { λ r. ⌜ First (leafWrong (between (now (table .entry)) c) (now (index .entry)) k) 0 (n# (now (index .entry))) r ⌝ }
 {
@@ -40,7 +40,7 @@ fn leaf_wrong(table: &[u16], c: usize, index: &[u32], k: usize) -> usize
 
 // The lowest position with a wrong stored distance, or n.
 pub fn first_wrong_distance(table: &[u16], c: usize, index: &[u32]) -> usize
-    requires { ⌜ Paired (now table) c (now index) ⌝ }
+    requires { ⌜ Tested (now index) (now table) c ⌝ }
     ensures { λ r. ⌜ First (wrongDist (between (now (table .entry)) c) (now (index .entry))) 0 (n# (now (index .entry))) r ⌝ }
 {
     let total = nodes(index);

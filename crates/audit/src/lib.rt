@@ -1,26 +1,24 @@
 // The full check: it takes an index from anyone, and names its first fault.
 mod leaves;
-mod nearness;
-mod radii;
 mod repeats;
 
-ghost use Prim.Native.Nat.{_*_, _≤_, min};
+ghost use Prim.Native.Nat.{_*_, _≤_};
 ghost use Rattle.audit.specs.Calls.{Checks};
 ghost use Rattle.audit.specs.Passes.{measuredFaults, told};
 ghost use Rattle.audit.specs.Refusals.{refusals};
 ghost use Rattle.buffers.specs.Wiped.{wiped};
 ghost use Rattle.limits.specs.Said.{said};
 ghost use Rattle.measure.specs.Table.{between};
-ghost use Rattle.reach.specs.Runs.{Paired};
 ghost use Rattle.tree.specs.Check.{faults};
-ghost use Rattle.words.specs.Words.{edition#, n#};
+ghost use Rattle.tree.specs.Tested.{Tested};
+ghost use Rattle.words.specs.Words.{n#};
 ghost use lib.ListN.{length};
 ghost use mathlib.Core.Path.{_≡_};
 use buffers::clear_words;
 use leaves::first_wrong_distance;
 use limits::table_number;
 use nearness::closeness;
-use radii::first_wrong_reach;
+use reach::radii::first_wrong_reach;
 use repeats::first_again;
 use words::listing::index_number;
 use words::places::nodes;
@@ -31,13 +29,6 @@ pub struct Checked {
     pub number: u32,
     pub place: usize,
     pub second: usize,
-}
-
-// The lesser of two.
-fn lesser(a: usize, b: usize) -> usize
-    ensures { λ r. ⌜ r ≡ min a b ⌝ }
-{
-    if a < b { a } else { b }
 }
 
 // 1 to 9: what refuses the call before the passes, or 0. `room` is the workspace's length.
@@ -57,8 +48,7 @@ fn refusal_of(table: &[u16], c: usize, index: &[u32], room: usize) -> u32
 
 // 11 to 13: the first fault that distances show, or 0.
 fn measured_fault(table: &[u16], c: usize, index: &[u32]) -> Checked
-    requires { ⌜ Paired (now table) c (now index) ⌝ }
-    requires { ⌜ edition# (now index) ≡ 2 ⌝ }
+    requires { ⌜ Tested (now index) (now table) c ⌝ }
     ensures { λ r. ⌜ told r ≡ said (measuredFaults (between (now (table .entry)) c) (now (index .entry))) ⌝ }
 {
     let p = first_wrong_distance(table, c, index);
@@ -77,13 +67,18 @@ fn measured_fault(table: &[u16], c: usize, index: &[u32]) -> Checked
             second: 0,
         };
     }
-    closeness(table, c, index)
+    let stray = closeness(table, c, index);
+    Checked {
+        number: stray.number,
+        place: stray.node,
+        second: stray.position,
+    }
 }
 
 // 10 to 13: the first fault of an index in shape, or 0. The first 6n words of the workspace end as zero.
 fn first_fault(table: &[u16], c: usize, index: &[u32], work: &mut [u32]) -> Checked
-    requires { ⌜ Paired (now table) c (now index) ⌝ }
-    requires { ⌜ (6 * n# (now index) ≤ length (now work)) × (edition# (now index) ≡ 2) ⌝ }
+    requires { ⌜ Tested (now index) (now table) c ⌝ }
+    requires { ⌜ 6 * n# (now index) ≤ length (now work) ⌝ }
     ensures says { λ r. ⌜ told r ≡ said (faults (between (now (table .entry)) c) (now (index .entry))) ⌝ }
     ensures leaves { λ _. ⌜ now (work .exit) ≡ wiped (6 * n# (now (index .entry))) (now (work .entry)) ⌝ }
 {

@@ -1,6 +1,6 @@
 -- The tree that takes row z, told by the run that is laid: what a tree grown anew below one node is to be. Assumes nothing.
 use Prim.Native.Nat.{_+_, _<_, _≤_, ℕ}
-use Rattle.appending.proofs.Lowest.{orderly-length, orderly-tally}
+use Rattle.appending.proofs.Lowest.{once-each, orderly-length, orderly-tally}
 use Rattle.appending.specs.Append.{join, keepOwn, lodge, orderly, reachWith, twice}
 use Rattle.laws.proofs.Every.{every-append, every-map}
 use Rattle.laws.proofs.Lists.{paired}
@@ -10,7 +10,6 @@ use Rattle.laws.proofs.Times.{every-same}
 use Rattle.laws.specs.Every.{Every}
 use Rattle.laws.specs.Lists.{head}
 use Rattle.leafward.proofs.Changing.{join-changed}
-use Rattle.leafward.proofs.Ordering.{once-each}
 use Rattle.leafward.proofs.Storing.{head-first, run-count}
 use Rattle.leafward.specs.Changed.{Reaches, changedAt}
 use Rattle.leafward.specs.Lay.{ready, unsplit, withRow}

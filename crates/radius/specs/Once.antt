@@ -1,4 +1,4 @@
--- An index in which each row stands once: where marks may be read by row number. Assumes nothing.
+-- An index in which each row stands once: where marks may be read by row number. A working notion, on which no promise rests. Assumes nothing.
 use Prim.Native.Nat.{_<_, ℕ}
 use Rattle.tree.specs.Check.{again}
 use Rattle.words.specs.Words.{n#}

@@ -1,16 +1,10 @@
--- A table with its index, and how far a node's run reaches. A working notion, on which no promise rests. Assumes nothing.
+-- How far a node's run reaches. A working notion, on which no promise rests. Assumes nothing.
 use Prim.Native.Nat.{ℕ}
 use Rattle.laws.specs.Lists.{greatest}
-use Rattle.measure.specs.Table.{rowsOf}
 use Rattle.tree.specs.Check.{nearest#}
-use Rattle.words.specs.InShape.{Over}
 use Rattle.words.specs.Words.{first#, row#, run#}
 use mathlib.Core.List.{List, map}
 use mathlib.Core.Path.{_≡_}
-
--- the index is in shape and the table's
-abbrev pub Paired : List ℕ → ℕ → List ℕ → Type 0
-Paired T c w = Over w (rowsOf T c) c
 
 -- the greatest distance of a member from node k's first
 abbrev pub reachOf : (ℕ → ℕ → ℕ) → List ℕ → ℕ → ℕ

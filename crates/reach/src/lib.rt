@@ -1,7 +1,8 @@
 // How far a node's members are from its first: the farthest of them, and the nearest other than the first.
-ghost use Prim.Native.Nat.{_+_, _<_};
+ghost use Prim.Native.Nat.{_+_, _<_, min};
 ghost use Rattle.measure.specs.Table.{between};
-ghost use Rattle.reach.specs.Runs.{Paired, Reaches};
+ghost use Rattle.reach.specs.Runs.{Reaches};
+ghost use Rattle.tree.specs.Tested.{Tested};
 ghost use Rattle.words.specs.InShape.{Whole};
 ghost use Rattle.words.specs.Words.{N#, count#, n#, row#, start#};
 ghost use mathlib.Core.Path.{_≡_};
@@ -13,10 +14,19 @@ use words::places::node_first;
 use words::places::node_start;
 use words::places::row_at;
 
+pub mod radii;
+
 // The greatest distance of a member from a node's first, and the least of one other than the first, 0 where there is none.
 pub struct Reached {
     pub far: u32,
     pub near: u32,
+}
+
+// The lesser of two positions.
+pub fn lesser(a: usize, b: usize) -> usize
+    ensures { λ r. ⌜ r ≡ min a b ⌝ }
+{
+    if a < b { a } else { b }
 }
 
 // The position after the last of node k's run.
@@ -30,7 +40,7 @@ pub fn node_end(index: &[u32], k: usize) -> usize
 
 // The distance of row f from the row at position p.
 pub fn apart(table: &[u16], c: usize, index: &[u32], f: usize, p: usize) -> u32
-    requires { ⌜ Paired (now table) c (now index) ⌝ }
+    requires { ⌜ Tested (now index) (now table) c ⌝ }
     requires { ⌜ (f < n# (now index)) × (p < n# (now index)) ⌝ }
     ensures { λ r. ⌜ r ≡ between (now (table .entry)) c f (row# (now (index .entry)) p) ⌝ }
 {
@@ -39,7 +49,7 @@ pub fn apart(table: &[u16], c: usize, index: &[u32], f: usize, p: usize) -> u32
 
 // How far node k's members are from its first. Each member but the first, which is at 0, is measured once.
 pub fn reaches(table: &[u16], c: usize, index: &[u32], k: usize) -> Reached
-    requires { ⌜ Paired (now table) c (now index) ⌝ }
+    requires { ⌜ Tested (now index) (now table) c ⌝ }
     requires { ⌜ k < N# (now index) ⌝ }
     ensures { λ r. ⌜ Reaches (between (now (table .entry)) c) (now (index .entry)) k (r .far) (r .near) ⌝ }
 {

@@ -1,12 +1,11 @@
 -- `audit::check` meets its contract: the call is refused, or past all refusals the passes can go.
 -- Assumes nothing.
-use Rattle.audit.proofs.Contract.{refused, taken}
+use Rattle.audit.proofs.Contract.{refused, taken, tested}
 use Rattle.audit.proofs.Refusals.{Clear, clear}
 use Rattle.audit.proofs.check.Statement.{statement}
 use Rattle.audit.proofs.check.Tie as tie
 use Rattle.audit.specs.Refusals.{refusals}
 use Rattle.limits.specs.Said.{said}
-use Rattle.words.proofs.Headers.{words-whole}
 use borrow.Author.Needs.{needs}
 use lib.ListN.{length}
 use mathlib.Core.Path.{_∙_, _≡_, sym}
@@ -34,7 +33,7 @@ returns c =
 first-fault-requires : tie.Need-first-fault-requires
 first-fault-requires c κs =
     let P = going (c .before) in
-    (P .index, (omega (arith, P .words, P .index .rows), words-whole _ (P .there) .0))
+    (tested P, omega (arith, P .words, P .index .rows))
 
 returns-2 : tie.Need-returns-2
 returns-2 c =

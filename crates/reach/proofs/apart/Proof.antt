@@ -1,7 +1,7 @@
 -- `reach::apart` meets its contract: both rows lie in the table.
 -- Assumes nothing.
 use Rattle.measure.specs.Table.{between}
-use Rattle.reach.proofs.Runs.{columns-low, in-table}
+use Rattle.reach.proofs.Runs.{in-table}
 use Rattle.reach.proofs.apart.Statement.{statement}
 use Rattle.reach.proofs.apart.Tie as tie
 use borrow.Author.Needs.{needs}
@@ -13,9 +13,9 @@ row-distance-requires c κs =
     let s = c .before .before .before in
     let a = s .args in
     let P = s .pre .0 in
-    let fits = in-table (a .table .now) (a .c) (a .index .now) P in
+    let fits = in-table P in
     let low = P .shape .place (a .p) (s .pre .1 .1) .row in (
-      columns-low (a .table .now) (a .c) (a .index .now) P,
+      P .columns,
       fits (a .f) (s .pre .1 .0),
       fits (c .row-at .result) (omega (arith, low, c .row-at .ensures .0)),
     )

@@ -2,7 +2,7 @@
 -- Assumes nothing.
 use Prim.Native.Nat.{_+_, _-_, _≤_, ℕ}
 use Rattle.audit.proofs.Distances.{leaf-end, leaf-on, leaf-stop, none-inner}
-use Rattle.audit.proofs.Pairing.{inner-no, inner-yes}
+use Rattle.reach.proofs.Pairing.{inner-no, inner-yes}
 use Rattle.audit.proofs.leaves.leaf_wrong.Statement.{statement}
 use Rattle.audit.proofs.leaves.leaf_wrong.Tie as tie
 use Rattle.audit.specs.Passes.{leafWrong}
