@@ -22,12 +22,12 @@ enum {
     QUERIES = 60,
     SIZES = 4,
     SETS = 6,
-    SHARES = 6
+    SHARES = 8
 };
 
 static const uint32_t sizes[SIZES] = { 1000, 10000, 100000, 1048576 };
 static const uint32_t columns[SETS / 2] = { 4, 6, 16 };
-static const uint32_t shares[SHARES][2] = { { 8, 32 }, { 16, 32 }, { 16, 64 }, { 16, 128 }, { 16, 256 }, { 32, 128 } };
+static const uint32_t shares[SHARES][2] = { { 2, 1024 }, { 4, 1024 }, { 8, 32 }, { 16, 32 }, { 16, 64 }, { 16, 128 }, { 16, 256 }, { 32, 128 } };
 static const uint32_t share_sizes[2] = { 100000, 500000 };
 
 /* The calls of an archive. */

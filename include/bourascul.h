@@ -17,7 +17,7 @@
    the same time; what a call may change (room, work, how, rows, distances, answers, an image that is written) each thread lends of its own.
 
    STACK. Nothing else is taken. Bytes of stack that a call takes at most, measured on x86-64 code (target/host/stack): write 40,
-   list 128, read 240, build 536, nearest 592, nearest_answers 608, append 616, check 1,904, radius 19,816 (25 levels). A loader
+   list 128, read 240, build 536, nearest 592, nearest_answers 608, append 616, check 1,920, radius 19,816 (25 levels). A loader
    that binds late takes about 3,500 more in the first call that needs memcpy, memmove or memset.
 
    NUMBERS. Each call but bourascul_list gives a number first. 0 is done; any other is a refusal, and of several the lowest

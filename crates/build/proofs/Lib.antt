@@ -1,17 +1,6 @@
-pub mod Items
 pub mod Numbering
 pub mod Positions
-pub mod Tiles
-pub mod Waiting
-pub mod Rooms
-pub mod Splits
-pub mod Halfway
-pub mod Opening
-pub mod Levelling
-pub mod Laying
 pub mod Pairing
-pub mod Rooting
-pub mod Growing
 pub mod Whole
 pub mod Refusals
 pub mod Outcomes

@@ -1,8 +1,8 @@
 -- The nodes level by level are the numbering of 01: what the code makes is `numbered` of the tree that is grown, told over its single
 -- nodes. Assumes nothing.
 use Prim.Native.Nat.{_+_, _≤_, suc, zero, ℕ}
-use Rattle.build.proofs.Items.{placed-long}
-use Rattle.build.specs.Levels.{Item, allNodes, leafNode, levelOut, nextLevel, parts, placed}
+use Rattle.growing.proofs.Items.{placed-long}
+use Rattle.growing.specs.Levels.{Item, allNodes, leafNode, levelOut, nextLevel, parts, placed}
 use Rattle.laws.proofs.Every.{every-append}
 use Rattle.laws.proofs.Lists.{map-append, tally-length}
 use Rattle.laws.specs.Every.{Every}

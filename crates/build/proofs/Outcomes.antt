@@ -3,8 +3,9 @@ use Prim.Native.Nat.{_*_, _+_, _≤_, suc, ℕ}
 use Rattle.build.proofs.Refusals.{Clear, clear}
 use Rattle.build.proofs.Whole.{encode-long}
 use Rattle.build.specs.Calls.{Builds}
-use Rattle.build.specs.Filled.{Filled, Room}
-use Rattle.build.specs.Stages.{Fit}
+use Rattle.build.specs.Filled.{Filled}
+use Rattle.growing.specs.Rooted.{Room}
+use Rattle.growing.specs.Stages.{Fit}
 use Rattle.laws.specs.Every.{Every}
 use Rattle.limits.proofs.Ranges.{shared}
 use Rattle.limits.proofs.Numbers.{sized-columns}

@@ -1,7 +1,7 @@
 -- The positions of the tree that is grown: its leaves' members, one leaf after the other. Assumes nothing.
 use Prim.Native.Nat.{_*_, suc, zero, ℕ}
 use Rattle.build.specs.Filled.{pairsIn}
-use Rattle.build.specs.Levels.{leaves}
+use Rattle.growing.specs.Levels.{leaves}
 use Rattle.laws.proofs.Joins.{each-append}
 use Rattle.laws.specs.Lists.{each, head}
 use Rattle.split.specs.Runs.{laid}

@@ -1,13 +1,13 @@
 -- How much a build gives back at most: 01, The tree, Index words, for the most rows that there can be; and its number. Assumes nothing.
 use Prim.Native.Nat.{_%_, _*_, _+_, _≤_, suc, zero, ℕ}
-use Rattle.build.proofs.Items.{out-long, placed-long}
+use Rattle.growing.proofs.Items.{out-long, placed-long}
 use Rattle.build.proofs.Numbering.{numbered-levels}
 use Rattle.build.proofs.Outcomes.{Passed, built-fit}
-use Rattle.build.proofs.Rooting.{root-run}
+use Rattle.growing.proofs.Rooting.{root-run}
 use Rattle.build.proofs.Whole.{encode-long}
 use Rattle.build.specs.Calls.{Builds}
-use Rattle.build.specs.Levels.{Item, allNodes, leafNode, levelOut, nextLevel, placed}
-use Rattle.build.specs.Stages.{Fit}
+use Rattle.growing.specs.Levels.{Item, allNodes, leafNode, levelOut, nextLevel, placed}
+use Rattle.growing.specs.Stages.{Fit}
 use Rattle.laws.proofs.Every.{every-append}
 use Rattle.laws.proofs.Ranges.{range-length}
 use Rattle.laws.specs.Every.{Every}

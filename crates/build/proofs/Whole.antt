@@ -4,10 +4,11 @@ use Rattle.buffers.proofs.Whole.{wiped-whole}
 use Rattle.buffers.specs.Wiped.{wiped}
 use Rattle.build.proofs.Numbering.{numbered-levels}
 use Rattle.build.proofs.Positions.{entries-leaves, pairs-laid, pairsOf}
-use Rattle.build.proofs.Rooting.{root-run}
-use Rattle.build.specs.Filled.{Filled, Grown, Layered, Room, headerOf, pairsIn, rootItem}
-use Rattle.build.specs.Levels.{allNodes, leaves}
-use Rattle.build.specs.Stages.{Fit, withNodes}
+use Rattle.growing.proofs.Rooting.{root-run}
+use Rattle.build.specs.Filled.{Filled, Grown, headerOf, pairsIn}
+use Rattle.growing.specs.Rooted.{Layered, Room, rootItem}
+use Rattle.growing.specs.Levels.{allNodes, leaves}
+use Rattle.growing.specs.Stages.{Fit, withNodes}
 use Rattle.laws.proofs.Lists.{tally-length}
 use Rattle.laws.proofs.Parts.{put-more}
 use Rattle.laws.proofs.Ranges.{range-length}

@@ -1,33 +1,26 @@
-// The build of an index over a lent table. While it grows, the first half of the workspace holds an entry of three words for each
-// position: the row, its distance from the first of its run, and that first. The second half takes a run's entries as they are shared out.
+// The build of an index over a lent table: the tree grown, its words, and the call.
 ghost use Prim.Native.Nat.{_*_, _+_, _≤_};
 ghost use Rattle.build.specs.Calls.{Builds};
-ghost use Rattle.build.specs.Filled.{Filled, Grown, Leveled, Planted, Room, RootLaid, Rooted, headerOf, pairsIn};
+ghost use Rattle.build.specs.Filled.{Filled, Grown, headerOf, pairsIn};
 ghost use Rattle.build.specs.Numbers.{shortOf, writerAsks};
-ghost use Rattle.build.specs.Stages.{Fit, Level, Openable, Opened, Staged};
+ghost use Rattle.growing.specs.Rooted.{Room};
 ghost use Rattle.limits.specs.Limits.{maxColumns, maxRows};
 ghost use Rattle.limits.specs.Said.{numberFaults, said};
-ghost use Rattle.measure.specs.Table.{between};
 ghost use Rattle.rounds.specs.Stretch.{stretch};
 ghost use lib.ListN.{drop, length};
 ghost use mathlib.Core.List.{_++_};
 ghost use mathlib.Core.Path.{_≡_};
 use buffers::clear_words;
-use groups::least_of;
+use growing::levels;
+use growing::root;
 use limits::Asked;
 use limits::Chosen;
 use limits::Params;
 use limits::is_short;
 use limits::number_of;
 use limits::rows_in;
-use measure::row_distance;
-use numbers::larger;
-use rounds::put_entry;
 use split::WIDTH;
-use split::split_run;
 use words::places::HEADER;
-use words::places::word;
-use words::writing::put_node;
 
 // What the build says: the number, how many words were written, and how many nodes they hold.
 pub struct Built {
@@ -36,124 +29,7 @@ pub struct Built {
     pub nodes: usize,
 }
 
-// How far a run reaches: the greatest distance from its first, and the least of a member other than the first, 0 where there is none.
-pub struct Reach {
-    pub radius: u32,
-    pub inner: u32,
-}
-
-// ---- the nodes, level by level, into the room
-
-// The root's entries: each row with its distance from row 0. Gives how far they reach: row i is the i-th but the first, which is at 0.
-fn lay(table: &[u16], c: usize, n: usize, work: &mut [u32]) -> Reach
-    requires { ⌜ (c ≤ maxColumns) × (n ≤ maxRows) × (c * n ≤ length (now table)) × (3 * n ≤ length (now work)) ⌝ }
-    ensures { λ r. ⌜ RootLaid (between (now (table .entry)) c) n (now (work .entry)) (now (work .exit)) (r .radius) (r .inner) ⌝ }
-{
-    let mut radius: u32 = 0;
-    let mut inner: u32 = 0;
-    let mut i = 0;
-    while i < n {
-        let d = row_distance(table, c, 0, i);
-        radius = larger(radius, d);
-        inner = least_of(i, inner, d);
-        let at = 3 * i;
-        put_entry(&mut work[at..], i as u32, d, 0);
-        i += 1;
-    }
-    Reach { radius, inner }
-}
-
-// The root's entries and its node.
-fn root(table: &[u16], c: usize, m: usize, l: usize, n: usize, room: &mut [u32], work: &mut [u32])
-    requires { ⌜ Room (now table) c m l n (now room) (now work) ⌝ }
-    requires { ⌜ 1 ≤ n ⌝ }
-    ensures { λ _. ⌜ Rooted (between (now (table .entry)) c) m l n (now (room .entry)) (now (room .exit)) (now (work .exit)) ⌝ }
-{
-    let reach = lay(table, c, n, work);
-    put_node(
-        &mut room[HEADER..],
-        0,
-        n as u32,
-        0,
-        reach.radius,
-        reach.inner,
-    );
-}
-
-// Opens node k, where it has more than l rows. Gives the number of nodes there are then.
-pub fn open_node(
-    table: &[u16],
-    c: usize,
-    m: usize,
-    l: usize,
-    n: usize,
-    room: &mut [u32],
-    work: &mut [u32],
-    k: usize,
-    made: usize,
-) -> usize
-    requires { ⌜ Openable (now table) c m l n (now room) (now work) k made ⌝ }
-    ensures { λ r. ⌜ Opened (now (table .entry)) c m l n (now (room .entry)) (now (work .entry)) k made (now (room .exit)) (now (work .exit)) r ⌝ }
-{
-    let s = word(room, HEADER + WIDTH * k);
-    let count = word(room, HEADER + WIDTH * k + 1);
-    if count <= l {
-        return made;
-    }
-    room[HEADER + WIDTH * k + 2] = made as u32;
-    split_run(table, c, m, n, room, work, s, count, made);
-    made + m
-}
-
-// Opens the nodes of one level, from lo to hi. Gives the number of nodes there are then.
-fn level(
-    table: &[u16],
-    c: usize,
-    m: usize,
-    l: usize,
-    n: usize,
-    room: &mut [u32],
-    work: &mut [u32],
-    lo: usize,
-    hi: usize,
-) -> usize
-    requires { ⌜ Level (now table) c m l n (now room) (now work) lo hi ⌝ }
-    ensures { λ r. ⌜ Staged (now (table .entry)) c m l n (now (room .entry)) (now (work .entry)) lo hi (now (room .exit)) (now (work .exit)) r ⌝ }
-{
-    let mut made = hi;
-    let mut k = lo;
-    while k < hi {
-        made = open_node(table, c, m, l, n, room, work, k, made);
-        k += 1;
-    }
-    made
-}
-
-// Opens the nodes of all levels below the root. Gives the number of nodes.
-fn levels(
-    table: &[u16],
-    c: usize,
-    m: usize,
-    l: usize,
-    n: usize,
-    room: &mut [u32],
-    work: &mut [u32],
-) -> usize
-    requires { ⌜ Fit (now table) c m l n ⌝ }
-    requires { ⌜ Planted (between (now table) c) m l n (now room) (now work) ⌝ }
-    ensures { λ r. ⌜ Leveled (between (now (table .entry)) c) m l n (now (room .entry)) (now (work .entry)) (now (room .exit)) (now (work .exit)) r ⌝ }
-{
-    let mut lo: usize = 0;
-    let mut hi: usize = 1;
-    let mut depth = 0;
-    while depth < Params::MOST_DEPTH {
-        let made = level(table, c, m, l, n, room, work, lo, hi);
-        lo = hi;
-        hi = made;
-        depth += 1;
-    }
-    hi
-}
+// ---- the nodes
 
 // All nodes. Gives how many.
 fn grow(

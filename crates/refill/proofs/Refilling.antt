@@ -2,10 +2,10 @@
 use Rattle.copies.specs.Copies.{end#}
 use Prim.Native.Nat.{_*_, _+_, _-_, _≤_, ℕ}
 use Rattle.build.proofs.Positions.{pairs-laid, pairsOf}
-use Rattle.build.proofs.Rooms.{room-long}
+use Rattle.growing.proofs.Rooms.{room-long}
 use Rattle.build.proofs.Whole.{encode-words}
 use Rattle.build.specs.Filled.{headerOf, pairsIn}
-use Rattle.build.specs.Levels.{Able, leaves}
+use Rattle.growing.specs.Levels.{Able, leaves}
 use Rattle.laws.proofs.Joins.{each-append, part-two}
 use Rattle.laws.proofs.Parts.{put-more}
 use Rattle.laws.proofs.Ranges.{range-length}

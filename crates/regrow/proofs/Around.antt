@@ -1,8 +1,8 @@
 -- The old nodes' words when rows have come to the end of node v's run: each run holds node v's or stands apart from it, so that runs follow each
 -- other as before. Assumes nothing.
 use Prim.Native.Nat.{_+_, _-_, _<_, _≤_, suc, zero, ℕ}
-use Rattle.build.specs.Levels.{Able, Item}
 use Rattle.copies.specs.Copies.{copied, end#, newChild, newCount, newStart}
+use Rattle.growing.specs.Levels.{Able, Item}
 use Rattle.laws.proofs.Every.{every-map}
 use Rattle.laws.proofs.Ranges.{every-range, range-every, range-length}
 use Rattle.laws.proofs.Tests.{holds}

@@ -1,7 +1,7 @@
 -- The run that a level's pieces come to: until it is among them, and when it is. Assumes nothing.
 use Prim.Native.Nat.{_+_, suc, zero, ℕ}
-use Rattle.build.specs.Levels as items
-use Rattle.build.specs.Levels.{Item, placed}
+use Rattle.growing.specs.Levels as items
+use Rattle.growing.specs.Levels.{Item, placed}
 use Rattle.laws.proofs.Empty.{append-nil-l, append-nil-r}
 use Rattle.laws.proofs.Joins.{each-append}
 use Rattle.laws.specs.Lists.{each}

@@ -1,8 +1,8 @@
 -- How many nodes there are: fewer than twice the rows. Assumes nothing.
 use Prim.Native.Nat.{_*_, _+_, _≤_, suc, zero, ℕ}
-use Rattle.build.proofs.Items.{placed-long}
-use Rattle.build.proofs.Waiting.{able-run}
-use Rattle.build.specs.Levels.{placed}
+use Rattle.growing.proofs.Items.{placed-long}
+use Rattle.growing.proofs.Waiting.{able-run}
+use Rattle.growing.specs.Levels.{placed}
 use Rattle.laws.proofs.Ranges.{range-length}
 use Rattle.laws.specs.Every.{Every}
 use Rattle.laws.specs.Lists.{joined, range}

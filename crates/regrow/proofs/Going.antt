@@ -1,9 +1,9 @@
 -- Level after level: the nodes and leaves that are still to come make up the whole with those that are there. Assumes nothing.
 use Prim.Native.Nat.{_+_, _-_, _<_, _≤_, suc, ℕ}
-use Rattle.build.proofs.Growing.{leaves-down, leaves-none}
-use Rattle.build.proofs.Waiting.{next-waits}
-use Rattle.build.specs.Levels.{leaves, opened, placed, waits}
-use Rattle.build.specs.Stages.{withNodes}
+use Rattle.growing.proofs.Growing.{leaves-down, leaves-none}
+use Rattle.growing.proofs.Waiting.{next-waits}
+use Rattle.growing.specs.Levels.{leaves, opened, placed, waits}
+use Rattle.growing.specs.Stages.{withNodes}
 use Rattle.laws.specs.Every.{Every}
 use Rattle.laws.specs.Lists.{each, keep}
 use Rattle.limits.specs.Limits.{maxDepth}

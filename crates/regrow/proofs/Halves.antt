@@ -1,8 +1,8 @@
 -- A level while its nodes are opened, one after the other: what stands in room and workspace, and one node among the others. Assumes nothing.
 use Prim.Native.Nat.{_+_, _≤_, suc, ℕ}
-use Rattle.build.proofs.Rooms.{child-set, nodes-added, read-child, read-count, read-start, room-long}
-use Rattle.build.specs.Levels.{opened, placed, waits}
-use Rattle.build.specs.Stages.{withNodes}
+use Rattle.growing.proofs.Rooms.{child-set, nodes-added, read-child, read-count, read-start, room-long}
+use Rattle.growing.specs.Levels.{opened, placed, waits}
+use Rattle.growing.specs.Stages.{withNodes}
 use Rattle.laws.proofs.Every.{every-right}
 use Rattle.laws.proofs.Joins.{each-append}
 use Rattle.laws.proofs.Lists.{map-append}

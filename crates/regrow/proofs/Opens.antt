@@ -1,7 +1,7 @@
 -- One node is opened: what the two ways ask, and what they leave. Assumes nothing.
 use Prim.Native.Nat.{_+_, _≤_, ℕ}
-use Rattle.build.specs.Stages.{Openable, Opened}
 use Rattle.copies.specs.Copies.{copied, withCopies}
+use Rattle.growing.specs.Stages.{Openable, Opened}
 use Rattle.measure.specs.Table.{between}
 use Rattle.regrow.specs.Stages.{Openable′, Opened′}
 use Rattle.split.specs.Places.{child#, nodeAt}

@@ -1,8 +1,8 @@
 -- The runs that pave a part of the workspace: one of them where it stands, and its place taken by its children's runs. Assumes nothing.
 use Prim.Native.Nat.{_*_, _+_, _-_, _<_, _≤_, ℕ}
-use Rattle.build.proofs.Tiles.{split-rows}
-use Rattle.build.proofs.Waiting.{able-run, runs-able}
-use Rattle.build.specs.Levels.{Able}
+use Rattle.growing.proofs.Tiles.{split-rows}
+use Rattle.growing.proofs.Waiting.{able-run, runs-able}
+use Rattle.growing.specs.Levels.{Able}
 use Rattle.laws.proofs.Every.{every-append, every-left, every-right}
 use Rattle.laws.proofs.Joins.{each-append, part-one, part-three, part-two}
 use Rattle.laws.specs.Every.{Every}

@@ -1,8 +1,8 @@
 -- An index in shape and a run in the workspace are all that growing anew needs; and what it leaves. Assumes nothing.
 use Prim.Native.Nat.{_*_, _+_, _-_, _≤_, ℕ}
-use Rattle.build.specs.Levels.{Able}
-use Rattle.build.specs.Stages.{withNodes}
 use Rattle.copies.specs.Copies.{withCopies}
+use Rattle.growing.specs.Levels.{Able}
+use Rattle.growing.specs.Stages.{withNodes}
 use Rattle.limits.specs.Limits.{maxDepth}
 use Rattle.measure.specs.Table.{between}
 use Rattle.regrow.proofs.Around.{own-start, own-words, root-count, root-fits, root-start}

@@ -1,6 +1,6 @@
 -- The pieces of a level: their nodes and the pieces of the level below, for one piece more. Assumes nothing.
 use Prim.Native.Nat.{_+_, _≤_, suc, zero, ℕ}
-use Rattle.build.specs.Levels.{Item, leafNode}
+use Rattle.growing.specs.Levels.{Item, leafNode}
 use Rattle.laws.proofs.Joins.{each-append}
 use Rattle.laws.specs.Lists.{range}
 use Rattle.regrow.specs.Pieces.{Job, Piece, allNodes, fresh, freshOf, kept, levelOut, nextLevel, withKids, parts, pending, piece}

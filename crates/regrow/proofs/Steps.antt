@@ -1,11 +1,11 @@
 -- The next node of a level is opened: it stays a leaf, its old children are copied, or its run is split. Assumes nothing.
 use Prim.Native.Nat.{_+_, _<_, _≤_, ℕ}
-use Rattle.build.proofs.Items.{placed-long}
-use Rattle.build.proofs.Rooms.{run-nodes}
-use Rattle.build.proofs.Tiles.{joined-append}
-use Rattle.build.proofs.Waiting.{Next, next-waiting, small-opened}
-use Rattle.build.specs.Levels.{Item, opened, placed, waits}
-use Rattle.build.specs.Stages.{Opened}
+use Rattle.growing.proofs.Items.{placed-long}
+use Rattle.growing.proofs.Rooms.{run-nodes}
+use Rattle.growing.proofs.Tiles.{joined-append}
+use Rattle.growing.proofs.Waiting.{Next, next-waiting, small-opened}
+use Rattle.growing.specs.Levels.{Item, opened, placed, waits}
+use Rattle.growing.specs.Stages.{Opened, Openable}
 use Rattle.laws.proofs.Joins.{each-append}
 use Rattle.laws.proofs.Ranges.{range-length}
 use Rattle.laws.specs.Lists.{each, joined, keep, range}

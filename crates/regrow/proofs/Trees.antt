@@ -1,10 +1,10 @@
 -- The nodes of all levels are the numbering of 01: what the code makes is `numbered` of the tree that is grown anew. Assumes nothing.
 use Prim.Native.Nat.{_+_, _≤_, suc, zero, ℕ}
 use Rattle.appending.specs.Append.{keepOwn}
-use Rattle.build.proofs.Items.{placed-long}
+use Rattle.growing.proofs.Items.{placed-long}
 use Rattle.build.proofs.Numbering.{forest, forest-singles, inner-long, single}
-use Rattle.build.proofs.Waiting.{able-run}
-use Rattle.build.specs.Levels.{Able, Item, placed}
+use Rattle.growing.proofs.Waiting.{able-run}
+use Rattle.growing.specs.Levels.{Able, Item, placed}
 use Rattle.laws.proofs.Every.{every-append}
 use Rattle.laws.proofs.Lists.{map-append, tally-length}
 use Rattle.laws.proofs.Ranges.{range-length}

@@ -1,8 +1,8 @@
 -- One level, node after node, from its first to behind its last. Assumes nothing.
 use Prim.Native.Nat.{_+_, _<_, _≤_, suc, zero, ℕ}
-use Rattle.build.proofs.Waiting.{none-waiting, small-opened}
-use Rattle.build.specs.Levels.{opened, placed, waits}
-use Rattle.build.specs.Stages.{withNodes}
+use Rattle.growing.proofs.Waiting.{none-waiting, small-opened}
+use Rattle.growing.specs.Levels.{opened, placed, waits}
+use Rattle.growing.specs.Stages.{withNodes}
 use Rattle.laws.proofs.Every.{every-append}
 use Rattle.laws.proofs.Joins.{each-append}
 use Rattle.laws.specs.Every.{Every}

@@ -2,9 +2,9 @@
 -- nothing.
 use Prim.Native.Nat.{_*_, _+_, _<_, _≤_, ℕ}
 use Rattle.appending.specs.Append.{keepOwn}
-use Rattle.build.specs.Levels.{leaves}
-use Rattle.build.specs.Stages.{withNodes}
 use Rattle.copies.specs.Copies.{Change, newReach}
+use Rattle.growing.specs.Levels.{leaves}
+use Rattle.growing.specs.Stages.{withNodes}
 use Rattle.laws.specs.Every.{Every}
 use Rattle.laws.specs.Lists.{each, times}
 use Rattle.leafward.specs.Changed.{changedAt}

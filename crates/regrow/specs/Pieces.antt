@@ -1,8 +1,8 @@
 -- A tree of which most nodes are those of an old index, and one is grown anew from a run: level by level, as the code makes it. A working notion, on
 -- which no promise rests. Assumes nothing.
 use Prim.Native.Nat.{_+_, _≤_, suc, zero, ℕ}
-use Rattle.build.specs.Levels.{Able, Item, placed}
 use Rattle.copies.specs.Copies.{copied}
+use Rattle.growing.specs.Levels.{Able, Item, placed}
 use Rattle.laws.specs.Every.{Every}
 use Rattle.laws.specs.Lists.{each, range}
 use Rattle.measure.specs.Table.{between}

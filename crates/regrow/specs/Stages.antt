@@ -1,10 +1,9 @@
 -- What stands in the room and in the workspace while a tree is grown anew below one node. A working notion, on which no promise rests. Assumes
 -- nothing.
 use Prim.Native.Nat.{_*_, _+_, _<_, _≤_, suc, ℕ}
-use Rattle.build.specs.Levels.{Able, leaves, opened, placed, waits}
-use Rattle.build.specs.Stages.{Openable, Opened, withNodes}
 use Rattle.copies.specs.Copies.{Change, copied, withCopies}
-use Rattle.copies.specs.Copies.{copied}
+use Rattle.growing.specs.Levels.{Able, leaves, opened, placed, waits}
+use Rattle.growing.specs.Stages.{Openable, Opened, withNodes}
 use Rattle.laws.specs.Every.{Every}
 use Rattle.laws.specs.Lists.{each, keep}
 use Rattle.limits.specs.Limits.{maxDepth}

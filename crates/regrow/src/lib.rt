@@ -7,6 +7,7 @@ ghost use Rattle.regrow.specs.Stages.{Level, Leveled, Openable′, Opene
 use copies::Growth;
 use copies::copied_node;
 use copies::copy_children;
+use growing::Reach;
 use limits::Params;
 use split::WIDTH;
 use words::places::HEADER;
@@ -32,7 +33,7 @@ fn open_piece(
     let child = word(room, HEADER + WIDTH * k + 2);
     let m = centres(index);
     if child == 0 {
-        return build::open_node(
+        return growing::open_node(
             table,
             columns(index),
             m,

@@ -411,8 +411,8 @@ fn step(r: Reader, b: u8, table: &mut [u16]) -> Reader
 
 // Reads one piece more of the text.
 pub fn feed(reader: Reader, text: &[u8], table: &mut [u16]) -> Reader
-    ensures { λ s. ⌜ (s ≡ run (reader, now (table .entry)) (now (text .entry)) .0) × (now (table .exit) ≡ run (reader, now (table .entry)) (now (text .entry)) .1)
-        ⌝ }
+    ensures { λ s. ⌜ (s ≡ run (reader, now (table .entry)) (now (text .entry)) .0)
+        × (now (table .exit) ≡ run (reader, now (table .entry)) (now (text .entry)) .1) ⌝ }
 {
     let mut r = reader;
     let mut i = 0;

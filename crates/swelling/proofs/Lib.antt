@@ -5,3 +5,7 @@ pub mod Agreeing
 pub mod Turns
 pub mod Swelled
 pub mod Cases
+pub mod Routed
+pub mod Counted
+pub mod Levelled
+pub mod Written

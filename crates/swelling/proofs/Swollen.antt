@@ -154,7 +154,7 @@ module _ (d : ℕ → ℕ → ℕ) (m l : ℕ) where
             )
 
     -- of a leaf
-    lodges-count : (deep : ℕ) (R : Reach) (es : List (ℕ × ℕ)) (zs : List ℕ) (g : Grove)
+    pub lodges-count : (deep : ℕ) (R : Reach) (es : List (ℕ × ℕ)) (zs : List ℕ) (g : Grove)
         → length (entries (lodges d m l deep R es zs g)) ≡ length es + length zs + length (entries g)
     unfolding lodges
     lodges-count deep R es [] g = omega (arith, length-append es (entries g))

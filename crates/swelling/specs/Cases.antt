@@ -5,6 +5,7 @@ use Rattle.laws.specs.Lists.{range, same}
 use Rattle.laws.specs.Upto.{sumTo}
 use Rattle.measure.specs.Distance.{l1}
 use Rattle.measure.specs.Table.{between, rowsOf}
+use Rattle.swelling.specs.Pieces.{byLevels, levelFrom, levelsFrom, membersFrom}
 use Rattle.swelling.specs.Rows.{appendedRows, inTurn, joins}
 use Rattle.swelling.specs.Swell.{lodges, parts, swell, swollen, swollenTree}
 use Rattle.tree.specs.Build.{build, choose, grow, split}
@@ -38,15 +39,16 @@ base us = build us 1 2 2 2
 
 -- a case comes out as it says
 unfoldable pub right : Case → Bool
-unfolding base appended join lodge lowestAt joins appendedRows inTurn parts swell lodges swollen
+unfolding base appended join lodge lowestAt joins appendedRows inTurn parts swell lodges swollen levelFrom levelsFrom membersFrom
 right (built us vs w) =
     let old = base us in
     same (appendedRows (us ++ vs) 1 old) w && same (inTurn (us ++ vs) 1 (length vs) old) w && same (atOnce (us ++ vs) old) w
+    && same (byLevels (us ++ vs) 1 old) w
 right (begun vs w) = let old = base [] in same (appendedRows vs 1 old) w && same (inTurn vs 1 (length vs) old) w
 right (order us vs is N) =
     let w = atOnce (us ++ vs) (base us) in
     same (map (row# w) (range 0 (n# w))) is && eqb (N# w) N && same (appendedRows (us ++ vs) 1 (base us)) w
-right (given T w w′) = same (appendedRows T 1 w) w′ && same (atOnce T w) w′
+right (given T w w′) = same (appendedRows T 1 w) w′ && same (atOnce T w) w′ && same (byLevels T 1 w) w′
 
 -- rows for several leaves
 abbrev pub several : List Case

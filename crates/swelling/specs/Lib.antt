@@ -1,3 +1,4 @@
 pub mod Rows
 pub mod Swell
+pub mod Pieces
 pub mod Cases

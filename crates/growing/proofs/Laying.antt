@@ -1,6 +1,6 @@
 -- The root's entries, row after row, with the greatest and the least distance so far. Assumes nothing.
 use Prim.Native.Nat.{_*_, _+_, _-_, _<_, _≤_, max, suc, zero, ℕ}
-use Rattle.build.specs.Filled.{RootLaid, entryOf0}
+use Rattle.growing.specs.Rooted.{RootLaid, entryOf0}
 use Rattle.laws.proofs.Joins.{each-append}
 use Rattle.laws.proofs.Lists.{lowest-last, map-append}
 use Rattle.laws.proofs.Parts.{put-more}

@@ -1,9 +1,9 @@
--- `build::level` meets its contract: the nodes before k are opened (`Turn`), and behind the last the stage is one level down.
+-- `growing::level` meets its contract: the nodes before k are opened (`Turn`), and behind the last the stage is one level down.
 -- Assumes nothing.
 use Prim.Native.Nat.{_-_}
-use Rattle.build.proofs.Levelling.{Turn, levelling-done, levelling-open, levelling-start, levelling-step}
-use Rattle.build.proofs.level.Statement.{statement}
-use Rattle.build.proofs.level.Tie as tie
+use Rattle.growing.proofs.Levelling.{Turn, levelling-done, levelling-open, levelling-start, levelling-step}
+use Rattle.growing.proofs.level.Statement.{statement}
+use Rattle.growing.proofs.level.Tie as tie
 use borrow.Author.Needs.{needs}
 use lib.ListN.{length}
 use mathlib.Core.Path.{_≡_}

@@ -1,8 +1,8 @@
--- `build::root` meets its contract: the entries of all rows, and the first node behind the header.
+-- `growing::root` meets its contract: the entries of all rows, and the first node behind the header.
 -- Assumes nothing.
-use Rattle.build.proofs.Rooting.{root-stands}
-use Rattle.build.proofs.root.Statement.{statement}
-use Rattle.build.proofs.root.Tie as tie
+use Rattle.growing.proofs.Rooting.{root-stands}
+use Rattle.growing.proofs.root.Statement.{statement}
+use Rattle.growing.proofs.root.Tie as tie
 use borrow.Author.Needs.{needs}
 
 returns : tie.Need-returns

@@ -1,10 +1,10 @@
 -- A level while its nodes are opened, one after the other: what stands in room and workspace, and one node among the others. Assumes nothing.
 use Prim.Native.Nat.{_*_, _+_, _≤_, ℕ}
-use Rattle.build.proofs.Items.{next-small, out-long, out-small}
-use Rattle.build.proofs.Rooms.{read-count, read-start, room-long}
-use Rattle.build.proofs.Tiles.{runs-few}
-use Rattle.build.specs.Levels.{Item, leafNode, levelOut, nextLevel, opened, placed, waits}
-use Rattle.build.specs.Stages.{Level, Tiled, withNodes}
+use Rattle.growing.proofs.Items.{next-small, out-long, out-small}
+use Rattle.growing.proofs.Rooms.{read-count, read-start, room-long}
+use Rattle.growing.proofs.Tiles.{runs-few}
+use Rattle.growing.specs.Levels.{Item, leafNode, levelOut, nextLevel, opened, placed, waits}
+use Rattle.growing.specs.Stages.{Level, Tiled, withNodes}
 use Rattle.laws.specs.Lists.{each, joined, keep}
 use Rattle.measure.specs.Table.{between}
 use Rattle.tree.specs.Build.{reach}

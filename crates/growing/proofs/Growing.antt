@@ -1,9 +1,9 @@
 -- Level after level: the nodes and leaves that are still to come make up the whole with those that are there. Assumes nothing.
 use Prim.Native.Nat.{_+_, _-_, _<_, _≤_, suc, zero, ℕ}
-use Rattle.build.proofs.Tiles.{runs-few}
-use Rattle.build.specs.Filled.{Layered, Planted, Rooted, rootItem}
-use Rattle.build.specs.Levels.{Item, allNodes, leafNode, leaves, levelOut, nextLevel, opened}
-use Rattle.build.specs.Stages.{Fit, Level, Stage, Staged, withNodes}
+use Rattle.growing.proofs.Tiles.{runs-few}
+use Rattle.growing.specs.Rooted.{Layered, Planted, Rooted, rootItem}
+use Rattle.growing.specs.Levels.{Item, allNodes, leafNode, leaves, levelOut, nextLevel, opened}
+use Rattle.growing.specs.Stages.{Fit, Level, Stage, Staged, withNodes}
 use Rattle.laws.proofs.Joins.{each-append}
 use Rattle.laws.specs.Lists.{each, range}
 use Rattle.limits.specs.Limits.{maxDepth}

@@ -1,6 +1,6 @@
 -- The runs that tile the workspace: one of them where it stands, and its place taken by its children's runs. Assumes nothing.
 use Prim.Native.Nat.{_*_, _+_, _-_, _<_, _≤_, ℕ}
-use Rattle.build.specs.Stages.{Tiled}
+use Rattle.growing.specs.Stages.{Tiled}
 use Rattle.laws.proofs.Every.{every-append, every-left, every-right}
 use Rattle.laws.proofs.Joins.{each-append, part-one, part-three, part-two}
 use Rattle.laws.proofs.Times.{every-same}

@@ -1,6 +1,6 @@
 -- What stands in the room and in the workspace while the tree grows. A working notion, on which no promise rests. Assumes nothing.
 use Prim.Native.Nat.{_*_, _+_, _<_, _≤_, ℕ}
-use Rattle.build.specs.Levels.{Item, leafNode, levelOut, nextLevel, opened, placed, waits}
+use Rattle.growing.specs.Levels.{Item, leafNode, levelOut, nextLevel, opened, placed, waits}
 use Rattle.laws.specs.Every.{Every}
 use Rattle.laws.specs.Lists.{each, joined, keep}
 use Rattle.limits.specs.Limits.{maxCentres, maxColumns, maxLeaf, maxRows}

@@ -1,11 +1,11 @@
 -- One level, node after node, from its first to behind its last. Assumes nothing.
 use Prim.Native.Nat.{_*_, _+_, _<_, _≤_, ℕ}
-use Rattle.build.proofs.Halfway.{Half, Levelling, fore, one}
-use Rattle.build.proofs.Items.{out-long}
-use Rattle.build.proofs.Opening.{half-open, half-step}
-use Rattle.build.proofs.Waiting.{next-waits, none-waiting, runs-able, small-opened}
-use Rattle.build.specs.Levels.{Item, leafNode, levelOut, nextLevel, opened}
-use Rattle.build.specs.Stages.{Level, Openable, Opened, Stage, Tiled, withNodes}
+use Rattle.growing.proofs.Halfway.{Half, Levelling, fore, one}
+use Rattle.growing.proofs.Items.{out-long}
+use Rattle.growing.proofs.Opening.{half-open, half-step}
+use Rattle.growing.proofs.Waiting.{next-waits, none-waiting, runs-able, small-opened}
+use Rattle.growing.specs.Levels.{Item, leafNode, levelOut, nextLevel, opened}
+use Rattle.growing.specs.Stages.{Level, Openable, Opened, Stage, Tiled, withNodes}
 use Rattle.laws.proofs.Joins.{each-append}
 use Rattle.laws.specs.Lists.{each, joined}
 use Rattle.measure.specs.Table.{between}

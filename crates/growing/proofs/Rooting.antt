@@ -1,8 +1,8 @@
 -- The root: all rows in ascending order, in the workspace and as the first node. Assumes nothing.
 use Prim.Native.Nat.{_*_, _+_, _-_, _<_, _≤_, max, suc, zero, ℕ}
-use Rattle.build.specs.Filled.{Room, RootLaid, Rooted, entryOf0, rootItem}
-use Rattle.build.specs.Levels.{leafNode}
-use Rattle.build.specs.Stages.{Tiled}
+use Rattle.growing.specs.Rooted.{Room, RootLaid, Rooted, entryOf0, rootItem}
+use Rattle.growing.specs.Levels.{leafNode}
+use Rattle.growing.specs.Stages.{Tiled}
 use Rattle.laws.proofs.Lists.{map-append}
 use Rattle.laws.proofs.Parts.{put-more}
 use Rattle.laws.proofs.Ranges.{at-every, range-append, range-length}

@@ -1,6 +1,6 @@
 -- The items of a level: their nodes and the items of the level below, for one item more. Assumes nothing.
 use Prim.Native.Nat.{_+_, _≤_, suc, ℕ}
-use Rattle.build.specs.Levels.{Item, leafNode, levelOut, nextLevel, parts, placed}
+use Rattle.growing.specs.Levels.{Item, leafNode, levelOut, nextLevel, parts, placed}
 use Rattle.laws.proofs.Joins.{each-append}
 use Rattle.tree.proofs.Grow.{split-length}
 use Rattle.tree.specs.Build.{reach, split}

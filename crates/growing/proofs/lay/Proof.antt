@@ -1,9 +1,9 @@
--- `build::lay` meets its contract: i rows are laid, with the greatest and the least distance so far (`Laying`).
+-- `growing::lay` meets its contract: i rows are laid, with the greatest and the least distance so far (`Laying`).
 -- Assumes nothing.
 use Prim.Native.Nat.{_-_}
-use Rattle.build.proofs.Laying.{Laying, laying-done, laying-start, laying-step}
-use Rattle.build.proofs.lay.Statement.{statement}
-use Rattle.build.proofs.lay.Tie as tie
+use Rattle.growing.proofs.Laying.{Laying, laying-done, laying-start, laying-step}
+use Rattle.growing.proofs.lay.Statement.{statement}
+use Rattle.growing.proofs.lay.Tie as tie
 use Rattle.measure.proofs.Metric.{metric}
 use Rattle.measure.proofs.Rows.{row-ends}
 use Rattle.measure.specs.Table.{between}

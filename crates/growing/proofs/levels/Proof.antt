@@ -1,9 +1,9 @@
--- `build::levels` meets its contract: the levels above `depth` are opened (`Grows`), and behind the last the whole tree stands.
+-- `growing::levels` meets its contract: the levels above `depth` are opened (`Grows`), and behind the last the whole tree stands.
 -- Assumes nothing.
 use Prim.Native.Nat.{_-_}
-use Rattle.build.proofs.Growing.{Grows, growing-done, growing-level, growing-start, growing-step}
-use Rattle.build.proofs.levels.Statement.{statement}
-use Rattle.build.proofs.levels.Tie as tie
+use Rattle.growing.proofs.Growing.{Grows, growing-done, growing-level, growing-start, growing-step}
+use Rattle.growing.proofs.levels.Statement.{statement}
+use Rattle.growing.proofs.levels.Tie as tie
 use Rattle.limits.specs.Limits.{maxDepth}
 use borrow.Author.Needs.{needs}
 use lib.ListN.{length}

@@ -1,9 +1,9 @@
--- `build::open_node` meets its contract: a node of at most l rows is left; any other is split where it stands.
+-- `growing::open_node` meets its contract: a node of at most l rows is left; any other is split where it stands.
 -- Assumes nothing.
 use Prim.Native.Nat.{_+_}
-use Rattle.build.proofs.Splits.{open-done, open-ready}
-use Rattle.build.proofs.open_node.Statement.{statement}
-use Rattle.build.proofs.open_node.Tie as tie
+use Rattle.growing.proofs.Splits.{open-done, open-ready}
+use Rattle.growing.proofs.open_node.Statement.{statement}
+use Rattle.growing.proofs.open_node.Tie as tie
 use Rattle.split.specs.Places.{nodeAt}
 use borrow.Author.Needs.{needs}
 use lib.ListN.{length, length-set, set}

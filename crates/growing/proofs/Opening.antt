@@ -1,13 +1,13 @@
 -- The next node of a level is opened: it stays a leaf, or its run is split and its children stand behind the last node. Assumes nothing.
 use Prim.Native.Nat.{_*_, _+_, _<_, _≤_, ℕ}
-use Rattle.build.proofs.Halfway.{Half, Levelling, all-long, count-is, fore, fore-long, fore-more, half-small, header-fits, items-long, long, made-few, one, rear, start-is}
-use Rattle.build.proofs.Items.{next-large, out-large, placed-long}
-use Rattle.build.proofs.Rooms.{child-set, nodes-added}
-use Rattle.build.proofs.Splits.{nodes-after, tile-ready, tiles-after}
-use Rattle.build.proofs.Tiles.{joined-append, tile-run}
-use Rattle.build.proofs.Waiting.{Next, next-waiting, small-opened}
-use Rattle.build.specs.Levels.{Item, leafNode, levelOut, nextLevel, opened, placed, waits}
-use Rattle.build.specs.Stages.{Level, Openable, Opened, Tiled, withNodes}
+use Rattle.growing.proofs.Halfway.{Half, Levelling, all-long, count-is, fore, fore-long, fore-more, half-small, header-fits, items-long, long, made-few, one, rear, start-is}
+use Rattle.growing.proofs.Items.{next-large, out-large, placed-long}
+use Rattle.growing.proofs.Rooms.{child-set, nodes-added}
+use Rattle.growing.proofs.Splits.{nodes-after, tile-ready, tiles-after}
+use Rattle.growing.proofs.Tiles.{joined-append, tile-run}
+use Rattle.growing.proofs.Waiting.{Next, next-waiting, small-opened}
+use Rattle.growing.specs.Levels.{Item, leafNode, levelOut, nextLevel, opened, placed, waits}
+use Rattle.growing.specs.Stages.{Level, Openable, Opened, Tiled, withNodes}
 use Rattle.laws.proofs.Joins.{each-append}
 use Rattle.laws.proofs.Lists.{map-append}
 use Rattle.laws.specs.Lists.{each, joined, keep}

@@ -1,9 +1,9 @@
 -- What the split of one tile's run asks, and what it leaves in room and workspace. Assumes nothing.
 use Prim.Native.Nat.{_*_, _+_, _<_, _≤_, ℕ}
-use Rattle.build.proofs.Rooms.{run-nodes}
-use Rattle.build.proofs.Tiles.{kids-few, kids-tiled, tile-inside, tile-read, tile-rows, tile-run, tile-words}
-use Rattle.build.specs.Levels.{leafNode, placed}
-use Rattle.build.specs.Stages.{Fit, Openable, Opened, Tiled}
+use Rattle.growing.proofs.Rooms.{run-nodes}
+use Rattle.growing.proofs.Tiles.{kids-few, kids-tiled, tile-inside, tile-read, tile-rows, tile-run, tile-words}
+use Rattle.growing.specs.Levels.{leafNode, placed}
+use Rattle.growing.specs.Stages.{Fit, Openable, Opened, Tiled}
 use Rattle.laws.specs.Lists.{each, joined}
 use Rattle.measure.specs.Table.{between}
 use Rattle.split.specs.Runs.{Splittable, Splitted, laid, runAt, runNodes}

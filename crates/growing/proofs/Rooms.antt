@@ -1,7 +1,7 @@
 -- The nodes' words in the room: reading one, giving it its first child, and adding its children. Assumes nothing.
 use Prim.Native.Nat.{_*_, _+_, _≤_, ℕ}
-use Rattle.build.specs.Levels.{leafNode, placed}
-use Rattle.build.specs.Stages.{withNodes}
+use Rattle.growing.specs.Levels.{leafNode, placed}
+use Rattle.growing.specs.Stages.{withNodes}
 use Rattle.laws.proofs.Joins.{each-append}
 use Rattle.laws.specs.Lists.{each}
 use Rattle.split.specs.Places.{child#, count#, nodeAt, start#}

@@ -1,6 +1,6 @@
 -- The items that wait to be split: the next of them among the tiles, and those of the level below. Assumes nothing.
 use Prim.Native.Nat.{_+_, _≤_, ℕ}
-use Rattle.build.specs.Levels.{Able, Item, nextLevel, opened, parts, placed, waits}
+use Rattle.growing.specs.Levels.{Able, Item, nextLevel, opened, parts, placed, waits}
 use Rattle.laws.proofs.Every.{every-of}
 use Rattle.laws.proofs.Joins.{keep-append}
 use Rattle.laws.specs.Every.{Every}

@@ -1,0 +1,11 @@
+pub mod Items
+pub mod Tiles
+pub mod Waiting
+pub mod Rooms
+pub mod Splits
+pub mod Halfway
+pub mod Opening
+pub mod Levelling
+pub mod Laying
+pub mod Rooting
+pub mod Growing
