@@ -103,7 +103,7 @@ fn least_distance(row: &[u16], c: usize, queries: &[u16], count: usize) -> u32 {
 }
 
 // Writes the answers that are given, in their order.
-pub fn say_answers(
+pub(crate) fn say_answers(
     plan: Plan,
     text: &[u8],
     starts: &[u32],

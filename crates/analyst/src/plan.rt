@@ -21,6 +21,6 @@ pub struct Plan {
 }
 
 // What stands between two fields of an answer.
-pub fn parting(plan: Plan) -> u8 {
+pub(crate) fn parting(plan: Plan) -> u8 {
     if plan.csv { b',' } else { b' ' }
 }

@@ -48,7 +48,7 @@ fn first_row(names: bool, second: usize, top: usize) -> usize {
 }
 
 // Reads the whole text. The first line is fed alone: if it ends and gives no row, it is names.
-pub fn read_rows(t: &[u8], table: &mut [u16]) -> Sheet {
+pub(crate) fn read_rows(t: &[u8], table: &mut [u16]) -> Sheet {
     let top = text_start(t);
     let second = next_line(t, 0);
     let first = sheet::feed(sheet::start(0), part(t, 0, second), table);

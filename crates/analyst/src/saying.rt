@@ -1,9 +1,9 @@
 // Words and numbers, written to a file.
-pub fn say(file: i32, text: &[u8]) {
+pub(crate) fn say(file: i32, text: &[u8]) {
     io::write_all(file, text);
 }
 
-pub fn say_number(file: i32, n: usize) {
+pub(crate) fn say_number(file: i32, n: usize) {
     io::print_decimal(file, n as u64);
 }
 
@@ -16,7 +16,7 @@ fn say_three(file: i32, n: usize) {
 }
 
 // A number with a comma before each three digits.
-pub fn say_grouped(file: i32, n: usize) {
+pub(crate) fn say_grouped(file: i32, n: usize) {
     if n < 1_000 {
         say_number(file, n);
         return;
@@ -32,7 +32,7 @@ pub fn say_grouped(file: i32, n: usize) {
 }
 
 // A count and its noun.
-pub fn say_count(file: i32, n: usize, one: &[u8]) {
+pub(crate) fn say_count(file: i32, n: usize, one: &[u8]) {
     say_grouped(file, n);
     say(file, b" ");
     say(file, one);
@@ -42,7 +42,7 @@ pub fn say_count(file: i32, n: usize, one: &[u8]) {
 }
 
 // Words, then others in quotes, and then the end of the line.
-pub fn say_quoted(file: i32, before: &[u8], quoted: &[u8], behind: &[u8]) {
+pub(crate) fn say_quoted(file: i32, before: &[u8], quoted: &[u8], behind: &[u8]) {
     say(file, before);
     say(file, b"'");
     say(file, quoted);
@@ -52,7 +52,7 @@ pub fn say_quoted(file: i32, before: &[u8], quoted: &[u8], behind: &[u8]) {
 }
 
 // Minutes as she books them: hours and minutes behind the count where there is an hour or more.
-pub fn say_minutes(file: i32, n: usize) {
+pub(crate) fn say_minutes(file: i32, n: usize) {
     say_count(file, n, b"minute");
     if n < 60 {
         return;
@@ -65,7 +65,7 @@ pub fn say_minutes(file: i32, n: usize) {
 }
 
 // The closing line: how many minutes were found, and how many distances this took.
-pub fn say_found(file: i32, found: usize, measured: usize, rows: usize) {
+pub(crate) fn say_found(file: i32, found: usize, measured: usize, rows: usize) {
     say_minutes(file, found);
     say(file, b"; ");
     say_grouped(file, measured);

@@ -9,7 +9,7 @@ use picking::choosing;
 use picking::naming;
 
 // The usage in two lines.
-pub fn say_usage(file: i32) {
+pub(crate) fn say_usage(file: i32) {
     say(
         file,
         b"usage: minutes FILE like WHAT DISTANCE [OPTION ..]\n",
@@ -20,14 +20,14 @@ pub fn say_usage(file: i32) {
     );
 }
 
-pub fn say_version(file: i32) {
+pub(crate) fn say_version(file: i32) {
     say(
         file,
         b"minutes 2, over an index of edition 2 with 16 columns and 1,048,576 rows at most\n",
     );
 }
 
-pub fn say_help(file: i32) {
+pub(crate) fn say_help(file: i32) {
     say_usage(file);
     say(
         file,
@@ -39,7 +39,7 @@ pub fn say_help(file: i32) {
     );
     say(
         file,
-        b"WHAT is a row (1046), several (1046,899: within DISTANCE of any; like alone), values (=0,0,88,4), or what one row alone has (tender_distance=3284).\n",
+        b"WHAT is a row (1046), several (1046,899: within DISTANCE of any; like alone), values (=0,0,88,4), or what one row has: tender_distance=3284\n",
     );
     say(
         file,
@@ -57,7 +57,7 @@ pub fn say_help(file: i32) {
 }
 
 // What is wrong with the words of the question.
-pub fn say_asked_wrong(file: i32, words: &[u8], q: Question) {
+pub(crate) fn say_asked_wrong(file: i32, words: &[u8], q: Question) {
     let word = bytes_of(words, q.place);
     if q.wrong == asking::NO_OPTION {
         say_quoted(
@@ -117,7 +117,7 @@ fn say_words_wrong(file: i32, words: &[u8], q: Question) {
 }
 
 // What is wrong with an item of the list of columns, or with the label's name; `names` are the columns that there are.
-pub fn say_columns_wrong(file: i32, wrong: u32, item: &[u8], names: &[u8]) {
+pub(crate) fn say_columns_wrong(file: i32, wrong: u32, item: &[u8], names: &[u8]) {
     if wrong == choosing::NO_FACTOR {
         say_quoted(
             file,
@@ -144,7 +144,7 @@ pub fn say_columns_wrong(file: i32, wrong: u32, item: &[u8], names: &[u8]) {
 }
 
 // What is wrong with what is asked about; `more` says which row, which value or how many.
-pub fn say_named_wrong(file: i32, wrong: u32, more: usize, what: &[u8], n: usize, k: usize) {
+pub(crate) fn say_named_wrong(file: i32, wrong: u32, more: usize, what: &[u8], n: usize, k: usize) {
     if wrong == naming::NO_ROW {
         say(file, b"there is no row ");
         say_number(file, more);
