@@ -7,7 +7,7 @@ use Rattle.laws.specs.Lists.{gap}
 use Rattle.limits.specs.Limits.{maxColumns, maxDistance}
 use Rattle.measure.specs.Distance.{apart, around, circle, isCircle, l1}
 use Rattle.measure.specs.Space.{Point, Space}
-use Rattle.measure.specs.Table.{Round, between, from, row}
+use Rattle.measure.specs.Table.{Round, Rounded, between, from, row}
 use lib.ListN.{drop, getD}
 use mathlib.Core.Bool.{Bool, false, true}
 use mathlib.Core.List.{List, [], _∷_}
@@ -93,7 +93,7 @@ module _ (c o : ℕ) where
       )
 
 -- THE ROWS OF A TABLE ARE A SPACE, where its circular columns hold numbers of the circle
-pub metric : (T : List ℕ) (c o : ℕ) → ((i : ℕ) → Round c o (row T c i)) → Space (between T c o)
+pub metric : (T : List ℕ) (c o : ℕ) → Rounded T c o → Space (between T c o)
 unfolding between
 metric T c o r =
     record {
@@ -103,7 +103,7 @@ metric T c o r =
     }
 
 -- AND ANY QUERY LIKE IT IS A POINT OF IT
-pub query-point : (T : List ℕ) (c o : ℕ) (q : List ℕ) → ((i : ℕ) → Round c o (row T c i)) → Round c o q → Point (between T c o) (from T c o q)
+pub query-point : (T : List ℕ) (c o : ℕ) (q : List ℕ) → Rounded T c o → Round c o q → Point (between T c o) (from T c o q)
 unfolding between from
 query-point T c o q r rq =
     record {

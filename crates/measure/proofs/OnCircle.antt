@@ -7,16 +7,16 @@ use Rattle.laws.proofs.Tests.{and-second}
 use Rattle.laws.specs.Lists.{any, range}
 use Rattle.measure.proofs.Rows.{no-circle, row-ends}
 use Rattle.measure.specs.Distance.{circle, isCircle}
-use Rattle.measure.specs.Table.{Round, columnOff, offCircle, row, rowsOf}
+use Rattle.measure.specs.Table.{Round, Rounded, columnOff, offCircle, row, rowsOf}
 use borrow.Author.Tests.{leb-false}
 use lib.Dec.{leb}
 use lib.ListN.{List·getD-eq-default, drop, getD, length, length-drop, length-take, take}
 use lib.Seq.{getD-drop, getD-take}
-use mathlib.Core.Bool.{Bool, _&&_, _||_, false, true}
-use mathlib.Core.List.{List}
+use mathlib.Core.Bool.{Bool, _&&_, _||_, and-false, false, true}
+use mathlib.Core.List.{List, []}
 use mathlib.Core.Path.{_∙_, _≡_, ap, refl, subst, sym}
 use native.Mathlib.Decide.{decLt}
-use native.Mathlib.Nat.{div-self, mul-le-mul-left, mul-zero, zero-add}
+use native.Mathlib.Nat.{div-self, mul-le-mul-left, mul-zero, zero-add, zero-div}
 use native.Mathlib.Omega.{arith}
 
 -- ---- what the code finds, row by row and column by column
@@ -59,7 +59,7 @@ beyond : (T : List ℕ) (c i j : ℕ) → length T ≤ c * i → getD (row T c i
 beyond T c i j h = List·getD-eq-default (row T c i) 0 {n = j} (simp (length-take, length-drop) (omega arith))
 
 -- WHERE NO CIRCULAR COLUMN HOLDS 3,600 OR MORE EVERY ROW STANDS ON THE CIRCLE
-pub round-rows : (T : List ℕ) (c o : ℕ) → length T ≡ c * rowsOf T c → offCircle c o T ≡ false → (i : ℕ) → Round c o (row T c i)
+pub round-rows : (T : List ℕ) (c o : ℕ) → length T ≡ c * rowsOf T c → offCircle c o T ≡ false → Rounded T c o
 round-rows T c o whole e i j hj r = go (decLt i (rowsOf T c))
   where
     go : Dec (i < rowsOf T c) → getD (row T c i) j 0 < circle
@@ -72,3 +72,11 @@ round-query q c o whole e j hj r =
     let one : rowsOf q c ≡ 1 = ap (λ (n : ℕ). n / c) whole ∙ div-self (omega arith) in
     let at : c * 0 + j ≡ j = omega (arith, mul-zero c) in
     subst (λ (k : ℕ). getD q k 0 < circle) at (cell-round q c o 0 j e (omega (arith, one)) hj r)
+
+-- no query is on the circle too
+pub empty-on : (c o : ℕ) → offCircle c o [] ≡ false
+unfolding offCircle
+empty-on c o =
+    let none : rowsOf [] c ≡ 0 = zero-div c in
+    any-none (λ j. isCircle o j && columnOff [] c (rowsOf [] c) j) (range 0 c)
+    (at-every (λ j. (isCircle o j && columnOff [] c (rowsOf [] c) j) ≡ false) c (λ j h. rw none (and-false (isCircle o j))))

@@ -35,3 +35,7 @@ offCircle c o T = any (λ j. isCircle o j && columnOff T c (rowsOf T c) j) (rang
 -- a row whose circular columns hold numbers of the circle
 abbrev pub Round : ℕ → ℕ → List ℕ → Type 0
 Round c o a = (j : ℕ) → j < c → isCircle o j ≡ true → getD a j 0 < circle
+
+-- every row of the table is such a one: this is what the triangle inequality asks, and what 0 of a call says
+abbrev pub Rounded : List ℕ → ℕ → ℕ → Type 0
+Rounded T c o = (i : ℕ) → Round c o (row T c i)
