@@ -39,13 +39,7 @@ impl Params {
     pub const LAST_EDITION: usize = 2;
 
     // Centres, leaf size and circles, where they are in range and the edition is the one that is built.
-    pub fn new(
-        columns: usize,
-        centres: usize,
-        leaf: usize,
-        circles: u32,
-        edition: usize,
-    ) -> Chosen
+    pub fn new(columns: usize, centres: usize, leaf: usize, circles: u32, edition: usize) -> Chosen
         ensures { λ r. ⌜ told r ≡ chosen columns centres leaf circles edition ⌝ }
     {
         if !share_ok(centres, leaf) {

@@ -71,14 +71,7 @@ fn columns(a: &[u16], b: &[u16], before: u32, from: usize, c: usize) -> u32
 }
 
 // The same by the set of the columns that are circles.
-fn round_columns(
-    a: &[u16],
-    b: &[u16],
-    circles: u32,
-    before: u32,
-    from: usize,
-    c: usize,
-) -> u32
+fn round_columns(a: &[u16], b: &[u16], circles: u32, before: u32, from: usize, c: usize) -> u32
     requires { ⌜ (c ≤ length (now a)) × (c ≤ length (now b)) × (c ≤ maxColumns) ⌝ }
     requires { ⌜ (from ≤ c) × (before ≤ 65535 * from) × (before ≡ l1 from circles (now a) (now b)) ⌝ }
     ensures { λ r. ⌜ (r ≡ l1 c circles (now (a .entry)) (now (b .entry))) × (r ≤ 65535 * c) ⌝ }
@@ -178,14 +171,7 @@ pub fn query_distance(table: &[u16], c: usize, circles: u32, query: &[u16], i: u
 // ---- with a ceiling
 
 // The distance of two rows over columns `from` to c, by the set of their circles.
-fn part(
-    a: &[u16],
-    b: &[u16],
-    circles: u32,
-    before: u32,
-    from: usize,
-    c: usize,
-) -> u32
+fn part(a: &[u16], b: &[u16], circles: u32, before: u32, from: usize, c: usize) -> u32
     requires { ⌜ (c ≤ length (now a)) × (c ≤ length (now b)) × (c ≤ maxColumns) ⌝ }
     requires { ⌜ (from ≤ c) × (before ≤ 65535 * from) × (before ≡ l1 from circles (now a) (now b)) ⌝ }
     ensures { λ r. ⌜ (r ≡ l1 c circles (now (a .entry)) (now (b .entry))) × (r ≤ 65535 * c) ⌝ }

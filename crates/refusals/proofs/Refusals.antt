@@ -15,15 +15,16 @@ use Rattle.words.specs.InShape.{InShape, Over}
 use Rattle.words.specs.Index.{indexFaults}
 use Rattle.words.specs.Shape.{shapeOk}
 use Rattle.words.specs.Words.{c#, circles#, edition#, n#, wordsOk}
+use lib.Dec.{T}
 use mathlib.Core.Bool.{Bool, _||_, false, true}
 use mathlib.Core.List.{List, [], _++_}
-use mathlib.Core.Path.{_∙_, _≡_, ap, ap₂, refl, sym}
+use mathlib.Core.Path.{_∙_, _≡_, ap, ap₂, refl, subst, sym}
 use native.Mathlib.Omega.{arith}
 
 -- ---- 19
 -- neither of two
 or-neither : (a b : Bool) → (a || b) ≡ false → (a ≡ false) × (b ≡ false)
-or-neither true b e = absurd (true-not-false e)
+or-neither true b e = absurd (subst T e tt)
 or-neither false b e = (refl, e)
 
 module _ (c o : ℕ) (T q : List ℕ) where

@@ -19,11 +19,12 @@ returns-2 c =
     let s = c .before .before .before .before .before .before in
     let a = s .args in
     let e = from-query (a .table .now) (a .c) (a .circles) (a .i) (c .before .row-of .ensures .0) (a .query .now) (s .pre .2) refl in
-    let top = c .before .before .before .smaller in
-    (capped-of _ _ _ _ (top .ensures) (c .many-to .ensures ∙ ap (λ (d : ℕ). min d (top .result + 1)) e),
-    from-bounded (a .table .now) (a .query .now) (a .c) (a .circles) (a .i) (s .pre .0)
-    (λ (j : ℕ). omega (arith, c .before .before .before .before .before .shared-slice-known .given j))
-    (λ (j : ℕ). omega (arith, c .before .before .before .before .shared-slice-known2 .given j)))
+    let top = c .before .before .before .smaller in (
+      capped-of _ _ _ _ (top .ensures) (c .many-to .ensures ∙ ap (λ (d : ℕ). min d (top .result + 1)) e),
+      from-bounded (a .table .now) (a .query .now) (a .c) (a .circles) (a .i) (s .pre .0)
+          (λ (j : ℕ). omega (arith, c .before .before .before .before .before .shared-slice-known .given j))
+          (λ (j : ℕ). omega (arith, c .before .before .before .before .shared-slice-known2 .given j)),
+    )
 
 pub query-distance-to-spec : {M : Type 1} → statement M
 query-distance-to-spec =

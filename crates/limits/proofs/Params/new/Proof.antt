@@ -18,15 +18,21 @@ returns-3 : tie.Need-returns-3
 returns-3 c =
     let o = c .before in
     let s = o .before .before in
-    rw (yes (s .before .share-ok .ensures) (s .if1 .left), yes (o .before .circles-ok .ensures) (o .if2 .left),
-    eq-eqb (s .before .before .args .edition) 2 (omega arith))
+    rw (
+      yes (s .before .share-ok .ensures) (s .if1 .left),
+      yes (o .before .circles-ok .ensures) (o .if2 .left),
+      eq-eqb (s .before .before .args .edition) 2 (omega arith),
+    )
 
 returns-4 : tie.Need-returns-4
 returns-4 c =
     let o = c .before in
     let s = o .before .before in
-    rw (yes (s .before .share-ok .ensures) (s .if1 .left), yes (o .before .circles-ok .ensures) (o .if2 .left),
-    ne-eqb (s .before .before .args .edition) 2 (λ z. omega arith))
+    rw (
+      yes (s .before .share-ok .ensures) (s .if1 .left),
+      yes (o .before .circles-ok .ensures) (o .if2 .left),
+      ne-eqb (s .before .before .args .edition) 2 (λ z. omega arith),
+    )
 
 pub new-spec : {M : Type 1} → statement M
 new-spec = tie.close (tie.spec (λ c κs. search needs) returns (λ c κs. search needs) returns-2 returns-3 returns-4)

@@ -48,9 +48,12 @@ add-i c =
 loop-again : tie.Need-loop-again Inv-loop μ-loop
 loop-again c =
     let l = c .before .before in
-    let a = l .before .args in
-    (omega arith, omega (arith, l .loop .inv .1, mul-suc (a .c) (l .loop .i), add-one (l .loop .i)), l .loop .inv .2,
-    column-next (a .table .now) (a .c) (a .j) (l .loop .i) (l .loop .at) (l .loop .off) (l .loop .inv .3) (l .loop .inv .1))
+    let a = l .before .args in (
+      omega arith,
+      omega (arith, l .loop .inv .1, mul-suc (a .c) (l .loop .i), add-one (l .loop .i)),
+      l .loop .inv .2,
+      column-next (a .table .now) (a .c) (a .j) (l .loop .i) (l .loop .at) (l .loop .off) (l .loop .inv .3) (l .loop .inv .1),
+    )
 
 returns : tie.Need-returns Inv-loop μ-loop
 returns c =

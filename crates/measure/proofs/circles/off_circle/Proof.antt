@@ -27,8 +27,7 @@ returns c =
 loop-again : tie.Need-loop-again Inv-loop μ-loop
 loop-again c =
     let l = c .before .before in
-    let a = c .before .before .before .before .before .args in
-    (
+    let a = c .before .before .before .before .before .args in (
       omega arith,
       off-next (λ k. isCircle (a .circles) k && columnOff (a .table .now) (a .c) (rowsOf (a .table .now) (a .c)) k) (l .loop .j) (l .loop .off)
           (c .circle-off .result) (l .loop .inv .1) (c .circle-off .ensures),
