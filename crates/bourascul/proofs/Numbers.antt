@@ -34,8 +34,8 @@ module _ {t : List ℕ} {c : ℕ} {w work₀ work₁ : List ℕ} {place second :
   passed = check-exact ok .0 refl
 
   -- no search refuses the table, nor the index
-  right : Clear (tabled (length t) c) w
-  right =
+  right : {q : List ℕ} → offCircle c (circles# w) q ≡ false → Clear (tabled (length t) c) t w q
+  right on =
       record {
         numbers =
             record {
@@ -49,6 +49,8 @@ module _ {t : List ℕ} {c : ℕ} {w work₀ work₁ : List ℕ} {place second :
         rows = passed .same-rows;
         columns = passed .same-columns;
         shape = passed .accepted .shape;
+        table = passed .circled;
+        query = on;
       }
 
   -- A RADIUS SEARCH IS NOT REFUSED WHERE THE QUERY HAS c NUMBERS AND THERE IS A HOW-BYTE FOR EACH ROW
@@ -81,15 +83,30 @@ last-is {x} {w} {wanted} {lent} s =
 pub both-parts : (k : ℕ) (a b : List ℕ) → take k a ≡ take k b → drop k a ≡ drop k b → a ≡ b
 both-parts k a b e d = sym (take-append-drop k a) ∙ ap₂ (λ (x y : List ℕ). x ++ y) e d ∙ take-append-drop k b
 
--- TWO NEAREST SEARCHES ON TABLES THAT ARE EQUALLY LONG, LENT AS MUCH, GIVE THE SAME NUMBER
-pub same-number : {t t₂ : List ℕ} {c : ℕ} {w q : List ℕ} {wanted room : ℕ} {lent lent′ lent₂ lent₂′ : NearestLent} {number given met number₂ given₂ met₂ : ℕ}
-    → Answered (asks t c w q wanted) room lent lent′ number given met → Answered (asks t₂ c w q wanted) room lent₂ lent₂′ number₂ given₂ met₂
-    → length t ≡ length t₂ → length (lent .how) ≡ length (lent₂ .how) → length (lent .work) ≡ length (lent₂ .work) → number ≡ number₂
-unfolding saidNearest
-same-number s s₂ e h k = s .said ∙ rw (e, h, k) (sym (s₂ .said))
+-- what is said of two tables that are equally long, where nothing refuses the call on the first: 19 of the second where it does not stand on the
+-- circle, and nothing else
+elsewhere : (a : Asked) (T T₂ w q : List ℕ) (more : List Said) → said (callFaults a T w q ++ more) .0 ≡ 0
+    → said (callFaults a T₂ w q ++ more) .0 ≡ cond (offCircle (a .columns) (circles# w) T₂) 19 0
+elsewhere a T T₂ w q more z =
+    let p = says-none (callFaults a T w q) more (early-numbered (callFaults a T w q) (call-early a T w q)) z in
+    go (clear a T w q (p .0)) (offCircle (a .columns) (circles# w) T₂) refl
+  where
+    go : Clear a T w q → (b : Bool) → offCircle (a .columns) (circles# w) T₂ ≡ b → said (callFaults a T₂ w q ++ more) .0 ≡ cond b 19 0
+    go C true e = ?
+    go C false e = ?
 
--- AND SO DO TWO RADIUS SEARCHES
-pub same-radius-number : {t t₂ : List ℕ} {c : ℕ} {w q : List ℕ} {r : ℕ} {before after after₂ : List ℕ} {number in# met number₂ in₂ met₂ : ℕ}
-    → Searched t c w q r before after number in# met → Searched t₂ c w q r before after₂ number₂ in₂ met₂ → length t ≡ length t₂ → number ≡ number₂
+-- TWO NEAREST SEARCHES ON TABLES THAT ARE EQUALLY LONG, LENT AS MUCH: where the first is not refused, the second is where it is off the circle
+pub other-number : {t t₂ : List ℕ} {c : ℕ} {w q set : List ℕ} {wanted room : ℕ} {lent lent′ lent₂′ : NearestLent} {given met number₂ given₂ met₂ : ℕ}
+    → Answered (asks t c w q wanted set) room lent lent′ 0 given met → Answered (asks t₂ c w q wanted set) room lent lent₂′ number₂ given₂ met₂
+    → length t ≡ length t₂ → number₂ ≡ cond (offCircle c (circles# w) t₂) 19 0
+unfolding saidNearest
+other-number {t} {t₂} {c} {w} {q} {set} {wanted} {room} {lent} s s₂ e =
+    s₂ .said ∙ rw (← e) (elsewhere (nearestAsks t c q wanted room (length (lent .how)) (length (lent .work))) t t₂ w q _ (sym (s .said)))
+
+-- AND SO OF TWO RADIUS SEARCHES
+pub other-radius-number : {t t₂ : List ℕ} {c : ℕ} {w q : List ℕ} {r : ℕ} {set before after after₂ : List ℕ} {in# met number₂ in₂ met₂ : ℕ}
+    → Searched t c w q r set before after 0 in# met → Searched t₂ c w q r set before after₂ number₂ in₂ met₂ → length t ≡ length t₂
+    → number₂ ≡ cond (offCircle c (circles# w) t₂) 19 0
 unfolding saidRadius
-same-radius-number s s₂ e = s .said ∙ rw e (sym (s₂ .said))
+other-radius-number {t} {t₂} {c} {w} {q} {before = before} s s₂ e =
+    s₂ .said ∙ rw (← e) (elsewhere (radiusAsks t c q (length before)) t t₂ w q _ (sym (s .said)))
