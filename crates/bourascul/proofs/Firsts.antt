@@ -3,12 +3,11 @@ use Prim.Native.Nat.{_<_, _≤_, min, suc, zero, ℕ}
 use Rattle.laws.proofs.Tests.{or-l, or-r}
 use Rattle.laws.proofs.Times.{lefts}
 use Rattle.laws.specs.Lists.{has, look}
-use Rattle.nearest.proofs.Contract.{same-answers}
 use Rattle.tree.proofs.Answers.{answers-length, near-at}
 use Rattle.tree.proofs.Sorted.{Sorted, sort-sorted, sorted-take, under-last}
 use Rattle.tree.specs.Grove.{Grove}
 use Rattle.tree.specs.Homes.{homes}
-use Rattle.tree.specs.Nearest.{answers, candidates, isMeasured, lastDistance, nearHow, passes, sort}
+use Rattle.tree.specs.Nearest.{answers, candidates, isMeasured, lastDistance, nearHow, passes, remaining, sort}
 use borrow.Author.Tests.{le-leb, leb-true, lt-ltb, ltb-true}
 use lib.Dec.{T, eqb, leb, ltb}
 use lib.ListN.{getD, length, take}
@@ -65,6 +64,12 @@ first-made f zero s z h = refl
 first-made f (suc g) [] z h = absurd (omega arith)
 first-made {A} f (suc g) (a ∷ s) z h = ap (λ (l : List A). f a ∷ l) (first-made f g s z (omega arith))
 
+-- as many as were taken, taken again
+take-again : {A : Type 0} (k : ℕ) (s : List A) → take (length (take k s)) s ≡ take k s
+take-again zero s = refl
+take-again (suc k) [] = refl
+take-again {A} (suc k) (a ∷ s) = ap (λ (l : List A). a ∷ l) (take-again k s)
+
 -- ---- of the answers of n rows at x, of which some are withdrawn
 module _ (x : ℕ → ℕ) (gone : ℕ → Bool) (n : ℕ) where
   -- THE FIRST k OF MORE ANSWERS ARE THE k
@@ -96,18 +101,17 @@ module _ (x : ℕ → ℕ) (gone : ℕ → Bool) (n : ℕ) where
       (still-measured (has i (lefts (answers x gone n k))) (passes x gone n k b) (has i (lefts (answers x gone n k′))) (passes x gone n k′ b) (answer-stays i k k′ more)
       (passes-more k k′ b more) (subst (λ (v : ℕ). T (isMeasured v)) (near-at x gone n t k i h) m))
 
-  -- as many as are wanted, or all
-  answers-many : (k : ℕ) → length (answers x gone n k) ≡ min k n
-  answers-many k = ap length (sym (same-answers x gone n k (min k n) refl)) ∙ answers-length x gone n (min k n) (omega arith)
-
   -- what is handed out of the answers, in any form f: what stands in front of l, before z
-  first-out : {A : Type 0} {l : List A} (f : ℕ × ℕ → A) (k k′ g : ℕ) (z : List A) → k ≤ k′ → g ≡ min k n → l ≡ map f (answers x gone n k′) ++ z
-      → take g l ≡ map f (answers x gone n k)
+  first-out : {A : Type 0} {l : List A} (f : ℕ × ℕ → A) (k k′ g : ℕ) (z : List A) → k ≤ k′ → g ≡ min k (remaining gone n)
+      → l ≡ map f (answers x gone n k′) ++ z → take g l ≡ map f (answers x gone n k)
   first-out f k k′ g z more e out =
-      ap (take g) out ∙ first-made f g (answers x gone n k′) z (omega (arith, answers-many k′))
-      ∙ ap (λ (s : List (ℕ × ℕ)). map f s) (ap (λ (j : ℕ). take j (answers x gone n k′)) e ∙ answers-first k k′ more)
+      let whole : g ≡ length (take k (answers x gone n k′)) =
+      e ∙ sym (answers-length x gone n k) ∙ ap (λ (s : List (ℕ × ℕ)). length s) (sym (answers-first k k′ more)) in
+      ap (take g) out ∙ first-made f g (answers x gone n k′) z (omega (arith, answers-length x gone n k′))
+      ∙ ap (λ (s : List (ℕ × ℕ)). map f s)
+      (ap (λ (j : ℕ). take j (answers x gone n k′)) whole ∙ take-again k (answers x gone n k′) ∙ answers-first k k′ more)
 
   -- IN ANY FORM, THE FIRST OF MORE ARE THE FEWER
-  pub same-first : {A : Type 0} {l l′ : List A} (f : ℕ × ℕ → A) (k k′ g : ℕ) (z z′ : List A) → k ≤ k′ → g ≡ min k n
+  pub same-first : {A : Type 0} {l l′ : List A} (f : ℕ × ℕ → A) (k k′ g : ℕ) (z z′ : List A) → k ≤ k′ → g ≡ min k (remaining gone n)
       → l ≡ map f (answers x gone n k) ++ z → l′ ≡ map f (answers x gone n k′) ++ z′ → take g l′ ≡ take g l
   same-first f k k′ g z z′ more e out out′ = first-out f k k′ g z′ more e out′ ∙ sym (first-out f k k g z (omega arith) e out)

@@ -8,14 +8,14 @@ use Rattle.bourascul.specs.Calls.{ReadsBlock}
 use Rattle.bourascul.specs.Recorded.{Recorded}
 use Rattle.card.proofs.Theorems.{read-only}
 use Rattle.measure.specs.Table.{between, from, row}
-use Rattle.nearest.proofs.Contract.{same-answers}
 use Rattle.nearest.proofs.Promises.{Same, nearest-exact, nearest-only, nearest-two-tables}
 use Rattle.nearest.specs.Calls.{Serves}
-use Rattle.nearest_search.specs.Asked.{NearestAsked, NearestLent, asks, away, due, rowsIn}
+use Rattle.nearest_search.specs.Asked.{NearestAsked, NearestLent, asks, away, gone, rowsIn}
 use Rattle.nearest_search.specs.Found.{Settled}
 use Rattle.tree.proofs.Answers.{answers-length}
 use Rattle.tree.specs.Check.{Accepted}
 use Rattle.tree.specs.Nearest.{answers, isMeasured}
+use Rattle.words.specs.Words.{circles#}
 use lib.Dec.{T}
 use lib.ListN.{drop, getD, length, take}
 use lib.Seq.{take-at}
@@ -31,10 +31,8 @@ module _ {asked : NearestAsked} {as₀ as₁ : List Answer} {lent lent′ : Near
   refused-records k = s .recorded ∙ ap (λ (given : ℕ). records (lent′ .rows) (lent′ .distances) given ++ drop given as₀) (s .plain .refused k .0)
 
   -- RECORDS BEYOND WHAT IS WRITTEN STAY
-  pub records-stay : number ≡ 0 → drop (due asked) as₁ ≡ drop (due asked) as₀
-  records-stay z =
-      ap (drop (due asked)) (s .recorded)
-      ∙ records-beyond (lent′ .rows) (lent′ .distances) as₀ given (due asked) (omega (arith, s .plain .sound z .count))
+  pub records-stay : drop given as₁ ≡ drop given as₀
+  records-stay = ap (drop given) (s .recorded) ∙ records-beyond (lent′ .rows) (lent′ .distances) as₀ given given (omega arith)
 
   -- the first of them are made of the numbers and distances that were handed out
   first-records : take given as₁ ≡ records (take given (lent′ .rows)) (take given (lent′ .distances)) given
@@ -45,11 +43,10 @@ module _ {asked : NearestAsked} {as₀ as₁ : List Answer} {lent lent′ : Near
   settled-records : (x : ℕ → ℕ) → Settled x (gone asked) (asked .index) (asked .wanted) lent lent′ given
       → as₁ ≡ map (λ a. made (a .0) (a .1)) (answers x (gone asked) (rowsIn asked) (asked .wanted)) ++ drop given as₀
   settled-records x Z =
-      let k : ℕ = due asked in
-      let long : length (answers x (gone asked) (rowsIn asked) (asked .wanted)) ≡ k =
-      ap length (sym (same-answers x (gone asked) (rowsIn asked) (asked .wanted) k refl)) ∙ answers-length x (rowsIn asked) k (omega arith) in
-      s .recorded ∙ ap₂ (λ (l : List Answer) (k : ℕ). l ++ drop k as₀)
-      (records-of (answers x (gone asked) (rowsIn asked) (asked .wanted)) (lent′ .rows) (lent′ .distances) (drop k (lent .rows)) (drop k (lent .distances)) given (Z .rows) (Z .distances) (Z .count ∙ sym long)) (Z .count)
+      let A : List (ℕ × ℕ) = answers x (gone asked) (rowsIn asked) (asked .wanted) in
+      let long : given ≡ length A = Z .count ∙ sym (answers-length x (gone asked) (rowsIn asked) (asked .wanted)) in
+      s .recorded ∙ ap (λ (l : List Answer). l ++ drop given as₀)
+      (records-of A (lent′ .rows) (lent′ .distances) (drop given (lent .rows)) (drop given (lent .distances)) given (Z .rows) (Z .distances) long)
 
   -- THE RECORDS ARE THE ANSWERS OF ANY TABLE THAT FITS THE INDEX AND WITH WHICH THE LENT ONE AGREES IN THE ROWS MEASURED
   pub answers-served : number ≡ 0 → (t′ : List ℕ) → Serves asked t′
@@ -70,11 +67,8 @@ module _ {asked : NearestAsked} {t₂ : List ℕ} {as₀ as₁ bs₀ bs₁ : Lis
       → ((i : ℕ) → i < rowsIn asked → T (isMeasured (getD (lent′ .how) i 0)) → row (asked .table) (asked .columns) i ≡ row t₂ (asked .columns) i) → (given ≡ given₂) × (take given as₁ ≡ take given₂ bs₁)
   answers-two-tables z z₂ A agree =
       let E = nearest-two-tables (s .plain) z A (s₂ .plain) z₂ agree in
-      let k : given ≡ due asked = nearest-exact (s .plain) z A .count in
-      let r : take given (lent′ .rows) ≡ take given₂ (lent₂′ .rows) =
-      ap (λ (k : ℕ). take k (lent′ .rows)) k ∙ E .2 ∙ ap (λ (k : ℕ). take k (lent₂′ .rows)) (sym k ∙ E .0) in
-      let d : take given (lent′ .distances) ≡ take given₂ (lent₂′ .distances) =
-      ap (λ (k : ℕ). take k (lent′ .distances)) k ∙ E .3 ∙ ap (λ (k : ℕ). take k (lent₂′ .distances)) (sym k ∙ E .0) in (
+      let r : take given (lent′ .rows) ≡ take given₂ (lent₂′ .rows) = E .2 ∙ ap (λ (k : ℕ). take k (lent₂′ .rows)) (E .0) in
+      let d : take given (lent′ .distances) ≡ take given₂ (lent₂′ .distances) = E .3 ∙ ap (λ (k : ℕ). take k (lent₂′ .distances)) (E .0) in (
         E .0,
         first-records s ∙ ap₂ (λ (r d : List ℕ). records r d given) r d ∙ ap (records (take given₂ (lent₂′ .rows)) (take given₂ (lent₂′ .distances))) (E .0) ∙ sym (first-records s₂),
       )
