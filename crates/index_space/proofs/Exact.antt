@@ -24,7 +24,7 @@ use Rattle.words.specs.Words.{first#, n#, start#}
 use borrow.Author.Tests.{le-leb, le-ltb, lt-ltb, ltb-true}
 use lib.Dec.{leb, ltb}
 use lib.ListN.{length, take}
-use mathlib.Core.Bool.{Bool, _||_, cond, false, not, true}
+use mathlib.Core.Bool.{Bool, cond, false, not, true}
 use mathlib.Core.List.{List, [], _∷_, map}
 use mathlib.Core.Path.{_∙_, _≡_, ap, ap₂, refl, subst, sym}
 use native.Mathlib.Omega.{arith}
@@ -73,7 +73,8 @@ test-same true b f g = sym (f refl)
 test-same false true f g = g refl
 test-same false false f g = refl
 
-module _ (w : List ℕ) (S : InShape w) (filled : 1 ≤ n# w) (gone : ℕ → Bool) (wanted : ℕ) (some : 1 ≤ wanted) (x x′ : ℕ → ℕ) (F : IndexFits w gone wanted x x′) where
+module _ (w : List ℕ) (S : InShape w) (filled : 1 ≤ n# w) (gone : ℕ → Bool) (wanted : ℕ) (some : 1 ≤ wanted) (x x′ : ℕ → ℕ)
+    (F : IndexFits w gone wanted x x′) where
   -- a row's home bound, of the rows that the index fits
   abbrev hb : ℕ → ℕ
   hb = homeBound w x′
@@ -98,7 +99,8 @@ module _ (w : List ℕ) (S : InShape w) (filled : 1 ≤ n# w) (gone : ℕ → Bo
   root-same : rootOf w x ≡ rootOf w x′
   root-same =
       let R : Root w = S .root filled in
-      ap (node 0 0) (agree-due (first# w 0) (S .place (start# w 0) (omega (arith, R .start)) .row) (root-due w S filled (F .once) x′ gone wanted some))
+      ap (node 0 0) (agree-due (first# w 0) (S .place (start# w 0) (omega (arith, R .start)) .row)
+      (root-due w S filled (F .once) x′ gone wanted some))
 
   module _ (q : List IndexItem) (m : ℕ → ℕ) (R : SearchRun w gone wanted x q m) where
     -- the search of these rows begins soundly

@@ -1,4 +1,5 @@
--- A run of the search, where items are left out: it goes on and ends as if they waited, since w measured rows that remain are closer than the bound of each.
+-- A run of the search, where items are left out: it goes on and ends as if they waited, since w measured rows that remain are closer than the bound
+-- of each.
 -- Assumes nothing.
 use Prim.Native.Nat.{_+_, _-_, _<_, _≤_, ℕ}
 use Rattle.best_first.proofs.Keeps.{closer-le}
@@ -26,7 +27,8 @@ module _ (w : List ℕ) (gone : ℕ → Bool) (wanted : ℕ) (x : ℕ → ℕ) w
   nearer-up : (m m′ : ℕ → ℕ) (b b′ : ℕ) → ((r : ℕ) → m r ≤ m′ r) → b ≤ b′ → nearer m b ≤ nearer m′ b′
   nearer-up m m′ b b′ h l = closer-le (n# w) (both m (liveOf gone)) (both m′ (liveOf gone)) x b b′ (λ r. omega (arith, h r)) l
 
-  module _ (q : List IndexItem) (m : ℕ → ℕ) (R : RunSoFar w gone wanted x q m) (item : IndexItem) (others : List IndexItem) (bag : SameBag q (item ∷ others))
+  module _ (q : List IndexItem) (m : ℕ → ℕ) (R : RunSoFar w gone wanted x q m) (item : IndexItem) (others : List IndexItem)
+      (bag : SameBag q (item ∷ others))
       (least : total (λ (j : IndexItem). boundOf item - boundOf j) others ≡ 0) where
     -- an item is taken of all, those left out among them
     pub all-bag : SameBag (q ++ R .left) (item ∷ (others ++ R .left))

@@ -3,11 +3,11 @@
 use Prim.Native.Nat.{_+_, _-_, _<_, _≤_, min, suc, zero, ℕ}
 use Rattle.best_first.proofs.Keeps.{closer-le}
 use Rattle.best_first.specs.Search.{rowsCloser}
-use Rattle.laws.proofs.Bags.{total-map, total-range}
-use Rattle.laws.proofs.Every.{every-of}
 use Rattle.index_space.proofs.Laws.{live-bit}
 use Rattle.index_space.specs.Items.{leftOf, liveOf}
 use Rattle.index_space.specs.Run.{allRows}
+use Rattle.laws.proofs.Bags.{total-map, total-range}
+use Rattle.laws.proofs.Every.{every-of}
 use Rattle.laws.proofs.Keeping.{total-keep}
 use Rattle.laws.proofs.Ones.{is-self}
 use Rattle.laws.proofs.Sums.{sum-add, sum-below-le, sum-below-same, sum-ones, sum-part}

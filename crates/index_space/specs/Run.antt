@@ -11,7 +11,8 @@ use mathlib.Core.Bool.{Bool}
 use mathlib.Core.List.{List, [], _++_, _∷_, map}
 use mathlib.Core.Path.{_≡_}
 
--- The search with the rows at x, of which those of `gone` are withdrawn, that began with the root and its first, has come to where these items wait and the rows of m are measured.
+-- The search with the rows at x, of which those of `gone` are withdrawn, that began with the root and its first, has come to where these items wait
+-- and the rows of m are measured.
 pub record SearchRun (w : List ℕ) (gone : ℕ → Bool) (wanted : ℕ) (x : ℕ → ℕ) (waiting : List IndexItem) (m : ℕ → ℕ) : Type 0 where
   pub start : ℕ → ℕ
   pub begun : (r : ℕ) → r < n# w → start r ≡ is r (first# w 0)

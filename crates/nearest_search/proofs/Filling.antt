@@ -14,7 +14,7 @@ use Rattle.words.specs.InShape.{InShape}
 use Rattle.words.specs.Words.{count#, first#, n#, row#, start#}
 use mathlib.Core.Bool.{Bool, cond, false, not, true}
 use mathlib.Core.List.{List, [], _∷_}
-use mathlib.Core.Path.{_∙_, _≡_, ap, refl, sym}
+use mathlib.Core.Path.{_∙_, _≡_, ap, refl}
 use native.Mathlib.Omega.{arith}
 
 -- ---- sums over the rows that remain
@@ -62,7 +62,7 @@ sum-rows gone f n (suc k) h =
     )
 
 -- how many pass, as a total
-pub tally-total : (f : ℕ → Bool) (xs : List ℕ) → tally f xs ≡ total (λ (j : ℕ). cond {A = ℕ} (f j) 1 0) xs
+tally-total : (f : ℕ → Bool) (xs : List ℕ) → tally f xs ≡ total (λ (j : ℕ). cond {A = ℕ} (f j) 1 0) xs
 tally-total f [] = refl
 tally-total f (j ∷ xs) = omega (arith, tally-total f xs)
 
@@ -135,7 +135,8 @@ module _ (w : List ℕ) (S : InShape w) (filled : 1 ≤ n# w) where
         ap (λ (p : ℕ). liveOf gone (row# w p)) first,
         tally-left gone (row# w) (n# w),
         ap (λ (k : ℕ). sumTo (λ (p : ℕ). liveOf gone (row# w p)) k) rows,
-        sum-below-same f (λ (p : ℕ). liveOf gone (row# w p)) (suc (count# w 0 - 1)) (λ p l. ap (λ (s : ℕ). liveOf gone (row# w (s + p))) (R .start) ∙ shift p),
+        sum-below-same f (λ (p : ℕ). liveOf gone (row# w p)) (suc (count# w 0 - 1))
+            (λ p l. ap (λ (s : ℕ). liveOf gone (row# w (s + p))) (R .start) ∙ shift p),
       )
     where
       shift : (p : ℕ) → liveOf gone (row# w (0 + p)) ≡ liveOf gone (row# w p)

@@ -19,9 +19,9 @@ use Rattle.nearest_search.specs.Asked.{asks}
 use Rattle.nearest_search.specs.Rounds.{CanTake, Taken}
 use Rattle.nearest_search.specs.Standing.{GrewAlone, Ready}
 use Rattle.queue.specs.Queue.{Queue, entries}
+use Rattle.rowset.specs.Sets.{isIn}
 use Rattle.tree.specs.Grove.{reach#}
 use Rattle.tree.specs.Homes.{childBound}
-use Rattle.rowset.specs.Sets.{isIn}
 use Rattle.words.specs.InShape.{InShape}
 use Rattle.words.specs.Shape.{inner}
 use Rattle.words.specs.Words.{N#, at, child#, count#, first#, m#, n#, row#, start#}
@@ -174,7 +174,8 @@ module _ (t : List ℕ) (c : ℕ) (q w : List ℕ) (wanted : ℕ) (struck : List
           (openedBy w x (node k b u)) (last-then w wanted work₁ work₂ held′ last n en el O) opens-are in
           record {
             grew = grew-front x (isIn struck) (n# w) wanted how how′ work work₁ work₂ held held′ (measuredBy w (node k b u))
-                (grew-as x (isIn struck) (n# w) wanted how how′ work work₁ held held′ (firstsTo w a (m# w - 1)) (measuredBy w (node k b u)) measures-are (K .grew))
+                (grew-as x (isIn struck) (n# w) wanted how how′ work work₁ held held′ (firstsTo w a (m# w - 1))
+                (measuredBy w (node k b u)) measures-are (K .grew))
                 O;
             queue = M .queue;
             small = o .0;
@@ -198,7 +199,8 @@ module _ (t : List ℕ) (c : ℕ) (q w : List ℕ) (wanted : ℕ) (struck : List
       → GrewAlone (from t c q) (isIn struck) n wanted how how′ work work₁ held held′ (firstsTo w a (a + m - (a + 1)))
       → FrontierRoom w work₁ n len (m# w)
   inner-then how′ work₁ n a m held′ en ea em =
-      subst (λ (a : ℕ). GrewAlone x (isIn struck) n wanted how how′ work work₁ held held′ (firstsTo w a (a + m - (a + 1))) → FrontierRoom w work₁ n len (m# w)) (sym ea)
+      subst (λ (a : ℕ). GrewAlone x (isIn struck) n wanted how how′ work work₁ held held′ (firstsTo w a (a + m - (a + 1)))
+      → FrontierRoom w work₁ n len (m# w)) (sym ea)
       (λ K. inner-room how′ work₁ n (child# w k + m) held′ en (ap (λ (z : ℕ). child# w k + z) em) K)
 
   -- and what comes of it: the node is taken
@@ -209,7 +211,8 @@ module _ (t : List ℕ) (c : ℕ) (q w : List ℕ) (wanted : ℕ) (struck : List
       → Taken w (from t c q) (isIn struck) wanted how how′ work work₂ len len′ held held′ (node k b (from t c q (first# w k)))
   inner-done how′ work₁ work₂ n a m kids y last len′ held′ en ea em all el =
       subst
-      (λ (a : ℕ). GrewAlone x (isIn struck) n wanted how how′ work work₁ held held′ (firstsTo w a (a + m - (a + 1))) → y ≡ leastKept w work₁ a (a + m - (a + 1))
+      (λ (a : ℕ). GrewAlone x (isIn struck) n wanted how how′ work work₁ held held′ (firstsTo w a (a + m - (a + 1)))
+      → y ≡ leastKept w work₁ a (a + m - (a + 1))
       → More work₁ work₂ len kids (λ (i : ℕ). noded w work₁ b y (a + i)) last len′
       → Taken w x (isIn struck) wanted how how′ work work₂ len len′ held held′ (node k b u)) (sym ea)
       (λ K ey M. taken-inner how′ work₁ n (child# w k + m) held′ en (ap (λ (z : ℕ). child# w k + z) em) K y ey work₂ kids last len′ all el M)

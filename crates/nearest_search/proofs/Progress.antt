@@ -40,7 +40,8 @@ module _ (t : List ℕ) (c : ℕ) (q w : List ℕ) (wanted : ℕ) (struck : List
   x = from t c q
 
   -- A BOUND IS AT MOST THE LAST DISTANCE EXACTLY WHERE FEWER MEASURED ROWS ARE CLOSER THAN ARE WANTED
-  due-at : (how work : List ℕ) (held b : ℕ) → Stands x (isIn struck) (n# w) wanted how work held → BestHeld x (metOf (isIn struck) how) (n# w) work (3 * n# w) wanted held
+  due-at : (how work : List ℕ) (held b : ℕ) → Stands x (isIn struck) (n# w) wanted how work held
+      → BestHeld x (metOf (isIn struck) how) (n# w) work (3 * n# w) wanted held
       → b ≤ greatestWord → (b ≤ lastOf work (3 * n# w) wanted held) ↔ (found (spaceOf w (isIn struck)) x (at how) b < wanted)
   due-at how work held b K H =
       goes-on x (metOf (isIn struck) how) (n# w) work (3 * n# w) wanted held (K .small) (K .queue) H (λ r l. omega (arith, K .bits r l))
@@ -96,7 +97,8 @@ module _ (t : List ℕ) (c : ℕ) (q w : List ℕ) (wanted : ℕ) (struck : List
       popped-stands = stands-stay (n# w) work work₁ beyond (P .outside .same) x (isIn struck) wanted how held (St .ready .stands)
 
       -- the best that were held are held
-      popped-held : BestHeld x (metOf (isIn struck) how) (n# w) work (3 * n# w) wanted held → BestHeld x (metOf (isIn struck) how) (n# w) work₁ (3 * n# w) wanted held
+      popped-held : BestHeld x (metOf (isIn struck) how) (n# w) work (3 * n# w) wanted held
+          → BestHeld x (metOf (isIn struck) how) (n# w) work₁ (3 * n# w) wanted held
       popped-held H = held-stay (n# w) work work₁ (λ i l. beyond i (omega arith)) x (metOf (isIn struck) how) wanted held H
 
       -- what lies beyond stays
@@ -146,7 +148,8 @@ module _ (t : List ℕ) (c : ℕ) (q w : List ℕ) (wanted : ℕ) (struck : List
 
       -- it is due exactly where its key is at most the last distance, as the code asks it
       due-is : (n d key : ℕ) → n ≡ n# w → d ≡ lastOf work₁ (3 * n) wanted held → key ≡ keyOf v → key ≤ greatestWord
-          → BestHeld x (metOf (isIn struck) how) (n# w) work (3 * n# w) wanted held → (key ≤ d) ↔ (found (spaceOf w (isIn struck)) x (at how) (boundOf item) < wanted)
+          → BestHeld x (metOf (isIn struck) how) (n# w) work (3 * n# w) wanted held → (key ≤ d)
+          ↔ (found (spaceOf w (isIn struck)) x (at how) (boundOf item) < wanted)
       due-is n d key en ed ek word H =
           let same : boundOf item ≡ key = item-bound w x v ∙ sym ek in
           let this : d ≡ lastOf work₁ (3 * n# w) wanted held = ed ∙ ap (λ (n : ℕ). lastOf work₁ (3 * n) wanted held) en in
@@ -179,7 +182,8 @@ module _ (t : List ℕ) (c : ℕ) (q w : List ℕ) (wanted : ℕ) (struck : List
             (omega (arith, D .small, parts-above boundOf last′ (λ (j : IndexItem). boundOf j - greatestWord) opened))
 
         -- w measured rows are closer than the bound of what is left out
-        out-beyond : BestHeld x (metOf (isIn struck) how′) (n# w) work₂ (3 * n# w) wanted held′ → Ended (spaceOf w (isIn struck)) wanted x out (at how′)
+        out-beyond : BestHeld x (metOf (isIn struck) how′) (n# w) work₂ (3 * n# w) wanted held′
+            → Ended (spaceOf w (isIn struck)) wanted x out (at how′)
         out-beyond H =
             total-none (λ (j : IndexItem). wanted - found (spaceOf w (isIn struck)) x (at how′) (boundOf j))
             (λ (j : IndexItem). (suc last′ - boundOf j) + (boundOf j - greatestWord)) out
@@ -232,9 +236,11 @@ module _ (t : List ℕ) (c : ℕ) (q w : List ℕ) (wanted : ℕ) (struck : List
           where
             run : (x′ : ℕ → ℕ) → IndexFits w (isIn struck) wanted x x′ → BestHeld x (metOf (isIn struck) how) (n# w) work (3 * n# w) wanted held
                 → RunSoFar w (isIn struck) wanted x (items w x work len) (at how)
-                → BestHeld x (metOf (isIn struck) how′) (n# w) work₂ (3 * n# w) wanted held′ × RunSoFar w (isIn struck) wanted x (items w x work₂ len′) (at how′)
+                → BestHeld x (metOf (isIn struck) how′) (n# w) work₂ (3 * n# w) wanted held′
+                × RunSoFar w (isIn struck) wanted x (items w x work₂ len′) (at how′)
             run x′ F H R =
-                let new = taken-new w S filled (isIn struck) wanted (St .ready .stands .wanted .0) x x′ F (items w x work len ++ R .left) (at how) (R .run) item
+                let new = taken-new w S filled (isIn struck) wanted (St .ready .stands .wanted .0) x x′ F (items w x work len ++ R .left) (at how)
+                (R .run) item
                 (others ++ R .left) (all-bag w (isIn struck) wanted x (items w x work len) (at how) R item others bag least) in
                 let b = D .grew .best (popped-held H) new in (
                   b .0,
@@ -263,10 +269,12 @@ module _ (t : List ℕ) (c : ℕ) (q w : List ℕ) (wanted : ℕ) (struck : List
             (popped-held (z .0), leaves-off w (isIn struck) wanted x (items w x work len) (at how) (z .1) item others bag least (enough (z .0)));
       }
         where
-          enough : BestHeld x (metOf (isIn struck) how) (n# w) work (3 * n# w) wanted held → wanted ≤ found (spaceOf w (isIn struck)) x (at how) (boundOf item)
+          enough : BestHeld x (metOf (isIn struck) how) (n# w) work (3 * n# w) wanted held
+              → wanted ≤ found (spaceOf w (isIn struck)) x (at how) (boundOf item)
           enough H = at-least (decLt (found (spaceOf w (isIn struck)) x (at how) (boundOf item)) wanted)
             where
-              at-least : Dec (found (spaceOf w (isIn struck)) x (at how) (boundOf item) < wanted) → wanted ≤ found (spaceOf w (isIn struck)) x (at how) (boundOf item)
+              at-least : Dec (found (spaceOf w (isIn struck)) x (at how) (boundOf item) < wanted)
+                  → wanted ≤ found (spaceOf w (isIn struck)) x (at how) (boundOf item)
               at-least (yes h) = absurd (omega (arith, due-is n d key en ed ek word H .1 h))
               at-least (no h) = omega arith
 

@@ -88,14 +88,16 @@ module _ (t : List ℕ) (c : ℕ) (q w : List ℕ) (wanted : ℕ) (struck : List
         (openedBy w x (node k b u)) (last-then w wanted work work′ held last n en el O) leafy in
         record {
           grew = grew-front x (isIn struck) (n# w) wanted how how work work work′ held held (measuredBy w (node k b u))
-              (grew-none x (isIn struck) (n# w) wanted how work held (measuredBy w (node k b u)) (λ r. ap (λ (q : ℕ). measuresAt w q r) z) (T .ready .stands)) O;
+              (grew-none x (isIn struck) (n# w) wanted how work held (measuredBy w (node k b u)) (λ r. ap (λ (q : ℕ). measuresAt w q r) z)
+              (T .ready .stands)) O;
           queue = M .queue;
           small = o .0;
           queued = o .1;
         }
 
 -- ---- by entries, as the code reads them
-module _ (t : List ℕ) (c : ℕ) (q w : List ℕ) (wanted : ℕ) (struck : List ℕ) (how work : List ℕ) (len held e id n : ℕ) (en : n ≡ n# w) (ei : id ≡ idOf e)
+module _ (t : List ℕ) (c : ℕ) (q w : List ℕ) (wanted : ℕ) (struck : List ℕ) (how work : List ℕ) (len held e id n : ℕ) (en : n ≡ n# w)
+    (ei : id ≡ idOf e)
     (T : CanTake (asks t c w q wanted struck) how work len held (itemOf w (from t c q) e)) where
   -- ---- an entry with a node's id
   module _ (key : ℕ) (ek : key ≡ keyOf e) (h : id < 2 * n) where

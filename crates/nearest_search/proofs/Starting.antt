@@ -29,7 +29,8 @@ use mathlib.Core.Path.{_∙_, _≡_, ap, refl, subst, sym}
 use native.Mathlib.Omega.{arith}
 
 -- before it begins a search can measure
-pub blank-ready : (a : NearestAsked) (how work : List ℕ) → SearchStart a how work → Ready (a .table) (a .columns) (a .query) (gone a) (rowsIn a) (a .wanted) how work 0
+pub blank-ready : (a : NearestAsked) (how work : List ℕ) → SearchStart a how work
+    → Ready (a .table) (a .columns) (a .query) (gone a) (rowsIn a) (a .wanted) how work 0
 blank-ready a how work B = record { stands = B .stands; columns = B .tested .columns; table = B .tested .table; query = B .query }
 
 module _ (t : List ℕ) (c : ℕ) (q w : List ℕ) (wanted : ℕ) (struck : List ℕ) where
@@ -105,7 +106,8 @@ module _ (t : List ℕ) (c : ℕ) (q w : List ℕ) (wanted : ℕ) (struck : List
       }
 
       -- the best of the root's first is held, and the search runs
-      runs : BestHeld x (metOf (isIn struck) how₁) (n# w) work₂ (3 * n# w) wanted held × RunSoFar w (isIn struck) wanted x (items w x work₂ 1) (at how₁)
+      runs : BestHeld x (metOf (isIn struck) how₁) (n# w) work₂ (3 * n# w) wanted held
+          × RunSoFar w (isIn struck) wanted x (items w x work₂ 1) (at how₁)
       runs =
           let b = K .grew .best none-held (λ r l. bit (at how r) (is r (first# w 0)) (blank r l) (is-bit r (first# w 0))) in (
             held-stay (n# w) work₁ work₂ (λ i l. beyond i (omega arith)) x (metOf (isIn struck) how₁) wanted held (b .0),
@@ -114,7 +116,8 @@ module _ (t : List ℕ) (c : ℕ) (q w : List ℕ) (wanted : ℕ) (struck : List
               run = record {
                 start = at how₁;
                 begun = λ r l. omega (arith, b .1 r, blank r l);
-                reached = subst (λ (l : List IndexItem). SearchReach (spaceOf w (isIn struck)) wanted x (rootOf w x ∷ []) (at how₁) (l ++ []) (at how₁)) (sym one) start;
+                reached = subst (λ (l : List IndexItem). SearchReach (spaceOf w (isIn struck)) wanted x (rootOf w x ∷ []) (at how₁) (l ++ [])
+                    (at how₁)) (sym one) start;
               };
               beyond = refl;
             },

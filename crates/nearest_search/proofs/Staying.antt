@@ -92,7 +92,8 @@ since-work n how work work′ lo hi h O = record { bytes = refl; words = O .same
 
 -- ---- what measuring needs
 -- a row of the table can be measured, whatever is known by then
-pub ready-on : (t : List ℕ) (c : ℕ) (q : List ℕ) (gone : ℕ → Bool) (n w : ℕ) (how how′ work work′ : List ℕ) (held held′ : ℕ) → Ready t c q gone n w how work held
+pub ready-on : (t : List ℕ) (c : ℕ) (q : List ℕ) (gone : ℕ → Bool) (n w : ℕ) (how how′ work work′ : List ℕ) (held held′ : ℕ)
+    → Ready t c q gone n w how work held
     → Stands (from t c q) gone n w how′ work′ held′ → Ready t c q gone n w how′ work′ held′
 ready-on t c q gone n w how how′ work work′ held held′ R St = record { stands = St; columns = R .columns; table = R .table; query = R .query }
 

@@ -33,7 +33,8 @@ pub record CanTake (a : NearestAsked) (how work : List ℕ) (len held : ℕ) (i 
 
 -- it is taken: what it measures is measured, and what it opens, all under bounds of 32 bits, waits with the others, but for what lies beyond the last
 -- distance by then
-pub record Taken (w : List ℕ) (x : ℕ → ℕ) (gone : ℕ → Bool) (wanted : ℕ) (how how′ work work′ : List ℕ) (len len′ held held′ : ℕ) (i : IndexItem) : Type 0 where
+pub record Taken (w : List ℕ) (x : ℕ → ℕ) (gone : ℕ → Bool) (wanted : ℕ) (how how′ work work′ : List ℕ) (len len′ held held′ : ℕ)
+    (i : IndexItem) : Type 0 where
   pub grew : Grew x gone (n# w) wanted how how′ work work′ held held′ (measuredBy w i)
   pub queue : Queue work′ 0 len′
   pub small : total (λ (j : IndexItem). boundOf j - greatestWord) (openedBy w x i) ≡ 0
@@ -71,4 +72,5 @@ pub record SearchEnd (a : NearestAsked) (how how′ work work′ : List ℕ) (he
   pub full : held ≡ min (a .wanted) (positionsLeft a)
   pub since : Since (rowsIn a) how how′ work work′
   pub ran : (x′ : ℕ → ℕ) → IndexFits (a .index) (gone a) (a .wanted) (away a) x′
-      → BestHeld (away a) (metOf (gone a) how′) (rowsIn a) work′ (answersAt (rowsIn a)) (a .wanted) held × RunToEnd (a .index) (gone a) (a .wanted) (away a) (at how′)
+      → BestHeld (away a) (metOf (gone a) how′) (rowsIn a) work′ (answersAt (rowsIn a)) (a .wanted) held
+      × RunToEnd (a .index) (gone a) (a .wanted) (away a) (at how′)

@@ -25,7 +25,8 @@ pub fn find(
     how: &mut [u8],
     work: &mut [u32],
 ) -> usize
-    requires { ⌜ Searchable (asks (now table) c (now index) (now query) wanted (now withdrawn)) (lends (now rows) (now distances) (now how) (now work)) ⌝ }
+    requires { ⌜ Searchable (asks (now table) c (now index) (now query) wanted (now withdrawn))
+        (lends (now rows) (now distances) (now how) (now work)) ⌝ }
     ensures { λ k. ⌜ FoundNearest (asks (now (table .entry)) c (now (index .entry)) (now (query .entry)) wanted (now (withdrawn .entry)))
         (lends (now (rows .entry)) (now (distances .entry)) (now (how .entry)) (now (work .entry)))
         (lends (now (rows .exit)) (now (distances .exit)) (now (how .exit)) (now (work .exit))) k ⌝ }

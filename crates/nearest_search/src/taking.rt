@@ -80,7 +80,8 @@ fn measure_centres(
     requires { ⌜ Ready (now table) c (now query) (isIn (now withdrawn)) n w (now how) (now work) held ⌝ }
     requires { ⌜ (InShape (now index)) × (n ≡ n# (now index)) × (a < e) × (e ≤ N# (now index)) ⌝ }
     ensures { λ k. ⌜ GrewAlone (from (now (table .entry)) c (now (query .entry))) (isIn (now (withdrawn .entry))) n w
-        (now (how .entry)) (now (how .exit)) (now (work .entry)) (now (work .exit)) held k (λ (s : ℕ). sumTo (λ (i : ℕ). is s (first# (now (index .entry)) (a + suc i))) (e - (a + 1))) ⌝ }
+        (now (how .entry)) (now (how .exit)) (now (work .entry)) (now (work .exit)) held k
+        (λ (s : ℕ). sumTo (λ (i : ℕ). is s (first# (now (index .entry)) (a + suc i))) (e - (a + 1))) ⌝ }
 {
     let mut k = held;
     let mut j = a + 1;

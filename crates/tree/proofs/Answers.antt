@@ -64,7 +64,7 @@ insert-length a (b ∷ s) = go (before a b) (insert-length a s)
     go false e = ap suc e
 
 -- sorting keeps the number
-sort-length : (l : List (ℕ × ℕ)) → length (sort l) ≡ length l
+pub sort-length : (l : List (ℕ × ℕ)) → length (sort l) ≡ length l
 sort-length [] = refl
 sort-length (a ∷ l) = insert-length a (sort l) ∙ ap suc (sort-length l)
 

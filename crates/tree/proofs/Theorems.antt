@@ -96,7 +96,8 @@ module _ (d : ℕ → ℕ → ℕ) (w : List ℕ) (A : Accepted d w) where
     -- a row that passes is measured
     near-measured : (gone : ℕ → Bool) (k i : ℕ) → i < n# w → passes x gone (n# w) k (look i (homes x (treeOf w))) ≡ true
         → T (isMeasured (getD (nearHow x gone (n# w) (treeOf w) k) i 0))
-    near-measured gone k i h e = subst (λ v. T (isMeasured v)) (sym (near-at x gone (n# w) (treeOf w) k i h)) (go (has i (lefts (answers x gone (n# w) k))))
+    near-measured gone k i h e = subst (λ v. T (isMeasured v)) (sym (near-at x gone (n# w) (treeOf w) k i h))
+        (go (has i (lefts (answers x gone (n# w) k))))
       where
         go : (a : Bool) → T (isMeasured (cond a 3 (cond (passes x gone (n# w) k (look i (homes x (treeOf w)))) 1 0)))
         go true = tt
@@ -119,7 +120,11 @@ module _ (d : ℕ → ℕ → ℕ) (w : List ℕ) (A : Accepted d w) where
         agree i low (near-measured gone k i low (passes-near x gone (n# w) k (look i (homes x t)) b))) in (
           ap lefts (sym (same-homes x y D t same)),
           sym (same-best x y D gone (n# w) t k same) ∙ own,
-          same-own x y D gone (n# w) t k same (record { enough = ap length own ∙ answers-length x gone (n# w) k ∙ omega arith; reached = ap lastDistance own }),
+          same-own x y D gone (n# w) t k same (record {
+            enough = ap length own ∙ answers-length x gone (n# w) k
+                ∙ omega arith;
+            reached = ap lastDistance own;
+          }),
         )
 
     -- with more wanted than rows remain every row is measured, and so the tables are one

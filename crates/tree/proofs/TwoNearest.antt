@@ -148,7 +148,11 @@ module _ (x y : ℕ → ℕ) (D : ℕ) where
   -- and D is its own for the second, if it is for the first
   pub same-own : (gone : ℕ → Bool) (n : ℕ) (t : Grove) (w : ℕ) → Every (AgreeUpTo x y D) (homes x t) → Own x gone n t w D → Own y gone n t w D
   same-own gone n t w h O =
-      record { enough = ap length (sym (same-best gone n t w h)) ∙ O .enough; reached = ap (λ l. lastDistance l) (sym (same-best gone n t w h)) ∙ O .reached }
+      record {
+        enough = ap length (sym (same-best gone n t w h)) ∙ O .enough;
+        reached = ap (λ l. lastDistance l) (sym (same-best gone n t w h))
+            ∙ O .reached;
+      }
 
 -- a row whose home bound is at most D is among the rows up to D
 pub in-upTo : (i D : ℕ) (hs : List (ℕ × ℕ)) → 1 ≤ times i (map (λ h. h .0) hs) → look i hs ≤ D → has i (map (λ h. h .0) (upTo D hs)) ≡ true

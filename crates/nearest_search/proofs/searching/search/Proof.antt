@@ -25,7 +25,8 @@ Inv-loop table c query index w withdrawn how₀ work₀ n base first held₀ len
     SearchState (asks table c index query w withdrawn) how work len held × Since (n# index) how₀ how work₀ work
 
 abbrev μ-loop : tie.MeasureT-loop
-μ-loop table c query index w withdrawn how₀ work₀ n base first held₀ len₀ how work held len = total (cost index) (items index (from table c query) work len)
+μ-loop table c query index w withdrawn how₀ work₀ n base first held₀ len₀ how work held len = total (cost index)
+    (items index (from table c query) work len)
 
 -- seen from the loop: the root as it is queued, its first as it is measured, the number of rows as it is read, and the start
 abbrev queued : tie.At-loop Inv-loop μ-loop → tie.After-push Inv-loop μ-loop
@@ -66,8 +67,11 @@ measure-row-requires : tie.Need-measure-row-requires Inv-loop μ-loop
 measure-row-requires c κs =
     let s = c .before .before .before .before .before .before .before .before .before .before .before in
     let rows = c .before .before .before .before .rows in
-    let node-first = c .before .before .node-first in
-    (ready-at _ _ _ (s .args .index .now) _ _ _ _ _ _ (rows .ensures .0) (blank-ready _ _ _ (s .pre)), omega (arith, node-first .ensures .1, rows .ensures .0))
+    let node-first = c .before .before .node-first in (
+      ready-at _ _ _ (s .args .index .now) _ _ _ _ _ _ (rows .ensures .0) (blank-ready _ _ _ (s .pre)),
+      omega
+          (arith, node-first .ensures .1, rows .ensures .0),
+    )
 
 push-requires : tie.Need-push-requires Inv-loop μ-loop
 push-requires c κs =
@@ -126,7 +130,8 @@ take-item-requires : tie.Need-take-item-requires Inv-loop μ-loop
 take-item-requires c κs =
     let p = c .before .before .before .before .before .before .before .before in
     let l = turn p in (
-      takes _ _ _ _ _ _ (start l .pre .tested .shape) _ _ _ _ (l .loop .inv .0) _ _ (p .pop .ensures) (p .before .before .loop-test .taken) (start l .pre .tested .edition),
+      takes _ _ _ _ _ _ (start l .pre .tested .shape) _ _ _ _ (l .loop .inv .0) _ _ (p .pop .ensures) (p .before .before .loop-test .taken)
+          (start l .pre .tested .edition),
       (counted l .rows .ensures .0, met l .before .before .before .before .pair-at .ensures),
     )
 
@@ -147,7 +152,8 @@ loop-again c =
     let last = t .before .before .before .before .before .last in (
       round _ _ _ _ _ _ (start l .pre .tested .shape) _ _ _ _ (l .loop .inv .0) _ _ (p .pop .ensures) (p .before .before .loop-test .taken) _ _ _ _
           (t .take-item .ensures) (start l .pre .filled) _ _ _ (counted l .rows .ensures .0) (last .ensures) (key-of .ensures) (omega arith) (omega arith),
-      round-since _ _ _ _ _ _ (start l .pre .tested .shape) _ _ _ _ (l .loop .inv .0) _ _ (p .pop .ensures) (p .before .before .loop-test .taken) _ _ _ _
+      round-since _ _ _ _ _ _ (start l .pre .tested .shape) _ _ _ _ (l .loop .inv .0) _ _ (p .pop .ensures)
+          (p .before .before .loop-test .taken) _ _ _ _
           (t .take-item .ensures) _ _ (l .loop .inv .1),
     )
 

@@ -11,7 +11,8 @@ use borrow.Author.Needs.{needs}
 use native.Mathlib.Omega.{arith}
 
 abbrev Inv-loop : tie.InvT-loop
-Inv-loop table c query index n w withdrawn how₀ work₀ held a e k₀ j₀ how work k j = CentresTo (from table c query) (isIn withdrawn) index n w how₀ how work₀ work a e j held k
+Inv-loop table c query index n w withdrawn how₀ work₀ held a e k₀ j₀ how work k j = CentresTo (from table c query)
+    (isIn withdrawn) index n w how₀ how work₀ work a e j held k
 
 abbrev μ-loop : tie.MeasureT-loop
 μ-loop table c query index n w withdrawn how₀ work₀ held a e k₀ j₀ how work k j = e - j
