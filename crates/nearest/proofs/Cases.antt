@@ -4,11 +4,14 @@ use Rattle.laws.proofs.Every.{every-of}
 use Rattle.laws.specs.Every.{Every}
 use Rattle.laws.specs.Upto.{sumTo}
 use Rattle.limits.specs.Said.{numberFaults, said, tabled}
+use Rattle.measure.proofs.OnCircle.{plain-on, round-rows}
 use Rattle.measure.specs.Distance.{l1}
-use Rattle.measure.specs.Table.{between, from}
+use Rattle.measure.specs.Table.{between, from, offCircle}
 use Rattle.nearest.proofs.Promises.{count-is, nearest-exact}
 use Rattle.nearest.proofs.Refusals.{taken, twenty}
 use Rattle.nearest.specs.Cases.{Case, Gets, Twenty, asked, struckOut, wrongSets}
+use Rattle.refusals.proofs.Refusals.{clear}
+use Rattle.refusals.specs.Refused.{callFaults, circleFaults}
 use Rattle.rowset.specs.Sets.{bitOf, isIn, setBad}
 use Rattle.tree.proofs.Built.{build-accepted}
 use Rattle.tree.specs.Build.{build, choose, grow, split}
@@ -18,8 +21,7 @@ use Rattle.tree.specs.Encode.{broods, encode, family, levelNodes, nodes, number
 use Rattle.tree.specs.Grove.{treeAt, treeOf}
 use Rattle.tree.specs.Homes.{homes, homesIn}
 use Rattle.tree.specs.Nearest.{answers, measured, nearHow, passes, remaining}
-use Rattle.words.proofs.Indexes.{clear}
-use Rattle.words.specs.Index.{callFaults, fitFaults}
+use Rattle.words.specs.Index.{fitFaults}
 use Rattle.words.specs.Shape.{born, level, nodeOk, shapeOk, tile}
 use Rattle.words.specs.Words.{cardOk, headerOk, wholeOk, wordsOk}
 use lib.ListN.{drop, length}
@@ -29,19 +31,20 @@ use mathlib.Core.Path.{_∙_, _≡_, ap, ap₂, refl, subst, sym}
 use native.Mathlib.Omega.{arith}
 
 -- the build writes the index of the five-row table
-built : build five 1 2 2 2 ≡ fiveWords
+built : build five 1 0 2 2 2 ≡ fiveWords
 unfolding sumTo l1 between family broods levelNodes nodes numbered encode choose split grow build
 built = refl
 
 -- and so the full check accepts it
-accepted : Accepted (between five 1) fiveWords
+accepted : Accepted (between five 1 0) fiveWords
 accepted =
-    subst (Accepted (between five 1)) built
-    (build-accepted five 1 2 2 2 refl refl refl (omega arith) (omega arith, (omega arith, (omega arith, (omega arith, (omega arith, tt))))))
+    subst (Accepted (between five 1 0)) built
+    (build-accepted five 1 0 2 2 2 refl refl refl refl (omega arith) (omega arith, (omega arith, (omega arith, (omega arith, (omega arith, tt)))))
+    (round-rows five 1 0 refl (plain-on five 1)))
 
 -- how far the query q is from a row
 abbrev x : ℕ → ℕ → ℕ
-x q = from five 1 (q ∷ [])
+x q = from five 1 0 (q ∷ [])
 
 -- the definition gives what the case says
 pub record Right (k : Case) : Type 0 where
@@ -84,9 +87,9 @@ right-struck = (
 )
 
 -- neither the table nor the index has a fault
-none-wrong : said (callFaults (tabled 5 1) fiveWords) .0 ≡ 0
-unfolding numberFaults cardOk headerOk wholeOk wordsOk born level tile nodeOk shapeOk fitFaults callFaults
-none-wrong = refl
+none-wrong : (q : ℕ) → said (callFaults (tabled 5 1) five fiveWords (q ∷ [])) .0 ≡ 0
+unfolding offCircle circleFaults numberFaults cardOk headerOk wholeOk wordsOk born level tile nodeOk shapeOk fitFaults callFaults
+none-wrong q = refl
 
 -- where the definition gives it, so does every outcome of the call
 gets : (k : Case) → Right k → Gets k
@@ -94,7 +97,7 @@ gets k R b b′ number given met f g d e s =
     let n : number ≡ 0 =
     s .said
     ∙ sym (taken five 1 fiveWords (k .query ∷ []) (k .wanted) (k .withdrawn) (min (length (b .rows)) (length (b .distances))) (length (b .how))
-    (length (b .work)) (clear (tabled 5 1) fiveWords none-wrong) (omega arith, d, e) refl (R .some) (R .right)) in
+    (length (b .work)) (clear (tabled 5 1) five fiveWords (k .query ∷ []) (none-wrong (k .query))) (omega arith, d, e) refl (R .some) (R .right)) in
     let Z = nearest-exact s n accepted in
     let c : given ≡ length (k .answers) = Z .count ∙ R .count in (
       n,
@@ -125,5 +128,5 @@ twenty-cases =
     (λ s wrong b b′ number given met f g d e r.
     r .said
     ∙ sym (twenty five 1 fiveWords (9 ∷ []) 1 s (min (length (b .rows)) (length (b .distances))) (length (b .how)) (length (b .work))
-    (clear (tabled 5 1) fiveWords none-wrong) (omega arith, d, e) refl (λ z. omega arith) wrong))
+    (clear (tabled 5 1) five fiveWords (9 ∷ []) (none-wrong 9)) (omega arith, d, e) refl (λ z. omega arith) wrong))
     wrongSets wrong-all

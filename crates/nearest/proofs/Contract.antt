@@ -7,21 +7,22 @@ use Rattle.laws.proofs.Maps.{map-same}
 use Rattle.laws.proofs.Ranges.{at-every, range-length}
 use Rattle.laws.specs.Lists.{has, look, range, tally, times}
 use Rattle.measure.proofs.Metric.{query-point}
-use Rattle.measure.specs.Table.{between, from, rowsOf}
+use Rattle.measure.proofs.OnCircle.{round-query}
+use Rattle.measure.specs.Table.{Round, between, from, rowsOf}
 use Rattle.nearest_search.specs.Asked.{NearestAsked, NearestLent, asks, away, due, gone, positionsLeft, rowsIn}
 use Rattle.nearest_search.specs.Found.{FoundNearest, Searchable, Settled, SoundAnswers}
 use Rattle.nearest.proofs.Refusals.{not-refused, rooms}
 use Rattle.nearest.specs.Calls.{Answered, Serves, saidOf}
 use Rattle.nearest.specs.Numbers.{nearestAsks}
+use Rattle.refusals.proofs.Tested.{tested}
 use Rattle.tree.proofs.Accepted.{each-once, shape-of}
 use Rattle.tree.proofs.Answers.{candidates-length, near-at, passes-all, sort-length}
 use Rattle.tree.proofs.Rows.{rows-tree}
-use Rattle.tree.proofs.Tested.{tested}
 use Rattle.tree.proofs.Theorems.{home-below, same-row}
 use Rattle.tree.specs.Grove.{Grove, treeOf}
 use Rattle.tree.specs.Homes.{homes}
 use Rattle.tree.specs.Nearest.{answers, candidates, isMeasured, measured, nearHow, passes, remaining, sort}
-use Rattle.words.specs.Words.{n#, row#}
+use Rattle.words.specs.Words.{circles#, n#, row#}
 use borrow.Author.Tests.{eqb-false, eqb-true, not-false}
 use lib.Dec.{T, eqb}
 use lib.ListN.{drop, getD, length, take}
@@ -122,36 +123,38 @@ byte-measured x gone n g k i h p =
     go true = tt
     go false = rw p tt
 
-module _ (a : NearestAsked) (t′ : List ℕ) (k : ℕ) (ek : k ≡ due a) (A : Serves a t′) where
+module _ (a : NearestAsked) (t′ : List ℕ) (k : ℕ) (ek : k ≡ due a) (A : Serves a t′)
+    (round : Round (a .columns) (circles# (a .index)) (a .query)) where
   -- how many rows there are
   abbrev n : ℕ
   n = rowsIn a
 
   -- how far the query is from a row of the table that serves
   abbrev x′ : ℕ → ℕ
-  x′ = from t′ (a .columns) (a .query)
+  x′ = from t′ (a .columns) (circles# (a .index)) (a .query)
 
   -- no row of it is closer than its home bound
   below : (i : ℕ) → i < n → homeBound (a .index) x′ i ≤ x′ i
-  below i h = home-below (between t′ (a .columns)) (a .index) (A .accepted) x′ (query-point t′ (a .columns) (a .query)) i h
+  below i h = home-below (between t′ (a .columns) (circles# (a .index))) (a .index) (A .accepted) x′
+      (query-point t′ (a .columns) (circles# (a .index)) (a .query) (A .round) round) i h
 
   -- the index fits its rows, with which the lent ones agree where it counts
-  serves-fits : IndexFits (a .index) (gone a) k (away a) (from t′ (a .columns) (a .query))
+  serves-fits : IndexFits (a .index) (gone a) k (away a) (from t′ (a .columns) (circles# (a .index)) (a .query))
   serves-fits = record {
     once = λ i h.
-        ap (times i) (sym (rows-tree (a .index) (shape-of (between t′ (a .columns)) (a .index) (A .accepted))))
-        ∙ each-once (between t′ (a .columns)) (a .index) (A .accepted) i h;
+        ap (times i) (sym (rows-tree (a .index) (shape-of (between t′ (a .columns) (circles# (a .index))) (a .index) (A .accepted))))
+        ∙ each-once (between t′ (a .columns) (circles# (a .index))) (a .index) (A .accepted) i h;
     under = below;
     agree = λ r h p.
-        same-row (a .table) t′ (a .columns) (a .query) r
+        same-row (a .table) t′ (a .columns) (circles# (a .index)) (a .query) r
         (A .agree r h
         (byte-measured x′ (gone a) n (treeOf (a .index)) (a .wanted) r h
         (still-passes x′ (gone a) n (a .wanted) k ek (homeBound (a .index) x′ r) p)));
   }
 
   -- answers and how-bytes that are settled for k are settled for as many as are wanted
-  settled-wanted : (b b′ : NearestLent) (given : ℕ) → Settled (from t′ (a .columns) (a .query)) (gone a) (a .index) k b b′ given
-      → Settled (from t′ (a .columns) (a .query)) (gone a) (a .index) (a .wanted) b b′ given
+  settled-wanted : (b b′ : NearestLent) (given : ℕ) → Settled (from t′ (a .columns) (circles# (a .index)) (a .query)) (gone a) (a .index) k b b′ given
+      → Settled (from t′ (a .columns) (circles# (a .index)) (a .query)) (gone a) (a .index) (a .wanted) b b′ given
   settled-wanted b b′ given Z =
       let as₀ = same-answers x′ (gone a) n (a .wanted) k ek in
       record {
@@ -182,7 +185,7 @@ fits a room b fit k ek z =
     let h = rooms (rowsOf t c) (a .wanted) room (length (b .how)) (length (b .work)) (C .numbers .room) in
     let some : a .wanted ≢ 0 = eqb-false (a .wanted) 0 (C .numbers .some) in
     record {
-      tested = tested t c (nearestAsks t c q (a .wanted) room (length (b .how)) (length (b .work))) (a .index) refl refl C;
+      tested = tested t c (nearestAsks t c q (a .wanted) room (length (b .how)) (length (b .work))) (a .index) q refl refl C;
       query = eqb-true (length q) c (not-false (eqb (length q) c) (C .numbers .like));
       few = (omega arith, λ l. omega (arith, some));
       rows = omega (arith, h .0, fit .0);
@@ -190,6 +193,14 @@ fits a room b fit k ek z =
       bytes = omega (arith, h .1);
       words = omega (arith, h .2);
     }
+
+-- and the query stands on the circles of the index
+pub query-round : (a : NearestAsked) (room : ℕ) (b : NearestLent) → saidOf a room b ≡ 0 → Round (a .columns) (circles# (a .index)) (a .query)
+query-round a room b z =
+    let C = not-refused (a .table) (a .columns) (a .index) (a .query) (a .wanted) (a .withdrawn) room (length (b .how)) (length (b .work)) z in
+    let like : length (a .query) ≡ a .columns =
+    eqb-true (length (a .query)) (a .columns) (not-false (eqb (length (a .query)) (a .columns)) (C .numbers .like)) in
+    round-query (a .query) (a .columns) (circles# (a .index)) like (C .query)
 
 module _ (a : NearestAsked) (b : NearestLent) {number room : ℕ} (fit : (room ≤ length (b .rows)) × (room ≤ length (b .distances)))
     (said-is : number ≡ saidOf a room b) where
@@ -223,7 +234,10 @@ module _ (a : NearestAsked) (b : NearestLent) {number room : ℕ} (fit : (room �
         beyond = λ e. D .beyond;
         sound = λ e. sound-wanted (away a) (gone a) (n# w) (a .wanted) k ek (left-most a) (D .sound);
         counted = λ e. em ∙ ap (λ (n : ℕ). measured (take n (b′ .how))) en;
-        found = λ e t′ A. settled-wanted a t′ k ek A b b′ given (D .found (from t′ (a .columns) (a .query)) (serves-fits a t′ k ek A));
+        found = λ e t′ A.
+            let round = query-round a room b (sym said-is ∙ z) in
+            settled-wanted a t′ k ek A round b b′ given
+            (D .found (from t′ (a .columns) (circles# (a .index)) (a .query)) (serves-fits a t′ k ek A round));
       }
 
 -- the same with the room said in another way

@@ -10,22 +10,28 @@ use Rattle.laws.proofs.Tests.{is-true, refute}
 use Rattle.laws.specs.Every.{Every}
 use Rattle.laws.specs.Lists.{has, keep, range, tally}
 use Rattle.limits.specs.Limits.{maxRows}
+use Rattle.limits.specs.declared.Asked.{Asked}
 use Rattle.measure.proofs.Metric.{query-point}
-use Rattle.measure.specs.Table.{between, from, row, rowsOf}
+use Rattle.measure.specs.Space.{Point}
+use Rattle.measure.specs.Table.{Rounded, between, from, row, rowsOf}
 use Rattle.nearest_search.proofs.HowBytes.{near-length}
 use Rattle.nearest_search.specs.Asked.{NearestAsked, NearestLent, asks, away, gone, lends, rowsIn}
 use Rattle.nearest_search.specs.Found.{Settled}
-use Rattle.nearest.proofs.Contract.{byte-measured, left-most}
+use Rattle.nearest.proofs.Contract.{byte-measured, left-most, query-round}
 use Rattle.nearest.proofs.Ranking.{answers-ranked, answers-remain}
 use Rattle.nearest.proofs.Refusals.{not-refused, rooms}
 use Rattle.nearest.specs.Calls.{Answered, Serves}
+use Rattle.nearest.specs.Numbers.{nearestAsks}
 use Rattle.nearest.specs.Ranked.{ahead}
+use Rattle.refusals.proofs.Refusals.{Clear}
+use Rattle.refusals.proofs.Tested.{clear-rounded}
 use Rattle.tree.proofs.Answers.{answers-length, candidates-length, near-at, passes-all, passes-near}
 use Rattle.tree.proofs.Sorted.{sort-every, sort-sorted, sorted-take, under-last}
 use Rattle.tree.proofs.Theorems.{home-below}
 use Rattle.tree.specs.Check.{Accepted}
 use Rattle.tree.specs.Grove.{treeOf}
 use Rattle.tree.specs.Nearest.{answers, candidates, isMeasured, lastDistance, measured, nearHow, passes, remaining, sort}
+use Rattle.words.specs.Words.{circles#}
 use borrow.Author.Tests.{le-leb, le-ltb, leb-true}
 use lib.Dec.{T, leb}
 use lib.ListN.{List·getD-append, drop, getD, length, length-map, length-take, take}
@@ -88,11 +94,30 @@ tally-rows f g (v ∷ l) a h =
 -- ---- a call that is not refused, where a table serves
 module _ {asked : NearestAsked} {room : ℕ} {lent lent′ : NearestLent} {number given met : ℕ} (s : Answered asked room lent lent′ number given met)
     (done : number ≡ 0) where
+  -- nothing refuses the call
+  clear-is : Clear (nearestAsks (asked .table) (asked .columns) (asked .query) (asked .wanted) room (length (lent .how)) (length (lent .work)))
+      (asked .table)
+      (asked .index) (asked .query)
+  clear-is =
+      not-refused (asked .table) (asked .columns) (asked .index) (asked .query) (asked .wanted) (asked .withdrawn) room (length (lent .how))
+      (length (lent .work)) (sym (s .said) ∙ done)
+
+  -- the table stands on the circles of the index
+  rounded-is : Rounded (asked .table) (asked .columns) (circles# (asked .index))
+  rounded-is = clear-rounded (asked .table) (asked .columns) asks# (asked .index) (asked .query) refl refl clear-is
+    where
+      asks# : Asked
+      asks# = nearestAsks (asked .table) (asked .columns) (asked .query) (asked .wanted) room (length (lent .how)) (length (lent .work))
+
+  -- and the query is a point of its space
+  point-is : Point (between (asked .table) (asked .columns) (circles# (asked .index))) (away asked)
+  point-is =
+      query-point (asked .table) (asked .columns) (circles# (asked .index)) (asked .query) rounded-is
+      (query-round asked room lent (sym (s .said) ∙ done))
+
   -- the table has as many rows as the index
   rows-are : rowsOf (asked .table) (asked .columns) ≡ rowsIn asked
-  rows-are =
-      sym (not-refused (asked .table) (asked .columns) (asked .index) (asked .query) (asked .wanted) (asked .withdrawn) room (length (lent .how))
-      (length (lent .work)) (sym (s .said) ∙ done) .rows)
+  rows-are = sym (clear-is .rows)
 
   module _ (x : ℕ → ℕ) (Z : Settled x (gone asked) (asked .index) (asked .wanted) lent lent′ given) where
     -- as many are written as are given
@@ -159,7 +184,7 @@ withdrawn-never {asked} {room} {lent} {lent′} {number} {given} {met} s done i 
 
 -- ---- a call that is not refused, on an index that the full check accepts with its table
 module _ {asked : NearestAsked} {room : ℕ} {lent lent′ : NearestLent} {number given met : ℕ} (s : Answered asked room lent lent′ number given met)
-    (done : number ≡ 0) (A : Accepted (between (asked .table) (asked .columns)) (asked .index)) where
+    (done : number ≡ 0) (A : Accepted (between (asked .table) (asked .columns) (circles# (asked .index))) (asked .index)) where
   -- how far the query is from a row
   abbrev x : ℕ → ℕ
   x = away asked
@@ -171,7 +196,7 @@ module _ {asked : NearestAsked} {room : ℕ} {lent lent′ : NearestLent} {numbe
   -- EXACT: THE ANSWERS ARE THE FIRST OF ALL ROWS THAT REMAIN BY DISTANCE, THEN ROW NUMBER, AS MANY AS ARE WANTED OR REMAIN, AND THE HOW-BYTES
   -- FOLLOW FROM HOME BOUNDS
   pub nearest-exact : Settled (away asked) (gone asked) (asked .index) (asked .wanted) lent lent′ given
-  nearest-exact = s .found done (asked .table) (record { rows = rows-are s done; accepted = A; agree = λ i h m. refl })
+  nearest-exact = s .found done (asked .table) (record { rows = rows-are s done; round = rounded-is s done; accepted = A; agree = λ i h m. refl })
 
   -- MEASURED: A ROW'S HOW-BYTE IS 1 OR 3 EXACTLY IF ITS HOME BOUND IS AT MOST D
   pub nearest-measured : asked .wanted ≤ remaining (gone asked) (rowsIn asked) → (i : ℕ) → i < rowsIn asked
@@ -188,8 +213,7 @@ module _ {asked : NearestAsked} {room : ℕ} {lent lent′ : NearestLent} {numbe
           → T (isMeasured (cond a 3 (cond b 1 0))) ↔ (hb i ≤ lastDistance (answers x (gone asked) (rowsIn asked) (asked .wanted)))
       go true b ea eb = (
         λ m. answer-near x hb (gone asked) (rowsIn asked) (asked .wanted) i
-            (λ r l. home-below (between (asked .table) (asked .columns)) (asked .index) A x
-            (query-point (asked .table) (asked .columns) (asked .query)) r l) ea,
+            (λ r l. home-below (between (asked .table) (asked .columns) (circles# (asked .index))) (asked .index) A x (point-is s done) r l) ea,
         λ m. tt,
       )
       go false true ea eb = (λ m. passes-only x (gone asked) (rowsIn asked) (asked .wanted) (hb i) few eb, λ m. tt)
@@ -256,6 +280,7 @@ module _ {asked : NearestAsked} {room : ℕ} {lent lent′ : NearestLent} {numbe
       let Z₂ = s₂ .found done₂ (asked .table)
       (record {
         rows = rows-are s done;
+        round = rounded-is s done;
         accepted = A;
         agree = λ i h m. sym (agree i h (subst (λ (v : ℕ). T (isMeasured v)) (sym (byte-at s done x Z i h)) m));
       }) in
@@ -322,7 +347,8 @@ module _ {asked : NearestAsked} {room : ℕ} {lent lent₁ lent₂ : NearestLent
           let e = Z₁ .bytes ∙ sym (Z₂ .bytes) in
           let one : given₁ ≡ given₂ = nearest-open .2 z .5 in
           let beyond : (f : ℕ × ℕ → ℕ) (l : List ℕ) → ℕ → List ℕ =
-          λ f l k. map f (answers (from t′ (asked .columns) (asked .query)) (gone asked) (rowsIn asked) (asked .wanted)) ++ drop k l in (
+          λ f l k. map f (answers (from t′ (asked .columns) (circles# (asked .index)) (asked .query)) (gone asked) (rowsIn asked)
+          (asked .wanted)) ++ drop k l in (
             one-number,
             (
               one,

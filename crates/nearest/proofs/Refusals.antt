@@ -6,9 +6,9 @@ use Rattle.limits.specs.Said.{Said, fault, said, tabled}
 use Rattle.limits.specs.declared.Asked.{Asked}
 use Rattle.measure.specs.Table.{rowsOf}
 use Rattle.nearest.specs.Numbers.{nearestAsks, nearestShort, saidNearest}
+use Rattle.refusals.proofs.Refusals.{Clear, call-early, clear, clear-none}
+use Rattle.refusals.specs.Refused.{callFaults}
 use Rattle.rowset.specs.Sets.{setBad}
-use Rattle.words.proofs.Indexes.{Clear, call-early, clear, clear-none}
-use Rattle.words.specs.Index.{callFaults}
 use borrow.Author.Tests.{eq-eqb, le-ltb, ltb-false, ne-eqb}
 use lib.Dec.{eqb, ltb}
 use lib.ListN.{length}
@@ -37,7 +37,7 @@ module _ (t : List ℕ) (c : ℕ) (w q : List ℕ) (wanted : ℕ) (s : List ℕ)
 
   -- what refuses but for the set
   abbrev call : List Said
-  call = callFaults asked w
+  call = callFaults asked t w q
 
   -- 20
   abbrev last : List Said
@@ -45,39 +45,39 @@ module _ (t : List ℕ) (c : ℕ) (w q : List ℕ) (wanted : ℕ) (s : List ℕ)
 
   -- all but the last are numbered
   numbered : Numbered call
-  numbered = early-numbered call (call-early asked w)
+  numbered = early-numbered call (call-early asked t w q)
 
   -- ---- one law for each return of the code
   -- numbers or the index refuse the call
-  pub by-call : {v : ℕ} → v ≡ said (callFaults (nearestAsks t c q wanted room how work) w) .0 → (v ≡ 0 → ⊥)
+  pub by-call : {v : ℕ} → v ≡ said (callFaults (nearestAsks t c q wanted room how work) t w q) .0 → (v ≡ 0 → ⊥)
       → v ≡ saidNearest t c w q wanted s room how work .0
   unfolding saidNearest
   by-call e h = e ∙ ap numberOf (says-first call last (λ z. h (e ∙ z)))
 
   -- they do not, and the set decides
-  by-set : {v n : ℕ} {b : Bool} → v ≡ said (callFaults (nearestAsks t c q wanted room how work) w) .0 → v ≡ 0 → n ≡ rowsOf t c → b ≡ setBad s n
+  by-set : {v n : ℕ} {b : Bool} → v ≡ said (callFaults (nearestAsks t c q wanted room how work) t w q) .0 → v ≡ 0 → n ≡ rowsOf t c → b ≡ setBad s n
       → said (fault 20 b) .0 ≡ saidNearest t c w q wanted s room how work .0
   unfolding saidNearest
   by-set {v} {n} {b} e z en eb =
       ap (λ (b : Bool). said (fault 20 b) .0) (eb ∙ ap (setBad s) en) ∙ ap numberOf (says-next call last numbered (sym e ∙ z))
 
   -- it is wrong
-  pub by-wrong-set : {v n : ℕ} {b : Bool} → v ≡ said (callFaults (nearestAsks t c q wanted room how work) w) .0 → v ≡ 0 → n ≡ rowsOf t c
+  pub by-wrong-set : {v n : ℕ} {b : Bool} → v ≡ said (callFaults (nearestAsks t c q wanted room how work) t w q) .0 → v ≡ 0 → n ≡ rowsOf t c
       → b ≡ setBad s n
       → b ≡ true → 20 ≡ saidNearest t c w q wanted s room how work .0
   by-wrong-set e z en eb wrong = sym (ap (λ (b : Bool). said (fault 20 b) .0) wrong) ∙ by-set e z en eb
 
   -- it is right
-  pub by-right-set : {v n : ℕ} {b : Bool} → v ≡ said (callFaults (nearestAsks t c q wanted room how work) w) .0 → v ≡ 0 → n ≡ rowsOf t c
+  pub by-right-set : {v n : ℕ} {b : Bool} → v ≡ said (callFaults (nearestAsks t c q wanted room how work) t w q) .0 → v ≡ 0 → n ≡ rowsOf t c
       → b ≡ setBad s n
       → b ≡ false → 0 ≡ saidNearest t c w q wanted s room how work .0
   by-right-set e z en eb right = sym (ap (λ (b : Bool). said (fault 20 b) .0) right) ∙ by-set e z en eb
 
   -- ---- with 0
   -- nothing refuses the call
-  pub not-refused : saidNearest t c w q wanted s room how work .0 ≡ 0 → Clear (nearestAsks t c q wanted room how work) w
+  pub not-refused : saidNearest t c w q wanted s room how work .0 ≡ 0 → Clear (nearestAsks t c q wanted room how work) t w q
   unfolding saidNearest
-  not-refused z = clear asked w (says-none call last numbered z .0)
+  not-refused z = clear asked t w q (says-none call last numbered z .0)
 
   -- the set has the words for the rows, and no bit that is no row's
   pub set-right : saidNearest t c w q wanted s room how work .0 ≡ 0 → setBad s (rowsOf t c) ≡ false
@@ -85,13 +85,13 @@ module _ (t : List ℕ) (c : ℕ) (w q : List ℕ) (wanted : ℕ) (s : List ℕ)
   set-right z = fault-not 20 (setBad s (rowsOf t c)) (omega arith) (says-none call last numbered z .1)
 
   -- ---- a right table with its index, rooms enough, a query of c numbers, and some wanted
-  module _ (C : Clear (tabled (length t) c) w) (h : (min wanted (rowsOf t c) ≤ room) × (rowsOf t c ≤ how) × (6 * rowsOf t c ≤ work))
+  module _ (C : Clear (tabled (length t) c) t w q) (h : (min wanted (rowsOf t c) ≤ room) × (rowsOf t c ≤ how) × (6 * rowsOf t c ≤ work))
       (e : length q ≡ c)
       (k : wanted ≢ 0) where
     -- only the set can refuse the call
-    no-other : 0 ≡ said (callFaults (nearestAsks t c q wanted room how work) w) .0
+    no-other : 0 ≡ said (callFaults (nearestAsks t c q wanted room how work) t w q) .0
     no-other =
-        clear-none asked w
+        clear-none asked t w q
         (record {
           numbers =
               record {
@@ -105,6 +105,8 @@ module _ (t : List ℕ) (c : ℕ) (w q : List ℕ) (wanted : ℕ) (s : List ℕ)
           rows = C .rows;
           columns = C .columns;
           shape = C .shape;
+          table = C .table;
+          query = C .query;
         })
 
     -- a right set does not

@@ -1,23 +1,26 @@
 -- What the nearest calls promise. Assumes nothing.
 use Prim.Native.Nat.{_*_, _<_, ℕ}
-use Rattle.measure.specs.Table.{between, from, row, rowsOf}
+use Rattle.measure.specs.Table.{Rounded, between, from, row, rowsOf}
 use Rattle.nearest_search.specs.Asked.{NearestAsked, NearestLent, away, gone, positionsLeft, rowsIn}
 use Rattle.nearest_search.specs.Found.{Settled, SoundAnswers}
 use Rattle.nearest.specs.Numbers.{saidNearest}
 use Rattle.tree.specs.Check.{Accepted}
 use Rattle.tree.specs.Grove.{treeOf}
 use Rattle.tree.specs.Nearest.{isMeasured, measured, nearHow}
+use Rattle.words.specs.Words.{circles#}
 use lib.Dec.{T}
 use lib.ListN.{drop, getD, length, replicate, take}
 use mathlib.Core.List.{List, _++_}
 use mathlib.Core.Path.{_≡_}
 
--- the table t′ fits the index, and the table asked about agrees with it in every row that the search on t′ measures
+-- the table t′ stands on the circles of the index and fits it, and the table asked about agrees with it in every row that the search on t′ measures
 pub record Serves (a : NearestAsked) (t′ : List ℕ) : Type 0 where
   pub rows : rowsOf t′ (a .columns) ≡ rowsIn a
-  pub accepted : Accepted (between t′ (a .columns)) (a .index)
+  pub round : Rounded t′ (a .columns) (circles# (a .index))
+  pub accepted : Accepted (between t′ (a .columns) (circles# (a .index))) (a .index)
   pub agree : (i : ℕ) → i < rowsIn a
-      → T (isMeasured (getD (nearHow (from t′ (a .columns) (a .query)) (gone a) (rowsIn a) (treeOf (a .index)) (a .wanted)) i 0))
+      → T (isMeasured (getD (nearHow (from t′ (a .columns) (circles# (a .index)) (a .query)) (gone a) (rowsIn a) (treeOf (a .index))
+      (a .wanted)) i 0))
       → row (a .table) (a .columns) i ≡ row t′ (a .columns) i
 
 -- what is said of what is asked, with room for so many answers, and lent
@@ -44,4 +47,5 @@ pub record Answered (a : NearestAsked) (room : ℕ) (b b′ : NearestLent) (numb
   pub counted : number ≡ 0 → met ≡ measured (take (rowsIn a) (b′ .how))
   -- 01, Which rows are measured, Nearest: answers and how-bytes are those of any table that fits the index and with which the lent one agrees
   -- in the rows measured. With the lent table itself this says what the answers are; with another it is the statement on two tables
-  pub found : number ≡ 0 → (t′ : List ℕ) → Serves a t′ → Settled (from t′ (a .columns) (a .query)) (gone a) (a .index) (a .wanted) b b′ given
+  pub found : number ≡ 0 → (t′ : List ℕ) → Serves a t′ → Settled (from t′ (a .columns) (circles# (a .index)) (a .query)) (gone a) (a .index)
+      (a .wanted) b b′ given

@@ -50,7 +50,7 @@ fn refusal(
         unlike: query.len() != c,
         none: wanted == 0,
     };
-    let number = words::index::refusal(asked, index);
+    let number = refusals::refusal(asked, table, index, query);
     if number != 0 {
         return number;
     }

@@ -1,4 +1,5 @@
-// The nearest call, run. A line for each case: its number in two digits, how many answers there are, how many rows were measured; six row numbers, which are 9
+// The nearest call, run. A line for each case: its number in two digits, how many answers there are, how many rows were measured; six row numbers,
+// which are 9
 // before; six distances, which are 99 before; eight how-bytes, which are 9 before; and words 0, 29 and 30 of the workspace, which are 9 before.
 ghost use lib.ListN.{length};
 ghost use mathlib.Core.Path.{_≡_};
@@ -171,6 +172,34 @@ fn two_columns() {
     show(&[1, 2, 3, 4, 10, 10], 2, &index, &[3, 3], 1, &[0]);
 }
 
+// The rows 3595, 5 and 1800 of one column that is a circle, all in one leaf. 19: a query of 3600, and no set.
+fn round_rows() {
+    let index = [
+        2,
+        3,
+        1,
+        2,
+        4,
+        1,
+        1,
+        1,
+        0,
+        3,
+        0,
+        1795,
+        10,
+        0,
+        0,
+        1,
+        10,
+        2,
+        1795,
+    ];
+    let table = [3595, 5, 1800];
+    show(&table, 1, &index, &[3590], 2, &[0]);
+    show(&table, 1, &index, &[3600], 2, &[]);
+}
+
 fn no_row() {
     show(&[], 1, &[2, 0, 1, 2, 2, 0, 1, 0], &[3], 7, &[]);
 }
@@ -288,7 +317,8 @@ fn wrong_index() {
     changed(33, 5);
 }
 
-// 0: row 1 stands twice and row 4 not at all, which no table fits. Shown is what is settled even so: the number, how many are given, what lies beyond,
+// 0: row 1 stands twice and row 4 not at all, which no table fits. Shown is what is settled even so: the number, how many are given, what lies
+// beyond,
 // and the zero workspace. With row 1 withdrawn there are three positions whose rows remain, though four rows do.
 fn row_twice(wanted: usize, withdrawn: u32) {
     let mut index = five_index();
@@ -334,6 +364,7 @@ fn main() {
     equal_rows(1);
     equal_rows(3);
     two_columns();
+    round_rows();
     no_row();
     wrong_columns(0);
     wrong_columns(17);

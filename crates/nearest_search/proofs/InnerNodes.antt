@@ -24,17 +24,17 @@ use Rattle.tree.specs.Grove.{reach#}
 use Rattle.tree.specs.Homes.{childBound}
 use Rattle.words.specs.InShape.{InShape}
 use Rattle.words.specs.Shape.{inner}
-use Rattle.words.specs.Words.{N#, at, child#, count#, first#, m#, n#, row#, start#}
+use Rattle.words.specs.Words.{N#, at, child#, circles#, count#, first#, m#, n#, row#, start#}
 use mathlib.Core.Bool.{true}
 use mathlib.Core.List.{List, _++_, map}
 use mathlib.Core.Path.{_∙_, _≡_, ap, ap₂, refl, subst, sym}
 use native.Mathlib.Omega.{arith}
 
 module _ (t : List ℕ) (c : ℕ) (q w : List ℕ) (wanted : ℕ) (struck : List ℕ) (how work : List ℕ) (len held k b : ℕ)
-    (T : CanTake (asks t c w q wanted struck) how work len held (node k b (from t c q (first# w k)))) (some : 0 < child# w k) where
+    (T : CanTake (asks t c w q wanted struck) how work len held (node k b (from t c (circles# w) q (first# w k)))) (some : 0 < child# w k) where
   -- how far the query is from a row
   abbrev x : ℕ → ℕ
-  x = from t c q
+  x = from t c (circles# w) q
 
   -- the node's first is at u
   abbrev u : ℕ
@@ -188,15 +188,15 @@ module _ (t : List ℕ) (c : ℕ) (q w : List ℕ) (wanted : ℕ) (struck : List
   -- ---- the same, as the code holds the numbers: a is the first child's number, m how many there are
   -- what measuring the centres asks
   pub inner-asks : (n a m : ℕ) → n ≡ n# w → a ≡ child# w k → m ≡ m# w
-      → Ready t c q (isIn struck) n wanted how work held × (InShape w × (n ≡ n# w) × (a < a + m) × (a + m ≤ N# w))
+      → Ready t c (circles# w) q (isIn struck) n wanted how work held × (InShape w × (n ≡ n# w) × (a < a + m) × (a + m ≤ N# w))
   inner-asks n a m en ea em = (
-    ready-at t c q w (isIn struck) wanted how work held n en (T .ready),
+    ready-at t c q w (isIn struck) wanted how work held n (circles# w) en refl (T .ready),
     (T .room .shape, en, omega (arith, T .room .shape .whole .fan .0), omega (arith, kids-there)),
   )
 
   -- what queueing the children asks
   pub inner-then : (how′ work₁ : List ℕ) (n a m held′ : ℕ) → n ≡ n# w → a ≡ child# w k → m ≡ m# w
-      → GrewAlone (from t c q) (isIn struck) n wanted how how′ work work₁ held held′ (firstsTo w a (a + m - (a + 1)))
+      → GrewAlone (from t c (circles# w) q) (isIn struck) n wanted how how′ work work₁ held held′ (firstsTo w a (a + m - (a + 1)))
       → FrontierRoom w work₁ n len (m# w)
   inner-then how′ work₁ n a m held′ en ea em =
       subst (λ (a : ℕ). GrewAlone x (isIn struck) n wanted how how′ work work₁ held held′ (firstsTo w a (a + m - (a + 1)))
@@ -206,9 +206,10 @@ module _ (t : List ℕ) (c : ℕ) (q w : List ℕ) (wanted : ℕ) (struck : List
   -- and what comes of it: the node is taken
   pub inner-done : (how′ work₁ work₂ : List ℕ) (n a m kids y last len′ held′ : ℕ) → n ≡ n# w → a ≡ child# w k → m ≡ m# w → kids ≡ m# w
       → last ≡ lastOf work₁ (3 * n) wanted held′
-      → GrewAlone (from t c q) (isIn struck) n wanted how how′ work work₁ held held′ (firstsTo w a (a + m - (a + 1)))
+      → GrewAlone (from t c (circles# w) q) (isIn struck) n wanted how how′ work work₁ held held′ (firstsTo w a (a + m - (a + 1)))
       → y ≡ leastKept w work₁ a (a + m - (a + 1)) → More work₁ work₂ len kids (λ (i : ℕ). noded w work₁ b y (a + i)) last len′
-      → Taken w (from t c q) (isIn struck) wanted how how′ work work₂ len len′ held held′ (node k b (from t c q (first# w k)))
+      → Taken w (from t c (circles# w) q) (isIn struck) wanted how how′ work work₂ len len′ held held′
+      (node k b (from t c (circles# w) q (first# w k)))
   inner-done how′ work₁ work₂ n a m kids y last len′ held′ en ea em all el =
       subst
       (λ (a : ℕ). GrewAlone x (isIn struck) n wanted how how′ work work₁ held held′ (firstsTo w a (a + m - (a + 1)))

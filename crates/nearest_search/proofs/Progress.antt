@@ -26,7 +26,7 @@ use Rattle.queue.specs.Entry.{keyOf}
 use Rattle.queue.specs.Queue.{Popped, entries}
 use Rattle.rowset.specs.Sets.{isIn}
 use Rattle.words.specs.InShape.{InShape}
-use Rattle.words.specs.Words.{at, edition#, n#}
+use Rattle.words.specs.Words.{at, circles#, edition#, n#}
 use lib.ListN.{getD}
 use mathlib.Core.List.{List, _++_, _∷_}
 use mathlib.Core.Logic.{_↔_}
@@ -37,7 +37,7 @@ use native.Mathlib.Omega.{arith}
 module _ (t : List ℕ) (c : ℕ) (q w : List ℕ) (wanted : ℕ) (struck : List ℕ) (S : InShape w) where
   -- how far the query is from a row
   abbrev x : ℕ → ℕ
-  x = from t c q
+  x = from t c (circles# w) q
 
   -- A BOUND IS AT MOST THE LAST DISTANCE EXACTLY WHERE FEWER MEASURED ROWS ARE CLOSER THAN ARE WANTED
   due-at : (how work : List ℕ) (held b : ℕ) → Stands x (isIn struck) (n# w) wanted how work held
@@ -116,9 +116,9 @@ module _ (t : List ℕ) (c : ℕ) (q w : List ℕ) (wanted : ℕ) (struck : List
       others-sound = omega (arith, bag (amiss w how), St .sound)
 
       -- THE ITEM CAN BE TAKEN
-      pub takes : edition# w ≡ 2 → CanTake (asks t c w q wanted struck) how work₁ (len - 1) held (itemOf w (from t c q) v)
+      pub takes : edition# w ≡ 2 → CanTake (asks t c w q wanted struck) how work₁ (len - 1) held (itemOf w (from t c (circles# w) q) v)
       takes two = record {
-        ready = ready-on t c q (isIn struck) (n# w) wanted how how work work₁ held held (St .ready) popped-stands;
+        ready = ready-on t c (circles# w) q (isIn struck) (n# w) wanted how how work work₁ held held (St .ready) popped-stands;
         room = record {
           shape = S;
           edition = two;
@@ -158,7 +158,8 @@ module _ (t : List ℕ) (c : ℕ) (q w : List ℕ) (wanted : ℕ) (struck : List
 
       -- ---- the item is taken
       module _ (how′ work₂ : List ℕ) (len′ held′ : ℕ)
-          (D : Taken w (from t c q) (isIn struck) wanted how how′ work₁ work₂ (len - 1) len′ held held′ (itemOf w (from t c q) v)) where
+          (D : Taken w (from t c (circles# w) q) (isIn struck) wanted how how′ work₁ work₂ (len - 1) len′ held held′
+          (itemOf w (from t c (circles# w) q) v)) where
         -- what it opens
         abbrev opened : List IndexItem
         opened = openedBy w x item
@@ -220,7 +221,7 @@ module _ (t : List ℕ) (c : ℕ) (q w : List ℕ) (wanted : ℕ) (struck : List
         pub round : 1 ≤ n# w → (n d key : ℕ) → n ≡ n# w → d ≡ lastOf work₁ (3 * n) wanted held → key ≡ keyOf v → key ≤ greatestWord → key ≤ d
             → SearchState (asks t c w q wanted struck) how′ work₂ len′ held′
         round filled n d key en ed ek word due = record {
-          ready = ready-on t c q (isIn struck) (n# w) wanted how how′ work work₂ held held′ (St .ready) (D .grew .stands);
+          ready = ready-on t c (circles# w) q (isIn struck) (n# w) wanted how how′ work work₂ held held′ (St .ready) (D .grew .stands);
           queue = D .queue;
           sound = omega (
             arith,

@@ -9,14 +9,14 @@ use Rattle.laws.specs.Bags.{is, total, upto}
 use Rattle.laws.specs.Outside.{Outside}
 use Rattle.measure.specs.Table.{from}
 use Rattle.nearest_search.proofs.Growing.{grew-front, grew-none}
-use Rattle.nearest_search.proofs.Staying.{front-alone, frontier-stays, last-then, ready-at}
+use Rattle.nearest_search.proofs.Staying.{front-alone, frontier-stays, grew-by, last-then, ready-at}
 use Rattle.nearest_search.specs.Asked.{asks}
 use Rattle.nearest_search.specs.Rounds.{CanTake, Taken}
 use Rattle.nearest_search.specs.Standing.{GrewAlone, Ready}
 use Rattle.queue.specs.Entry.{idOf, keyOf}
 use Rattle.rowset.specs.Sets.{isIn}
 use Rattle.words.specs.InShape.{InShape}
-use Rattle.words.specs.Words.{N#, at, child#, count#, first#, n#, row#, start#}
+use Rattle.words.specs.Words.{N#, at, child#, circles#, count#, first#, n#, row#, start#}
 use mathlib.Core.List.{List, map}
 use mathlib.Core.Path.{_∙_, _≡_, ap, refl, subst, sym}
 use native.Mathlib.Omega.{arith}
@@ -25,7 +25,7 @@ use native.Mathlib.Omega.{arith}
 module _ (t : List ℕ) (c : ℕ) (q w : List ℕ) (wanted : ℕ) (struck : List ℕ) (how work : List ℕ) (len held : ℕ) where
   -- how far the query is from a row
   abbrev x : ℕ → ℕ
-  x = from t c q
+  x = from t c (circles# w) q
 
   -- A POSITION IS TAKEN: its row is measured
   taken-place : (p b : ℕ) → CanTake (asks t c w q wanted struck) how work len held (place p b) → (how′ work′ : List ℕ) (n held′ r : ℕ) → n ≡ n# w
@@ -98,22 +98,24 @@ module _ (t : List ℕ) (c : ℕ) (q w : List ℕ) (wanted : ℕ) (struck : List
 -- ---- by entries, as the code reads them
 module _ (t : List ℕ) (c : ℕ) (q w : List ℕ) (wanted : ℕ) (struck : List ℕ) (how work : List ℕ) (len held e id n : ℕ) (en : n ≡ n# w)
     (ei : id ≡ idOf e)
-    (T : CanTake (asks t c w q wanted struck) how work len held (itemOf w (from t c q) e)) where
+    (T : CanTake (asks t c w q wanted struck) how work len held (itemOf w (from t c (circles# w) q) e)) where
   -- ---- an entry with a node's id
   module _ (key : ℕ) (ek : key ≡ keyOf e) (h : id < 2 * n) where
     -- its item is the node
-    is-node : itemOf w (from t c q) e ≡ node id key (from t c q (first# w id))
-    is-node = node-read w (from t c q) e id key ei ek (omega arith)
+    is-node : itemOf w (from t c (circles# w) q) e ≡ node id key (from t c (circles# w) q (first# w id))
+    is-node = node-read w (from t c (circles# w) q) e id key ei ek (omega arith)
 
     -- the node can be taken where the item can
-    pub node-takes : CanTake (asks t c w q wanted struck) how work len held (node id key (from t c q (first# w id)))
+    pub node-takes : CanTake (asks t c w q wanted struck) how work len held (node id key (from t c (circles# w) q (first# w id)))
     node-takes = subst (CanTake (asks t c w q wanted struck) how work len held) is-node T
 
     -- and where it is taken, the item is
     pub node-taken : (how′ work′ : List ℕ) (len′ held′ : ℕ)
-        → Taken w (from t c q) (isIn struck) wanted how how′ work work′ len len′ held held′ (node id key (from t c q (first# w id)))
-        → Taken w (from t c q) (isIn struck) wanted how how′ work work′ len len′ held held′ (itemOf w (from t c q) e)
-    node-taken how′ work′ len′ held′ D = subst (Taken w (from t c q) (isIn struck) wanted how how′ work work′ len len′ held held′) (sym is-node) D
+        → Taken w (from t c (circles# w) q) (isIn struck) wanted how how′ work work′ len len′ held held′
+        (node id key (from t c (circles# w) q (first# w id)))
+        → Taken w (from t c (circles# w) q) (isIn struck) wanted how how′ work work′ len len′ held held′ (itemOf w (from t c (circles# w) q) e)
+    node-taken how′ work′ len′ held′ D = subst (Taken w (from t c (circles# w) q) (isIn struck) wanted how how′ work work′ len len′ held held′)
+        (sym is-node) D
 
   -- ---- an entry with a position's id
   module _ (h : 2 * n ≤ id) where
@@ -122,8 +124,8 @@ module _ (t : List ℕ) (c : ℕ) (q w : List ℕ) (wanted : ℕ) (struck : List
     p = id - 2 * n
 
     -- its item is the position
-    is-place : itemOf w (from t c q) e ≡ place p (keyOf e)
-    is-place = place-read w (from t c q) e id ei (omega arith) ∙ ap (λ (n : ℕ). place (id - 2 * n) (keyOf e)) (sym en)
+    is-place : itemOf w (from t c (circles# w) q) e ≡ place p (keyOf e)
+    is-place = place-read w (from t c (circles# w) q) e id ei (omega arith) ∙ ap (λ (n : ℕ). place (id - 2 * n) (keyOf e)) (sym en)
 
     -- the position can be taken where the item can
     place-takes : CanTake (asks t c w q wanted struck) how work len held (place p (keyOf e))
@@ -134,13 +136,18 @@ module _ (t : List ℕ) (c : ℕ) (q w : List ℕ) (wanted : ℕ) (struck : List
     place-there = omega (arith, place-takes .sound)
 
     -- its row can be measured
-    pub place-row : (r : ℕ) → r ≡ row# w p → Ready t c q (isIn struck) n wanted how work held × (r < n)
-    place-row r er = (ready-at t c q w (isIn struck) wanted how work held n en (T .ready), omega (arith, T .room .shape .place p place-there .row))
+    pub place-row : (r o : ℕ) → r ≡ row# w p → o ≡ circles# w → Ready t c o q (isIn struck) n wanted how work held × (r < n)
+    place-row r o er eo = (
+      ready-at t c q w (isIn struck) wanted how work held n o en eo (T .ready),
+      omega
+          (arith, T .room .shape .place p place-there .row),
+    )
 
     -- where it is measured, the item is taken
-    pub place-taken : (how′ work′ : List ℕ) (held′ r : ℕ) → r ≡ row# w p
-        → GrewAlone (from t c q) (isIn struck) n wanted how how′ work work′ held held′ (λ (s : ℕ). is s r)
-        → Taken w (from t c q) (isIn struck) wanted how how′ work work′ len len held held′ (itemOf w (from t c q) e)
-    place-taken how′ work′ held′ r er K =
-        subst (Taken w (from t c q) (isIn struck) wanted how how′ work work′ len len held held′) (sym is-place)
-        (taken-place t c q w wanted struck how work len held p (keyOf e) place-takes how′ work′ n held′ r en er K)
+    pub place-taken : (how′ work′ : List ℕ) (held′ r o : ℕ) → r ≡ row# w p → o ≡ circles# w
+        → GrewAlone (from t c o q) (isIn struck) n wanted how how′ work work′ held held′ (λ (s : ℕ). is s r)
+        → Taken w (from t c (circles# w) q) (isIn struck) wanted how how′ work work′ len len held held′ (itemOf w (from t c (circles# w) q) e)
+    place-taken how′ work′ held′ r o er eo K =
+        subst (Taken w (from t c (circles# w) q) (isIn struck) wanted how how′ work work′ len len held held′) (sym is-place)
+        (taken-place t c q w wanted struck how work len held p (keyOf e) place-takes how′ work′ n held′ r en er
+        (grew-by t c q w (isIn struck) n wanted how how′ work work′ held held′ (λ (s : ℕ). is s r) o eo K))

@@ -14,7 +14,7 @@ use Rattle.laws.specs.Upto.{sumTo}
 use Rattle.limits.specs.Limits.{maxRows}
 use Rattle.measure.specs.Table.{from}
 use Rattle.nearest_search.proofs.Filling.{root-row, still-root, sum-one}
-use Rattle.nearest_search.proofs.Staying.{held-stay, ready-on, since-then, since-work, stands-stay}
+use Rattle.nearest_search.proofs.Staying.{grew-by, held-stay, ready-on, since-then, since-work, stands-stay}
 use Rattle.nearest_search.specs.Asked.{NearestAsked, asks, gone, positionsLeft, rowsIn}
 use Rattle.nearest_search.specs.Rounds.{SearchStart, SearchState, amiss, still}
 use Rattle.nearest_search.specs.Standing.{GrewAlone, Ready, Since, Stands, metOf}
@@ -22,7 +22,7 @@ use Rattle.queue.proofs.Queued.{empty-queue}
 use Rattle.queue.specs.Queue.{Pushed, entry}
 use Rattle.rowset.specs.Sets.{isIn}
 use Rattle.words.specs.InShape.{InShape}
-use Rattle.words.specs.Words.{N#, at, first#, n#}
+use Rattle.words.specs.Words.{N#, at, circles#, first#, n#}
 use lib.ListN.{getD, length}
 use mathlib.Core.List.{List, [], _++_, _∷_}
 use mathlib.Core.Path.{_∙_, _≡_, ap, refl, subst, sym}
@@ -30,17 +30,17 @@ use native.Mathlib.Omega.{arith}
 
 -- before it begins a search can measure
 pub blank-ready : (a : NearestAsked) (how work : List ℕ) → SearchStart a how work
-    → Ready (a .table) (a .columns) (a .query) (gone a) (rowsIn a) (a .wanted) how work 0
+    → Ready (a .table) (a .columns) (circles# (a .index)) (a .query) (gone a) (rowsIn a) (a .wanted) how work 0
 blank-ready a how work B = record { stands = B .stands; columns = B .tested .columns; table = B .tested .table; query = B .query }
 
 module _ (t : List ℕ) (c : ℕ) (q w : List ℕ) (wanted : ℕ) (struck : List ℕ) where
   -- how far the query is from a row
   abbrev x : ℕ → ℕ
-  x = from t c q
+  x = from t c (circles# w) q
 
   -- before anything is measured
   pub begin-stands : n# w ≤ maxRows → (how work : List ℕ) → n# w ≤ length how → 6 * n# w ≤ length work → (1 ≤ wanted) × (wanted ≤ n# w)
-      → ((r : ℕ) → r < n# w → at how r ≡ 0) → Stands (from t c q) (isIn struck) (n# w) wanted how work 0
+      → ((r : ℕ) → r < n# w → at how r ≡ 0) → Stands (from t c (circles# w) q) (isIn struck) (n# w) wanted how work 0
   begin-stands small how work hb wb ws z = record {
     queue = empty-queue work (3 * n# w) (omega arith);
     most = omega arith;
@@ -55,8 +55,8 @@ module _ (t : List ℕ) (c : ℕ) (q w : List ℕ) (wanted : ℕ) (struck : List
   }
 
   -- ---- the root's first, r, is measured, and the root is queued
-  module _ (filled : 1 ≤ n# w) (how how₁ work work₁ work₂ : List ℕ) (held n r : ℕ) (en : n ≡ n# w)
-      (K₀ : GrewAlone (from t c q) (isIn struck) n wanted how how₁ work work₁ 0 held (λ (s : ℕ). is s r)) (P : Pushed work₁ work₂ 0 0 0) where
+  module _ (filled : 1 ≤ n# w) (how how₁ work work₁ work₂ : List ℕ) (held n r o : ℕ) (en : n ≡ n# w) (eo : o ≡ circles# w)
+      (K₀ : GrewAlone (from t c o q) (isIn struck) n wanted how how₁ work work₁ 0 held (λ (s : ℕ). is s r)) (P : Pushed work₁ work₂ 0 0 0) where
     -- what lies beyond stays from the start on, as long as it does from there on
     pub begins-since : (how₂ work₃ : List ℕ) → Since (n# w) how₁ how₂ work₂ work₃ → Since (n# w) how how₂ work work₃
     begins-since how₂ work₃ since =
@@ -69,7 +69,8 @@ module _ (t : List ℕ) (c : ℕ) (q w : List ℕ) (wanted : ℕ) (struck : List
       K : GrewAlone x (isIn struck) (n# w) wanted how how₁ work work₁ 0 held (λ (s : ℕ). is s (first# w 0))
       K =
           subst (λ (r : ℕ). GrewAlone x (isIn struck) (n# w) wanted how how₁ work work₁ 0 held (λ (s : ℕ). is s r)) er
-          (subst (λ (n : ℕ). GrewAlone x (isIn struck) n wanted how how₁ work work₁ 0 held (λ (s : ℕ). is s r)) en K₀)
+          (subst (λ (n : ℕ). GrewAlone x (isIn struck) n wanted how how₁ work work₁ 0 held (λ (s : ℕ). is s r)) en
+          (grew-by t c q w (isIn struck) n wanted how how₁ work work₁ 0 held (λ (s : ℕ). is s r) o eo K₀))
 
       -- the words from 2n on stay as the root is queued
       beyond : (i : ℕ) → 2 * n# w ≤ i → getD work₂ i 0 ≡ getD work₁ i 0
@@ -127,9 +128,9 @@ module _ (t : List ℕ) (c : ℕ) (q w : List ℕ) (wanted : ℕ) (struck : List
           bit a b e h = omega arith
 
       -- THE SEARCH BEGINS: the root waits, and its first is measured
-      pub begins-state : Ready t c q (isIn struck) (n# w) wanted how work 0 → SearchState (asks t c w q wanted struck) how₁ work₂ 1 held
+      pub begins-state : Ready t c (circles# w) q (isIn struck) (n# w) wanted how work 0 → SearchState (asks t c w q wanted struck) how₁ work₂ 1 held
       begins-state R = record {
-        ready = ready-on t c q (isIn struck) (n# w) wanted how how₁ work work₂ 0 held R after;
+        ready = ready-on t c (circles# w) q (isIn struck) (n# w) wanted how how₁ work work₂ 0 held R after;
         queue = P .queue;
         sound = root-sound;
         room = omega (arith, ap (total (weight w)) one, S .root filled .count);

@@ -6,12 +6,12 @@ use Rattle.laws.proofs.Outside.{outside-more}
 use Rattle.laws.specs.Bags.{total}
 use Rattle.laws.specs.Outside.{Outside}
 use Rattle.measure.specs.Table.{from}
-use Rattle.nearest_search.specs.Standing.{Ready, Since, Stands}
+use Rattle.nearest_search.specs.Standing.{GrewAlone, Ready, Since, Stands}
 use Rattle.queue.proofs.Entries.{entries-stay}
 use Rattle.queue.proofs.Queued.{queue-stays}
 use Rattle.queue.specs.Entry.{entryAt, packed}
 use Rattle.queue.specs.Queue.{Queue, entries}
-use Rattle.words.specs.Words.{n#}
+use Rattle.words.specs.Words.{circles#, n#}
 use lib.Dec.{ltb}
 use lib.ListN.{getD, length}
 use mathlib.Core.Bool.{Bool, cond}
@@ -92,12 +92,25 @@ since-work n how work work′ lo hi h O = record { bytes = refl; words = O .same
 
 -- ---- what measuring needs
 -- a row of the table can be measured, whatever is known by then
-pub ready-on : (t : List ℕ) (c : ℕ) (q : List ℕ) (gone : ℕ → Bool) (n w : ℕ) (how how′ work work′ : List ℕ) (held held′ : ℕ)
-    → Ready t c q gone n w how work held
-    → Stands (from t c q) gone n w how′ work′ held′ → Ready t c q gone n w how′ work′ held′
-ready-on t c q gone n w how how′ work work′ held held′ R St = record { stands = St; columns = R .columns; table = R .table; query = R .query }
+pub ready-on : (t : List ℕ) (c o : ℕ) (q : List ℕ) (gone : ℕ → Bool) (n w : ℕ) (how how′ work work′ : List ℕ) (held held′ : ℕ)
+    → Ready t c o q gone n w how work held → Stands (from t c o q) gone n w how′ work′ held′ → Ready t c o q gone n w how′ work′ held′
+ready-on t c o q gone n w how how′ work work′ held held′ R St =
+    record { stands = St; columns = R .columns; table = R .table; query = R .query }
 
--- the same for the number of rows as the code holds it
-pub ready-at : (t : List ℕ) (c : ℕ) (q w : List ℕ) (gone : ℕ → Bool) (wanted : ℕ) (how work : List ℕ) (held n : ℕ) → n ≡ n# w
-    → Ready t c q gone (n# w) wanted how work held → Ready t c q gone n wanted how work held
-ready-at t c q w gone wanted how work held n e R = subst (λ (n : ℕ). Ready t c q gone n wanted how work held) (sym e) R
+-- the same for the circles as the code holds them
+pub ready-by : (t : List ℕ) (c : ℕ) (q w : List ℕ) (gone : ℕ → Bool) (n wanted : ℕ) (how work : List ℕ) (held o : ℕ) → o ≡ circles# w
+    → Ready t c (circles# w) q gone n wanted how work held → Ready t c o q gone n wanted how work held
+ready-by t c q w gone n wanted how work held o eo R = subst (λ (o : ℕ). Ready t c o q gone n wanted how work held) (sym eo) R
+
+-- and for the number of rows
+pub ready-at : (t : List ℕ) (c : ℕ) (q w : List ℕ) (gone : ℕ → Bool) (wanted : ℕ) (how work : List ℕ) (held n o : ℕ) → n ≡ n# w → o ≡ circles# w
+    → Ready t c (circles# w) q gone (n# w) wanted how work held → Ready t c o q gone n wanted how work held
+ready-at t c q w gone wanted how work held n o en eo R =
+    ready-by t c q w gone n wanted how work held o eo (subst (λ (n : ℕ). Ready t c (circles# w) q gone n wanted how work held) (sym en) R)
+
+-- what was measured by them, said by the index
+pub grew-by : (t : List ℕ) (c : ℕ) (q w : List ℕ) (gone : ℕ → Bool) (n wanted : ℕ) (how how′ work work′ : List ℕ) (held held′ : ℕ) (g : ℕ → ℕ) (o : ℕ)
+    → o ≡ circles# w → GrewAlone (from t c o q) gone n wanted how how′ work work′ held held′ g
+    → GrewAlone (from t c (circles# w) q) gone n wanted how how′ work work′ held held′ g
+grew-by t c q w gone n wanted how how′ work work′ held held′ g o eo K =
+    subst (λ (o : ℕ). GrewAlone (from t c o q) gone n wanted how how′ work work′ held held′ g) eo K

@@ -3,7 +3,7 @@ use Prim.Native.Nat.{min, ℕ}
 use Rattle.laws.specs.Lists.{range, tally}
 use Rattle.measure.specs.Table.{from}
 use Rattle.rowset.specs.Sets.{isIn}
-use Rattle.words.specs.Words.{n#, row#}
+use Rattle.words.specs.Words.{circles#, n#, row#}
 use mathlib.Core.Bool.{Bool, not}
 use mathlib.Core.List.{List}
 
@@ -31,9 +31,9 @@ asks t c w q wanted s = record { table = t; columns = c; index = w; query = q; w
 abbrev pub lends : List ℕ → List ℕ → List ℕ → List ℕ → NearestLent
 lends rs ds how work = record { rows = rs; distances = ds; how = how; work = work }
 
--- how far the query is from a row of the table
+-- how far the query is from a row of the table, by the circles of the index
 abbrev pub away : NearestAsked → ℕ → ℕ
-away a = from (a .table) (a .columns) (a .query)
+away a = from (a .table) (a .columns) (circles# (a .index)) (a .query)
 
 -- how many rows there are, by the index
 abbrev pub rowsIn : NearestAsked → ℕ

@@ -13,7 +13,7 @@ use Rattle.nearest_search.specs.Asked.{NearestAsked, away, gone, positio
 use Rattle.nearest_search.specs.Standing.{Grew, Ready, Since, Stands, metOf}
 use Rattle.queue.specs.Queue.{Queue, entries}
 use Rattle.tree.specs.Tested.{Tested}
-use Rattle.words.specs.Words.{N#, at, first#, n#}
+use Rattle.words.specs.Words.{N#, at, circles#, first#, n#}
 use lib.ListN.{length}
 use mathlib.Core.Bool.{Bool}
 use mathlib.Core.List.{List, _++_}
@@ -27,7 +27,7 @@ amiss w how (place p b) = suc p - n# w
 
 -- it can be taken: with it gone len entries wait, and there is room for all that it stands for
 pub record CanTake (a : NearestAsked) (how work : List ℕ) (len held : ℕ) (i : IndexItem) : Type 0 where
-  pub ready : Ready (a .table) (a .columns) (a .query) (gone a) (rowsIn a) (a .wanted) how work held
+  pub ready : Ready (a .table) (a .columns) (circles# (a .index)) (a .query) (gone a) (rowsIn a) (a .wanted) how work held
   pub room : FrontierRoom (a .index) work (rowsIn a) len (weight (a .index) i)
   pub sound : amiss (a .index) how i ≡ 0
 
@@ -48,7 +48,7 @@ still w gone i = sumTo (leftOf gone (waitsOf w i)) (n# w)
 -- Between two rounds. No more are held or wait than positions hold a row that remains; where fewer are held than are wanted, nothing was left out:
 -- all of these are held or wait. The last promise is for lent rows that are, where it counts, those of a table that the index fits.
 pub record SearchState (a : NearestAsked) (how work : List ℕ) (len held : ℕ) : Type 0 where
-  pub ready : Ready (a .table) (a .columns) (a .query) (gone a) (rowsIn a) (a .wanted) how work held
+  pub ready : Ready (a .table) (a .columns) (circles# (a .index)) (a .query) (gone a) (rowsIn a) (a .wanted) how work held
   pub queue : Queue work 0 len
   pub sound : total (amiss (a .index) how) (items (a .index) (away a) work len) ≡ 0
   pub room : total (weight (a .index)) (items (a .index) (away a) work len) ≤ rowsIn a

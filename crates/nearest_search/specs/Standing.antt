@@ -57,9 +57,9 @@ pub record GrewAlone (x : ℕ → ℕ) (gone : ℕ → Bool) (n w : ℕ) (how ho
   pub grew : Grew x gone n w how how′ work work′ held held′ g
   pub front : (i : ℕ) → i < distancesAt n → getD work′ i 0 ≡ getD work i 0
 
--- n rows of the table t, of c columns, can be measured from the query q
-pub record Ready (t : List ℕ) (c : ℕ) (q : List ℕ) (gone : ℕ → Bool) (n w : ℕ) (how work : List ℕ) (held : ℕ) : Type 0 where
-  pub stands : Stands (from t c q) gone n w how work held
+-- n rows of the table t, of c columns, of which the set o are circles, can be measured from the query q
+pub record Ready (t : List ℕ) (c o : ℕ) (q : List ℕ) (gone : ℕ → Bool) (n w : ℕ) (how work : List ℕ) (held : ℕ) : Type 0 where
+  pub stands : Stands (from t c o q) gone n w how work held
   pub columns : c ≤ maxColumns
   pub table : c * n ≤ length t
   pub query : length q ≡ c

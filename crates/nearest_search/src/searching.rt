@@ -8,6 +8,7 @@ use frontier::workspace::ANSWERS;
 use queue::key_of;
 use queue::pop;
 use queue::push;
+use words::places::circles;
 use words::places::node_first;
 use words::places::pair_at;
 use words::places::rows;
@@ -30,7 +31,8 @@ pub fn search(
     let n = rows(index);
     let base = pair_at(index, 0);
     let first = node_first(index, 0);
-    let mut held = measure_row(table, c, query, n, w, withdrawn, how, work, 0, first);
+    let o = circles(index);
+    let mut held = measure_row(table, c, o, query, n, w, withdrawn, how, work, 0, first);
     push(work, 0, 0, 0);
     let mut len = 1;
     while 0 < len {

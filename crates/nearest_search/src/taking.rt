@@ -10,7 +10,7 @@ ghost use Rattle.nearest_search.specs.Rounds.{CanTake, Taken};
 ghost use Rattle.nearest_search.specs.Standing.{GrewAlone, Ready};
 ghost use Rattle.rowset.specs.Sets.{isIn};
 ghost use Rattle.words.specs.InShape.{InShape};
-ghost use Rattle.words.specs.Words.{N#, child#, first#, n#, pairAt};
+ghost use Rattle.words.specs.Words.{N#, child#, circles#, first#, n#, pairAt};
 ghost use mathlib.Core.Path.{_≡_};
 use answers_held::enter;
 use answers_held::last;
@@ -25,6 +25,7 @@ use queue::id_of;
 use queue::key_of;
 use rowset::is_in;
 use words::places::centres;
+use words::places::circles;
 use words::places::node_child;
 use words::places::node_first;
 use words::places::word;
@@ -39,6 +40,7 @@ pub struct Sizes {
 pub fn measure_row(
     table: &[u16],
     c: usize,
+    circles: u32,
     query: &[u16],
     n: usize,
     w: usize,
@@ -48,12 +50,12 @@ pub fn measure_row(
     held: usize,
     r: usize,
 ) -> usize
-    requires { ⌜ Ready (now table) c (now query) (isIn (now withdrawn)) n w (now how) (now work) held ⌝ }
+    requires { ⌜ Ready (now table) c circles (now query) (isIn (now withdrawn)) n w (now how) (now work) held ⌝ }
     requires { ⌜ r < n ⌝ }
-    ensures { λ k. ⌜ GrewAlone (from (now (table .entry)) c (now (query .entry))) (isIn (now (withdrawn .entry))) n w
+    ensures { λ k. ⌜ GrewAlone (from (now (table .entry)) c circles (now (query .entry))) (isIn (now (withdrawn .entry))) n w
         (now (how .entry)) (now (how .exit)) (now (work .entry)) (now (work .exit)) held k (λ (s : ℕ). is s r) ⌝ }
 {
-    let d = query_distance(table, c, query, r);
+    let d = query_distance(table, c, circles, query, r);
     how[r] = 1;
     work[DISTANCES * n + r] = d;
     if is_in(withdrawn, r) {
@@ -77,17 +79,18 @@ fn measure_centres(
     a: usize,
     e: usize,
 ) -> usize
-    requires { ⌜ Ready (now table) c (now query) (isIn (now withdrawn)) n w (now how) (now work) held ⌝ }
+    requires { ⌜ Ready (now table) c (circles# (now index)) (now query) (isIn (now withdrawn)) n w (now how) (now work) held ⌝ }
     requires { ⌜ (InShape (now index)) × (n ≡ n# (now index)) × (a < e) × (e ≤ N# (now index)) ⌝ }
-    ensures { λ k. ⌜ GrewAlone (from (now (table .entry)) c (now (query .entry))) (isIn (now (withdrawn .entry))) n w
+    ensures { λ k. ⌜ GrewAlone (from (now (table .entry)) c (circles# (now (index .entry))) (now (query .entry))) (isIn (now (withdrawn .entry))) n w
         (now (how .entry)) (now (how .exit)) (now (work .entry)) (now (work .exit)) held k
         (λ (s : ℕ). sumTo (λ (i : ℕ). is s (first# (now (index .entry)) (a + suc i))) (e - (a + 1))) ⌝ }
 {
+    let o = circles(index);
     let mut k = held;
     let mut j = a + 1;
     while j < e {
         let r = node_first(index, j);
-        k = measure_row(table, c, query, n, w, withdrawn, how, work, k, r);
+        k = measure_row(table, c, o, query, n, w, withdrawn, how, work, k, r);
         j += 1;
     }
     k
@@ -110,12 +113,13 @@ fn open_inner(
     b: u32,
 ) -> Sizes
     requires { ⌜ CanTake (asks (now table) c (now index) (now query) w (now withdrawn)) (now how) (now work) len held
-        (node k b (from (now table) c (now query) (first# (now index) k))) ⌝ }
+        (node k b (from (now table) c (circles# (now index)) (now query) (first# (now index) k))) ⌝ }
     requires { ⌜ (n ≡ n# (now index)) × (0 < child# (now index) k) ⌝ }
-    ensures { λ s. ⌜ Taken (now (index .entry)) (from (now (table .entry)) c (now (query .entry))) (isIn (now (withdrawn .entry))) w
+    ensures { λ s. ⌜ Taken (now (index .entry)) (from (now (table .entry)) c (circles# (now (index .entry))) (now (query .entry)))
+        (isIn (now (withdrawn .entry))) w
         (now (how .entry)) (now (how .exit))
         (now (work .entry)) (now (work .exit)) len (s .len) held (s .held)
-        (node k b (from (now (table .entry)) c (now (query .entry)) (first# (now (index .entry)) k))) ⌝ }
+        (node k b (from (now (table .entry)) c (circles# (now (index .entry))) (now (query .entry)) (first# (now (index .entry)) k))) ⌝ }
 {
     let a = node_child(index, k);
     let e = a + centres(index);
@@ -159,12 +163,13 @@ fn open_node(
     b: u32,
 ) -> Sizes
     requires { ⌜ CanTake (asks (now table) c (now index) (now query) w (now withdrawn)) (now how) (now work) len held
-        (node k b (from (now table) c (now query) (first# (now index) k))) ⌝ }
+        (node k b (from (now table) c (circles# (now index)) (now query) (first# (now index) k))) ⌝ }
     requires { ⌜ n ≡ n# (now index) ⌝ }
-    ensures { λ s. ⌜ Taken (now (index .entry)) (from (now (table .entry)) c (now (query .entry))) (isIn (now (withdrawn .entry))) w
+    ensures { λ s. ⌜ Taken (now (index .entry)) (from (now (table .entry)) c (circles# (now (index .entry))) (now (query .entry)))
+        (isIn (now (withdrawn .entry))) w
         (now (how .entry)) (now (how .exit))
         (now (work .entry)) (now (work .exit)) len (s .len) held (s .held)
-        (node k b (from (now (table .entry)) c (now (query .entry)) (first# (now (index .entry)) k))) ⌝ }
+        (node k b (from (now (table .entry)) c (circles# (now (index .entry))) (now (query .entry)) (first# (now (index .entry)) k))) ⌝ }
 {
     if node_child(index, k) == 0 {
         let far = last(work, ANSWERS * n, w, held);
@@ -209,12 +214,13 @@ pub fn take_item(
     e: u64,
 ) -> Sizes
     requires { ⌜ CanTake (asks (now table) c (now index) (now query) w (now withdrawn)) (now how) (now work) len held
-        (itemOf (now index) (from (now table) c (now query)) e) ⌝ }
+        (itemOf (now index) (from (now table) c (circles# (now index)) (now query)) e) ⌝ }
     requires { ⌜ (n ≡ n# (now index)) × (base ≡ pairAt (now index) 0) ⌝ }
-    ensures { λ s. ⌜ Taken (now (index .entry)) (from (now (table .entry)) c (now (query .entry))) (isIn (now (withdrawn .entry))) w
+    ensures { λ s. ⌜ Taken (now (index .entry)) (from (now (table .entry)) c (circles# (now (index .entry))) (now (query .entry)))
+        (isIn (now (withdrawn .entry))) w
         (now (how .entry)) (now (how .exit))
         (now (work .entry)) (now (work .exit)) len (s .len) held (s .held)
-        (itemOf (now (index .entry)) (from (now (table .entry)) c (now (query .entry))) e) ⌝ }
+        (itemOf (now (index .entry)) (from (now (table .entry)) c (circles# (now (index .entry))) (now (query .entry))) e) ⌝ }
 {
     let id = id_of(e) as usize;
     if id < 2 * n {
@@ -235,7 +241,8 @@ pub fn take_item(
         );
     }
     let r = word(index, base + 2 * (id - 2 * n));
-    let now_held = measure_row(table, c, query, n, w, withdrawn, how, work, held, r);
+    let o = circles(index);
+    let now_held = measure_row(table, c, o, query, n, w, withdrawn, how, work, held, r);
     Sizes {
         len: len,
         held: now_held,
