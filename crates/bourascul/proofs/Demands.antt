@@ -30,9 +30,10 @@ use Rattle.limits.proofs.Numbers.{Sized, sized-of}
 use Rattle.limits.proofs.Ranges.{both-within}
 use Rattle.meaning.proofs.Meaning.{accepted-means}
 use Rattle.meaning.specs.Conditions.{Conditions}
+use Rattle.measure.proofs.OnCircle.{round-rows}
 use Rattle.measure.specs.Table.{between, from, offCircle, row, rowsOf}
 use Rattle.nearest.proofs.Promises.{nearest-counted, nearest-counted-all, nearest-exact as call-exact, nearest-measured, nearest-measured-all, nearest-ranked, nearest-two-tables, same-lent}
-use Rattle.nearest.specs.Calls.{Answered}
+use Rattle.nearest.specs.Calls.{Answered, Serves}
 use Rattle.nearest.specs.Ranked.{ahead}
 use Rattle.nearest_search.specs.Asked.{NearestAsked, NearestLent, asks}
 use Rattle.nearest_search.specs.Found.{Settled}
@@ -58,6 +59,7 @@ use mathlib.Core.Bool.{Bool, cond, false, or-true, true}
 use mathlib.Core.List.{List, [], _++_, map}
 use mathlib.Core.Logic.{_↔_}
 use mathlib.Core.Path.{_∙_, _≡_, ap, ap₂, refl, subst, sym}
+use native.Mathlib.Nat.{mod-add-div, zero-add}
 use native.Mathlib.Omega.{arith}
 
 -- ---- DEMAND 1: A REFUSAL GIVES ITS NUMBER, COUNTS OF ZERO OR AN EMPTY PART, AND LEAVES EVERY BUFFER AS IT WAS
@@ -171,6 +173,15 @@ module _ {t : List ℕ} {c : ℕ} {w work₀ work₁ : List ℕ} {place second :
   pub radius-exact : {q : List ℕ} {r : ℕ} {set before after : List ℕ} {in# met : ℕ} → Searched t c w q r set before after 0 in# met
       → (i : ℕ) → i < n# w → (2 ≤ getD after i 0) ↔ ((isIn set i ≡ false) × (from t c (circles# w) q i ≤ r))
   radius-exact s = radius-call-exact s refl (passed ok .accepted)
+
+  -- the table serves itself
+  pub serves-own : {q set : List ℕ} {wanted room : ℕ} {lent lent′ : NearestLent} {number given met : ℕ}
+      → Answered (asks t c w q wanted set) room lent lent′ number given met → number ≡ 0 → Serves (asks t c w q wanted set) t
+  serves-own s done =
+      let P = passed ok in
+      let whole : length t ≡ c * rowsOf t c =
+      sym (mod-add-div (length t) c) ∙ ap (λ (k : ℕ). k + c * rowsOf t c) (P .multiple) ∙ zero-add (c * rowsOf t c) in
+      record { rows = sym (P .same-rows); round = round-rows t c (circles# w) whole (P .circled); accepted = P .accepted; agree = λ i h m. refl }
 
   -- a nearest search gives the first of all rows that are not withdrawn, by distance, then row number
   pub nearest-exact : {q set : List ℕ} {wanted room : ℕ} {lent lent′ : NearestLent} {given met : ℕ}
