@@ -1,21 +1,24 @@
 // A swept run.
-ghost use Prim.Native.Nat.{_+_, _<_, _≤_};
+ghost use Prim.Native.Nat.{_+_, _<_, _≤_, ℕ};
 ghost use Rattle.marking.specs.Marks.{sweptAt};
 ghost use Rattle.marking.specs.Written.{marked};
+ghost use Rattle.rowset.specs.Sets.{isIn};
 ghost use Rattle.words.specs.InShape.{InShape};
 ghost use Rattle.words.specs.Words.{N#, count#, n#, start#};
 ghost use lib.ListN.{length};
+ghost use mathlib.Core.Bool.{false};
 ghost use mathlib.Core.Path.{_≡_};
+use rowset::is_in;
 use words::places::node_count;
 use words::places::node_start;
 use words::places::pair_at;
 use words::places::word;
 
-// A swept node: all its rows but the first are in, unmeasured.
-pub fn sweep(index: &[u32], k: usize, how: &mut [u8])
+// A swept node of which no row is withdrawn.
+fn sweep_all(index: &[u32], k: usize, how: &mut [u8])
     requires { ⌜ InShape (now index) ⌝ }
     requires { ⌜ (k < N# (now index)) × (n# (now index) ≤ length (now how)) ⌝ }
-    ensures { λ _. ⌜ now (how .exit) ≡ marked (sweptAt (now (index .entry))) (start# (now (index .entry)) k + 1)
+    ensures { λ _. ⌜ now (how .exit) ≡ marked (λ (i : ℕ). false) (sweptAt (now (index .entry))) (start# (now (index .entry)) k + 1)
         (start# (now (index .entry)) k + count# (now (index .entry)) k) (now (how .entry)) ⌝ }
 {
     let start = node_start(index, k);
@@ -26,5 +29,39 @@ pub fn sweep(index: &[u32], k: usize, how: &mut [u8])
         let row = word(index, base + 2 * p);
         how[row] = 2;
         p += 1;
+    }
+}
+
+// A swept node of which rows may be withdrawn.
+fn sweep_shown(index: &[u32], k: usize, withdrawn: &[u32], how: &mut [u8])
+    requires { ⌜ InShape (now index) ⌝ }
+    requires { ⌜ (k < N# (now index)) × (n# (now index) ≤ length (now how)) ⌝ }
+    ensures { λ _. ⌜ now (how .exit) ≡ marked (isIn (now (withdrawn .entry))) (sweptAt (now (index .entry))) (start# (now (index .entry)) k + 1)
+        (start# (now (index .entry)) k + count# (now (index .entry)) k) (now (how .entry)) ⌝ }
+{
+    let start = node_start(index, k);
+    let end = start + node_count(index, k);
+    let base = pair_at(index, 0);
+    let mut p = start + 1;
+    while p < end {
+        let row = word(index, base + 2 * p);
+        p += 1;
+        if !is_in(withdrawn, row) {
+            how[row] = 2;
+        }
+    }
+}
+
+// A swept node: all its rows but the first are in, unmeasured, save those that are withdrawn. Without a set no row is asked for.
+pub fn sweep(index: &[u32], k: usize, withdrawn: &[u32], how: &mut [u8])
+    requires { ⌜ InShape (now index) ⌝ }
+    requires { ⌜ (k < N# (now index)) × (n# (now index) ≤ length (now how)) ⌝ }
+    ensures { λ _. ⌜ now (how .exit) ≡ marked (isIn (now (withdrawn .entry))) (sweptAt (now (index .entry))) (start# (now (index .entry)) k + 1)
+        (start# (now (index .entry)) k + count# (now (index .entry)) k) (now (how .entry)) ⌝ }
+{
+    if withdrawn.len() == 0 {
+        sweep_all(index, k, how);
+    } else {
+        sweep_shown(index, k, withdrawn, how);
     }
 }

@@ -12,6 +12,7 @@ use Rattle.marking.proofs.centres.open_inner.Tie as tie
 use Rattle.marking.specs.Marks.{centreAt, firstAt}
 use Rattle.marking.specs.Lent.{Lent}
 use Rattle.marking.specs.Written.{marked}
+use Rattle.rowset.specs.Sets.{isIn}
 use Rattle.words.proofs.Positions.{row-word}
 use Rattle.words.specs.Words.{N#, first#, m#, n#, row#, start#}
 use borrow.Author.Needs.{needs}
@@ -21,18 +22,18 @@ use native.Mathlib.Nat.{add-zero}
 use native.Mathlib.Omega.{arith}
 
 abbrev Inv-loop : tie.InvT-loop
-Inv-loop table c index query ch x r how₀ m base ds₀ j₀ how ds j =
+Inv-loop table c index query ch x r withdrawn how₀ m base ds₀ j₀ how ds j =
     Lent index table c query how × (length how ≡ length how₀)
     × (1 ≤ j) × (j ≤ m) × (m ≡ m# index) × (ch + m# index ≤ N# index) × (length ds ≡ 64)
     × Holds (λ (i : ℕ). firstAt (from table c query) index (ch + i)) maxDistance ds j
-    × (how ≡ marked (λ (i : ℕ). centreAt (from table c query) r index (ch + i)) 1 j how₀)
+    × (how ≡ marked (isIn withdrawn) (λ (i : ℕ). centreAt (from table c query) r index (ch + i)) 1 j how₀)
 
 abbrev μ-loop : tie.MeasureT-loop
-μ-loop table c index query ch x r how₀ m base ds₀ j₀ how ds j = m - j
+μ-loop table c index query ch x r withdrawn how₀ m base ds₀ j₀ how ds j = m - j
 
 -- the start, and the node whose first is read, seen from the reading of its start
 abbrev start : tie.After-node-start Inv-loop μ-loop → tie.Start Inv-loop μ-loop
-start c = c .before .before .before .before .before .before .before .before .before
+start c = c .before .before .before .before .before .before .before .before .before .before
 
 abbrev kid : tie.After-node-start Inv-loop μ-loop → ℕ
 kid c = start c .args .ch + c .before .before .loop .j
@@ -60,7 +61,7 @@ low c =
 
 loop-holds : tie.Need-loop-holds Inv-loop μ-loop
 loop-holds c =
-    let s = c .before .before .before .before .before .before in
+    let s = c .before .before .before .before .before .before .before in
     let at : firstAt (from (s .args .table .now) (s .args .c) (s .args .query .now)) (s .args .index .now) (s .args .ch)
     ≡ firstAt (from (s .args .table .now) (s .args .c) (s .args .query .now)) (s .args .index .now) (s .args .ch + 0) =
     ap (firstAt (from (s .args .table .now) (s .args .c) (s .args .query .now)) (s .args .index .now)) (sym (add-zero (s .args .ch))) in (
@@ -72,7 +73,7 @@ loop-holds c =
       s .pre .1 .0,
       refl,
       holds-one _ _ (replicate 64 (s .args .x)) (s .pre .1 .2 ∙ at) (s .pre .1 .1),
-      marked-none _ _ _ _ refl,
+      marked-none _ _ _ _ _ refl,
     )
 
 node-start-requires : tie.Need-node-start-requires Inv-loop μ-loop
@@ -98,7 +99,7 @@ loop-again c =
     let x = from (s .args .table .now) (s .args .c) (s .args .query .now) in
     let l = read .before .before .before .loop in
     let row = c .before .before .measure-row in
-    let k = row .kept .1 .1 .1 .1 .1 .0 in (
+    let k = row .kept .1 .1 .1 .1 .1 .1 .0 in (
       lent-same (l .inv .0) _ k,
       k ∙ l .inv .1,
       omega arith,
@@ -107,13 +108,13 @@ loop-again c =
       l .inv .5,
       simp length-set (l .inv .6),
       holds-more _ maxDistance (l .ds) (l .j) (omega arith) (row .ensures .0 .0 ∙ ap x (first read)) (row .ensures .0 .1) (l .inv .7),
-      marked-next _ 1 (l .j) _ (l .inv .2) (l .inv .8) (centre-did x _ (s .args .index .now) _ _ (first read) (row .ensures .1)),
+      marked-next _ _ 1 (l .j) _ (l .inv .2) (l .inv .8) (centre-did _ x _ (s .args .index .now) _ _ (first read) (row .ensures .1)),
     )
 
 returns : tie.Need-returns Inv-loop μ-loop
 returns c =
     let l = c .before .loop in
-    (marked-end _ 1 (l .j) _ (omega arith) (l .inv .8), record { at = λ i h. l .inv .7 i (omega arith) .0; near = λ i h. l .inv .7 i (omega arith) .1 })
+    (marked-end _ _ 1 (l .j) _ (omega arith) (l .inv .8), record { at = λ i h. l .inv .7 i (omega arith) .0; near = λ i h. l .inv .7 i (omega arith) .1 })
 
 pub open-inner-spec : {M : Type 1} → statement M
 open-inner-spec =

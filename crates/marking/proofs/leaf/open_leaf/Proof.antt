@@ -10,6 +10,7 @@ use Rattle.marking.proofs.leaf.open_leaf.Tie as tie
 use Rattle.marking.specs.Marks.{leafAt}
 use Rattle.marking.specs.Lent.{Lent}
 use Rattle.marking.specs.Written.{marked}
+use Rattle.rowset.specs.Sets.{isIn}
 use Rattle.words.specs.InShape.{Node}
 use Rattle.words.specs.Words.{count#, start#}
 use borrow.Author.Needs.{needs}
@@ -18,19 +19,19 @@ use mathlib.Core.Path.{_∙_, _≡_, refl}
 use native.Mathlib.Omega.{arith}
 
 abbrev Inv-loop : tie.InvT-loop
-Inv-loop table c index query k x r how₀ start end base p₀ how p =
+Inv-loop table c index query k x r withdrawn how₀ start end base p₀ how p =
     Lent index table c query how × Node index k × (length how ≡ length how₀)
     × (start# index k + 1 ≤ p) × (p ≤ end) × (end ≡ start# index k + count# index k) × (x ≤ maxDistance)
-    × (how ≡ marked (leafAt (from table c query) r index x) (start# index k + 1) p how₀)
+    × (how ≡ marked (isIn withdrawn) (leafAt (from table c query) r index x) (start# index k + 1) p how₀)
 
 abbrev μ-loop : tie.MeasureT-loop
-μ-loop table c index query k x r how₀ start end base p₀ how p = end - p
+μ-loop table c index query k x r withdrawn how₀ start end base p₀ how p = end - p
 
 loop-holds : tie.Need-loop-holds Inv-loop μ-loop
 loop-holds c =
-    let s = c .before .before .before .before .before .before .before in
+    let s = c .before .before .before .before .before .before .before .before in
     let nd = s .pre .0 .tested .shape .node (s .args .k) (s .pre .1 .0) in
-    (s .pre .0, nd, refl, omega arith, omega (arith, nd .some), omega arith, s .pre .1 .1, marked-none _ _ _ _ (omega arith))
+    (s .pre .0, nd, refl, omega arith, omega (arith, nd .some), omega arith, s .pre .1 .1, marked-none _ _ _ _ _ (omega arith))
 
 leaf-row-requires : tie.Need-leaf-row-requires Inv-loop μ-loop
 leaf-row-requires c κs =
@@ -41,7 +42,7 @@ loop-again : tie.Need-loop-again Inv-loop μ-loop
 loop-again c =
     let l = c .before .before .before .before .before .loop in
     let lr = c .before .before .leaf-row in
-    let k = lr .kept .1 .1 .1 .1 .1 .1 .1 .1 .0 in (
+    let k = lr .kept .1 .1 .1 .1 .1 .1 .1 .1 .1 .0 in (
       lent-same (l .inv .0) _ k,
       l .inv .1,
       k ∙ l .inv .2,
@@ -49,13 +50,13 @@ loop-again c =
       omega arith,
       l .inv .5,
       l .inv .6,
-      marked-next _ _ (l .p) _ (l .inv .3) (l .inv .7) (lr .ensures ∙ write-one _ _ _),
+      marked-next _ _ _ (l .p) _ (l .inv .3) (l .inv .7) (lr .ensures ∙ write-one _ _ _ _),
     )
 
 returns : tie.Need-returns Inv-loop μ-loop
 returns c =
     let l = c .before .loop in
-    marked-end _ _ (l .p) _ (omega arith) (l .inv .7)
+    marked-end _ _ _ (l .p) _ (omega arith) (l .inv .7)
 
 pub open-leaf-spec : {M : Type 1} → statement M
 open-leaf-spec =
