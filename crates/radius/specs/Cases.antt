@@ -13,3 +13,11 @@ Gives T q r s how i k =
     (before after : List ℕ) (number in# met : ℕ) → length T ≤ length before
     → Searched T 1 (build T 1 2 2 2) (q ∷ []) r s before after number in# met
     → (number ≡ 0) × (after ≡ how ++ drop (length T) before) × (in# ≡ i) × (met ≡ k)
+
+-- with how-bytes enough, every outcome of the call for a query of one number, the set s being lent, on the table T of one column with that index, is a
+-- refusal with the number k
+abbrev pub Refuses : List ℕ → List ℕ → ℕ → Type 0
+Refuses T s k =
+    (q r : ℕ) (before after : List ℕ) (number in# met : ℕ) → length T ≤ length before
+    → Searched T 1 (build T 1 2 2 2) (q ∷ []) r s before after number in# met
+    → (number ≡ k) × (in# ≡ 0) × (met ≡ 0) × (after ≡ before)
