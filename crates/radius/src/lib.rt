@@ -36,9 +36,9 @@ fn refusal(
         unlike: query.len() != c,
         none: false,
     };
-    let number = words::index::refusal(asked, index);
-    if number != 0 {
-        return number;
+    let early = words::index::refusal(asked, index);
+    if early != 0 {
+        return early;
     }
     if set_bad(withdrawn, n) {
         return 20;

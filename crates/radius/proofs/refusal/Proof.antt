@@ -10,6 +10,7 @@ use Rattle.radius.specs.Numbers.{radiusAsks}
 use Rattle.words.specs.Index.{callFaults}
 use borrow.Author.Needs.{needs}
 use mathlib.Core.Path.{_≡_}
+use native.Mathlib.Omega.{arith}
 
 -- the start, seen from what numbers and the index say
 abbrev start : tie.After-refusal → tie.Start
@@ -20,17 +21,17 @@ early : (c : tie.After-refusal) → c .refusal .result ≡ said (callFaults (rad
 early c = cc
 
 returns : tie.Need-returns
-returns c = by-call _ _ _ _ _ _ (early (c .before)) (c .if1 .taken)
+returns c = by-call _ _ _ _ _ _ (early (c .before)) (omega arith)
 
 returns-2 : tie.Need-returns-2
 returns-2 c =
     let a = start (c .before .before .before) .args in
-    twenty (a .table .now) (a .c) (a .index .now) (a .query .now) (a .withdrawn .now) (a .room) (early (c .before .before .before)) (c .before .before .if1 .left) (c .before .before .before .before .rows-in .ensures) (c .before .set-bad .ensures) (c .if2 .taken)
+    twenty (a .table .now) (a .c) (a .index .now) (a .query .now) (a .withdrawn .now) (a .room) (early (c .before .before .before)) (omega (arith, c .before .before .if1 .left)) (c .before .before .before .before .rows-in .ensures) (c .before .set-bad .ensures) (c .if2 .taken)
 
 returns-3 : tie.Need-returns-3
 returns-3 c =
     let a = start (c .before .before .before) .args in
-    none-said (a .table .now) (a .c) (a .index .now) (a .query .now) (a .withdrawn .now) (a .room) (early (c .before .before .before)) (c .before .before .if1 .left) (c .before .before .before .before .rows-in .ensures) (c .before .set-bad .ensures) (c .if2 .left)
+    none-said (a .table .now) (a .c) (a .index .now) (a .query .now) (a .withdrawn .now) (a .room) (early (c .before .before .before)) (omega (arith, c .before .before .if1 .left)) (c .before .before .before .before .rows-in .ensures) (c .before .set-bad .ensures) (c .if2 .left)
 
 pub refusal-spec : {M : Type 1} → statement M
 refusal-spec = tie.close (tie.spec (λ c κs. search needs) (λ c κs. search needs) returns (λ c κs. search needs) returns-2 returns-3)

@@ -1,65 +1,37 @@
--- `marking::swept::sweep_all` meets its contract: after the turn for position p the rows of the run up to p are marked 2.
+-- `marking::swept::sweep_all` meets its contract: after the turn for position p the rows up to p are marked 2.
 -- Assumes nothing.
-use Prim.Native.Nat.{_+_, _-_, _≤_, ℕ}
-use Rattle.marking.proofs.Written.{mark-in, marked-end, marked-next, marked-none, write-one}
+use Prim.Native.Nat.{_-_, ℕ}
+use Rattle.marking.proofs.Sweeps.{Sweeping, sweep-done, sweep-low, sweep-next, sweep-start}
+use Rattle.marking.proofs.Written.{mark-in}
 use Rattle.marking.proofs.swept.sweep_all.Statement.{statement}
 use Rattle.marking.proofs.swept.sweep_all.Tie as tie
-use Rattle.marking.specs.Marks.{sweptAt}
-use Rattle.marking.specs.Written.{marked, write}
-use Rattle.words.proofs.Positions.{row-word}
-use Rattle.words.specs.InShape.{InShape, Node}
-use Rattle.words.specs.Words.{count#, n#, row#, start#}
 use borrow.Author.Needs.{needs}
-use lib.ListN.{length, length-set}
+use lib.ListN.{length-set}
 use mathlib.Core.Bool.{false}
-use mathlib.Core.List.{[], _∷_}
-use mathlib.Core.Path.{_∙_, _≡_, ap, refl}
+use mathlib.Core.Path.{refl}
 use native.Mathlib.Omega.{arith}
 
 abbrev Inv-loop : tie.InvT-loop
-Inv-loop index k how₀ start end base p₀ how p =
-    InShape index × Node index k × (n# index ≤ length how₀) × (length how ≡ length how₀)
-    × (start# index k + 1 ≤ p) × (p ≤ end) × (end ≡ start# index k + count# index k)
-    × (how ≡ marked (λ (i : ℕ). false) (sweptAt index) (start# index k + 1) p how₀)
+Inv-loop index base lo hi how₀ p₀ how p = Sweeping (λ (i : ℕ). false) index base lo hi how₀ how p
 
 abbrev μ-loop : tie.MeasureT-loop
-μ-loop index k how₀ start end base p₀ how p = end - p
-
--- the row read is that of position p
-row : (c : tie.After-word Inv-loop μ-loop)
-    → c .word .result ≡ row# (c .before .before .before .before .before .before .before .before .args .index .now) (c .before .before .loop .p)
-row c =
-    let w = c .before .before .before .before .before .before .before .before .args .index .now in
-    c .word .ensures .0 ∙ row-word w _ (c .before .before .loop .p) (c .before .before .before .pair-at .ensures)
+μ-loop index base lo hi how₀ p₀ how p = hi - p
 
 loop-holds : tie.Need-loop-holds Inv-loop μ-loop
 loop-holds c =
-    let s = c .before .before .before .before .before in
-    let nd = s .pre .0 .node (s .args .k) (s .pre .1 .0) in
-    (s .pre .0, nd, s .pre .1 .1, refl, omega arith, omega (arith, nd .some), omega arith, marked-none _ _ _ _ _ (omega arith))
+    let s = c .before .before in
+    sweep-start (λ (i : ℕ). false) (s .pre .0 .0) (s .pre .0 .1) (s .pre .1 .0) (s .pre .1 .1) (s .pre .1 .2)
 
 slice-write-how : tie.Need-slice-write-how Inv-loop μ-loop
-slice-write-how c =
-    let l = c .before .before .loop in
-    omega (arith, l .inv .0 .place (l .p) (omega (arith, l .inv .1 .run)), row c)
+slice-write-how c = sweep-low (c .before .before .loop .inv) (c .before .loop-test .taken) (c .word .ensures .0)
 
 loop-again : tie.Need-loop-again Inv-loop μ-loop
 loop-again c =
-    let l = c .before .before .loop in (
-      l .inv .0,
-      l .inv .1,
-      l .inv .2,
-      simp length-set (l .inv .3),
-      omega arith,
-      omega arith,
-      l .inv .6,
-      marked-next _ _ _ (l .p) _ (l .inv .4) (l .inv .7) (mark-in (λ (i : ℕ). false) _ _ refl refl ∙ write-one _ _ 2 _ ∙ ap (λ (i : ℕ). write ((i, 2) ∷ []) (l .how)) (row c)),
-    )
+    let l = c .before .before .loop in
+    sweep-next (l .inv) (c .before .loop-test .taken) (c .word .ensures .0) (length-set (l .how) (c .word .result) 2) (mark-in (λ (i : ℕ). false) _ _ refl refl)
 
 returns : tie.Need-returns Inv-loop μ-loop
-returns c =
-    let l = c .before .loop in
-    marked-end _ _ _ (l .p) _ (omega arith) (l .inv .7)
+returns c = sweep-done (c .before .loop .inv) (omega arith)
 
 pub sweep-all-spec : {M : Type 1} → statement M
 sweep-all-spec =
@@ -67,11 +39,6 @@ sweep-all-spec =
     (tie.spec
     Inv-loop
     μ-loop
-    (λ c κs. search needs)
-    (λ c κs. search needs)
-    (λ c. search needs)
-    (λ c κs. search needs)
-    (λ c. search needs)
     loop-holds
     (λ c. search needs)
     (λ c. search needs)
