@@ -31,4 +31,3 @@ pub mod Alike
 pub mod Widened
 pub mod WidenedBuild
 pub mod Theorems
-pub mod Tested
