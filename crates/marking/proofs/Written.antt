@@ -3,10 +3,14 @@ use Prim.Native.Nat.{_%_, _+_, _-_, _<_, _≤_, suc, zero, ℕ}
 use Rattle.laws.proofs.Joins.{each-append}
 use Rattle.laws.proofs.Ranges.{range-append}
 use Rattle.laws.specs.Lists.{each, range}
+use Rattle.limits.specs.Limits.{maxDistance}
 use Rattle.marking.specs.Written.{byte, mark, marked, write}
+use Rattle.measure.proofs.Capped.{capped-within}
+use Rattle.measure.specs.Distance.{capped}
 use Rattle.tree.proofs.Veiled.{veiled-append, veiled-same}
 use Rattle.tree.specs.Radius.{byDistance, veiled}
-use borrow.Author.Tests.{le-leb, lt-leb}
+use borrow.Author.Tests.{le-leb, leb-false, leb-true, lt-leb}
+use lib.Dec.{leb}
 use lib.ListN.{length, length-set, set}
 use mathlib.Core.Bool.{Bool, cond, false, true}
 use mathlib.Core.List.{List, [], _++_, _∷_, append-nil}
@@ -35,26 +39,42 @@ module _ (gone : ℕ → Bool) (i : ℕ) (h : List ℕ) where
     unfolding mark byte
     mark-gone e = rw (sym told ∙ e)
 
-  -- a measured row at the distance d
-  module _ (x : ℕ → ℕ) (r : ℕ) {d : ℕ} (e : d ≡ x i) where
+  -- a measured row, of which measuring gave the number d
+  module _ {d r : ℕ} where
     -- it is in
-    pub mark-near : {b : Bool} → b ≡ gone i → b ≡ false → d ≤ r → set h i 3 ≡ mark gone i (byDistance x r i) h
+    pub mark-near : {b : Bool} → b ≡ gone i → b ≡ false → d ≤ r → set h i 3 ≡ mark gone i (cond (leb d r) 3 1) h
     unfolding mark byte
-    mark-near t f l = rw (le-leb (x i) r (omega arith), sym t ∙ f)
+    mark-near t f l = rw (le-leb d r l, sym t ∙ f)
 
     -- it would be in, but is withdrawn
-    pub mark-hidden : {b : Bool} → b ≡ gone i → b ≡ true → d ≤ r → set h i 1 ≡ mark gone i (byDistance x r i) h
+    pub mark-hidden : {b : Bool} → b ≡ gone i → b ≡ true → d ≤ r → set h i 1 ≡ mark gone i (cond (leb d r) 3 1) h
     unfolding mark byte
-    mark-hidden t f l = rw (le-leb (x i) r (omega arith), sym t ∙ f)
+    mark-hidden t f l = rw (le-leb d r l, sym t ∙ f)
 
     -- it is out
-    pub mark-far : r < d → set h i 1 ≡ mark gone i (byDistance x r i) h
+    pub mark-far : r < d → set h i 1 ≡ mark gone i (cond (leb d r) 3 1) h
     unfolding mark byte
-    mark-far l = rw (lt-leb (x i) r (omega arith)) (go (gone i))
+    mark-far l = rw (lt-leb d r l) (go (gone i))
       where
         go : (b : Bool) → set h i 1 ≡ byte i (cond b (1 % 2) 1) h
         go true = refl
         go false = refl
+
+  module _ (x : ℕ → ℕ) (r : ℕ) {d : ℕ} where
+    -- what measuring gave is the distance from the query
+    pub mark-full : d ≡ x i → mark gone i (cond (leb d r) 3 1) h ≡ mark gone i (byDistance x r i) h
+    mark-full e = ap (λ (d : ℕ). mark gone i (cond (leb d r) 3 1) h) e
+
+    -- or that under the ceiling r
+    pub mark-to : d ≡ capped r (x i) → x i ≤ maxDistance → mark gone i (cond (leb d r) 3 1) h ≡ mark gone i (byDistance x r i) h
+    mark-to e l = ap (λ b. mark gone i (cond b 3 1) h) (ap (λ (d : ℕ). leb d r) e ∙ within (x i) l)
+      where
+        within : (z : ℕ) → z ≤ maxDistance → leb (capped r z) r ≡ leb z r
+        within z l = go (leb z r) refl
+          where
+            go : (b : Bool) → leb z r ≡ b → leb (capped r z) r ≡ b
+            go true q = le-leb (capped r z) r (capped-within r z l .1 (leb-true z r q))
+            go false q = lt-leb (capped r z) r (omega (arith, leb-false z r q))
 
 -- a mark keeps the length
 pub byte-length : (i v : ℕ) (h : List ℕ) → length (byte i v h) ≡ length h

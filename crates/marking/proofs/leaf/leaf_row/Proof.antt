@@ -33,7 +33,7 @@ abbrev start : tie.After-word → tie.Start
 start c = c .before .before .before .before .before .before
 
 abbrev x : tie.Start → ℕ → ℕ
-x s = from (s .args .table .now) (s .args .c) (s .args .query .now)
+x s = from (s .args .table .now) (s .args .c) (s .args .circles) (s .args .query .now)
 
 -- the row read is that of position p
 row : (c : tie.After-word) → c .word .result ≡ row# (start c .args .index .now) (start c .args .p)
@@ -89,8 +89,8 @@ returns-3 c =
     ∙ leaf-did gone (x s) (s .args .r) (s .args .index .now) Out _ _ _ (row w) (stored s) (d .decide .ensures)
     (out-only _ (c .before .match .keys2) (c .match2 .keys2))
 
-measure-row-requires : tie.Need-measure-row-requires
-measure-row-requires c κs =
+measure-to-requires : tie.Need-measure-to-requires
+measure-to-requires c κs =
     let w = c .before .before .before .before .before in
     measurable (start w .pre .0) _ (row-low w)
 
@@ -99,7 +99,7 @@ returns-4 c =
     let d = c .before .before .before .before .before .before in
     let w = d .before .before in
     let s = start w in
-    c .before .before .measure-row .ensures .1
+    c .before .before .measure-to .ensures
     ∙ leaf-did (isIn (s .args .withdrawn .now)) (x s) (s .args .r) (s .args .index .now) Measure _ _ _ (row w) (stored s) (d .decide .ensures)
     (c .before .before .before .before .enum-told .given .1)
 
@@ -124,6 +124,6 @@ leaf-row-spec =
     returns
     returns-2
     returns-3
-    measure-row-requires
+    measure-to-requires
     (λ c. search needs)
     returns-4)
