@@ -1,4 +1,4 @@
--- The radius cases of 01, The five-row table, proved of the call's contract. Assumes nothing.
+-- The radius cases of 01, The five-row table, and of 02, R-5, proved of the call's contract. Assumes nothing.
 use Prim.Native.Nat.{_≤_, ℕ}
 use Rattle.laws.proofs.Every.{all-every, every-of}
 use Rattle.laws.proofs.Ranges.{every-at}
@@ -9,16 +9,18 @@ use Rattle.limits.specs.Said.{numberFaults, said, tabled}
 use Rattle.measure.specs.Distance.{l1}
 use Rattle.measure.specs.Table.{between, from, rowsOf}
 use Rattle.radius.proofs.Promises.{first-bytes, radius-call-marks}
-use Rattle.radius.proofs.Refusals.{taken}
-use Rattle.radius.specs.Cases.{Gives}
+use Rattle.radius.proofs.Refusals.{none-said, right-call, twenty}
+use Rattle.radius.specs.Cases.{Gives, Refuses}
+use Rattle.radius.specs.Numbers.{radiusAsks}
 use Rattle.radius.specs.Once.{Once}
+use Rattle.rowset.specs.Sets.{bitOf, isIn, setBad}
 use Rattle.tree.specs.Build.{build, choose, grow, split}
-use Rattle.tree.specs.Cases.{five, radius, right}
+use Rattle.tree.specs.Cases.{five}
 use Rattle.tree.specs.Check.{again}
 use Rattle.tree.specs.Encode.{broods, encode, family, levelNodes, nodes, numbered}
-use Rattle.tree.specs.Grove.{treeOf}
+use Rattle.tree.specs.Grove.{treeAt, treeOf}
 use Rattle.tree.specs.Nearest.{measured}
-use Rattle.tree.specs.Radius.{inside, radiusHow}
+use Rattle.tree.specs.Radius.{inside, marks, marksIn, radiusHow}
 use Rattle.words.proofs.Indexes.{clear}
 use Rattle.words.specs.Index.{callFaults, fitFaults}
 use Rattle.words.specs.Shape.{born, level, nodeOk, shapeOk, tile}
@@ -46,6 +48,13 @@ fit t =
     eqb (rowsOf t 1) (length t) && eqb (n# w) (length t) && eqb (said (callFaults (tabled (length t) 1) w) .0) 0
     && all (λ p. not (again w p)) (range 0 (n# w))
 
+-- the definitions give these how-bytes and counts for the query q and r, the rows of the set s being withdrawn, and s is a set of the table's rows
+unfoldable shows : List ℕ → ℕ → ℕ → List ℕ → List ℕ → ℕ → ℕ → Bool
+unfolding l1 between from treeAt treeOf family broods levelNodes nodes numbered encode choose split grow build marksIn marks radiusHow bitOf setBad
+shows t q r s how i k =
+    let h = radiusHow (from t 1 (q ∷ [])) r (isIn s) (length t) (treeOf (build t 1 2 2 2)) in
+    same h how && eqb (inside h) i && eqb (measured h) k && not (setBad s (length t))
+
 module _ (t : List ℕ) (f : T (fit t)) where
   -- the index built over the table
   abbrev w : List ℕ
@@ -68,50 +77,78 @@ module _ (t : List ℕ) (f : T (fit t)) where
             (every-of (λ p. T (not (again w p))) (λ p. again w p ≡ false) (λ p k. not-true (again w p) (is-true (not (again w p)) k)) (range 0 (n# w)) (all-every (λ p. not (again w p)) (range 0 (n# w)) (and-r (a && b && d) g f))) h,
       )
 
-  module _ (q r : ℕ) (how : List ℕ) (i k : ℕ) where
+  -- neither numbers nor the index refuse a call with how-bytes enough
+  taken : (q how : ℕ) → length t ≤ how → 0 ≡ said (callFaults (radiusAsks t 1 (q ∷ []) how) w) .0
+  taken q how room = right-call t 1 w (q ∷ []) how (clear (tabled (length t) 1) w (tests .2)) (omega (arith, tests .0)) refl
+
+  -- a set that is not one of the rows refuses the call
+  refuses : (s : List ℕ) → setBad s (length t) ≡ true → Refuses t s 20
+  refuses s bad q r before after number in# met room o =
+      let z = o .said ∙ sym (twenty t 1 w (q ∷ []) s (length before) (taken q (length before) room) refl (sym (tests .0)) refl bad) in
+      let none = o .refused (λ n. absurd (omega arith)) in
+      (z, none .0, none .1, none .2)
+
+  module _ (q r : ℕ) (s how : List ℕ) (i k : ℕ) where
     -- each row's distance from the query
     abbrev x : ℕ → ℕ
     x = from t 1 (q ∷ [])
 
     -- the how-bytes of the definition
     abbrev bytes : List ℕ
-    bytes = radiusHow x r (length t) (treeOf w)
-
-    -- what the table of cases says of this one
-    right-is : T (right (radius t q r how i k)) → T (same bytes how && eqb (inside bytes) i && eqb (measured bytes) k)
-    unfolding right
-    right-is ok = ok
+    bytes = radiusHow x r (isIn s) (length t) (treeOf w)
 
     -- a case that is right is what the call gives
-    gives : T (right (radius t q r how i k)) → Gives t q r how i k
-    gives ok before after number in# met room s =
+    gives : T (shows t q r s how i k) → Gives t q r s how i k
+    unfolding shows
+    gives ok before after number in# met room o =
         let ts = tests in
         let once = ts .3 in
         let a = same bytes how in
         let b = eqb (inside bytes) i in
         let d = eqb (measured bytes) k in
-        let f = right-is ok in
+        let set = not (setBad s (length t)) in
+        let f = and-l (a && b && d) set ok in
         let ab = and-l (a && b) d f in
-        let z : number ≡ 0 = s .said ∙ sym (taken t 1 w (q ∷ []) (length before) (clear (tabled (length t) 1) w (ts .2)) (omega arith) refl) in
-        let same-bytes : radiusHow x r (n# w) (treeOf w) ≡ bytes = ap (λ (n : ℕ). radiusHow x r n (treeOf w)) (ts .1) in
-        let first = first-bytes s z once ∙ same-bytes in (
+        let fine : setBad s (length t) ≡ false = not-true (setBad s (length t)) (is-true set (and-r (a && b && d) set ok)) in
+        let z : number ≡ 0 = o .said ∙ sym (none-said t 1 w (q ∷ []) s (length before) (taken q (length before) room) refl (sym (ts .0)) refl fine) in
+        let same-bytes : radiusHow x r (isIn s) (n# w) (treeOf w) ≡ bytes = ap (λ (n : ℕ). radiusHow x r (isIn s) n (treeOf w)) (ts .1) in
+        let first = first-bytes o z once ∙ same-bytes in (
           z,
-          radius-call-marks s z once ∙ ap₂ (λ l n. l ++ drop n before) (same-bytes ∙ same-is bytes how (and-l a b ab)) (ts .1),
-          (s .counts z) .0 ∙ ap inside first ∙ eqb→eq (inside bytes) i (and-r a b ab),
-          (s .counts z) .1 ∙ ap measured first ∙ eqb→eq (measured bytes) k (and-r (a && b) d f),
+          radius-call-marks o z once ∙ ap₂ (λ l n. l ++ drop n before) (same-bytes ∙ same-is bytes how (and-l a b ab)) (ts .1),
+          (o .counts z) .0 ∙ ap inside first ∙ eqb→eq (inside bytes) i (and-r a b ab),
+          (o .counts z) .1 ∙ ap measured first ∙ eqb→eq (measured bytes) k (and-r (a && b) d f),
         )
 
+-- no row of the five is withdrawn
+abbrev none : List ℕ
+none = 0 ∷ []
+
 -- THE CALL GIVES WHAT 01 SAYS: its three radius cases, one that (x - y)/2 rounded down would fail, and one with a lesser r that measures more (R-13)
-pub radius-call-cases : Gives five 9 1 (1 ∷ 0 ∷ 3 ∷ 0 ∷ 1 ∷ []) 1 3
-    × Gives five 0 20 (3 ∷ 2 ∷ 2 ∷ 2 ∷ 2 ∷ []) 5 1
-    × Gives five 10 5 (1 ∷ 0 ∷ 3 ∷ 3 ∷ 1 ∷ []) 2 4
-    × Gives (4 ∷ 2 ∷ 2 ∷ 6 ∷ 7 ∷ []) 6 0 (1 ∷ 0 ∷ 0 ∷ 3 ∷ 1 ∷ []) 1 3
-    × Gives five 0 19 (3 ∷ 2 ∷ 2 ∷ 3 ∷ 1 ∷ []) 4 3
-unfolding fit right
+pub radius-call-cases : Gives five 9 1 none (1 ∷ 0 ∷ 3 ∷ 0 ∷ 1 ∷ []) 1 3
+    × Gives five 0 20 none (3 ∷ 2 ∷ 2 ∷ 2 ∷ 2 ∷ []) 5 1
+    × Gives five 10 5 none (1 ∷ 0 ∷ 3 ∷ 3 ∷ 1 ∷ []) 2 4
+    × Gives (4 ∷ 2 ∷ 2 ∷ 6 ∷ 7 ∷ []) 6 0 none (1 ∷ 0 ∷ 0 ∷ 3 ∷ 1 ∷ []) 1 3
+    × Gives five 0 19 none (3 ∷ 2 ∷ 2 ∷ 3 ∷ 1 ∷ []) 4 3
+unfolding fit shows
 radius-call-cases = (
-  gives five tt 9 1 (1 ∷ 0 ∷ 3 ∷ 0 ∷ 1 ∷ []) 1 3 tt,
-  gives five tt 0 20 (3 ∷ 2 ∷ 2 ∷ 2 ∷ 2 ∷ []) 5 1 tt,
-  gives five tt 10 5 (1 ∷ 0 ∷ 3 ∷ 3 ∷ 1 ∷ []) 2 4 tt,
-  gives (4 ∷ 2 ∷ 2 ∷ 6 ∷ 7 ∷ []) tt 6 0 (1 ∷ 0 ∷ 0 ∷ 3 ∷ 1 ∷ []) 1 3 tt,
-  gives five tt 0 19 (3 ∷ 2 ∷ 2 ∷ 3 ∷ 1 ∷ []) 4 3 tt,
+  gives five tt 9 1 none (1 ∷ 0 ∷ 3 ∷ 0 ∷ 1 ∷ []) 1 3 tt,
+  gives five tt 0 20 none (3 ∷ 2 ∷ 2 ∷ 2 ∷ 2 ∷ []) 5 1 tt,
+  gives five tt 10 5 none (1 ∷ 0 ∷ 3 ∷ 3 ∷ 1 ∷ []) 2 4 tt,
+  gives (4 ∷ 2 ∷ 2 ∷ 6 ∷ 7 ∷ []) tt 6 0 none (1 ∷ 0 ∷ 0 ∷ 3 ∷ 1 ∷ []) 1 3 tt,
+  gives five tt 0 19 none (3 ∷ 2 ∷ 2 ∷ 3 ∷ 1 ∷ []) 4 3 tt,
+)
+
+-- AND WHAT R-5 SAYS: row 2 is withdrawn, which was in measured, and in a swept node; a set with no word, with one too many, and with the bit of row 5
+pub radius-call-withdrawn : Gives five 9 1 (4 ∷ []) (1 ∷ 0 ∷ 1 ∷ 0 ∷ 1 ∷ []) 0 3
+    × Gives five 0 20 (4 ∷ []) (3 ∷ 2 ∷ 0 ∷ 2 ∷ 2 ∷ []) 4 1
+    × Refuses five [] 20
+    × Refuses five (0 ∷ 0 ∷ []) 20
+    × Refuses five (32 ∷ []) 20
+unfolding fit shows setBad bitOf
+radius-call-withdrawn = (
+  gives five tt 9 1 (4 ∷ []) (1 ∷ 0 ∷ 1 ∷ 0 ∷ 1 ∷ []) 0 3 tt,
+  gives five tt 0 20 (4 ∷ []) (3 ∷ 2 ∷ 0 ∷ 2 ∷ 2 ∷ []) 4 1 tt,
+  refuses five tt [] refl,
+  refuses five tt (0 ∷ 0 ∷ []) refl,
+  refuses five tt (32 ∷ []) refl,
 )
