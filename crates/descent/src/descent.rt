@@ -10,7 +10,7 @@ ghost use Rattle.measure.specs.Table.{from};
 ghost use Rattle.rowset.specs.Sets.{isIn};
 ghost use Rattle.tree.specs.Radius.{veiled};
 ghost use Rattle.words.specs.InShape.{Left};
-ghost use Rattle.words.specs.Words.{N#, radius#};
+ghost use Rattle.words.specs.Words.{N#, circles#, radius#};
 ghost use mathlib.Core.Path.{_≡_};
 use crate::fate::Fate;
 use crate::fate::settle;
@@ -37,10 +37,10 @@ pub fn descend(
     how: &mut [u8],
 )
     requires { ⌜ Lent (now index) (now table) c (now query) (now how) ⌝ }
-    requires { ⌜ Left (now index) levels k × (k < N# (now index)) × (x ≤ maxDistance) × (x ≡ firstAt (from (now table) c (now query)) (now index) k)
+    requires { ⌜ Left (now index) levels k × (k < N# (now index)) × (x ≤ maxDistance) × (x ≡ firstAt (from (now table) c (circles# (now index)) (now query)) (now index) k)
         × (Opened ≡ fateOf x (radius# (now index) k) bound r) ⌝ }
     ensures { λ _. ⌜ now (how .exit) ≡ write (veiled (isIn (now (withdrawn .entry)))
-        (nodeMarks (from (now (table .entry)) c (now (query .entry))) r (now (index .entry)) levels k bound)) (now (how .entry)) ⌝ }
+        (nodeMarks (from (now (table .entry)) c (circles# (now (index .entry))) (now (query .entry))) r (now (index .entry)) levels k bound)) (now (how .entry)) ⌝ }
 {
     let ch = node_child(index, k);
     if ch == 0 {

@@ -6,7 +6,7 @@ ghost use Rattle.measure.specs.Table.{from};
 ghost use Rattle.rowset.specs.Sets.{isIn};
 ghost use Rattle.tree.specs.Grove.{treeOf};
 ghost use Rattle.tree.specs.Radius.{marks, veiled};
-ghost use Rattle.words.specs.Words.{n#};
+ghost use Rattle.words.specs.Words.{circles#, n#};
 ghost use mathlib.Core.Path.{_≡_};
 use crate::descent::descend;
 use crate::fate::Fate;
@@ -14,6 +14,7 @@ use crate::fate::settle;
 use buffers::clear_bytes;
 use limits::Params;
 use marking::row::measure_row;
+use words::places::circles;
 use words::places::node_first;
 use words::places::nodes;
 use words::places::rows;
@@ -34,13 +35,15 @@ pub fn search(
 )
     requires { ⌜ Lent (now index) (now table) c (now query) (now how) ⌝ }
     ensures { λ _. ⌜ now (how .exit) ≡ write (veiled (isIn (now (withdrawn .entry)))
-        (marks (from (now (table .entry)) c (now (query .entry))) r (treeOf (now (index .entry))))) (wiped (n# (now (index .entry))) (now (how .entry))) ⌝ }
+        (marks (from (now (table .entry)) c (circles# (now (index .entry))) (now (query .entry))) r (treeOf (now (index .entry)))))
+        (wiped (n# (now (index .entry))) (now (how .entry))) ⌝ }
 {
     clear_bytes(how, rows(index));
     if nodes(index) == 0 {
         return;
     }
-    let x = measure_row(table, c, query, node_first(index, 0), r, withdrawn, how);
+    let first = node_first(index, 0);
+    let x = measure_row(table, c, circles(index), query, first, r, withdrawn, how);
     let fate = settle(index, 0, x, 0, r, withdrawn, how);
     if let Fate::Opened = fate {
         descend(

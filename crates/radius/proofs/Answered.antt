@@ -11,7 +11,7 @@ use Rattle.tree.specs.Grove.{treeOf}
 use Rattle.tree.specs.Nearest.{measured}
 use Rattle.tree.specs.Radius.{inside, marks, veiled}
 use Rattle.words.specs.InShape.{InShape}
-use Rattle.words.specs.Words.{n#}
+use Rattle.words.specs.Words.{circles#, n#}
 use lib.ListN.{length, take}
 use mathlib.Core.List.{List}
 use mathlib.Core.Path.{_∙_, _≡_, ap, refl, sym}
@@ -24,12 +24,12 @@ module _ (T : List ℕ) (c : ℕ) (w q : List ℕ) (r : ℕ) (s h : List ℕ) {n
 
   -- a search that wrote the tree's marks, as far as they are shown, on cleared how-bytes, and counted them
   pub done-is : {k i m : ℕ} (h′ : List ℕ) → number ≡ 0 → InShape w → k ≡ n# w
-      → h′ ≡ write (veiled (isIn s) (marks (from T c q) r (treeOf w))) (wiped (n# w) h)
+      → h′ ≡ write (veiled (isIn s) (marks (from T c (circles# w) q) r (treeOf w))) (wiped (n# w) h)
       → i ≡ inside (take k h′) → m ≡ measured (take k h′) → Searched T c w q r s h h′ 0 i m
   done-is h′ z S k d i m =
       record {
         said = sym z ∙ said-is;
         refused = λ f. absurd (f refl);
-        written = λ e. d ∙ written-is (from T c q) r (isIn s) w S h;
+        written = λ e. d ∙ written-is (from T c (circles# w) q) r (isIn s) w S h;
         counts = λ e. (i ∙ ap (λ n. inside (take n h′)) k, m ∙ ap (λ n. measured (take n h′)) k);
       }

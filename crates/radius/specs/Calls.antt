@@ -7,7 +7,7 @@ use Rattle.rowset.specs.Sets.{isIn}
 use Rattle.tree.specs.Grove.{treeOf}
 use Rattle.tree.specs.Nearest.{measured}
 use Rattle.tree.specs.Radius.{inside, marks, veiled}
-use Rattle.words.specs.Words.{n#}
+use Rattle.words.specs.Words.{circles#, n#}
 use lib.ListN.{drop, length, replicate, take}
 use mathlib.Core.List.{List, _++_}
 use mathlib.Core.Path.{_≡_}
@@ -21,6 +21,6 @@ pub record Searched (T : List ℕ) (c : ℕ) (w q : List ℕ) (r : ℕ) (s befor
   pub refused : (number ≡ 0 → ⊥) → (in# ≡ 0) × (met ≡ 0) × (after ≡ before)
   -- on every index in shape the how-bytes are the marks of the descent of its tree, as far as they are shown, written one after the other over n
   -- zeros; those beyond n stay
-  pub written : number ≡ 0 → after ≡ write (veiled (isIn s) (marks (from T c q) r (treeOf w))) (replicate (n# w) 0) ++ drop (n# w) before
+  pub written : number ≡ 0 → after ≡ write (veiled (isIn s) (marks (from T c (circles# w) q) r (treeOf w))) (replicate (n# w) 0) ++ drop (n# w) before
   -- the counts are those of the how-bytes that stand there afterwards
   pub counts : number ≡ 0 → (in# ≡ inside (take (n# w) after)) × (met ≡ measured (take (n# w) after))

@@ -36,7 +36,7 @@ fn refusal(
         unlike: query.len() != c,
         none: false,
     };
-    let early = words::index::refusal(asked, index);
+    let early = refusals::refusal(asked, table, index, query);
     if early != 0 {
         return early;
     }

@@ -7,7 +7,7 @@ use Rattle.radius.proofs.Refusals.{by-call, none-said, twenty}
 use Rattle.radius.proofs.refusal.Statement.{statement}
 use Rattle.radius.proofs.refusal.Tie as tie
 use Rattle.radius.specs.Numbers.{radiusAsks}
-use Rattle.words.specs.Index.{callFaults}
+use Rattle.refusals.specs.Refused.{callFaults}
 use borrow.Author.Needs.{needs}
 use mathlib.Core.Path.{_≡_}
 use native.Mathlib.Omega.{arith}
@@ -17,7 +17,7 @@ abbrev start : tie.After-refusal → tie.Start
 start c = c .before .before .before .before .before .before
 
 -- it asks of them what the definition asks
-early : (c : tie.After-refusal) → c .refusal .result ≡ said (callFaults (radiusAsks (start c .args .table .now) (start c .args .c) (start c .args .query .now) (start c .args .room)) (start c .args .index .now)) .0
+early : (c : tie.After-refusal) → c .refusal .result ≡ said (callFaults (radiusAsks (start c .args .table .now) (start c .args .c) (start c .args .query .now) (start c .args .room)) (start c .args .table .now) (start c .args .index .now) (start c .args .query .now)) .0
 early c = cc
 
 returns : tie.Need-returns

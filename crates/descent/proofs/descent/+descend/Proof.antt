@@ -15,7 +15,7 @@ use Rattle.marking.specs.Written.{marked, write}
 use Rattle.measure.specs.Table.{from}
 use Rattle.rowset.specs.Sets.{isIn}
 use Rattle.tree.specs.Radius.{veiled}
-use Rattle.words.specs.Words.{child#, m#}
+use Rattle.words.specs.Words.{child#, circles#, m#}
 use borrow.Author.Tests.{eq-eqb}
 use lib.ListN.{length}
 use mathlib.Core.Bool.{not}
@@ -69,8 +69,8 @@ claims t = (
 abbrev descend-Inv-loop : descend-lts.InvT-loop
 descend-Inv-loop table c index query k x bound r levels withdrawn how₀ ch m ds y j₀ how j =
     Lent index table c query how × Below index levels k ch × (length how ≡ length how₀) × (j ≤ m) × (m ≡ m# index)
-    × Distances (from table c query) index ch ds × (y ≡ leastFrom (from table c query) index ch)
-    × (how ≡ marked (isIn withdrawn) (λ (i : ℕ). kidMarks (from table c query) r index (levels - 1) bound ch (ch + i)) 0 j how₀)
+    × Distances (from table c (circles# index) query) index ch ds × (y ≡ leastFrom (from table c (circles# index) query) index ch)
+    × (how ≡ marked (isIn withdrawn) (λ (i : ℕ). kidMarks (from table c (circles# index) query) r index (levels - 1) bound ch (ch + i)) 0 j how₀)
 
 abbrev descend-μ-loop : descend-lts.MeasureT-loop
 descend-μ-loop table c index query k x bound r levels withdrawn how₀ ch m ds y j₀ how j = m - j
@@ -95,7 +95,7 @@ descend-open-inner-requires : (t : ℕ) → descend-lts.Need-open-inner-requires
 descend-open-inner-requires t c κs =
     let s = c .before .before .before .before .before .before .before .before .before in
     let kids = below (s .pre .1 .0 .tested .shape) (s .args .levels) (s .args .k) _ (s .pre .1 .1 .0) (s .pre .1 .1 .1) (c .before .before .before .node-child .ensures .0) (c .before .before .if1 .left) in
-    (s .pre .1 .0, (kids .inside, s .pre .1 .1 .2, s .pre .1 .1 .3 ∙ ap (from (s .args .table .now) (s .args .c) (s .args .query .now)) (kids .first)))
+    (s .pre .1 .0, (kids .inside, s .pre .1 .1 .2, s .pre .1 .1 .3 ∙ ap (from (s .args .table .now) (s .args .c) (circles# (s .args .index .now)) (s .args .query .now)) (kids .first)))
 
 descend-least-of-requires : (t : ℕ) → descend-lts.Need-least-of-requires (claims t) (descend-at t) descend.Post descend-Inv-loop descend-μ-loop
 descend-least-of-requires t c κs =
@@ -114,7 +114,7 @@ descend-loop-holds t c =
       omega arith,
       m,
       inner .ensures .1,
-      c .least-of .ensures ∙ least-is (from (s .args .table .now) (s .args .c) (s .args .query .now)) (s .args .index .now) _ _ _ m (omega arith) (omega arith) (inner .ensures .1),
+      c .least-of .ensures ∙ least-is (from (s .args .table .now) (s .args .c) (circles# (s .args .index .now)) (s .args .query .now)) (s .args .index .now) _ _ _ m (omega arith) (omega arith) (inner .ensures .1),
       marked-none _ _ _ _ _ refl,
     )
 
@@ -155,7 +155,7 @@ descend-loop-again t c =
     let child = c .before .before .descend in
     let settling = c .before .before .before .before .before .before .before .before .settle in
     let kept = child .kept .1 .1 .1 .1 .1 .1 .1 .1 .1 .1 .0 ∙ settling .kept .1 .1 .1 .1 .1 .1 .0 in
-    let x = from (s .args .table .now) (s .args .c) (s .args .query .now) in
+    let x = from (s .args .table .now) (s .args .c) (circles# (s .args .index .now)) (s .args .query .now) in
     let gone = isIn (s .args .withdrawn .now) in
     let ch = c .before .before .before .before .before .before .before .before .before .before .before .before .before .before .before .before .before .before .before .before .node-child .result in
     let same = settling .ensures .1 ∙ ap (λ (v : Fate). settled gone (s .args .index .now) (ch + l .j) v (l .how)) (c .before .before .before .before .enum-told .given .1) in (
@@ -177,7 +177,7 @@ descend-loop-again-2 t c =
     let l = c .before .before .before .before .before .before .before .loop in
     let settling = c .before .before .before .settle in
     let kept = settling .kept .1 .1 .1 .1 .1 .1 .0 in
-    let x = from (s .args .table .now) (s .args .c) (s .args .query .now) in
+    let x = from (s .args .table .now) (s .args .c) (circles# (s .args .index .now)) (s .args .query .now) in
     let gone = isIn (s .args .withdrawn .now) in
     let ch = c .before .before .before .before .before .before .before .before .before .before .before .before .before .before .before .node-child .result in
     let at = l .inv .5 .at (l .j) (omega arith) in (
