@@ -85,9 +85,9 @@ sum-list f n (a ∷ xs) = omega (arith, sum-add (f a) (λ (r : ℕ). total (λ (
 
 -- ---- items
 -- a sound item is no node, or one of the index
-in-tree : (w how : List ℕ) (i : IndexItem) → amiss w how i ≡ 0 → InTree w i
-in-tree w how (node k b u) g = omega arith
-in-tree w how (place p b) g = tt
+in-tree : (w : List ℕ) (x : ℕ → ℕ) (work : List ℕ) (i : IndexItem) → amiss w x work i ≡ 0 → InTree w i
+in-tree w x work (node k b u) g = omega arith
+in-tree w x work (place p b) g = tt
 
 -- what waits of a row that remains is shared out as all is
 left-split : (b : Bool) (v a : ℕ) (f : IndexItem → ℕ) (xs : List IndexItem) → v ≡ a + total f xs
@@ -100,15 +100,15 @@ left-split true v a f xs e = omega (arith, none xs)
 left-split false v a f xs e = e
 
 -- UNDER A SOUND ITEM IS LEFT WHAT IT MEASURES, AND WHAT IS THEN LEFT UNDER WHAT IT OPENS, of the rows that remain
-pub still-split : (w : List ℕ) → InShape w → (x : ℕ → ℕ) (gone : ℕ → Bool) (how : List ℕ) (i : IndexItem) → amiss w how i ≡ 0
+pub still-split : (w : List ℕ) → InShape w → (x : ℕ → ℕ) (gone : ℕ → Bool) (work : List ℕ) (i : IndexItem) → amiss w x work i ≡ 0
     → still w gone i ≡ sumTo (leftOf gone (measuredBy w i)) (n# w) + total (still w gone) (openedBy w x i)
-still-split w S x gone how i g =
+still-split w S x gone work i g =
     omega (
       arith,
       sum-below-same (leftOf gone (waitsOf w i))
           (λ (r : ℕ). leftOf gone (measuredBy w i) r + total (λ (j : IndexItem). leftOf gone (waitsOf w j) r) (openedBy w x i)) (n# w)
           (λ r l. left-split (gone r) (waitsOf w i r) (measuredBy w i r) (λ (j : IndexItem). waitsOf w j r) (openedBy w x i)
-          (item-split w x S i r (in-tree w how i g))),
+          (item-split w x S i r (in-tree w x work i g))),
       sum-add (leftOf gone (measuredBy w i)) (λ (r : ℕ). total (λ (j : IndexItem). leftOf gone (waitsOf w j) r) (openedBy w x i)) (n# w),
       sum-list (λ (j : IndexItem). leftOf gone (waitsOf w j)) (n# w) (openedBy w x i),
     )

@@ -7,6 +7,7 @@ use Rattle.best_first.specs.Search.{Ended, found}
 use Rattle.frontier.proofs.Beyond.{above, above-last, parts-above}
 use Rattle.frontier.proofs.Reading.{item-bound}
 use Rattle.frontier.specs.Waiting.{atMost, itemOf, items}
+use Rattle.frontier.specs.Workspace.{kept}
 use Rattle.index_space.proofs.Exact.{taken-new}
 use Rattle.index_space.proofs.Leaving.{all-bag, leaves, leaves-off}
 use Rattle.index_space.specs.Fits.{IndexFits}
@@ -45,7 +46,7 @@ module _ (t : List ℕ) (c : ℕ) (q w : List ℕ) (wanted : ℕ) (struck : List
       → b ≤ greatestWord → (b ≤ lastOf work (3 * n# w) wanted held) ↔ (found (spaceOf w (isIn struck)) x (at how) b < wanted)
   due-at how work held b K H =
       goes-on x (metOf (isIn struck) how) (n# w) work (3 * n# w) wanted held (K .small) (K .queue) H (λ r l. omega (arith, K .bits r l))
-      (λ r l p. K .far r l (omega arith) .1) b (K .wanted .0) (K .most)
+      (λ r l p. K .near r l (omega arith)) b (K .wanted .0) (K .most)
 
   -- as many items wait as the frontier has entries
   items-count : (work : List ℕ) (len : ℕ) → total (λ (i : IndexItem). 1) (items w x work len) ≡ len
@@ -58,7 +59,7 @@ module _ (t : List ℕ) (c : ℕ) (q w : List ℕ) (wanted : ℕ) (struck : List
         omega (
           arith,
           items-count work len,
-          total-le (λ (i : IndexItem). 1) (weight w) (amiss w how) (items w x work len) (some-weight w S how) (St .sound),
+          total-le (λ (i : IndexItem). 1) (weight w) (amiss w x work) (items w x work len) (some-weight w S x work) (St .sound),
           St .room,
         )
 
@@ -94,7 +95,8 @@ module _ (t : List ℕ) (c : ℕ) (q w : List ℕ) (wanted : ℕ) (struck : List
 
       -- what the search knows stays
       popped-stands : Stands x (isIn struck) (n# w) wanted how work₁ held
-      popped-stands = stands-stay (n# w) work work₁ beyond (P .outside .same) x (isIn struck) wanted how held (St .ready .stands)
+      popped-stands = stands-stay (n# w) work work₁ (λ i l. beyond i (omega arith)) (P .outside .same) x (isIn struck) wanted how held
+          (St .ready .stands)
 
       -- the best that were held are held
       popped-held : BestHeld x (metOf (isIn struck) how) (n# w) work (3 * n# w) wanted held
@@ -107,13 +109,19 @@ module _ (t : List ℕ) (c : ℕ) (q w : List ℕ) (wanted : ℕ) (struck : List
           since-then (n# w) how₀ how how work₀ work work₁ since
           (since-work (n# w) how work work₁ 0 (0 + (len + len)) (omega (arith, state-room)) (P .outside))
 
+      -- no distance that was kept is lost
+      popped-keeps : (r : ℕ) → r < n# w → kept work (n# w) r ≡ x r → kept work₁ (n# w) r ≡ x r
+      popped-keeps r l e = beyond (2 * n# w + r) (omega arith) ∙ e
+
       -- the item is sound
-      item-sound : amiss w how item ≡ 0
-      item-sound = omega (arith, bag (amiss w how), St .sound)
+      item-sound : amiss w x work₁ item ≡ 0
+      item-sound = amiss-on w S x work work₁ popped-keeps item (omega (arith, bag (amiss w x work), St .sound))
 
       -- so are the others
-      others-sound : total (amiss w how) others ≡ 0
-      others-sound = omega (arith, bag (amiss w how), St .sound)
+      others-sound : total (amiss w x work₁) others ≡ 0
+      others-sound =
+          total-none (amiss w x work₁) (amiss w x work) others (λ i z p. omega (arith, amiss-on w S x work work₁ popped-keeps i z))
+          (omega (arith, bag (amiss w x work), St .sound))
 
       -- THE ITEM CAN BE TAKEN
       pub takes : edition# w ≡ 2 → CanTake (asks t c w q wanted struck) how work₁ (len - 1) held (itemOf w (from t c (circles# w) q) v)
@@ -127,7 +135,7 @@ module _ (t : List ℕ) (c : ℕ) (q w : List ℕ) (wanted : ℕ) (struck : List
           fits = omega (
             arith,
             items-count work₁ (len - 1),
-            total-le (λ (i : IndexItem). 1) (weight w) (amiss w how) others (some-weight w S how) others-sound,
+            total-le (λ (i : IndexItem). 1) (weight w) (amiss w x work₁) others (some-weight w S x work₁) others-sound,
             bag (weight w),
             St .room,
           );
@@ -198,7 +206,7 @@ module _ (t : List ℕ) (c : ℕ) (q w : List ℕ) (wanted : ℕ) (struck : List
               D .grew .most,
               St .most,
               bag (still w (isIn struck)),
-              still-split w S x (isIn struck) how item item-sound,
+              still-split w S x (isIn struck) work₁ item item-sound,
               queued (still w (isIn struck)),
             )
 
@@ -211,7 +219,7 @@ module _ (t : List ℕ) (c : ℕ) (q w : List ℕ) (wanted : ℕ) (struck : List
               e,
               St .short (omega arith),
               bag (still w (isIn struck)),
-              still-split w S x (isIn struck) how item item-sound,
+              still-split w S x (isIn struck) work₁ item item-sound,
               queued (still w (isIn struck)),
               total-none (still w (isIn struck)) (λ (j : IndexItem). (suc last′ - boundOf j) + (boundOf j - greatestWord)) out
                   (λ j z p. omega (arith, last-room work₂ (3 * n# w) wanted held′ l)) out-far,
@@ -225,11 +233,12 @@ module _ (t : List ℕ) (c : ℕ) (q w : List ℕ) (wanted : ℕ) (struck : List
           queue = D .queue;
           sound = omega (
             arith,
-            queued (amiss w how′),
-            opened-amiss w S x how how′ item item-sound (D .grew .grown) (D .grew .seen),
-            total-none (amiss w how′) (amiss w how) others (λ i z p. omega (arith, amiss-on w how how′ (D .grew .grown) i z)) others-sound,
+            queued (amiss w x work₂),
+            opened-amiss w S x work₁ work₂ item item-sound (D .grew .keeps) (D .seen),
+            total-none (amiss w x work₂) (amiss w x work₁) others
+                (λ i z p. omega (arith, amiss-on w S x work₁ work₂ (D .grew .keeps) i z)) others-sound,
           );
-          room = omega (arith, queued (weight w), opened-weight w S x how item item-sound, bag (weight w), St .room);
+          room = omega (arith, queued (weight w), opened-weight w S x work₁ item item-sound, bag (weight w), St .room);
           most = most;
           short = short;
           run = λ x′ F. run x′ F (St .run x′ F .0) (St .run x′ F .1);
@@ -256,7 +265,7 @@ module _ (t : List ℕ) (c : ℕ) (q w : List ℕ) (wanted : ℕ) (struck : List
 
         -- what is left costs less
         pub round-less : total (cost w) (items w x work₂ len′) < total (cost w) (items w x work len)
-        round-less = omega (arith, queued (cost w), opened-cost w S x how item item-sound, bag (cost w))
+        round-less = omega (arith, queued (cost w), opened-cost w S x work₁ item item-sound, bag (cost w))
 
       -- THE END: the first that waits is not due
       pub stops : (n d key : ℕ) → n ≡ n# w → d ≡ lastOf work₁ (3 * n) wanted held → key ≡ keyOf v → key ≤ greatestWord → d < key

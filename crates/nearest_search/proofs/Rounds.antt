@@ -38,6 +38,7 @@ module _ (t : List ℕ) (c : ℕ) (q w : List ℕ) (wanted : ℕ) (struck : List
       let f = frontier-stays (n# w) work work′ len (omega (arith, T .room .fits)) (K .front) (K .grew .since .words) (T .room .queue) in
       record {
         grew = K .grew;
+        seen = λ r l p. absurd (omega arith);
         queue = f .0;
         small = refl;
         queued = λ g. ap (λ (es : List ℕ). total g (map (itemOf w x) es)) (f .1);
@@ -56,13 +57,9 @@ module _ (t : List ℕ) (c : ℕ) (q w : List ℕ) (wanted : ℕ) (struck : List
     pub node-there : k < N# w
     node-there = omega (arith, T .sound)
 
-    -- its first is a row of the table
-    first-row : first# w k < n# w
-    first-row = S .place (start# w k) (omega (arith, S .node k node-there .run, S .node k node-there .some)) .row
-
-    -- its first is measured
-    pub first-seen : 0 < at how (first# w k)
-    first-seen = omega (arith, T .sound)
+    -- the distance of its first is kept
+    pub first-kept : kept work (n# w) (first# w k) ≡ from t c (circles# w) q (first# w k)
+    first-kept = omega (arith, T .sound)
 
     -- the id of a node or a position is a number of 32 bits
     pub id-small : (i : ℕ) → i < 3 * n# w → i < 4294967296
@@ -78,11 +75,10 @@ module _ (t : List ℕ) (c : ℕ) (q w : List ℕ) (wanted : ℕ) (struck : List
         let M : More work work′ len (count# w k - 1) g last len′ =
         subst (λ (n : ℕ). More work work′ len (count# w k - 1) (queued n) last len′) en M₀ in
         let O : Outside work work′ 0 (2 * n# w) = front-alone (n# w) len (count# w k - 1) work work′ (omega (arith, T .room .fits)) (M .outside) in
-        let near : kept work (n# w) (first# w k) ≡ u = T .ready .stands .far (first# w k) first-row first-seen .0 in
         let this : (i : ℕ) → i < count# w k - 1 → itemOf w x (g i) ≡ placeOf w k b u i =
         λ i l. item-place w x (placeBound w b (kept work (n# w) (first# w k)) (start# w k + suc i)) (start# w k + suc i)
         (id-small (2 * n# w + (start# w k + suc i)) (omega (arith, S .node k node-there .run)))
-        ∙ ap (λ (v : ℕ). place (start# w k + suc i) (placeBound w b v (start# w k + suc i))) near in
+        ∙ ap (λ (v : ℕ). place (start# w k + suc i) (placeBound w b v (start# w k + suc i))) first-kept in
         let leafy : upto (placeOf w k b u) (count# w k - 1) ≡ opensAt w x (child# w k) k b u = ap (λ (q : ℕ). opensAt w x q k b u) (sym z) in
         let o = opened w x work work′ len (count# w k - 1) g last len′ (placeOf w k b u) M this (lastOf work′ (3 * n# w) wanted held)
         (openedBy w x (node k b u)) (last-then w wanted work work′ held last n en el O) leafy in
@@ -90,6 +86,7 @@ module _ (t : List ℕ) (c : ℕ) (q w : List ℕ) (wanted : ℕ) (struck : List
           grew = grew-front x (isIn struck) (n# w) wanted how how work work work′ held held (measuredBy w (node k b u))
               (grew-none x (isIn struck) (n# w) wanted how work held (measuredBy w (node k b u)) (λ r. ap (λ (q : ℕ). measuresAt w q r) z)
               (T .ready .stands)) O;
+          seen = λ r l p. absurd (omega (arith, ap (λ (q : ℕ). measuresAt w q r) z));
           queue = M .queue;
           small = o .0;
           queued = o .1;

@@ -6,7 +6,7 @@ use Rattle.laws.proofs.Outside.{outside-more}
 use Rattle.laws.specs.Bags.{total}
 use Rattle.laws.specs.Outside.{Outside}
 use Rattle.measure.specs.Table.{from}
-use Rattle.nearest_search.specs.Standing.{GrewAlone, Ready, Since, Stands}
+use Rattle.nearest_search.specs.Standing.{GrewAlone, GrewCentres, Ready, Since, Stands}
 use Rattle.queue.proofs.Entries.{entries-stay}
 use Rattle.queue.proofs.Queued.{queue-stays}
 use Rattle.queue.specs.Entry.{entryAt, packed}
@@ -36,22 +36,21 @@ module _ (n : ℕ) (work work′ : List ℕ) where
     last-stays w held =
         ap₂ (λ (a b : ℕ). cond (ltb held w) greatestWord (distanceOf (packed a b))) (same (3 * n + 1) (omega arith)) (same (3 * n) (omega arith))
 
-  -- ---- the words from 2n on stay
-  -- all that a search knows stays: the frontier alone has changed
-  pub stands-stay : ((i : ℕ) → 2 * n ≤ i → getD work′ i 0 ≡ getD work i 0) → length work′ ≡ length work
-      → (x : ℕ → ℕ) (gone : ℕ → Bool) (w : ℕ) (how : List ℕ) (held : ℕ) → Stands x gone n w how work held → Stands x gone n w how work′ held
-  stands-stay same long x gone w how held St = record {
-    queue = queue-stays work work′ (3 * n) held (λ i lo hi. same i (omega arith)) long (St .queue);
-    most = St .most;
-    own = ap (total (stray x n)) (answers-stay (λ i l. same i (omega arith)) held) ∙ St .own;
-    remain = ap (total (λ (e : ℕ). cond (gone (rowOf e)) 1 0)) (answers-stay (λ i l. same i (omega arith)) held) ∙ St .remain;
-    far = λ r h p. (same (2 * n + r) (omega arith) ∙ St .far r h p .0, St .far r h p .1);
-    bits = St .bits;
-    bytes = St .bytes;
-    room = omega (arith, St .room);
-    wanted = St .wanted;
-    small = St .small;
-  }
+    -- all that a search knows stays
+    pub stands-stay : length work′ ≡ length work → (x : ℕ → ℕ) (gone : ℕ → Bool) (w : ℕ) (how : List ℕ) (held : ℕ) → Stands x gone n w how work held
+        → Stands x gone n w how work′ held
+    stands-stay long x gone w how held St = record {
+      queue = queue-stays work work′ (3 * n) held (λ i lo hi. same i lo) long (St .queue);
+      most = St .most;
+      own = ap (total (stray x n)) (answers-stay held) ∙ St .own;
+      remain = ap (total (λ (e : ℕ). cond (gone (rowOf e)) 1 0)) (answers-stay held) ∙ St .remain;
+      near = St .near;
+      bits = St .bits;
+      bytes = St .bytes;
+      room = omega (arith, St .room);
+      wanted = St .wanted;
+      small = St .small;
+    }
 
 -- where the frontier's words stay, so does the frontier
 pub frontier-stays : (n : ℕ) (work work′ : List ℕ) (len : ℕ) → len ≤ n → ((i : ℕ) → i < 2 * n → getD work′ i 0 ≡ getD work i 0)
@@ -114,3 +113,11 @@ pub grew-by : (t : List ℕ) (c : ℕ) (q w : List ℕ) (gone : ℕ → Bool) (n
     → GrewAlone (from t c (circles# w) q) gone n wanted how how′ work work′ held held′ g
 grew-by t c q w gone n wanted how how′ work work′ held held′ g o eo K =
     subst (λ (o : ℕ). GrewAlone (from t c o q) gone n wanted how how′ work work′ held held′ g) eo K
+
+-- and where centres were
+pub centres-by : (t : List ℕ) (c : ℕ) (q w : List ℕ) (gone : ℕ → Bool) (n wanted : ℕ) (how how′ work work′ : List ℕ) (held held′ : ℕ) (g : ℕ → ℕ)
+    (o : ℕ)
+    → o ≡ circles# w → GrewCentres (from t c o q) gone n wanted how how′ work work′ held held′ g
+    → GrewCentres (from t c (circles# w) q) gone n wanted how how′ work work′ held held′ g
+centres-by t c q w gone n wanted how how′ work work′ held held′ g o eo K =
+    subst (λ (o : ℕ). GrewCentres (from t c o q) gone n wanted how how′ work work′ held held′ g) eo K

@@ -22,7 +22,7 @@ pub record Stands (x : ℕ → ℕ) (gone : ℕ → Bool) (n w : ℕ) (how work 
   pub most : held ≤ w
   pub own : total (stray x n) (entries work (3 * n) held) ≡ 0
   pub remain : total (λ (e : ℕ). cond (gone (rowOf e)) 1 0) (entries work (3 * n) held) ≡ 0
-  pub far : (r : ℕ) → r < n → 0 < at how r → (kept work n r ≡ x r) × (x r ≤ maxDistance)
+  pub near : (r : ℕ) → r < n → 0 < at how r → x r ≤ maxDistance
   pub bits : (r : ℕ) → r < n → at how r ≤ 1
   pub bytes : n ≤ length how
   pub room : workWords n ≤ length work
@@ -40,12 +40,12 @@ pub record Since (n : ℕ) (how how′ work work′ : List ℕ) : Type 0 where
 abbrev pub metOf : (ℕ → Bool) → List ℕ → ℕ → ℕ
 metOf gone how = both (at how) (liveOf gone)
 
--- The rows of g are measured besides; at most those that remain were entered, and where fewer than w are held even then, each of them was. The last
+-- The rows of g are measured besides, and no distance that was kept is lost; at most those that remain were entered, and where fewer than w are
+-- held even then, each of them was. The last
 -- promise is for indexes in which no row stands twice: where the best were held and the rows of g are new, the best are held again.
 pub record Grew (x : ℕ → ℕ) (gone : ℕ → Bool) (n w : ℕ) (how how′ work work′ : List ℕ) (held held′ : ℕ) (g : ℕ → ℕ) : Type 0 where
   pub stands : Stands x gone n w how′ work′ held′
-  pub grown : (r : ℕ) → 0 < at how r → 0 < at how′ r
-  pub seen : (r : ℕ) → 0 < g r → 0 < at how′ r
+  pub keeps : (r : ℕ) → r < n → kept work n r ≡ x r → kept work′ n r ≡ x r
   pub since : Since n how how′ work work′
   pub most : held′ ≤ held + sumTo (leftOf gone g) n
   pub more : held′ < w → held′ ≡ held + sumTo (leftOf gone g) n
@@ -56,6 +56,11 @@ pub record Grew (x : ℕ → ℕ) (gone : ℕ → Bool) (n w : ℕ) (how how′ 
 pub record GrewAlone (x : ℕ → ℕ) (gone : ℕ → Bool) (n w : ℕ) (how how′ work work′ : List ℕ) (held held′ : ℕ) (g : ℕ → ℕ) : Type 0 where
   pub grew : Grew x gone n w how how′ work work′ held held′ g
   pub front : (i : ℕ) → i < distancesAt n → getD work′ i 0 ≡ getD work i 0
+
+-- and the distances of the rows of g, which are centres, are kept
+pub record GrewCentres (x : ℕ → ℕ) (gone : ℕ → Bool) (n w : ℕ) (how how′ work work′ : List ℕ) (held held′ : ℕ) (g : ℕ → ℕ) : Type 0 where
+  pub alone : GrewAlone x gone n w how how′ work work′ held held′ g
+  pub seen : (r : ℕ) → r < n → 0 < g r → kept work′ n r ≡ x r
 
 -- n rows of the table t, of c columns, of which the set o are circles, can be measured from the query q
 pub record Ready (t : List ℕ) (c o : ℕ) (q : List ℕ) (gone : ℕ → Bool) (n w : ℕ) (how work : List ℕ) (held : ℕ) : Type 0 where

@@ -1,7 +1,7 @@
 // The search: best first, until what waits is farther than the last answer.
 ghost use Rattle.nearest_search.specs.Asked.{asks};
 ghost use Rattle.nearest_search.specs.Rounds.{SearchEnd, SearchStart};
-use crate::taking::measure_row;
+use crate::taking::measure_centre;
 use crate::taking::take_item;
 use answers_held::last;
 use frontier::workspace::ANSWERS;
@@ -32,7 +32,7 @@ pub fn search(
     let base = pair_at(index, 0);
     let first = node_first(index, 0);
     let o = circles(index);
-    let mut held = measure_row(table, c, o, query, n, w, withdrawn, how, work, 0, first);
+    let mut held = measure_centre(table, c, o, query, n, w, withdrawn, how, work, 0, first);
     push(work, 0, 0, 0);
     let mut len = 1;
     while 0 < len {

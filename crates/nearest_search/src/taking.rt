@@ -7,7 +7,7 @@ ghost use Rattle.laws.specs.Upto.{sumTo};
 ghost use Rattle.measure.specs.Table.{from};
 ghost use Rattle.nearest_search.specs.Asked.{asks};
 ghost use Rattle.nearest_search.specs.Rounds.{CanTake, Taken};
-ghost use Rattle.nearest_search.specs.Standing.{GrewAlone, Ready};
+ghost use Rattle.nearest_search.specs.Standing.{GrewAlone, GrewCentres, Ready};
 ghost use Rattle.rowset.specs.Sets.{isIn};
 ghost use Rattle.words.specs.InShape.{InShape};
 ghost use Rattle.words.specs.Words.{N#, child#, circles#, first#, n#, pairAt};
@@ -36,8 +36,49 @@ pub struct Sizes {
     pub held: usize,
 }
 
-// Measures row r, the only place that does: its distance is kept, it is marked, and it is entered among the answers, unless it is withdrawn.
-pub fn measure_row(
+// A row that is measured: how many answers are held then, and how far it is.
+pub struct Measured {
+    pub held: usize,
+    pub distance: u32,
+}
+
+// Measures row r, the only place that does: it is marked, and entered among the answers, unless it is withdrawn.
+fn measure_row(
+    table: &[u16],
+    c: usize,
+    circles: u32,
+    query: &[u16],
+    n: usize,
+    w: usize,
+    withdrawn: &[u32],
+    how: &mut [u8],
+    work: &mut [u32],
+    held: usize,
+    r: usize,
+) -> Measured
+    requires { ⌜ Ready (now table) c circles (now query) (isIn (now withdrawn)) n w (now how) (now work) held ⌝ }
+    requires { ⌜ r < n ⌝ }
+    ensures { λ m. ⌜ GrewAlone (from (now (table .entry)) c circles (now (query .entry))) (isIn (now (withdrawn .entry))) n w
+        (now (how .entry)) (now (how .exit)) (now (work .entry)) (now (work .exit)) held (m .held) (λ (s : ℕ). is s r)
+        × (m .distance ≡ from (now (table .entry)) c circles (now (query .entry)) r) ⌝ }
+{
+    let d = query_distance(table, c, circles, query, r);
+    how[r] = 1;
+    if is_in(withdrawn, r) {
+        return Measured {
+            held: held,
+            distance: d,
+        };
+    }
+    let k = enter(work, ANSWERS * n, w, held, turn(r as u32, d));
+    Measured {
+        held: k,
+        distance: d,
+    }
+}
+
+// Measures row r, which is a centre: its distance is kept, for the bounds of its node and of what is below it.
+pub fn measure_centre(
     table: &[u16],
     c: usize,
     circles: u32,
@@ -52,16 +93,24 @@ pub fn measure_row(
 ) -> usize
     requires { ⌜ Ready (now table) c circles (now query) (isIn (now withdrawn)) n w (now how) (now work) held ⌝ }
     requires { ⌜ r < n ⌝ }
-    ensures { λ k. ⌜ GrewAlone (from (now (table .entry)) c circles (now (query .entry))) (isIn (now (withdrawn .entry))) n w
+    ensures { λ k. ⌜ GrewCentres (from (now (table .entry)) c circles (now (query .entry))) (isIn (now (withdrawn .entry))) n w
         (now (how .entry)) (now (how .exit)) (now (work .entry)) (now (work .exit)) held k (λ (s : ℕ). is s r) ⌝ }
 {
-    let d = query_distance(table, c, circles, query, r);
-    how[r] = 1;
-    work[DISTANCES * n + r] = d;
-    if is_in(withdrawn, r) {
-        return held;
-    }
-    enter(work, ANSWERS * n, w, held, turn(r as u32, d))
+    let m = measure_row(
+        table,
+        c,
+        circles,
+        query,
+        n,
+        w,
+        withdrawn,
+        how,
+        work,
+        held,
+        r,
+    );
+    work[DISTANCES * n + r] = m.distance;
+    m.held
 }
 
 // Measures the firsts of the nodes from a + 1 up to e: the first child shares its parent's first, which is measured.
@@ -81,7 +130,8 @@ fn measure_centres(
 ) -> usize
     requires { ⌜ Ready (now table) c (circles# (now index)) (now query) (isIn (now withdrawn)) n w (now how) (now work) held ⌝ }
     requires { ⌜ (InShape (now index)) × (n ≡ n# (now index)) × (a < e) × (e ≤ N# (now index)) ⌝ }
-    ensures { λ k. ⌜ GrewAlone (from (now (table .entry)) c (circles# (now (index .entry))) (now (query .entry))) (isIn (now (withdrawn .entry))) n w
+    ensures { λ k. ⌜ GrewCentres (from (now (table .entry)) c (circles# (now (index .entry))) (now (query .entry)))
+        (isIn (now (withdrawn .entry))) n w
         (now (how .entry)) (now (how .exit)) (now (work .entry)) (now (work .exit)) held k
         (λ (s : ℕ). sumTo (λ (i : ℕ). is s (first# (now (index .entry)) (a + suc i))) (e - (a + 1))) ⌝ }
 {
@@ -90,7 +140,7 @@ fn measure_centres(
     let mut j = a + 1;
     while j < e {
         let r = node_first(index, j);
-        k = measure_row(table, c, o, query, n, w, withdrawn, how, work, k, r);
+        k = measure_centre(table, c, o, query, n, w, withdrawn, how, work, k, r);
         j += 1;
     }
     k
@@ -242,9 +292,9 @@ pub fn take_item(
     }
     let r = word(index, base + 2 * (id - 2 * n));
     let o = circles(index);
-    let now_held = measure_row(table, c, o, query, n, w, withdrawn, how, work, held, r);
+    let m = measure_row(table, c, o, query, n, w, withdrawn, how, work, held, r);
     Sizes {
         len: len,
-        held: now_held,
+        held: m.held,
     }
 }

@@ -32,7 +32,7 @@ abbrev μ-loop : tie.MeasureT-loop
 abbrev queued : tie.At-loop Inv-loop μ-loop → tie.After-push Inv-loop μ-loop
 queued l = l .before .before .before
 
-abbrev met : tie.At-loop Inv-loop μ-loop → tie.After-measure-row Inv-loop μ-loop
+abbrev met : tie.At-loop Inv-loop μ-loop → tie.After-measure-centre Inv-loop μ-loop
 met l = queued l .before .before .before .before .before .before
 
 abbrev counted : tie.At-loop Inv-loop μ-loop → tie.After-rows Inv-loop μ-loop
@@ -50,7 +50,7 @@ since : (l : tie.At-loop Inv-loop μ-loop)
     → Since (n# (start l .args .index .now)) (start l .args .how .now) (l .loop .how) (start l .args .work .now) (l .loop .work)
 since l =
     begins-since _ _ _ (start l .args .index .now) _ _ (start l .pre .filled) _ _ _ _ _ _ _ _ _ (counted l .rows .ensures .0)
-    (met l .before .before .before .circles .ensures) (met l .measure-row .ensures) (queued l .push .ensures) _ _ (l .loop .inv .1)
+    (met l .before .before .before .circles .ensures) (met l .measure-centre .ensures) (queued l .push .ensures) _ _ (l .loop .inv .1)
 
 rows-requires : tie.Need-rows-requires Inv-loop μ-loop
 rows-requires c κs = omega (arith, c .before .before .before .before .before .before .pre .tested .shape .whole .words)
@@ -66,8 +66,8 @@ node-first-requires c κs =
 circles-requires : tie.Need-circles-requires Inv-loop μ-loop
 circles-requires c κs = omega (arith, c .before .before .before .before .before .before .before .before .before .pre .tested .shape .whole .words)
 
-measure-row-requires : tie.Need-measure-row-requires Inv-loop μ-loop
-measure-row-requires c κs =
+measure-centre-requires : tie.Need-measure-centre-requires Inv-loop μ-loop
+measure-centre-requires c κs =
     let s = c .before .before .before .before .before .before .before .before .before .before .before .before in
     let rows = c .before .before .before .before .before .rows in
     let node-first = c .before .before .before .node-first in
@@ -81,7 +81,7 @@ push-requires c κs =
     let m = c .before .before .before .before .before in
     let rows = m .before .before .before .before .before .before .rows in
     let pre = m .before .before .before .before .before .before .before .before .before .before .before .before .before .pre in
-    (empty-queue _ 0 (omega arith), omega (arith, m .measure-row .ensures .grew .stands .room, rows .ensures .0, pre .filled))
+    (empty-queue _ 0 (omega arith), omega (arith, m .measure-centre .ensures .alone .grew .stands .room, rows .ensures .0, pre .filled))
 
 loop-holds : tie.Need-loop-holds Inv-loop μ-loop
 loop-holds c =
@@ -91,7 +91,8 @@ loop-holds c =
     let node-first = m .before .before .before .before .node-first in
     let rows = m .before .before .before .before .before .before .rows in
     let s = m .before .before .before .before .before .before .before .before .before .before .before .before .before in (
-      begins-state _ _ _ (s .args .index .now) _ _ (s .pre .filled) _ _ _ _ _ _ _ _ _ (rows .ensures .0) (circles .ensures) (m .measure-row .ensures)
+      begins-state _ _ _ (s .args .index .now) _ _ (s .pre .filled) _ _ _ _ _ _ _ _ _ (rows .ensures .0) (circles .ensures)
+          (m .measure-centre .ensures)
           (p .push .ensures) (s .pre .tested .shape) (node-first .ensures .0) (s .pre .blank) (blank-ready _ _ _ (s .pre)),
       since-none _ _ _,
     )
@@ -182,7 +183,7 @@ search-spec =
     pair-at-requires
     node-first-requires
     circles-requires
-    measure-row-requires
+    measure-centre-requires
     push-requires
     loop-holds
     pop-requires

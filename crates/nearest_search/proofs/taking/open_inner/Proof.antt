@@ -52,7 +52,7 @@ mul-last c =
 last-requires : tie.Need-last-requires
 last-requires c κs =
     let m = c .before .before .before .before .before .before .before in
-    omega (arith, m .measure-centres .ensures .grew .stands .room, m .measure-centres .ensures .grew .stands .wanted)
+    omega (arith, m .measure-centres .ensures .alone .grew .stands .room, m .measure-centres .ensures .alone .grew .stands .wanted)
 
 queue-children-requires : tie.Need-queue-children-requires
 queue-children-requires c κs =
@@ -68,12 +68,12 @@ queue-children-requires c κs =
 same-length : tie.Need-same-length
 same-length c =
     let m = c .before .before .before .before .before .before .before .before .before .before .before .before in
-    m .measure-centres .ensures .grew .since .bytes
+    m .measure-centres .ensures .alone .grew .since .bytes
 
 same-length-2 : tie.Need-same-length-2
 same-length-2 c =
     let m = c .before .before .before .before .before .before .before .before .before .before .before .before in
-    c .before .before .queue-children .ensures .outside .same ∙ m .measure-centres .ensures .grew .since .words
+    c .before .before .queue-children .ensures .outside .same ∙ m .measure-centres .ensures .alone .grew .since .words
 
 returns : tie.Need-returns
 returns c =

@@ -79,10 +79,10 @@ measure-row-requires c κs =
     (c .before .before .circles .ensures)
 
 same-length-3 : tie.Need-same-length-3
-same-length-3 c = c .before .before .before .before .measure-row .ensures .grew .since .bytes
+same-length-3 c = c .before .before .before .before .measure-row .ensures .0 .grew .since .bytes
 
 same-length-4 : tie.Need-same-length-4
-same-length-4 c = c .before .before .before .before .measure-row .ensures .grew .since .words
+same-length-4 c = c .before .before .before .before .measure-row .ensures .0 .grew .since .words
 
 returns-2 : tie.Need-returns-2
 returns-2 c =
@@ -90,7 +90,7 @@ returns-2 c =
     let i = m .before .before .before .before .before .before in
     let pre = start i .pre in
     place-taken _ _ _ _ _ _ _ _ _ _ _ _ _ (pre .1 .0) (i .id-of .ensures) (pre .0) (omega arith) _ _ _ _ _ (row (m .before .before .before .before))
-    (m .before .before .before .circles .ensures) (m .measure-row .ensures)
+    (m .before .before .before .circles .ensures) (m .measure-row .ensures .0)
 
 pub take-item-spec : {M : Type 1} → statement M
 take-item-spec =
