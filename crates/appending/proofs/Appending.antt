@@ -61,7 +61,8 @@ pub append-some : (T : List ℕ) (c : ℕ) (w : List ℕ) → 1 ≤ n# w
     → appended T c w ≡ encode 2 c (circles# w) (m# w) (l# w) (join (between T c (circles# w)) (m# w) (l# w) (n# w) maxDepth 0 (treeOf w))
 unfolding appended
 append-some T c w h = ap (λ (b : Bool). cond b (build T c (circles# w) 2 (m# w) (l# w))
-    (encode 2 c (circles# w) (m# w) (l# w) (join (between T c (circles# w)) (m# w) (l# w) (n# w) maxDepth 0 (treeOf w)))) (ne-eqb (n# w) 0 (λ q. omega arith))
+    (encode 2 c (circles# w) (m# w) (l# w) (join (between T c (circles# w)) (m# w) (l# w) (n# w) maxDepth 0 (treeOf w))))
+    (ne-eqb (n# w) 0 (λ q. omega arith))
 
 -- a table whose rows are those that an accepted edition 2 index is over, and one more
 pub record Longer (d : ℕ → ℕ → ℕ) (T : List ℕ) (c : ℕ) (w : List ℕ) : Type 0 where
@@ -98,14 +99,17 @@ module _ {d : ℕ → ℕ → ℕ} {T : List ℕ} {c : ℕ} {w : List ℕ} (L : 
   -- the old tree is well made by the new table's distance
   old-good : 1 ≤ n# w → Good (between T c (circles# w)) (m# w) (l# w) (treeOf w)
   old-good h =
-      good-agree d (between T c (circles# w)) (m# w) (l# w) (treeOf w) (subst (λ (n : ℕ). Agree n d (between T c (circles# w))) (sym old-count) (L .same))
+      good-agree d (between T c (circles# w)) (m# w) (l# w) (treeOf w)
+      (subst (λ (n : ℕ). Agree n d (between T c (circles# w))) (sym old-count) (L .same))
       (accepted-good d w (L .accepted) (L .edition) h)
 
   -- the new one is, and has all rows
   pub new-good : 1 ≤ n# w → Appended (between T c (circles# w)) (m# w) (l# w) (treeOf w) newTree
   new-good h =
-      subst (λ (z : ℕ). Appended (between T c (circles# w)) (m# w) (l# w) (treeOf w) (join (between T c (circles# w)) (m# w) (l# w) z maxDepth 0 (treeOf w))) old-count
-      (join-good (between T c (circles# w)) (metric T c (circles# w) (L .round)) (between-most T c (circles# w) (omega (arith, old-shape .whole .columns .1, L .columns)) (L .small)) (m# w) (l# w)
+      subst (λ (z : ℕ). Appended (between T c (circles# w)) (m# w) (l# w) (treeOf w)
+      (join (between T c (circles# w)) (m# w) (l# w) z maxDepth 0 (treeOf w))) old-count
+      (join-good (between T c (circles# w)) (metric T c (circles# w) (L .round))
+      (between-most T c (circles# w) (omega (arith, old-shape .whole .columns .1, L .columns)) (L .small)) (m# w) (l# w)
       (omega (arith, old-shape .whole .fan .0)) (old-shape .whole .leaf .0) (treeOf w) (old-good h))
 
   -- THE FULL CHECK ACCEPTS THE INDEX WITH ONE ROW MORE
@@ -115,8 +119,8 @@ module _ {d : ℕ → ℕ → ℕ} {T : List ℕ} {c : ℕ} {w : List ℕ} (L : 
       go : (n : ℕ) → n# w ≡ n → Accepted (between T c (circles# w)) (appended T c w)
       go zero e =
           subst (Accepted (between T c (circles# w))) (sym (append-one T c w e))
-          (build-accepted T c (circles# w) 2 (m# w) (l# w) refl new-columns new-circles (share-ok w old-shape) (omega (arith, L .rows, L .few)) (L .small)
-          (L .round))
+          (build-accepted T c (circles# w) 2 (m# w) (l# w) refl new-columns new-circles (share-ok w old-shape) (omega (arith, L .rows, L .few))
+          (L .small) (L .round))
       go (suc n) e =
           let N = new-good (omega arith) in
           subst (Accepted (between T c (circles# w))) (sym (append-some T c w (omega arith)))
@@ -184,7 +188,8 @@ module _ {d : ℕ → ℕ → ℕ} {T : List ℕ} {c : ℕ} {w : List ℕ} (L : 
       go : (n : ℕ) → n# w ≡ n → Fits (appended T c w)
       go zero e =
           let one : rowsOf T c ≡ 1 = omega (arith, L .rows) in
-          let p = planted (between T c (circles# w)) (metric T c (circles# w) (L .round)) (between-most T c (circles# w) (omega (arith, old-shape .whole .columns .1, L .columns)) (L .small))
+          let p = planted (between T c (circles# w)) (metric T c (circles# w) (L .round))
+          (between-most T c (circles# w) (omega (arith, old-shape .whole .columns .1, L .columns)) (L .small))
           (m# w) (l# w) (omega (arith, old-shape .whole .fan .0)) (old-shape .whole .leaf .0) 0 in
           let n : length (entries (plant (between T c (circles# w)) (m# w) (l# w) (rowsOf T c))) ≡ n# w + 1 =
           ap (λ (k : ℕ). length (entries (plant (between T c (circles# w)) (m# w) (l# w) k))) one ∙ p .0 ∙ omega arith in
@@ -218,7 +223,8 @@ module _ {d : ℕ → ℕ → ℕ} {T : List ℕ} {c : ℕ} {w : List ℕ} (L : 
   append-nodes h =
       let G = old-good h in
       let N = new-good h .good in
-      let p = join-size (between T c (circles# w)) (m# w) (l# w) (old-shape .whole .fan .0) (old-shape .whole .leaf .0) (n# w) maxDepth 0 (treeOf w) (old-made h)
+      let p = join-size (between T c (circles# w)) (m# w) (l# w) (old-shape .whole .fan .0) (old-shape .whole .leaf .0) (n# w) maxDepth 0 (treeOf w)
+      (old-made h)
       (old-once h) (omega (arith, G .one)) in
       let was : N# w ≡ size (treeOf w) =
       sym (ap length (numbered-is w old-shape (tree-fits w (L .accepted .shape))) ∙ simp (length-map, range-length))
@@ -236,8 +242,8 @@ row-front U r c n i e h =
     ap (take c) (drop-append-le (c * i) U r (omega arith)) ∙ take-append-le c (drop (c * i) U) r (simp length-drop (omega arith))
 
 -- an index accepted with a table, and that table with a row appended
-pub longer-of : (U r : List ℕ) (c : ℕ) (w : List ℕ) → Accepted (between U c (circles# w)) w → edition# w ≡ 2 → c# w ≡ c → length U ≡ c * n# w → length r ≡ c
-    → n# w + 1 ≤ maxRows → Every (λ v. v ≤ 65535) (U ++ r) → Rounded (U ++ r) c (circles# w)
+pub longer-of : (U r : List ℕ) (c : ℕ) (w : List ℕ) → Accepted (between U c (circles# w)) w → edition# w ≡ 2 → c# w ≡ c → length U ≡ c * n# w
+    → length r ≡ c → n# w + 1 ≤ maxRows → Every (λ v. v ≤ 65535) (U ++ r) → Rounded (U ++ r) c (circles# w)
     → Longer (between U c (circles# w)) (U ++ r) c w
 unfolding between
 longer-of U r c w A two hc hU hr few small round =
@@ -256,7 +262,7 @@ longer-of U r c w A two hc hU hr few small round =
     }
 
 -- IF THE OLD INDEX PASSED THE FULL CHECK WITH THE OLD TABLE, SO DOES THE NEW WITH THE TABLE THAT HAS ONE ROW MORE
-pub append-row : (U r : List ℕ) (c : ℕ) (w : List ℕ) → Accepted (between U c (circles# w)) w → edition# w ≡ 2 → c# w ≡ c → length U ≡ c * n# w → length r ≡ c
-    → n# w + 1 ≤ maxRows → Every (λ v. v ≤ 65535) (U ++ r) → Rounded (U ++ r) c (circles# w)
+pub append-row : (U r : List ℕ) (c : ℕ) (w : List ℕ) → Accepted (between U c (circles# w)) w → edition# w ≡ 2 → c# w ≡ c → length U ≡ c * n# w
+    → length r ≡ c → n# w + 1 ≤ maxRows → Every (λ v. v ≤ 65535) (U ++ r) → Rounded (U ++ r) c (circles# w)
     → Accepted (between (U ++ r) c (circles# w)) (appended (U ++ r) c w)
 append-row U r c w A two hc hU hr few small round = append-accepted (longer-of U r c w A two hc hU hr few small round)

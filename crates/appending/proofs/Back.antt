@@ -127,7 +127,8 @@ entries-tree w S =
     empty (suc n) f = absurd (f (omega arith))
 
 -- AN INDEX IN SHAPE IS ITS TREE, NUMBERED AND WRITTEN IN ITS EDITION
-pub tree-encode : (w : List ℕ) → wholeOk w ≡ true → shapeOk w ≡ true → encode (edition# w) (c# w) (circles# w) (m# w) (l# w) (treeOf w) ≡ take (wordsOf w) w
+pub tree-encode : (w : List ℕ) → wholeOk w ≡ true → shapeOk w ≡ true → encode (edition# w) (c# w) (circles# w) (m# w) (l# w) (treeOf w)
+    ≡ take (wordsOf w) w
 unfolding encode
 tree-encode w ok sh =
     let S = in-shape w ok sh in

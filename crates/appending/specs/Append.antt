@@ -73,8 +73,7 @@ module _ (d : ℕ → ℕ → ℕ) (m l z : ℕ) where
   join zero (suc at) (fork R ks g) = fork R ks (join zero at g)
   join (suc deep) (suc at) (fork R ks g) = fork R ks (join (suc deep) at g)
 
--- the words, in edition 2, of the edition 2 index w with the table's last row in it, with the index's own m, l and circles; on an empty table those of
--- the build
+-- the words, in edition 2, of the edition 2 index w with the table's last row in it; on an empty table those of the build with its m, l and circles
 unfoldable pub appended : List ℕ → ℕ → List ℕ → List ℕ
 appended T c w =
     let t : Grove = join (between T c (circles# w)) (m# w) (l# w) (n# w) maxDepth 0 (treeOf w) in

@@ -23,7 +23,8 @@ pub struct Leaf {
 pub fn closest_child(table: &[u16], c: usize, index: &[u32], k: usize, z: usize) -> usize
     requires { ⌜ Lent (now table) c (now index) z ⌝ }
     requires { ⌜ (k < N# (now index)) × (inner (now index) k ≡ true) ⌝ }
-    ensures { λ r. ⌜ (r ≡ closestKid (between (now (table .entry)) c (circles# (now (index .entry)))) (now (index .entry)) z k) × (r < m# (now (index .entry))) ⌝ }
+    ensures { λ r. ⌜ (r ≡ closestKid (between (now (table .entry)) c (circles# (now (index .entry)))) (now (index .entry)) z k)
+        × (r < m# (now (index .entry))) ⌝ }
 {
     let child = node_child(index, k);
     let m = centres(index);

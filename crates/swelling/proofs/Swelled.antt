@@ -25,5 +25,5 @@ pub rows-at-once : (T : List ℕ) (c : ℕ) (w : List ℕ) → wholeOk w ≡ tru
 rows-at-once T c w whole shape h =
     let S = in-shape w whole shape in
     rows-some T c w h
-    ∙ ap (encode 2 c (circles# w) (m# w) (l# w)) (joins-swollen (between T c (circles# w)) (m# w) (l# w) (S .whole .fan .0) (S .whole .leaf .0) (n# w) (rowsOf T c - n# w) (treeOf w)
-    (fine-tree w S (tree-fits w shape)) (full-tree w S) (rows-low w S))
+    ∙ ap (encode 2 c (circles# w) (m# w) (l# w)) (joins-swollen (between T c (circles# w)) (m# w) (l# w) (S .whole .fan .0) (S .whole .leaf .0)
+    (n# w) (rowsOf T c - n# w) (treeOf w) (fine-tree w S (tree-fits w shape)) (full-tree w S) (rows-low w S))

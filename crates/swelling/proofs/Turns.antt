@@ -113,7 +113,8 @@ module _ {T : List ℕ} {c : ℕ} {w : List ℕ} (P : Part T c w) where
         few = omega (arith, P .more, P .few);
         small = every-take (λ v. v ≤ 65535) (c * (n# w + 1)) T (P .small);
         round = rows-round T c wide (circles# w) (n# w + 1) one (P .round);
-        same = λ i j p q. rows-agree T c wide (circles# w) (n# w) less i j p q ∙ sym (rows-agree T c wide (circles# w) (n# w + 1) one i j (omega arith) (omega arith));
+        same = λ i j p q. rows-agree T c wide (circles# w) (n# w) less i j p q
+            ∙ sym (rows-agree T c wide (circles# w) (n# w + 1) one i j (omega arith) (omega arith));
       }
 
   -- the index after it
@@ -143,14 +144,16 @@ module _ {T : List ℕ} {c : ℕ} {w : List ℕ} (P : Part T c w) where
   same-tree : 1 ≤ n# w → newTree step ≡ joinedTree
   same-tree h =
       let G = accepted-good (between (firstRows T c (n# w)) c (circles# w)) w (P .accepted) (P .edition) h in
-      join-agree (n# w + 1) (omega arith) (between next c (circles# w)) (between T c (circles# w)) (rows-agree T c wide (circles# w) (n# w + 1) (omega (arith, P .more))) (m# w) (l# w) (n# w)
+      join-agree (n# w + 1) (omega arith) (between next c (circles# w)) (between T c (circles# w))
+      (rows-agree T c wide (circles# w) (n# w + 1) (omega (arith, P .more))) (m# w) (l# w) (n# w)
       (omega arith) maxDepth 0 (treeOf w) (G .full)
       (every-of (λ i. i < length (entries (treeOf w))) (λ i. i < n# w + 1) (λ i u. omega (arith, count)) (rowsIn (treeOf w)) (G .rows))
 
   -- the first row's tree, by the whole table's distance
   same-plant : plant (between (firstRows T c 1) c (circles# w)) (m# w) (l# w) 1 ≡ plant (between T c (circles# w)) (m# w) (l# w) 1
   same-plant =
-      grow-agree 1 (omega arith) (between (firstRows T c 1) c (circles# w)) (between T c (circles# w)) (rows-agree T c wide (circles# w) 1 (omega (arith, P .more))) (m# w) (l# w) maxDepth
+      grow-agree 1 (omega arith) (between (firstRows T c 1) c (circles# w)) (between T c (circles# w))
+      (rows-agree T c wide (circles# w) 1 (omega (arith, P .more))) (m# w) (l# w) maxDepth
       (range 0 1) bare (omega arith) (omega arith, tt)
 
   -- the distances are in range
@@ -159,7 +162,9 @@ module _ {T : List ℕ} {c : ℕ} {w : List ℕ} (P : Part T c w) where
 
   -- the first row's tree is well made
   first-good : Good (between T c (circles# w)) (m# w) (l# w) (plant (between T c (circles# w)) (m# w) (l# w) 1)
-  first-good = planted (between T c (circles# w)) (metric T c (circles# w) (P .round)) near (m# w) (l# w) (omega (arith, shaped .whole .fan .0)) (shaped .whole .leaf .0) 0 .1
+  first-good =
+      planted (between T c (circles# w)) (metric T c (circles# w) (P .round)) near (m# w) (l# w) (omega (arith, shaped .whole .fan .0))
+      (shaped .whole .leaf .0) 0 .1
 
   -- on an empty index the first append writes it
   first-words : n# w ≡ 0 → then′ ≡ encode 2 c (circles# w) (m# w) (l# w) (plant (between T c (circles# w)) (m# w) (l# w) 1)
@@ -167,14 +172,16 @@ module _ {T : List ℕ} {c : ℕ} {w : List ℕ} (P : Part T c w) where
   first-words e =
       let one : n# w + 1 ≡ 1 = omega arith in
       append-one next c w e
-      ∙ ap₂ (λ (k n : ℕ). encode 2 c (circles# w) (m# w) (l# w) (plant (between (firstRows T c k) c (circles# w)) (m# w) (l# w) n)) one (step .rows ∙ one)
+      ∙ ap₂ (λ (k n : ℕ). encode 2 c (circles# w) (m# w) (l# w) (plant (between (firstRows T c k) c (circles# w)) (m# w) (l# w) n)) one
+      (step .rows ∙ one)
       ∙ ap (encode 2 c (circles# w) (m# w) (l# w)) same-plant
 
   -- and so it is read back
   first-tree : n# w ≡ 0 → treeOf then′ ≡ plant (between T c (circles# w)) (m# w) (l# w) 1
   first-tree e =
       ap treeOf (first-words e)
-      ∙ encode-tree c (circles# w) (m# w) (l# w) (plant (between T c (circles# w)) (m# w) (l# w) 1) (first-good .one) (first-good .even) (first-good .fine)
+      ∙ encode-tree c (circles# w) (m# w) (l# w) (plant (between T c (circles# w)) (m# w) (l# w) 1) (first-good .one) (first-good .even)
+      (first-good .fine)
 
 module _ (T : List ℕ) (c : ℕ) where
   -- the words of k + 1 rows from n on, put into the tree t
@@ -222,7 +229,8 @@ module _ (T : List ℕ) (c : ℕ) where
 
 -- on an index with a row
 pub rows-some : (T : List ℕ) (c : ℕ) (w : List ℕ) → 1 ≤ n# w
-    → appendedRows T c w ≡ encode 2 c (circles# w) (m# w) (l# w) (joins (between T c (circles# w)) (m# w) (l# w) (range (n# w) (rowsOf T c - n# w)) (treeOf w))
+    → appendedRows T c w
+    ≡ encode 2 c (circles# w) (m# w) (l# w) (joins (between T c (circles# w)) (m# w) (l# w) (range (n# w) (rowsOf T c - n# w)) (treeOf w))
 unfolding appendedRows
 rows-some T c w h =
     let had : max (n# w) 1 ≡ n# w = omega arith in
@@ -232,7 +240,8 @@ rows-some T c w h =
 -- on an empty one
 pub rows-none : (T : List ℕ) (c : ℕ) (w : List ℕ) → n# w ≡ 0
     → appendedRows T c w
-    ≡ encode 2 c (circles# w) (m# w) (l# w) (joins (between T c (circles# w)) (m# w) (l# w) (range 1 (rowsOf T c - 1)) (plant (between T c (circles# w)) (m# w) (l# w) 1))
+    ≡ encode 2 c (circles# w) (m# w) (l# w) (joins (between T c (circles# w)) (m# w) (l# w) (range 1 (rowsOf T c - 1))
+    (plant (between T c (circles# w)) (m# w) (l# w) 1))
 unfolding appendedRows
 rows-none T c w e =
     let had : max (n# w) 1 ≡ 1 = omega arith in

@@ -30,7 +30,8 @@ pub data Case : Type 0 where
 
 -- the words of the tree that takes all rows at once
 abbrev pub atOnce : List ℕ → List ℕ → List ℕ
-atOnce T w = encode 2 1 (circles# w) (m# w) (l# w) (swollenTree (between T 1 (circles# w)) (m# w) (l# w) (range (n# w) (rowsOf T 1 - n# w)) (treeOf w))
+atOnce T w =
+    encode 2 1 (circles# w) (m# w) (l# w) (swollenTree (between T 1 (circles# w)) (m# w) (l# w) (range (n# w) (rowsOf T 1 - n# w)) (treeOf w))
 
 -- the index of a table that is built
 unfoldable pub base : List ℕ → List ℕ

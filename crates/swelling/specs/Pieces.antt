@@ -114,4 +114,5 @@ written c o m l ns ms =
 abbrev pub byLevels : List ℕ → ℕ → List ℕ → List ℕ
 byLevels T c w =
     let root : Piece = pieceOf (between T c (circles# w)) w 0 0 (range (n# w) (rowsOf T c - n# w)) in
-    written c (circles# w) (m# w) (l# w) (levelsFrom (between T c (circles# w)) w maxDepth 1 (root ∷ [])) (membersFrom (between T c (circles# w)) w maxDepth root)
+    written c (circles# w) (m# w) (l# w) (levelsFrom (between T c (circles# w)) w maxDepth 1 (root ∷ []))
+    (membersFrom (between T c (circles# w)) w maxDepth root)

@@ -24,8 +24,14 @@ circles-requires c κs = omega (arith, c .before .before .before .before .pre .0
 node-first-requires : tie.Need-node-first-requires Inv-loop μ-loop
 node-first-requires c κs =
     let c5 = c .before .before .before .before .before in
-    let L = c5 .pre .0 in
-    (L .shape, omega (arith, kids-there L (c5 .pre .1 .0) (c5 .pre .1 .1) (c .before .before .node-child .ensures .0) (c .before .centres .ensures .0)))
+    let L = c5 .pre .0 in (
+      L .shape,
+      omega (
+        arith,
+        kids-there L (c5 .pre .1 .0) (c5 .pre .1 .1) (c .before .before .node-child .ensures .0)
+            (c .before .centres .ensures .0),
+      ),
+    )
 
 row-distance-requires : tie.Need-row-distance-requires Inv-loop μ-loop
 row-distance-requires c κs = measurable (c .before .before .before .before .before .before .pre .0) (c .node-first .ensures .1)
