@@ -13,7 +13,7 @@ use Rattle.tree.specs.Build.{build}
 use Rattle.tree.specs.Check.{Accepted}
 use Rattle.tree.specs.Grove.{treeOf}
 use Rattle.words.proofs.Headers.{words-whole}
-use Rattle.words.specs.Words.{N#, c#, edition#, l#, m#, n#, wordsOf}
+use Rattle.words.specs.Words.{N#, c#, circles#, edition#, l#, m#, n#, wordsOf}
 use borrow.Author.Tests.{eq-eqb}
 use lib.Dec.{eqb}
 use lib.ListN.{drop, length, length-drop, replicate, take, take-append-drop}
@@ -42,28 +42,28 @@ module _ {T : List ℕ} {c : ℕ} {w room work room′ work′ : List ℕ} {numb
       ∙ take-at (appended T c w) (drop (length (appended T c w)) room) (length (appended T c w)) refl
 
   -- ON AN EMPTY INDEX IT IS THE BUILD OF ONE ROW, with the m and l of its header
-  pub append-one : n# w ≡ 0 → (rowsOf T c ≡ 1) × (take words room′ ≡ build T c 2 (m# w) (l# w))
+  pub append-one : n# w ≡ 0 → (rowsOf T c ≡ 1) × (take words room′ ≡ build T c (circles# w) 2 (m# w) (l# w))
   append-one e = (omega (arith, cleared .rows), append-there ∙ words-one T c w e)
 
   -- the table before the row came
   abbrev pub older : List ℕ
   older = take (c * n# w) T
 
-  module _ (accepted : Accepted (between older c) w) where
+  module _ (accepted : Accepted (between older c (circles# w)) w) where
     -- the table has the old one's rows and one more
-    longer : Longer (between older c) T c w
+    longer : Longer (between older c (circles# w)) T c w
     longer =
         let C = cleared in
         let k : ℕ = c * n# w in
         let long : length T ≡ k + c = omega (arith, div-add-mod (length T) c, C .table .whole, ap (λ (i : ℕ). c * i) (C .rows), mul-add c (n# w) 1) in
         let parts : older ++ drop k T ≡ T = take-append-drop k T in
-        subst (λ (t : List ℕ). Longer (between older c) t c w) parts
+        subst (λ (t : List ℕ). Longer (between older c (circles# w)) t c w) parts
         (longer-of older (drop k T) c w accepted (words-whole w (C .whole) .0) (C .columns) (length-take-le k T (omega arith))
         (omega (arith, length-drop k T)) (omega (arith, C .rows, C .table .rows)) (subst (Every (λ v. v ≤ 65535)) (sym parts) (b .narrow)))
 
     -- WHERE THE OLD INDEX PASSED THE FULL CHECK WITH THE OLD TABLE, THE NEW ONE PASSES IT WITH THE NEW
-    pub append-accepted : Accepted (between T c) (take words room′)
-    append-accepted = subst (Accepted (between T c)) (sym append-there) (words-accepted longer)
+    pub append-accepted : Accepted (between T c (circles# w)) (take words room′)
+    append-accepted = subst (Accepted (between T c (circles# w))) (sym append-there) (words-accepted longer)
 
     -- ITS HEADER HAS ONE ROW MORE AND ELSE WHAT THE OLD ONE HAS, AND ASKS FOR JUST THESE WORDS
     pub append-headed : (n# (take words room′) ≡ rowsOf T c) × (c# (take words room′) ≡ c) × (m# (take words room′) ≡ m# w)
@@ -73,7 +73,7 @@ module _ {T : List ℕ} {c : ℕ} {w room work room′ work′ : List ℕ} {numb
         rw append-there (h .1 ∙ cleared .rows, h .2, h .3, h .4, h .0, append-length longer)
 
     -- ONE GROUP TAKES THE ROW, AND IS SPLIT WHERE IT MUST BE; ALL OTHERS STAY AS THEY ARE, IN THEIR ORDER
-    pub append-order : 1 ≤ n# w → Order (between T c) (m# w) (l# w) (n# w) 0 (treeOf w) (treeOf (take words room′))
+    pub append-order : 1 ≤ n# w → Order (between T c (circles# w)) (m# w) (l# w) (n# w) 0 (treeOf w) (treeOf (take words room′))
     append-order h = rw append-there (words-order longer h)
 
 -- NO SECOND OUTCOME FITS

@@ -23,7 +23,7 @@ use Rattle.split.specs.Runs.{laid}
 use Rattle.tree.proofs.Written.{each-words}
 use Rattle.tree.specs.Encode.{Node, encode, nodeWords, numbered, pairWords}
 use Rattle.tree.specs.Grove.{Grove, entries}
-use Rattle.words.specs.Words.{c#, count#, dist#, l#, m#, n#, row#, start#}
+use Rattle.words.specs.Words.{c#, circles#, count#, dist#, l#, m#, n#, row#, start#}
 use borrow.Rule.Slice.PartMut.{midOf, putMid}
 use lib.ListN.{drop, length, length-append, length-drop, length-map, take}
 use lib.Seq.{drop-at, length-take-le}
@@ -55,7 +55,7 @@ module _ {t w : List ℕ} {v added limit : ℕ} {room work room₁ work₁ : Lis
   n = n# w + added
 
   abbrev d : ℕ → ℕ → ℕ
-  d = between t (c# w)
+  d = between t (c# w) (circles# w)
 
   -- the tree
   abbrev tree : Grove
@@ -158,7 +158,7 @@ module _ {t w : List ℕ} {v added limit : ℕ} {room work room₁ work₁ : Lis
       ∙ omega (arith, each-words 2 (numbered tree) (omega arith, omega arith), r .count)
 
   -- they are those of 01
-  front-are : front ++ each pairWords (entries tree) ≡ encode 2 (c# w) (m# w) (l# w) tree
+  front-are : front ++ each pairWords (entries tree) ≡ encode 2 (c# w) (circles# w) (m# w) (l# w) tree
   unfolding encode
   front-are =
       append-assoc (headerOf n (c# w) (m# w) (l# w) made) (each (nodeWords 2) (numbered tree)) (each pairWords (entries tree))
@@ -183,7 +183,7 @@ module _ {t w : List ℕ} {v added limit : ℕ} {room work room₁ work₁ : Lis
       let headed : room₂ ≡ front ++ drop (nodeAt made) room =
       e ∙ ap₂ (λ (x y : List ℕ). x ++ y) head (behind ∙ ap (λ (k : ℕ). each (nodeWords 2) ns ++ drop (nodeAt k) room) (sym (r .count)))
       ∙ sym (append-assoc (headerOf n (c# w) (m# w) (l# w) made) (each (nodeWords 2) ns) (drop (nodeAt made) room)) in
-      let whole : nodeAt made + 2 * n ≡ length (encode 2 (c# w) (m# w) (l# w) tree) =
+      let whole : nodeAt made + 2 * n ≡ length (encode 2 (c# w) (circles# w) (m# w) (l# w) tree) =
       omega (arith, encode-words (c# w) (m# w) (l# w) tree, entries-long, r .count) in
       record {
         index =

@@ -5,7 +5,7 @@ use Rattle.growing.specs.Stages.{Openable, Opened}
 use Rattle.measure.specs.Table.{between}
 use Rattle.regrow.specs.Stages.{Openable′, Opened′}
 use Rattle.split.specs.Places.{child#, nodeAt}
-use Rattle.words.specs.Words.{N#, c#, m#, n#}
+use Rattle.words.specs.Words.{N#, c#, circles#, m#, n#}
 use lib.ListN.{length, length-set, set}
 use mathlib.Core.List.{List}
 use mathlib.Core.Path.{_∙_, _≡_, ap, refl, sym}
@@ -34,7 +34,7 @@ module _ {t w : List ℕ} {v added limit : ℕ} {room work : List ℕ} {k made :
 
     -- they are copied
     pub copies-left : {room′ : List ℕ}
-        → room′ ≡ withCopies (copied (between t (c# w)) w v added) x (m# w) (set room (nodeAt k + 2) made) made
+        → room′ ≡ withCopies (copied (between t (c# w) (circles# w)) w v added) x (m# w) (set room (nodeAt k + 2) made) made
         → Opened′ t w v added limit room work k made room′ work (made + m)
     copies-left {room′} e =
         record {
@@ -42,6 +42,6 @@ module _ {t w : List ℕ} {v added limit : ℕ} {room work : List ℕ} {k made :
           copies = λ h. (
             omega arith,
             refl,
-            e ∙ ap (λ (o : ℕ). withCopies (copied (between t (c# w)) w v added) o (m# w) (set room (nodeAt k + 2) made) made) child,
+            e ∙ ap (λ (o : ℕ). withCopies (copied (between t (c# w) (circles# w)) w v added) o (m# w) (set room (nodeAt k + 2) made) made) child,
           );
         }

@@ -22,7 +22,7 @@ use Rattle.tree.proofs.Grow.{split-length}
 use Rattle.tree.specs.Build.{split}
 use Rattle.tree.specs.Encode.{Node, nodeWords}
 use Rattle.tree.specs.Grove.{Reach}
-use Rattle.words.specs.Words.{N#, c#, m#, n#}
+use Rattle.words.specs.Words.{N#, c#, circles#, m#, n#}
 use borrow.Author.Tests.{eqb-false, eqb-true, leb-false, leb-true, lt-leb, ne-eqb}
 use lib.Dec.{eqb, leb}
 use lib.ListN.{drop, length, length-map, set, take}
@@ -34,7 +34,7 @@ use native.Mathlib.Omega.{arith}
 module _ {t w : List ℕ} {v added limit : ℕ} {room₀ work₀ : List ℕ} {lo hi : ℕ} (g : Level t w v added limit room₀ work₀ lo hi) where
   -- how far two rows are apart
   abbrev d : ℕ → ℕ → ℕ
-  d = between t (c# w)
+  d = between t (c# w) (circles# w)
 
   -- a node that is opened has a child
   one : 1 ≤ m# w
