@@ -15,31 +15,28 @@ use mathlib.Core.List.{List, _++_, _∷_, map}
 use mathlib.Core.Path.{_∙_, _≡_, ap, ap₂, refl, sym}
 use native.Mathlib.Omega.{arith}
 
+-- there are centres, and a run of more than l rows has rows enough for them
+centred : {t : List ℕ} {c m l n : ℕ} → Fit t c m l n → (run : List ℕ) → l < length run → (1 ≤ m) × (m ≤ length run)
+centred fit run large = (omega (arith, fit .two), omega (arith, fit .leafy))
+
 -- ---- a tile of more than l rows
 module _ {t : List ℕ} {c o m l n : ℕ} (fit : Fit t c m l n) {work : List ℕ} (front : List (List ℕ)) (run : List ℕ) (back : List (List ℕ))
     (tiled : Tiled (between t c o) n work (front ++ run ∷ back)) (large : l < length run) where
-  -- there are centres
-  one : 1 ≤ m
-  one = omega (arith, fit .two)
-
-  -- and rows enough for them
-  centred : m ≤ length run
-  centred = omega (arith, fit .leafy)
-
   -- its run can be split, and there is room for its children's nodes
   pub tile-ready : {room : List ℕ} {made : ℕ} → 10 * n + 8 ≤ length room → made + 1 ≤ 2 * length (front ++ run ∷ back)
       → Splittable t c o m n room work (length (joined front)) (length run) made
   tile-ready space few =
       let read : runAt work (length (joined front)) (length run) ≡ run = tile-read front run back tiled in
+      let rows = centred fit run large in
       record {
         columns = fit .columns;
         few = fit .rows;
         table = fit .table;
-        share = one;
-        centred = centred;
+        share = rows .0;
+        centred = rows .1;
         inside = tile-inside front run back tiled;
         halves = tiled .halves;
-        nodes = omega (arith, kids-few front run back tiled m one centred, length-append front (run ∷ back), fit .two);
+        nodes = omega (arith, kids-few front run back tiled m (rows .0) (rows .1), length-append front (run ∷ back), fit .two);
         known = tile-words front run back tiled ∙ ap (laid (between t c o)) (sym read);
         rows = rw read (tile-rows front run back tiled);
         once = rw read (tile-run front run back tiled .1);
@@ -54,7 +51,9 @@ module _ {t : List ℕ} {c o m l n : ℕ} (fit : Fit t c m l n) {work : List ℕ
 
     -- its children's runs take its place
     pub tiles-after : length work′ ≡ length work → Tiled (between t c o) n work′ (front ++ (split (between t c o) m run ++ back))
-    tiles-after same = kids-tiled front run back tiled m one centred same (got .words ∙ rw (read, start, size))
+    tiles-after same =
+        let rows = centred fit run large in
+        kids-tiled front run back tiled m (rows .0) (rows .1) same (got .words ∙ rw (read, start, size))
 
     -- their nodes are in the room, no children yet
     pub nodes-after : {at : ℕ} → s ≡ at

@@ -76,4 +76,5 @@ pub record Openable (t : List ℕ) (c o m l n : ℕ) (room work : List ℕ) (k m
 -- a node of at most l rows stays as it is; any other has its m children from `made` on
 pub record Opened (t : List ℕ) (c o m l n : ℕ) (room work : List ℕ) (k made : ℕ) (room′ work′ : List ℕ) (r : ℕ) : Type 0 where
   pub stays : count# room k ≤ l → (r ≡ made) × (room′ ≡ room) × (work′ ≡ work)
-  pub splits : l < count# room k → (r ≡ made + m) × Splitted t c o m n (set room (nodeAt k + 2) made) work (start# room k) (count# room k) made room′ work′
+  pub splits : l < count# room k
+      → (r ≡ made + m) × Splitted t c o m n (set room (nodeAt k + 2) made) work (start# room k) (count# room k) made room′ work′

@@ -82,7 +82,8 @@ pub fn open_node(
     made: usize,
 ) -> usize
     requires { ⌜ Openable (now table) c circles m l n (now room) (now work) k made ⌝ }
-    ensures { λ r. ⌜ Opened (now (table .entry)) c circles m l n (now (room .entry)) (now (work .entry)) k made (now (room .exit)) (now (work .exit)) r ⌝ }
+    ensures { λ r. ⌜ Opened (now (table .entry)) c circles m l n (now (room .entry)) (now (work .entry)) k made
+        (now (room .exit)) (now (work .exit)) r ⌝ }
 {
     let s = word(room, HEADER + WIDTH * k);
     let count = word(room, HEADER + WIDTH * k + 1);
@@ -108,7 +109,8 @@ fn level(
     hi: usize,
 ) -> usize
     requires { ⌜ Level (now table) c circles m l n (now room) (now work) lo hi ⌝ }
-    ensures { λ r. ⌜ Staged (now (table .entry)) c circles m l n (now (room .entry)) (now (work .entry)) lo hi (now (room .exit)) (now (work .exit)) r ⌝ }
+    ensures { λ r. ⌜ Staged (now (table .entry)) c circles m l n (now (room .entry)) (now (work .entry)) lo hi
+        (now (room .exit)) (now (work .exit)) r ⌝ }
 {
     let mut made = hi;
     let mut k = lo;
@@ -132,7 +134,8 @@ pub fn levels(
 ) -> usize
     requires { ⌜ Fit (now table) c m l n ⌝ }
     requires { ⌜ Planted (between (now table) c circles) m l n (now room) (now work) ⌝ }
-    ensures { λ r. ⌜ Leveled (between (now (table .entry)) c circles) m l n (now (room .entry)) (now (work .entry)) (now (room .exit)) (now (work .exit)) r ⌝ }
+    ensures { λ r. ⌜ Leveled (between (now (table .entry)) c circles) m l n (now (room .entry)) (now (work .entry))
+        (now (room .exit)) (now (work .exit)) r ⌝ }
 {
     let mut lo: usize = 0;
     let mut hi: usize = 1;
