@@ -24,12 +24,12 @@ pub record Openable′ (t w : List ℕ) (v added limit : ℕ) (room work : List 
   pub old : k < made
   pub small : made ≤ 2097152
   pub there : nodeAt made ≤ length room
-  pub splits : child# room k ≡ 0 → Openable t (c# w) (m# w) limit (n# w + added) room work k made
+  pub splits : child# room k ≡ 0 → Openable t (c# w) (circles# w) (m# w) limit (n# w + added) room work k made
   pub copies : (child# room k ≡ 0 → ⊥) → (child# room k + m# w ≤ N# w) × (nodeAt (made + m# w) ≤ length room) × (made + m# w ≤ 2097152)
 
 -- as the build opens it; or its m old children are copied from `made` on
 pub record Opened′ (t w : List ℕ) (v added limit : ℕ) (room work : List ℕ) (k made : ℕ) (room′ work′ : List ℕ) (r : ℕ) : Type 0 where
-  pub splits : child# room k ≡ 0 → Opened t (c# w) (m# w) limit (n# w + added) room work k made room′ work′ r
+  pub splits : child# room k ≡ 0 → Opened t (c# w) (circles# w) (m# w) limit (n# w + added) room work k made room′ work′ r
   pub copies : (child# room k ≡ 0 → ⊥)
       → (r ≡ made + m# w) × (work′ ≡ work)
       × (room′ ≡ withCopies (copied (between t (c# w) (circles# w)) w v added) (child# room k) (m# w) (set room (nodeAt k + 2) made) made)
