@@ -88,7 +88,6 @@ module _ {T : List ℕ} {c : ℕ} {w room work : List ℕ} (passed : Passed T c 
           space = C .space;
           words = C .words;
           on = C .on;
-          round = C .round;
         }
       )
 

@@ -9,9 +9,7 @@ use Rattle.limits.proofs.Numbers.{Sized, numbers-numbered, passed}
 use Rattle.limits.specs.Limits.{maxColumns}
 use Rattle.limits.specs.Said.{Said, fault, numberFaults, said}
 use Rattle.limits.specs.declared.Asked.{Asked}
-use Rattle.measure.proofs.OnCircle.{round-rows}
-use Rattle.measure.specs.Table.{Rounded, offCircle, rowsOf}
-use Rattle.refusals.proofs.Tested.{whole-rows}
+use Rattle.measure.specs.Table.{offCircle, rowsOf}
 use Rattle.refusals.specs.Refused.{circleFaults}
 use Rattle.words.proofs.InShape.{header-there}
 use Rattle.words.proofs.Indexes.{fit-early, fit-tests}
@@ -26,7 +24,8 @@ use mathlib.Core.List.{List, [], _++_}
 use mathlib.Core.Path.{_∙_, _≡_, ap, sym}
 use native.Mathlib.Omega.{arith}
 
--- WITH 0 NOTHING IS WRONG: the table, the room, the workspace, and the index of one row less, by whose circles every row stands on the circle
+-- WITH 0 NOTHING IS WRONG: the table, the room, the workspace, and the index of one row less, in whose circular columns no row
+-- holds 3,600 or more
 pub record Clear (T : List ℕ) (c : ℕ) (w : List ℕ) (room work : ℕ) : Type 0 where
   pub table : Sized (length T) c
   pub space : roomOf (rowsOf T c) ≤ room
@@ -36,7 +35,6 @@ pub record Clear (T : List ℕ) (c : ℕ) (w : List ℕ) (room work : ℕ) : Typ
   pub whole : wordsOk w ≡ true
   pub shape : shapeOk w ≡ true
   pub on : offCircle c (circles# w) T ≡ false
-  pub round : Rounded T c (circles# w)
 
 module _ (T : List ℕ) (c : ℕ) (w : List ℕ) (room work : ℕ) where
   -- how many rows there are
@@ -121,7 +119,6 @@ module _ (T : List ℕ) (c : ℕ) (w : List ℕ) (room work : ℕ) where
       let g = says-none fits last fits-numbered (f .1) in
       let i = fit-tests (wordsOk w) w (n - 1) c (g .0) in
       let off : Bool = offCircle c (circles# w) T || offCircle c (circles# w) [] in
-      let on = or-parts (offCircle c (circles# w) T) (offCircle c (circles# w) []) (fault-not 19 off (omega arith) (g .1)) .0 in
       let some : n ≡ 0 → ⊥ = eqb-false n 0 (f .0) in
       record {
         table = P .table;
@@ -131,6 +128,5 @@ module _ (T : List ℕ) (c : ℕ) (w : List ℕ) (room work : ℕ) where
         columns = i .2;
         whole = i .0;
         shape = i .3;
-        on = on;
-        round = round-rows T c (circles# w) (whole-rows (length T) c (P .table .whole)) on;
+        on = or-parts (offCircle c (circles# w) T) (offCircle c (circles# w) []) (fault-not 19 off (omega arith) (g .1)) .0;
       }

@@ -8,6 +8,7 @@ use Rattle.appending.proofs.Order.{Order}
 use Rattle.appending.specs.Append.{appended}
 use Rattle.laws.specs.Every.{Every}
 use Rattle.limits.proofs.Numbers.{Sized}
+use Rattle.measure.proofs.OnCircle.{round-rows}
 use Rattle.measure.specs.Table.{Rounded, between, rowsOf}
 use Rattle.tree.specs.Build.{build}
 use Rattle.tree.specs.Check.{Accepted}
@@ -21,7 +22,7 @@ use lib.Seq.{length-take-le, take-at}
 use mathlib.Core.Bool.{cond, true}
 use mathlib.Core.List.{List, _++_}
 use mathlib.Core.Path.{_∙_, _≡_, ap, ap₂, refl, subst, sym}
-use native.Mathlib.Nat.{div-add-mod, mul-add}
+use native.Mathlib.Nat.{div-add-mod, mod-add-div, mul-add}
 use native.Mathlib.Omega.{arith}
 
 module _ {T : List ℕ} {c : ℕ} {w room work room′ work′ : List ℕ} {number words nodes : ℕ}
@@ -36,7 +37,7 @@ module _ {T : List ℕ} {c : ℕ} {w room work room′ work′ : List ℕ} {numb
 
   -- every row stands on the circle, the new one too
   pub append-round : Rounded T c (circles# w)
-  append-round = cleared .round
+  append-round = round-rows T c (circles# w) (omega (arith, mod-add-div (length T) c, cleared .table .whole)) (cleared .on)
 
   -- the index stands at the front of the room
   pub append-there : take words room′ ≡ appended T c w
