@@ -79,7 +79,8 @@ module _ {t : List ℕ} {c : ℕ} {w room work : List ℕ} (J : Joinable t c w r
       pub stands-there : stretch work₁ (3 * start# w v) (3 * start# w v + 3 * length run) ≡ laid (between t (c# w) (circles# w)) run
       stands-there =
           ap (λ (i : ℕ). stretch work₁ (3 * start# w v) (3 * start# w v + 3 * i)) run-long ∙ L .run
-          ∙ ap (λ (i : ℕ). laid (between t c (circles# w)) (ready w v left i)) new ∙ ap (λ (i : ℕ). laid (between t i (circles# w)) run) (sym (J .columns))
+          ∙ ap (λ (i : ℕ). laid (between t c (circles# w)) (ready w v left i)) new
+          ∙ ap (λ (i : ℕ). laid (between t i (circles# w)) run) (sym (J .columns))
 
       unfoldable pub regrowable : Regrowable t w v 1 limit room work₁
       regrowable =

@@ -80,15 +80,15 @@ module _ {T : List ℕ} {c : ℕ} {w room work : List ℕ} (passed : Passed T c 
   builds-none =
       let C = cleared in
       clear-none T c (circles# w) 2 (m# w) (l# w) (length room) (length work) (
-        record {
-          table = C .table;
-          share = share-ok w shape-is;
-          circles = subst (λ (k : ℕ). circlesOk k (circles# w) ≡ true) (C .columns) (header-last w (words-whole w (C .whole) .1) .1);
-          edition = refl;
-          space = C .space;
-          words = C .words;
-          on = C .on;
-        }
+      record {
+        table = C .table;
+        share = share-ok w shape-is;
+        circles = subst (λ (k : ℕ). circlesOk k (circles# w) ≡ true) (C .columns) (header-last w (words-whole w (C .whole) .1) .1);
+        edition = refl;
+        space = C .space;
+        words = C .words;
+        on = C .on;
+      }
       )
 
   -- the build of one row: the contract is met

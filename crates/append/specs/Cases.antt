@@ -58,7 +58,7 @@ rooms =
     ∷ record { table = sixth ++ 7 ∷ []; columns = 1; index = fiveWords; room = 92; work = 42; number = 8 }
     ∷ []
 
--- the circles of the index: the new row off them, an older row off them, on them, where the column is none, a bit that is no column's, and 9 before 19
+-- the index's circles: the new row off them, an older row off them, all on them, the column no circle, a bit that is no column's, and 9 before 19
 abbrev pub circles : List Case
 circles =
     turned (five ++ 3600 ∷ []) (set fiveWords 7 1) 19

@@ -88,8 +88,8 @@ fn reach_of(table: &[u16], index: &[u32], p: Growth, k: usize) -> Reach
     requires { ⌜ Change (now table) (now index) (p .node) (p .added) (p .limit) ⌝ }
     requires { ⌜ k < N# (now index) ⌝ }
     ensures { λ r. ⌜ Numbers
-        (newReach (between (now (table .entry)) (c# (now (index .entry))) (circles# (now (index .entry)))) (now (index .entry)) (p .node) (p .added) k)
-        (r .radius) (r .inner) ⌝ }
+        (newReach (between (now (table .entry)) (c# (now (index .entry))) (circles# (now (index .entry))))
+        (now (index .entry)) (p .node) (p .added) k) (r .radius) (r .inner) ⌝ }
 {
     let radius = node_radius(index, k);
     let inner = node_inner(index, k);

@@ -30,19 +30,20 @@ circles-requires c κs =
     let u = c .before in
     let r = u .before .before in
     let e = r .before in
-    index-there _ _ _ _ _ (e .before .writer-number .ensures) (e .if1 .left) (r .rows-in .ensures) (u .before .if2 .left) (u .index-number .ensures)
-    (omega arith)
+    let a = e .before .before .before .before .args in
+    index-there (a .table .now) (a .c) (a .index .now) (a .room) (a .work) (e .before .writer-number .ensures) (e .if1 .left) (r .rows-in .ensures)
+    (u .before .if2 .left) (u .index-number .ensures) (omega arith)
 
 circle-number-requires : tie.Need-circle-number-requires
 circle-number-requires c κs =
-    let u = c .before .before in
-    let r = u .before .before in
-    let e = r .before in
-    columns-few _ _ _ _ _ (e .before .writer-number .ensures) (e .if1 .left)
+    let u = c .before .before .before in
+    let e = u .before .before .before in
+    let a = e .before .before .before .before .args in
+    columns-few (a .table .now) (a .c) (a .index .now) (a .room) (a .work) (e .before .writer-number .ensures) (e .if1 .left)
 
 returns-4 : tie.Need-returns-4
 returns-4 c =
-    let o = c .before in
+    let o = c .before .before in
     let u = o .before .before in
     let r = u .before .before in
     let e = r .before in

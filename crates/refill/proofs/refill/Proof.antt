@@ -78,7 +78,8 @@ returns c =
     let l = o .before in
     let m = l .before in
     let k = m .before .before .before .before .before in
-    λ g. refilled g (k .regrow .ensures g) (search needs) (omega (arith, n .rows .ensures .0)) (i .columns .ensures .0) (omega (arith, o .circles .ensures)) (m .centres .ensures .0)
+    λ g. refilled g (k .regrow .ensures g) (search needs) (omega (arith, n .rows .ensures .0)) (i .columns .ensures .0)
+    (omega (arith, o .circles .ensures)) (m .centres .ensures .0)
     (l .leaf-size .ensures .0) (h .put-header .ensures) (p .put-pairs .ensures)
 
 pub refill-spec : {M : Type 1} → statement M

@@ -18,7 +18,8 @@ open-node-requires c κs =
     let m = i .before in
     let n = m .before in
     let s = n .before .before .before .before .before .before in
-    splits-ready (s .pre) (n .word .ensures .0) (m .centres .ensures .0) (i .if1 .taken) (k .columns .ensures .0) (o .circles .ensures) (r .rows .ensures .0)
+    splits-ready (s .pre) (n .word .ensures .0) (m .centres .ensures .0) (i .if1 .taken) (k .columns .ensures .0) (o .circles .ensures)
+    (r .rows .ensures .0)
 
 returns : tie.Need-returns
 returns c =
@@ -30,7 +31,8 @@ returns c =
     let m = i .before in
     let n = m .before in
     let s = n .before .before .before .before .before .before in
-    splits-done (s .pre) (n .word .ensures .0) (m .centres .ensures .0) (i .if1 .taken) (k .columns .ensures .0) (o .circles .ensures) (r .rows .ensures .0)
+    splits-done (s .pre) (n .word .ensures .0) (m .centres .ensures .0) (i .if1 .taken) (k .columns .ensures .0) (o .circles .ensures)
+    (r .rows .ensures .0)
     (g .open-node .ensures)
 
 copy-children-requires : tie.Need-copy-children-requires
