@@ -34,17 +34,17 @@ module _ (c o : ℕ) (T q : List ℕ) where
   nineteen e = ap (λ b. said (fault 19 b) .0) e
 
   -- 19 is early
-  circle-early : Every Early (circleFaults c o T q)
+  pub circle-early : Every Early (circleFaults c o T q)
   unfolding circleFaults
   circle-early = fault-early 19 (offCircle c o T || offCircle c o q) (omega arith) refl
 
   -- with 0 table and query stand on the circle
-  circle-tests : said (circleFaults c o T q) .0 ≡ 0 → (offCircle c o T ≡ false) × (offCircle c o q ≡ false)
+  pub circle-tests : said (circleFaults c o T q) .0 ≡ 0 → (offCircle c o T ≡ false) × (offCircle c o q ≡ false)
   unfolding circleFaults
   circle-tests z = or-neither (offCircle c o T) (offCircle c o q) (fault-not 19 (offCircle c o T || offCircle c o q) (omega arith) z)
 
   -- and where they do 0 is said
-  circle-none : offCircle c o T ≡ false → offCircle c o q ≡ false → 0 ≡ said (circleFaults c o T q) .0
+  pub circle-none : offCircle c o T ≡ false → offCircle c o q ≡ false → 0 ≡ said (circleFaults c o T q) .0
   unfolding circleFaults
   circle-none e f = rw (e, f)
 

@@ -1,23 +1,19 @@
 -- What a call has tested, once nothing refuses it, is what a search or a pass may assume. Assumes nothing.
-use Prim.Native.Nat.{_%_, _*_, _+_, _/_, _≤_, ℕ}
+use Prim.Native.Nat.{_*_, _/_, _≤_, ℕ}
 use Rattle.limits.specs.declared.Asked.{Asked}
 use Rattle.measure.proofs.Metric.{metric, query-point}
-use Rattle.measure.proofs.OnCircle.{round-query, round-rows}
+use Rattle.measure.proofs.OnCircle.{round-query}
 use Rattle.measure.specs.Space.{Point, Space}
-use Rattle.measure.specs.Table.{Rounded, between, from, offCircle, rowsOf}
+use Rattle.measure.specs.Table.{Rounded, between, from, offCircle}
+use Rattle.refusals.proofs.OffCircle.{circle-means}
 use Rattle.refusals.proofs.Refusals.{Clear, clear-edition, clear-shape}
 use Rattle.tree.specs.Tested.{Tested}
 use Rattle.words.specs.Words.{circles#, n#}
 use lib.ListN.{length}
 use mathlib.Core.List.{List}
 use mathlib.Core.Bool.{false}
-use mathlib.Core.Path.{_∙_, _≡_, ap, subst, sym}
-use native.Mathlib.Nat.{mod-add-div, zero-add}
+use mathlib.Core.Path.{_≡_, subst, sym}
 use native.Mathlib.Omega.{arith}
-
--- a length that the columns divide is that of whole rows
-whole-rows : (long c : ℕ) → long % c ≡ 0 → long ≡ c * (long / c)
-whole-rows long c e = sym (mod-add-div long c) ∙ ap (λ (k : ℕ). k + c * (long / c)) e ∙ zero-add (c * (long / c))
 
 -- A CALL THAT NOTHING REFUSES HAS TESTED ITS INDEX AND ITS TABLE
 pub tested : (T : List ℕ) (c : ℕ) (a : Asked) (w q : List ℕ) → a .length ≡ length T → a .columns ≡ c → Clear a T w q → Tested w T c
@@ -37,8 +33,8 @@ module _ (T : List ℕ) (c : ℕ) (a : Asked) (w q : List ℕ) (long : a .length
   -- every row does
   pub clear-rounded : Rounded T c (circles# w)
   clear-rounded =
-      round-rows T c (circles# w) (subst (λ k. length T ≡ k * rowsOf T k) wide (whole-rows (length T) (a .columns) (rw long at (C .numbers .table .whole))))
-      (subst (λ k. offCircle k (circles# w) T ≡ false) wide (C .table))
+      subst (λ k. Rounded T k (circles# w)) wide
+      (circle-means T (a .columns) (circles# w) (rw long at (C .numbers .table .whole)) .0 (C .table))
 
   -- so that the rows are a space
   pub clear-space : Space (between T c (circles# w))
