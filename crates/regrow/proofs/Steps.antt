@@ -182,7 +182,7 @@ module _ {t w : List ℕ} {v added limit : ℕ} {room₀ work₀ : List ℕ} {lo
       -- ---- it is split
       module _ {room′ work′ : List ℕ} (same : length work′ ≡ length work)
           (got : Splitted t (c# w) (circles# w) (m# w) (n# w + added) (set room (nodeAt k + 2) made) work (start# room k) (count# room k) made room′
-              work′) where
+          work′) where
         -- the run that is read is the tile
         read : runAt work (start# room k) (count# room k) ≡ run
         read = rw (start-at, count-is g half) (paved-read front run (next .back) paved-cut)
