@@ -69,7 +69,7 @@ words-plain w e =
       nodes = k .0;
       none = k .1;
       kind = h .1;
-      circles = circles-plain (circles# w) (c# w) (h .2);
+      circles = λ j q. circles-plain (circles# w) (c# w) (h .2) j (omega (arith, q));
     }
 
 -- AND POSSIBLE WORDS PASS
@@ -80,7 +80,7 @@ plain-words w P =
     let f = both-within 2 64 (m# w) (P .fan .0) (P .fan .1) in
     let s : shareOk (m# w) (l# w) ≡ true = rw f (both-within (m# w) 1_024 (l# w) (P .leaf .0) (P .leaf .1)) in
     let k = nodes-test (n# w) (N# w) (P .nodes) (P .none) in
-    let h = sym (good-header w a (P .rows) c s k (P .kind)) ∙ circles-test (circles# w) (c# w) (P .circles) in
+    let h = sym (good-header w a (P .rows) c s k (P .kind)) ∙ circles-test (circles# w) (c# w) (λ j q. P .circles j (omega (arith, q))) in
     sym (good-whole w (P .header) h) ∙ le-leb (wordsOf w) (length w) (P .whole)
 
 -- ---- the shape
