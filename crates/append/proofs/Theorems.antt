@@ -9,7 +9,7 @@ use Rattle.appending.specs.Append.{appended}
 use Rattle.laws.specs.Every.{Every}
 use Rattle.limits.proofs.Numbers.{Sized}
 use Rattle.measure.proofs.OnCircle.{round-rows}
-use Rattle.measure.specs.Table.{Rounded, between, rowsOf}
+use Rattle.measure.specs.Table.{Rounded, between, offCircle, rowsOf}
 use Rattle.tree.specs.Build.{build}
 use Rattle.tree.specs.Check.{Accepted}
 use Rattle.tree.specs.Grove.{treeOf}
@@ -19,7 +19,7 @@ use borrow.Author.Tests.{eq-eqb}
 use lib.Dec.{eqb}
 use lib.ListN.{drop, length, length-drop, replicate, take, take-append-drop}
 use lib.Seq.{length-take-le, take-at}
-use mathlib.Core.Bool.{cond, true}
+use mathlib.Core.Bool.{cond, false, true}
 use mathlib.Core.List.{List, _++_}
 use mathlib.Core.Path.{_∙_, _≡_, ap, ap₂, refl, subst, sym}
 use native.Mathlib.Nat.{div-add-mod, mod-add-div, mul-add}
@@ -34,6 +34,10 @@ module _ {T : List ℕ} {c : ℕ} {w room work room′ work′ : List ℕ} {numb
   -- no call refuses such a table
   pub append-sized : Sized (length T) c
   append-sized = cleared .table
+
+  -- no circular column holds 3,600 or more
+  pub append-on : offCircle c (circles# w) T ≡ false
+  append-on = cleared .on
 
   -- every row stands on the circle, the new one too
   pub append-round : Rounded T c (circles# w)

@@ -101,14 +101,14 @@ module _ (T : List ℕ) (c : ℕ) (i : List ℕ) where
   accepted A = by-edition (Accepted d) (λ e. widen-accepted d (cardWords i) A) (λ h. A)
 
   -- a radius search marks the same rows in
-  marked-in : Accepted d (cardWords i) → (q : List ℕ) → Point d (from T c (circles# (cardWords i)) q) → (r j : ℕ) → j < n# (cardWords i)
-      → (2 ≤ getD (radiusHow (from T c (circles# (cardWords i)) q) r (n# (cardWords i)) (treeOf (readWords T c i))) j 0)
-      ↔ (2 ≤ getD (radiusHow (from T c (circles# (cardWords i)) q) r (n# (cardWords i)) (treeOf (cardWords i))) j 0)
-  marked-in A q P r j h =
+  marked-in : Accepted d (cardWords i) → (q : List ℕ) → Point d (from T c (circles# (cardWords i)) q) → (r : ℕ) (gone : ℕ → Bool) (j : ℕ) → j < n# (cardWords i)
+      → (2 ≤ getD (radiusHow (from T c (circles# (cardWords i)) q) r gone (n# (cardWords i)) (treeOf (readWords T c i))) j 0)
+      ↔ (2 ≤ getD (radiusHow (from T c (circles# (cardWords i)) q) r gone (n# (cardWords i)) (treeOf (cardWords i))) j 0)
+  marked-in A q P r gone j h =
       let x : ℕ → ℕ = from T c (circles# (cardWords i)) q in
       let w : List ℕ = cardWords i in
-      by-edition (λ v. (2 ≤ getD (radiusHow x r (n# w) (treeOf v)) j 0) ↔ (2 ≤ getD (radiusHow x r (n# w) (treeOf w)) j 0))
-      (λ e. widen-in d w x P A r j h) (λ n. ((λ a. a), (λ a. a)))
+      by-edition (λ v. (2 ≤ getD (radiusHow x r gone (n# w) (treeOf v)) j 0) ↔ (2 ≤ getD (radiusHow x r gone (n# w) (treeOf w)) j 0))
+      (λ e. widen-in d w x P A r gone j h) (λ n. ((λ a. a), (λ a. a)))
 
 -- ---- an outcome of the call
 module _ {T : List ℕ} {c : ℕ} {i before after : List ℕ} {number place words : ℕ} (R : Reads T c i before after number place words) where
@@ -185,19 +185,19 @@ module _ {T : List ℕ} {c : ℕ} {i before after : List ℕ} {number place word
         read-wide old ∙ ap₂ (λ (o : ℕ) (w : List ℕ). widen (between T c o) w) same e
         ∙ widen-build T c o m l (sized-columns (length T) c S) fits s (S .rows) small (subst (Rounded T c) same rounded)
 
-    -- READ-ANSWERS: THE SEARCHES ANSWER ON IT AS ON THE CARD'S INDEX. The nearest rows with their distances are the same, and so are, for a query
+    -- READ-ANSWERS: THE SEARCHES ANSWER ON IT AS ON THE CARD'S INDEX, whatever rows are withdrawn. The nearest rows with their distances are the same, and so are, for a query
     -- that stands on the circle, the rows that a radius search has in; both are exact on an accepted index
     pub read-answers : Accepted (between T c (circles# (cardWords i))) (cardWords i) → (q : List ℕ)
-        → ((k : ℕ) → answers (from T c (circles# (take words after)) q) (n# (take words after)) k
-        ≡ answers (from T c (circles# (cardWords i)) q) (n# (cardWords i)) k)
-        × (Round c (circles# (cardWords i)) q → (r j : ℕ) → j < n# (cardWords i)
-        → (2 ≤ getD (radiusHow (from T c (circles# (take words after)) q) r (n# (take words after)) (treeOf (take words after))) j 0)
-        ↔ (2 ≤ getD (radiusHow (from T c (circles# (cardWords i)) q) r (n# (cardWords i)) (treeOf (cardWords i))) j 0))
+        → ((gone : ℕ → Bool) (k : ℕ) → answers (from T c (circles# (take words after)) q) gone (n# (take words after)) k
+        ≡ answers (from T c (circles# (cardWords i)) q) gone (n# (cardWords i)) k)
+        × (Round c (circles# (cardWords i)) q → (r : ℕ) (gone : ℕ → Bool) (j : ℕ) → j < n# (cardWords i)
+        → (2 ≤ getD (radiusHow (from T c (circles# (take words after)) q) r gone (n# (take words after)) (treeOf (take words after))) j 0)
+        ↔ (2 ≤ getD (radiusHow (from T c (circles# (cardWords i)) q) r gone (n# (cardWords i)) (treeOf (cardWords i))) j 0))
     read-answers A q =
         let o : ℕ = circles# (cardWords i) in
         let e : n# (take words after) ≡ n# (cardWords i) = ap n# read-there ∙ headed T c i whole-card .1 in (
-          λ k. ap₂ (λ (o n : ℕ). answers (from T c o q) n k) (read-headed .3) e,
-          λ on r j h. rw (read-headed .3, e, ap treeOf read-there) (marked-in T c i A q (query-point T c o q rounded on) r j h),
+          λ gone k. ap₂ (λ (o n : ℕ). answers (from T c o q) gone n k) (read-headed .3) e,
+          λ on r gone j h. rw (read-headed .3, e, ap treeOf read-there) (marked-in T c i A q (query-point T c o q rounded on) r gone j h),
         )
 
   -- READ-SMALL: SO FEW WORDS ARE COUNTED THAT 32 BITS HOLD THEIR NUMBER
