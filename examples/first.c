@@ -4,9 +4,10 @@
 
 #include "bourascul.h"
 
-/* Speed, shaft turns and hopper weight, a row a minute. Minutes 2 and 5 are refills. */
-enum { COLUMNS = 3, ROWS = 6, NUMBERS = ROWS * COLUMNS, WANTED = 2 };
-static const uint16_t minutes[NUMBERS] = {71, 540, 880, 70, 538, 860, 0, 0, 905, 72, 541, 990, 71, 539, 970, 0, 2, 910};
+/* Speed, shaft turns, hopper weight and heading, a row a minute. Minutes 2 and 5 are refills, at 359.5 and at 0.5 degrees: the heading is
+   in tenths of a degree, and a circle. */
+enum { COLUMNS = 4, ROWS = 6, NUMBERS = ROWS * COLUMNS, CIRCLES = 1 << 3, WANTED = 2 };
+static const uint16_t minutes[NUMBERS] = {71, 540, 880, 900, 70, 538, 860, 905, 0, 0, 905, 3595, 72, 541, 990, 2700, 71, 539, 970, 2704, 0, 2, 910, 5};
 static const uint16_t *const refill = minutes + 2 * COLUMNS;
 
 /* What the calls are lent: nothing is allocated. */
@@ -22,7 +23,7 @@ static int refused(const char *call, uint32_t number)
 
 int main(void)
 {
-    bourascul_built built = bourascul_build(minutes, NUMBERS, COLUMNS, BOURASCUL_CENTRES, BOURASCUL_LEAF, BOURASCUL_EDITION,
+    bourascul_built built = bourascul_build(minutes, NUMBERS, COLUMNS, BOURASCUL_CENTRES, BOURASCUL_LEAF, CIRCLES, BOURASCUL_EDITION,
                                             room, ROOM, work, WORK);
     if (built.number != BOURASCUL_DONE) return refused("build", built.number);
     printf("%u words, %u node\n", (unsigned)built.words, (unsigned)built.nodes);

@@ -26,7 +26,7 @@ enum call {
 static const char *const call_names[CALLS] = { "build", "append", "check", "radius", "nearest", "nearest_answers", "list", "write", "read" };
 
 enum {
-    NUMBERS = 19,
+    NUMBERS = 20,
     TOLD_IN_FULL = 3, /* differences of one kind that are printed; the others are counted */
     SHOWN = 260       /* numbers of a buffer that are printed */
 };
@@ -64,8 +64,8 @@ static void show_words(const char *name, const uint32_t *at, size_t count)
 
 static void show_lot(const struct lot *lot)
 {
-    printf("  c %" PRIu32 ", m %" PRIu32 ", l %" PRIu32 ", edition %" PRIu32 ", r %" PRIu32 ", w %" PRIu32 ", node %" PRIu32 "\n", lot->c, lot->m,
-           lot->l, lot->edition, lot->r, lot->w, lot->node);
+    printf("  c %" PRIu32 ", m %" PRIu32 ", l %" PRIu32 ", circles %" PRIu32 ", edition %" PRIu32 ", r %" PRIu32 ", w %" PRIu32 ", node %" PRIu32 "\n",
+           lot->c, lot->m, lot->l, lot->circles, lot->edition, lot->r, lot->w, lot->node);
     printf("  lengths: room %zu, taken %zu, work %zu, how %zu, rows %zu, distances %zu, answers %zu, image %zu\n", lot->room, lot->taken, lot->work,
            lot->how, lot->rows, lot->distances, lot->answers, lot->image_length);
     printf("  lengths for an append: table %zu, room %zu, work %zu\n", lot->table_length + lot->next, lot->append_room, lot->append_work);
@@ -222,9 +222,9 @@ void try_build(struct trial *t, const struct lot *lot)
     lend_table(t, lot);
     lend_words(t, LENT_ROOM, lot->room);
     lend_words(t, LENT_WORK, lot->work);
-    bourascul_built is = bourascul_build(lend_given(LENT_TABLE), lot->table_length, lot->c, lot->m, lot->l, lot->edition, lend_given(LENT_ROOM),
-                                         lot->room, lend_given(LENT_WORK), lot->work);
-    struct naive_says should = naive_build(model_table(lot), lot->m, lot->l, lot->edition, model_room(LENT_ROOM), model_room(LENT_WORK));
+    bourascul_built is = bourascul_build(lend_given(LENT_TABLE), lot->table_length, lot->c, lot->m, lot->l, lot->circles, lot->edition,
+                                         lend_given(LENT_ROOM), lot->room, lend_given(LENT_WORK), lot->work);
+    struct naive_says should = naive_build(model_table(lot), lot->m, lot->l, lot->circles, lot->edition, model_room(LENT_ROOM), model_room(LENT_WORK));
     compare(t, lot, BUILD, three(is.number, is.words, is.nodes), should, lents, 3);
 }
 
@@ -301,7 +301,7 @@ static struct naive_says settle_nearest(const struct lot *lot)
     for (size_t i = 0; i < asked; i++) {
         rows_should[i] = stands(rows, distances, i, n) ? rows[i] : ~rows[i];
         if (rows[i] < n) {
-            distances_should[i] = naive_distance(lot->table + lot->c * rows[i], lot->query, lot->c);
+            distances_should[i] = naive_distance(lot->table + lot->c * rows[i], lot->query, lot->c, lot->index[7]);
             how_should[rows[i]] = 3;
         }
     }

@@ -17,7 +17,7 @@ struct lot {
     size_t table_length;
     size_t next; /* the numbers behind the table that an append is lent with it: those of one row, where nothing is wrong */
     const uint16_t *fitting; /* the table that decides the outcome in a trial of two tables, else NULL */
-    uint32_t c, m, l, edition;
+    uint32_t c, m, l, circles, edition;
     const uint32_t *index;
     size_t index_length;
     const uint16_t *query;

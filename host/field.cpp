@@ -50,7 +50,7 @@ struct Index {
     uint32_t count() const { return static_cast<uint32_t>(rows.kdtree_get_point_count()); }
     void build()
     {
-        words = bourascul_build(rows.table.data(), rows.table.size(), columns, centres, leaf, edition, room.data(), room.size(), work.data(),
+        words = bourascul_build(rows.table.data(), rows.table.size(), columns, centres, leaf, 0, edition, room.data(), room.size(), work.data(),
                                 work.size())
                     .words;
     }

@@ -5,12 +5,12 @@
 #include "naive_inner.h"
 #include "plain.h"
 
-bourascul_built bourascul_build(const uint16_t *table, size_t table_length, uint32_t c, uint32_t m, uint32_t l, uint32_t edition, uint32_t *room,
-                                size_t room_length, uint32_t *work, size_t work_length)
+bourascul_built bourascul_build(const uint16_t *table, size_t table_length, uint32_t c, uint32_t m, uint32_t l, uint32_t circles,
+                                uint32_t edition, uint32_t *room, size_t room_length, uint32_t *work, size_t work_length)
 {
     struct naive_table t = { table, table_length, c };
     struct naive_room r = { room, room_length }, k = { work, work_length };
-    struct naive_says s = naive_build(t, m, l, edition, r, k);
+    struct naive_says s = naive_build(t, m, l, circles, edition, r, k);
     return (bourascul_built){ s.number, s.one, s.two };
 }
 
@@ -52,15 +52,16 @@ struct rooms {
     size_t records, rows, distances, how, work;
 };
 
-/* The yardstick tests nothing but the shape, so the other refusals stand here. */
-static uint32_t nearest_refused(struct naive_table t, struct naive_index x, size_t query, uint32_t w, struct rooms lent)
+/* The yardstick tests nothing but the shape and the circles, so the other refusals stand here. */
+static uint32_t nearest_refused(struct naive_table t, struct naive_index x, struct naive_query query, uint32_t w, struct rooms lent)
 {
     struct faults f = naive_table_faults(t);
     size_t n = naive_rows_of(t), asked = w < n ? w : n;
     f.met[5] = lent.records < asked || lent.rows < asked || lent.distances < asked || lent.how < n || lent.work < 6 * n;
-    f.met[6] = query != t.c;
+    f.met[6] = query.length != t.c;
     f.met[7] = w == 0;
     naive_index_faults(&f, x, t);
+    naive_circle_fault(&f, x, t, query);
     return naive_lowest(&f);
 }
 
@@ -71,10 +72,11 @@ bourascul_closest bourascul_nearest(const uint16_t *table, size_t table_length, 
 {
     struct naive_table t = { table, table_length, c };
     struct naive_index x = { index, index_length };
-    uint32_t number = nearest_refused(t, x, query_length, w, (struct rooms){ SIZE_MAX, rows_length, distances_length, how_length, work_length });
+    struct naive_query q = { query, query_length };
+    uint32_t number = nearest_refused(t, x, q, w, (struct rooms){ SIZE_MAX, rows_length, distances_length, how_length, work_length });
     if (number != 0)
         return (bourascul_closest){ number, 0, 0 };
-    struct plain_table fair = { table, (uint32_t)naive_rows_of(t), c };
+    struct plain_table fair = { table, (uint32_t)naive_rows_of(t), c, index[7] };
     struct plain_counts k = plain_nearest(fair, index, query, w, rows, distances, how, work);
     return (bourascul_closest){ 0, k.found, k.measured };
 }
@@ -87,7 +89,7 @@ bourascul_closest bourascul_nearest_answers(const uint16_t *table, size_t table_
     struct naive_table t = { table, table_length, c };
     struct naive_index x = { index, index_length };
     struct rooms lent = { answers_length, rows_length, distances_length, how_length, work_length };
-    uint32_t number = nearest_refused(t, x, query_length, w, lent);
+    uint32_t number = nearest_refused(t, x, (struct naive_query){ query, query_length }, w, lent);
     if (number != 0)
         return (bourascul_closest){ number, 0, 0 };
     bourascul_closest s = bourascul_nearest(table, table_length, c, index, index_length, query, query_length, w, rows, rows_length, distances,

@@ -1,5 +1,5 @@
-/* The scope paper (01) with edition 2 (02, R-4 and R-11) and appended rows (R-2) once more, in plain C: clear rather than fast, and sharing nothing with
-   the library. Each call takes and gives what the library's call of the same name does (include/bourascul.h). */
+/* The scope paper (01) with edition 2 (02, R-4 and R-11), circles (R-1) and appended rows (R-2) once more, in plain C: clear rather than fast, and sharing
+   nothing with the library. Each call takes and gives what the library's call of the same name does (include/bourascul.h). */
 #ifndef HOST_NAIVE_H
 #define HOST_NAIVE_H
 
@@ -53,9 +53,11 @@ struct naive_records {
     size_t length;
 };
 
-uint32_t naive_distance(const uint16_t *a, const uint16_t *b, uint32_t c);
+/* Bit j of `circles` is on where column j is a circle; the numbers there are below 3,600. */
+uint32_t naive_distance(const uint16_t *a, const uint16_t *b, uint32_t c, uint32_t circles);
 
-struct naive_says naive_build(struct naive_table table, uint32_t m, uint32_t l, uint32_t edition, struct naive_room room, struct naive_room work);
+struct naive_says naive_build(struct naive_table table, uint32_t m, uint32_t l, uint32_t circles, uint32_t edition, struct naive_room room,
+                              struct naive_room work);
 struct naive_says naive_append(struct naive_table table, struct naive_index index, struct naive_room room, struct naive_room work);
 struct naive_says naive_check(struct naive_table table, struct naive_index index, struct naive_room work);
 struct naive_says naive_radius(struct naive_table table, struct naive_index index, struct naive_query query, uint32_t r, struct naive_bytes how);
@@ -72,7 +74,7 @@ struct naive_part naive_list(struct naive_index index, uint32_t node);
 uint32_t naive_check_word(uint32_t block, const uint32_t *words);
 /* The blocks of a card with these words, whatever they say, and at least one; gives how many. */
 size_t naive_card(const uint32_t *words, size_t count, uint8_t *image);
-/* The index of edition 1 that old recorders built; m and l are in range, and the room is 10n + 8 words. Gives the words. */
-uint32_t naive_build_old(struct naive_table table, uint32_t m, uint32_t l, uint32_t *room);
+/* The index of edition 1 that old recorders built; nothing is refused, and the room is 10n + 8 words. Gives the words. */
+uint32_t naive_build_old(struct naive_table table, uint32_t m, uint32_t l, uint32_t circles, uint32_t *room);
 
 #endif

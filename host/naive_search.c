@@ -19,7 +19,7 @@ static struct search begin_search(struct naive_index index, struct naive_table t
     struct search s = { naive_read_tree(index.words, table), NULL, r, how };
     s.x = naive_fresh(s.tree.n, sizeof *s.x);
     for (uint32_t i = 0; i < s.tree.n; i++)
-        s.x[i] = naive_distance(query, table.columns + (size_t)i * table.c, table.c);
+        s.x[i] = naive_distance(query, table.columns + (size_t)i * table.c, table.c, s.tree.circles);
     return s;
 }
 
@@ -110,6 +110,7 @@ struct naive_says naive_radius(struct naive_table table, struct naive_index inde
     f.met[5] = how.length < naive_rows_of(table);
     f.met[6] = query.length != table.c;
     naive_index_faults(&f, index, table);
+    naive_circle_fault(&f, index, table, query);
     if (naive_lowest(&f) != 0)
         return says(naive_lowest(&f), 0, 0);
     struct search s = begin_search(index, table, query.columns, r, how.bytes);
@@ -209,6 +210,7 @@ static struct faults nearest_faults(struct naive_table table, struct naive_index
     f.met[6] = query.length != table.c;
     f.met[7] = w == 0;
     naive_index_faults(&f, index, table);
+    naive_circle_fault(&f, index, table, query);
     return f;
 }
 

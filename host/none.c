@@ -19,7 +19,7 @@ static void expect(const char *call, uint32_t number, uint32_t wanted)
 /* The empty table, with its index of eight words. */
 static void taken(void)
 {
-    expect("build", bourascul_build(NULL, 0, 1, 2, 2, BOURASCUL_EDITION, room, 8, NULL, 0).number, BOURASCUL_DONE);
+    expect("build", bourascul_build(NULL, 0, 1, 2, 2, 0, BOURASCUL_EDITION, room, 8, NULL, 0).number, BOURASCUL_DONE);
     expect("check", bourascul_check(NULL, 0, 1, room, 8, NULL, 0).number, BOURASCUL_DONE);
     expect("radius", bourascul_radius(NULL, 0, 1, room, 8, query, 1, 9, NULL, 0).number, BOURASCUL_DONE);
     expect("nearest", bourascul_nearest(NULL, 0, 1, room, 8, query, 1, 9, NULL, 0, NULL, 0, NULL, 0, NULL, 0).number, BOURASCUL_DONE);
@@ -33,7 +33,7 @@ static void taken(void)
 /* Nothing at all. */
 static void refused(void)
 {
-    expect("build of nothing", bourascul_build(NULL, 0, 1, 2, 2, BOURASCUL_EDITION, NULL, 0, NULL, 0).number, BOURASCUL_ROOM_TOO_SHORT);
+    expect("build of nothing", bourascul_build(NULL, 0, 1, 2, 2, 0, BOURASCUL_EDITION, NULL, 0, NULL, 0).number, BOURASCUL_ROOM_TOO_SHORT);
     expect("check of nothing", bourascul_check(NULL, 0, 1, NULL, 0, NULL, 0).number, BOURASCUL_BAD_INDEX);
     expect("radius of nothing", bourascul_radius(NULL, 0, 1, NULL, 0, NULL, 0, 9, NULL, 0).number, BOURASCUL_BAD_QUERY);
     expect("nearest of nothing", bourascul_nearest(NULL, 0, 1, NULL, 0, NULL, 0, 9, NULL, 0, NULL, 0, NULL, 0, NULL, 0).number,

@@ -1,5 +1,6 @@
 /* The library's algorithms once more in plain C, written for speed and proved by nobody: the bench's yardstick.
-   Nothing is tested that a caller can get right: rooms are long enough, and but for plain_shape the index is in shape. */
+   Nothing is tested that a caller can get right: rooms are long enough, and but for plain_shape the index is in shape. A table off its circles is found, as
+   the library finds it: a build then gives no words, a search finds and measures none. */
 #ifndef HOST_PLAIN_H
 #define HOST_PLAIN_H
 
@@ -7,9 +8,10 @@
 #include <stddef.h>
 #include <stdint.h>
 
+/* Bit j of `circles` is on where column j is a circle, in the table as in the header of its index. */
 struct plain_table {
     const uint16_t *columns;
-    uint32_t n, c;
+    uint32_t n, c, circles;
 };
 
 struct plain_counts {
@@ -28,6 +30,7 @@ struct plain_verdict {
 /* Gives the number of words; work is 6n words, and is zero afterwards. */
 PLAIN_CALL uint32_t plain_build(struct plain_table t, uint32_t m, uint32_t l, uint32_t *room, uint32_t *work);
 PLAIN_CALL bool plain_shape(const uint32_t *index);
+PLAIN_CALL bool plain_off_circle(struct plain_table t);
 PLAIN_CALL struct plain_verdict plain_check(struct plain_table t, const uint32_t *index, uint32_t *work);
 PLAIN_CALL struct plain_counts plain_radius(struct plain_table t, const uint32_t *index, const uint16_t *query, uint32_t r, uint8_t *how);
 PLAIN_CALL struct plain_counts plain_nearest(struct plain_table t, const uint32_t *index, const uint16_t *query, uint32_t w, uint32_t *rows,

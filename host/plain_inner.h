@@ -10,6 +10,7 @@ enum {
     MOST_DEPTH = 24,
     MOST_CENTRES = 64,
     MOST_DISTANCE = 1048560,
+    CIRCLE = 3600,
     NODE_WORDS = 5 /* start, count, first child, radius, inner reach */
 };
 
@@ -48,8 +49,8 @@ static inline uint32_t far_over(const uint16_t *a, const uint16_t *b, uint32_t c
     return sum;
 }
 
-/* The distance of two rows. A loop to a constant is compiled without a loop. */
-static inline uint32_t far(const uint16_t *a, const uint16_t *b, uint32_t c)
+/* The distance of two rows without circles. A loop to a constant is compiled without a loop. */
+static inline uint32_t far_plain(const uint16_t *a, const uint16_t *b, uint32_t c)
 {
     if (c == 6)
         return far_over(a, b, 6);
@@ -58,6 +59,25 @@ static inline uint32_t far(const uint16_t *a, const uint16_t *b, uint32_t c)
     if ((int)c == SIXTEEN)
         return far_over(a, b, 16);
     return far_over(a, b, c);
+}
+
+/* How much shorter the other way round is in these columns, where it is. */
+static inline uint32_t saved(const uint16_t *a, const uint16_t *b, uint32_t circles)
+{
+    uint32_t less = 0;
+    for (; circles != 0; circles &= circles - 1) {
+        int j = __builtin_ctz(circles);
+        uint32_t twice = 2 * column(a[j], b[j]);
+        less += twice > CIRCLE ? twice - CIRCLE : 0;
+    }
+    return less;
+}
+
+/* The distance of two rows of the table, or of one and a query. */
+static inline uint32_t far(struct plain_table t, const uint16_t *a, const uint16_t *b)
+{
+    uint32_t sum = far_plain(a, b, t.c);
+    return t.circles == 0 ? sum : sum - saved(a, b, t.circles);
 }
 
 static inline const uint16_t *row_of(struct plain_table t, uint32_t i)

@@ -1,4 +1,4 @@
-/* The scope paper's own cases, cases of the inner reach worked out by hand, old cards, and appends worked out by another hand: the naive
+/* The scope paper's own cases, cases of the inner reach and of circles worked out by hand, old cards, and appends worked out by another hand: the naive
    implementation against the numbers printed there, the library against the naive one. */
 #include <inttypes.h>
 #include <stdio.h>
@@ -46,21 +46,22 @@ static struct naive_says build(struct lot *lot)
 {
     struct naive_table table = { lot->table, lot->table_length, lot->c };
     struct naive_room r = { room, lot->room }, w = { work, lot->work };
-    struct naive_says s = naive_build(table, lot->m, lot->l, lot->edition, r, w);
+    struct naive_says s = naive_build(table, lot->m, lot->l, lot->circles, lot->edition, r, w);
     lot->index_length = s.one;
     try_build(&trial, lot);
     return s;
 }
 
-/* Some rows of one column, with m = l = 2. */
+/* Some rows of one column, a circle or not, with m = l = 2. */
 struct column {
     const uint16_t *rows;
-    uint32_t n;
+    uint32_t n, circles;
 };
 
 static struct lot built(struct column t)
 {
     struct lot lot = lot_of(t.rows, t.n, 1, 2, 2);
+    lot.circles = t.circles;
     build(&lot);
     return lot;
 }
@@ -121,7 +122,7 @@ static void nearest_case(struct column t, uint16_t query, uint32_t w, struct clo
 
 /* ---- The five-row table ---- */
 
-static const struct column five = { five_rows, 5 };
+static const struct column five = { five_rows, 5, 0 };
 
 /* 01's words, which stand on old cards; and with one word more a node, the inner reach: 1 1 9 1 0. */
 static const uint32_t old_words[] = { 1, 5, 1, 2, 2, 5, 1, 0, 0, 5, 1, 20, 0, 3, 3, 10, 3, 2, 0, 9, 0, 2, 0, 1, 2, 1, 0, 0,
@@ -186,7 +187,7 @@ static void old_cards(void)
     static const uint32_t old_empty[] = { 1, 0, 1, 2, 2, 0, 1, 0 }, empty[] = { 2, 0, 1, 2, 2, 0, 1, 0 };
     struct naive_table table = { five_rows, 5, 1 };
     uint32_t spoilt[FIVE_WORDS];
-    expect_words("the build of edition 1, how many words", (const uint32_t[]){ naive_build_old(table, 2, 2, room) }, (const uint32_t[]){ OLD_WORDS }, 1);
+    expect_words("the build of edition 1, how many words", (const uint32_t[]){ naive_build_old(table, 2, 2, 0, room) }, (const uint32_t[]){ OLD_WORDS }, 1);
     expect_words("the build of edition 1", room, old_words, OLD_WORDS);
     expect_says("an old card", read_card(old_words, OLD_WORDS, 5, FIVE_WORDS), 0, 0, FIVE_WORDS);
     expect_words("an old card's words", room, five_words, FIVE_WORDS);
@@ -263,12 +264,76 @@ static void closed_by_the_middle(void)
 {
     static const uint16_t gap[] = { 4, 2, 2, 8 }, ring[] = { 7, 4, 4, 1 }, line[] = { 0, 10, 20 };
     static const uint32_t zero[] = { 0 };
-    const struct column gaps = { gap, 4 }, rings = { ring, 4 }, lines = { line, 3 };
+    const struct column gaps = { gap, 4, 0 }, rings = { ring, 4, 0 }, lines = { line, 3, 0 };
     radius_case(gaps, 5, 0, "1001", 0, 2);
     nearest_case(rings, 7, 1, (struct closest){ zero, zero, 1, 2, "3001" });
     nearest_case(lines, 0, 1, (struct closest){ zero, zero, 1, 2, "301" });
     /* The closed node's first is in, by its own distance. */
     radius_case(lines, 1, 1, "301", 1, 2);
+}
+
+/* ---- Circles ---- */
+
+/* Rows on both sides of the seam and one opposite: 0 is 5 from the first two, 10 from the last. */
+static void across_the_seam(void)
+{
+    static const uint16_t rows[] = { 3595, 5, 1800, 3590 };
+    static const uint32_t words[] = { 2, 4, 1, 2, 2, 5, 1, 1, 0, 4, 1, 1795, 5, 0, 3, 3, 10, 5, 3, 1, 0, 0, 0, 0, 2, 0, 5, 5, 2, 1, 0, 0, 0,
+                                      0, 0, 3, 5, 1, 0, 2, 0 };
+    static const uint32_t near[] = { 0, 1 }, far[] = { 5, 5 }, nearest[] = { 3 }, ten[] = { 10 };
+    const struct column round = { rows, 4, 1 }, plain = { rows, 4, 0 };
+    struct lot lot = built(round);
+    expect_words("rows on a circle", room, words, 41);
+    try_check(&trial, &lot);
+    radius_case(round, 0, 5, "3311", 2, 4);
+    nearest_case(round, 0, 2, (struct closest){ near, far, 2, 4, "3311" });
+    /* The same rows as plain numbers: only the second is near 0, in a group of its own. */
+    radius_case(plain, 0, 5, "1300", 1, 2);
+    nearest_case(round, 3580, 1, (struct closest){ nearest, ten, 1, 4, NULL });
+}
+
+/* 3,600 and more in a table and in a query; sets beyond the columns; 19 behind 5 and 9, before 10 and with the workspace as it was. */
+static void off_the_circle(void)
+{
+    static const uint16_t full[] = { 3600 }, pair[] = { 0, 3600, 1, 3599 }, rows[] = { 0, 9, 20 }, other[] = { 0, 9, 3600 }, query[] = { 3600 };
+    struct naive_room w = { work, WORDS };
+    struct lot lot = lot_of(full, 1, 1, 2, 2);
+    lot.circles = 1;
+    expect_says("3,600 on a circle", build(&lot), 19, 0, 0);
+    lot.work = 5;
+    expect_says("3,600 on a circle, a word of workspace too few", build(&lot), 5, 0, 0);
+    lot = lot_of(full, 1, 1, 2, 2);
+    lot.circles = 2;
+    expect_says("a circle beyond the columns", build(&lot), 2, 0, 0);
+    lot = lot_of(pair, 4, 2, 2, 2);
+    for (lot.circles = 0; lot.circles < 5; lot.circles++)
+        expect_words("each set of two columns", (const uint32_t[]){ build(&lot).number }, (const uint32_t[]){ (const uint32_t[]){ 0, 0, 19, 19, 2 }[lot.circles] }, 1);
+    lot = built((struct column){ rows, 3, 1 });
+    lot.table = other;
+    room[8 + 5 * 3 + 2] = room[8 + 5 * 3];
+    work[0] = 7;
+    struct naive_table table = { other, 3, 1 };
+    struct naive_index index = { room, lot.index_length };
+    expect_says("19 before 10", naive_check(table, index, w), 19, 0, 0);
+    expect_words("19 leaves the workspace", work, (const uint32_t[]){ 7 }, 1);
+    try_check(&trial, &lot);
+    room[8] = 1;
+    expect_says("9 before 19", naive_check(table, index, w), 9, 0, 0);
+    try_check(&trial, &lot);
+    lot = built((struct column){ rows, 3, 1 });
+    uint8_t how[3];
+    struct naive_bytes bytes = { how, 3 };
+    table.columns = rows;
+    expect_says("a query off the circle", naive_radius(table, index, (struct naive_query){ query, 1 }, 9, bytes), 19, 0, 0);
+    lot.query = query;
+    lot.query_length = 1;
+    lot.w = 1;
+    try_searches(&trial, &lot);
+    room[7] = 2;
+    expect_says("a header's circle beyond the columns", naive_check(table, index, w), 8, 0, 0);
+    try_check(&trial, &lot);
+    try_write(&trial, &lot);
+    try_card(&trial, &lot);
 }
 
 /* ---- Equal rows ---- */
@@ -510,6 +575,8 @@ uint32_t self_test(void)
     old_index();
     wrong_inner_reaches();
     closed_by_the_middle();
+    across_the_seam();
+    off_the_circle();
     append_cases();
     append_deepest();
     append_refusals();

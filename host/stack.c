@@ -27,7 +27,7 @@ static void nothing(void)
 
 static void build(void)
 {
-    bourascul_built built = bourascul_build(table, ROWS * COLUMNS, COLUMNS, CENTRES, LEAF, 2, room, WORDS, work, 6 * ROWS);
+    bourascul_built built = bourascul_build(table, ROWS * COLUMNS, COLUMNS, CENTRES, LEAF, 0, 2, room, WORDS, work, 6 * ROWS);
     number = built.number;
     words = built.words;
 }
@@ -122,8 +122,8 @@ int main(void)
     for (int i = 0; i < 2 * COLUMNS; i++)
         table[(1 + i) * COLUMNS + i % COLUMNS] = (uint16_t)(i < COLUMNS ? 2 : 1);
     query[0] = 9;
-    bourascul_build(table, (ROWS - 1) * COLUMNS, COLUMNS, CENTRES, LEAF, 2, most_rows, WORDS, work, 6 * ROWS);
-    bourascul_build(table, 2 * COLUMNS, COLUMNS, CENTRES, LEAF, 2, two_rows, WORDS, work, 6 * ROWS);
+    bourascul_build(table, (ROWS - 1) * COLUMNS, COLUMNS, CENTRES, LEAF, 0, 2, most_rows, WORDS, work, 6 * ROWS);
+    bourascul_build(table, 2 * COLUMNS, COLUMNS, CENTRES, LEAF, 0, 2, two_rows, WORDS, work, 6 * ROWS);
     puts("| call | bytes of stack |\n|---|---|");
     for (size_t i = 0; i < sizeof calls / sizeof *calls; i++) {
         taken(calls[i].call);
