@@ -11,8 +11,9 @@ static const uint16_t minutes[NUMBERS] = {71, 540, 880, 900, 70, 538, 860, 905, 
 static const uint16_t *const refill = minutes + 2 * COLUMNS;
 
 /* What the calls are lent: nothing is allocated. */
-enum { ROOM = BOURASCUL_ROOM_WORDS(ROWS), WORK = BOURASCUL_WORK_WORDS(ROWS), CARD = BOURASCUL_BLOCK_BYTES * BOURASCUL_BLOCKS(ROOM) };
+enum { ROOM = BOURASCUL_ROOM_WORDS(ROWS), WORK = BOURASCUL_WORK_WORDS(ROWS), SET = BOURASCUL_SET_WORDS(ROWS), CARD = BOURASCUL_BLOCK_BYTES * BOURASCUL_BLOCKS(ROOM) };
 static uint32_t room[ROOM], back[ROOM], work[WORK], rows[WANTED], distances[WANTED];
+static uint32_t withdrawn[SET]; /* a bit a row, all off: none is withdrawn */
 static uint8_t how[ROWS], card[CARD];
 
 static int refused(const char *call, uint32_t number)
@@ -33,7 +34,8 @@ int main(void)
     if (checked.number != BOURASCUL_DONE) return refused("check", checked.number);
 
     /* Every minute within 20 of minute 2, itself included. */
-    bourascul_within within = bourascul_radius(minutes, NUMBERS, COLUMNS, room, built.words, refill, COLUMNS, 20, how, ROWS);
+    bourascul_within within = bourascul_radius(minutes, NUMBERS, COLUMNS, room, built.words, refill, COLUMNS, 20, withdrawn, SET,
+                                               how, ROWS);
     if (within.number != BOURASCUL_DONE) return refused("radius", within.number);
     for (int i = 0; i < ROWS; i++) {
         if (how[i] >= BOURASCUL_IN) printf("minute %d is like minute 2\n", i);
@@ -41,7 +43,7 @@ int main(void)
 
     /* The two minutes nearest to it. */
     bourascul_closest closest = bourascul_nearest(minutes, NUMBERS, COLUMNS, room, built.words, refill, COLUMNS, WANTED,
-                                                  rows, WANTED, distances, WANTED, how, ROWS, work, WORK);
+                                                  withdrawn, SET, rows, WANTED, distances, WANTED, how, ROWS, work, WORK);
     if (closest.number != BOURASCUL_DONE) return refused("nearest", closest.number);
     for (uint32_t i = 0; i < closest.given; i++) printf("minute %u at %u\n", (unsigned)rows[i], (unsigned)distances[i]);
 

@@ -73,7 +73,7 @@ struct set {
     struct line *line;
     struct plain_table table;
     uint16_t *columns, query[QUERIES][16];
-    uint32_t *room[2], *work, rows[2][WANTED], distances[2][WANTED];
+    uint32_t *room[2], *work, *withdrawn, rows[2][WANTED], distances[2][WANTED];
     uint8_t *how[2], *image[2];
 };
 
@@ -181,6 +181,7 @@ static struct set make_set(struct line *l)
         s.how[k] = bench_touched(l->n, k + 1);
     }
     s.work = bench_touched(BOURASCUL_WORK_WORDS(l->n) * sizeof(uint32_t), 1);
+    s.withdrawn = bench_touched(BOURASCUL_SET_WORDS(l->n) * sizeof(uint32_t), 0);
     draw_queries(&s);
     l->r = choose_r(&s);
     return s;
@@ -194,6 +195,7 @@ static void free_set(struct set *s)
         free(s->how[k]);
     }
     free(s->work);
+    free(s->withdrawn);
     free(s->columns);
 }
 
@@ -237,11 +239,12 @@ static struct gives by_library(struct set *s, const struct library *by, int kind
     case WRITE: return (struct gives){ by->write(s->room[0], l->words, s->image[k], blocks_of(s) * BOURASCUL_BLOCK_BYTES).blocks, 0 };
     case READ: return (struct gives){ by->read(s->image[0], blocks_of(s) * BOURASCUL_BLOCK_BYTES, s->columns, length, l->c, s->room[1], room).words, 0 };
     case RADIUS:
-        within = by->radius(s->columns, length, l->c, s->room[0], l->words, s->query[q], l->c, l->r, s->how[k], l->n);
+        within = by->radius(s->columns, length, l->c, s->room[0], l->words, s->query[q], l->c, l->r, s->withdrawn,
+                            BOURASCUL_SET_WORDS(l->n), s->how[k], l->n);
         return (struct gives){ within.inside, within.measured };
     case NEAREST:
-        closest = by->nearest(s->columns, length, l->c, s->room[0], l->words, s->query[q], l->c, WANTED, s->rows[k], WANTED, s->distances[k],
-                              WANTED, s->how[k], l->n, s->work, work);
+        closest = by->nearest(s->columns, length, l->c, s->room[0], l->words, s->query[q], l->c, WANTED, s->withdrawn,
+                              BOURASCUL_SET_WORDS(l->n), s->rows[k], WANTED, s->distances[k], WANTED, s->how[k], l->n, s->work, work);
         return (struct gives){ closest.given, closest.measured };
     case CLEAR_BYTES: memset(s->how[1], 0, l->n); break;
     case CLEAR_WORDS: memset(s->work, 0, work * sizeof *s->work); break;
@@ -260,8 +263,8 @@ static struct gives by_plain(struct set *s, const struct plain_calls *by, int ki
     case CHECK: return (struct gives){ by->check(s->table, s->room[0], s->work).number, 0 };
     case WRITE: return (struct gives){ by->write(s->room[0], s->image[1]), 0 };
     case READ: return (struct gives){ by->read(s->image[0], blocks_of(s), s->room[1]), 0 };
-    case RADIUS: counts = by->radius(s->table, s->room[0], s->query[q], l->r, s->how[1]); break;
-    default: counts = by->nearest(s->table, s->room[0], s->query[q], WANTED, s->rows[1], s->distances[1], s->how[1], s->work); break;
+    case RADIUS: counts = by->radius(s->table, s->room[0], s->query[q], l->r, s->withdrawn, s->how[1]); break;
+    default: counts = by->nearest(s->table, s->room[0], s->query[q], WANTED, s->withdrawn, s->rows[1], s->distances[1], s->how[1], s->work);
     }
     return (struct gives){ counts.found, counts.measured };
 }

@@ -22,6 +22,8 @@ struct lot {
     size_t index_length;
     const uint16_t *query;
     size_t query_length;
+    const uint32_t *withdrawn;
+    size_t withdrawn_length;
     uint32_t r, w, node;
     size_t room, taken, work, how, rows, distances, answers; /* `room` is a build's, `taken` a reading's */
     size_t append_room, append_work;

@@ -34,7 +34,7 @@ void each_set_of_circles(struct trial *t, uint32_t limit)
 /* ---- Refusals ---- */
 
 enum {
-    FAULTS = 21
+    FAULTS = 23
 };
 
 static uint16_t *row_of(struct sample *s, uint32_t i)
@@ -91,6 +91,8 @@ static void one_fault(struct draw *d, struct sample *s, struct lot *lot, uint32_
     case 17: leave_circle(d, s, row_of(s, s->n == 0 ? 0 : s->n - 1)); break;
     case 18: leave_circle(d, s, row_of(s, draw_below(d, s->n + 1))); break;
     case 19: leave_circle(d, s, row_of(s, s->n)); break;
+    case 20: lot->withdrawn_length += draw_one_in(d, 2) && lot->withdrawn_length > 0 ? -1 : 1; break;
+    case 21: s->withdrawn[s->n / 32] |= 1u << draw_between(d, s->n % 32, 31); break;
     default: leave_circle(d, s, s->query); break;
     }
 }

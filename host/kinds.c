@@ -329,7 +329,7 @@ static void one_fault(struct draw *d, struct sample *s, struct lot *lot)
     const uint32_t bad_m[] = { 0, 1, 65, 64, UINT32_MAX }, bad_l[] = { 0, 1, lot->m - 1, lot->m, 1024, 1025, UINT32_MAX };
     const uint32_t bad_editions[] = { 0, 3, 3 - s->edition, UINT32_MAX };
     size_t n = s->n, asked = lot->w < n ? lot->w : n;
-    switch (draw_below(d, 23)) {
+    switch (draw_below(d, 25)) {
     case 0: lot->c = draw_bad_columns(d, lot->c); break;
     case 1: lot->m = bad_m[draw_below(d, 5)]; break;
     case 2: lot->l = bad_l[draw_below(d, 7)]; break;
@@ -351,6 +351,8 @@ static void one_fault(struct draw *d, struct sample *s, struct lot *lot)
     case 18: lot->circles |= 1u << draw_between(d, s->c, 31); break;
     case 19: leave_circle(d, s, s->table + s->c * (size_t)draw_below(d, s->n + 1)); break;
     case 20: leave_circle(d, s, s->query); break;
+    case 21: lot->withdrawn_length += draw_one_in(d, 2) && lot->withdrawn_length > 0 ? -1 : 1; break;
+    case 22: s->withdrawn[n / 32] |= 1u << draw_between(d, n % 32, 31); break;
     default:
         spoil_index(d, s);
         lot->index_length = s->index_length;
@@ -416,8 +418,8 @@ static void largest_table(struct trial *t, uint32_t limit)
     size_t n = 1048576, asked = build_words(n);
     uint32_t c = draw_between(d, 1, 3), circles = draw_below(d, 2);
     uint16_t *table = malloc(n * c * sizeof *table), query[3] = { 100, 60000, 7 };
-    uint32_t *room = malloc(asked * sizeof *room), *work = malloc(6 * n * sizeof *work);
-    if (table == NULL || room == NULL || work == NULL)
+    uint32_t *room = malloc(asked * sizeof *room), *work = malloc(6 * n * sizeof *work), *withdrawn = calloc(n / 32, sizeof *withdrawn);
+    if (table == NULL || room == NULL || work == NULL || withdrawn == NULL)
         abort();
     for (size_t i = 0; i < n * c; i++)
         table[i] = (uint16_t)draw_below(d, circles == 1 && i % c == 0 ? 3600 : 65536);
@@ -425,7 +427,9 @@ static void largest_table(struct trial *t, uint32_t limit)
     struct lot lot = { .table = table, .table_length = n * c, .c = c, .m = 32, .l = 200, .circles = circles, .edition = 2, .index = room,
                        .index_length = built.words, .query = query, .query_length = c, .r = 900, .w = 20, .node = 3, .room = asked,
                        .taken = built.words, .work = 6 * n, .how = n, .rows = 20, .distances = 20, .answers = 20, .append_room = asked,
-                       .append_work = 6 * n };
+                       .append_work = 6 * n, .withdrawn = withdrawn, .withdrawn_length = n / 32 };
+    for (size_t i = 0; i < n / 32; i++)
+        withdrawn[i] = (uint32_t)draw_next(d) & (uint32_t)draw_next(d);
     try_build(t, &lot);
     every_call(t, &lot);
     if (built.number == 0) {
@@ -436,6 +440,7 @@ static void largest_table(struct trial *t, uint32_t limit)
     free(table);
     free(room);
     free(work);
+    free(withdrawn);
 }
 
 /* ---- Two tables ---- */
@@ -484,11 +489,12 @@ static void two_tables(struct trial *t, uint32_t limit)
     for (uint32_t i = 0; i < 4; i++) {
         draw_query(&t->draw, &sample);
         struct lot lot = fair_lot(&t->draw, &sample);
-        bourascul_radius(sample.table, lot.table_length, lot.c, lot.index, lot.index_length, lot.query, lot.c, lot.r, how, SAMPLE_ROWS);
+        bourascul_radius(sample.table, lot.table_length, lot.c, lot.index, lot.index_length, lot.query, lot.c, lot.r, lot.withdrawn,
+                         lot.withdrawn_length, how, SAMPLE_ROWS);
         lend_second(&t->draw, &lot, how, table);
         try_radius(t, &lot);
-        bourascul_nearest(sample.table, lot.table_length, lot.c, lot.index, lot.index_length, lot.query, lot.c, lot.w, rows, SAMPLE_ROWS, distances,
-                          SAMPLE_ROWS, how, SAMPLE_ROWS, work, 6 * SAMPLE_ROWS);
+        bourascul_nearest(sample.table, lot.table_length, lot.c, lot.index, lot.index_length, lot.query, lot.c, lot.w, lot.withdrawn,
+                          lot.withdrawn_length, rows, SAMPLE_ROWS, distances, SAMPLE_ROWS, how, SAMPLE_ROWS, work, 6 * SAMPLE_ROWS);
         lend_second(&t->draw, &lot, how, table);
         try_nearest(t, &lot);
         try_nearest_answers(t, &lot);
@@ -634,7 +640,7 @@ const struct kind kinds[] = {
     { "all calls with each end of m and l, and beyond", each_end, 4 },
     { "all calls with edition 2 and others", each_edition, 2 },
     { "all calls with each set of circles, values around the seam", each_set_of_circles, 4 },
-    { "all calls with each two of 20 faults, numbers off the circle among them", circle_pairs, 4 },
+    { "all calls with each two of 22 faults, numbers off the circle and bad sets among them", circle_pairs, 4 },
     { "build with m and l at their ends, all calls on it", build_ends, 2 },
     { "equal rows, 4 to 100 and more, all calls", build_equal, 2 },
     { "check and searches on built indexes", accepted_built, 1 },
@@ -655,6 +661,7 @@ const struct kind kinds[] = {
     { "50 rows appended one by one to indexes of any kind", append_chain_on, 8 },
     { "equal rows appended one by one down to depth 24, and one that differs", append_equal, 8 },
     { "appends with each two of 22 faults", append_pairs, 4 },
+    { "searches with sets of each length, and each bit beyond the rows", each_set_length, 4 },
     { "two tables that agree in the rows measured", two_tables, 1 },
     { "asking for more: the laws on two searches, of the library alone", asking_for_more, 1 },
     { "images written and read, rooms short, exact and long", image_rooms, 1 },

@@ -83,6 +83,21 @@ bool naive_off_circle(const uint16_t *columns, size_t length, uint32_t c, uint32
     return false;
 }
 
+bool naive_is_in(struct naive_set set, uint32_t row)
+{
+    return (set.words[row / 32] >> row % 32 & 1) != 0;
+}
+
+bool naive_set_bad(struct naive_set set, size_t n)
+{
+    if (set.length != n / 32 + (n % 32 != 0))
+        return true;
+    for (size_t row = n; row < 32 * set.length; row++)
+        if (naive_is_in(set, (uint32_t)row))
+            return true;
+    return false;
+}
+
 void naive_clear_work(struct naive_room work, size_t n)
 {
     for (size_t i = 0; i < 6 * n; i++)
@@ -216,7 +231,7 @@ void naive_index_faults(struct faults *f, struct naive_index x, struct naive_tab
 
 void naive_circle_fault(struct faults *f, struct naive_index x, struct naive_table t, struct naive_query q)
 {
-    if (f->met[8])
+    if (f->met[1] || f->met[8])
         return;
     f->met[19] = naive_off_circle(t.columns, t.length, t.c, x.words[7]) || naive_off_circle(q.columns, q.length, t.c, x.words[7]);
 }

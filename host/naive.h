@@ -1,4 +1,4 @@
-/* The scope paper (01) with edition 2 (02, R-4 and R-11), circles (R-1) and appended rows (R-2) once more, in plain C: clear rather than fast, and sharing
+/* The scope paper (01) with edition 2 (02, R-4 and R-11), circles (R-1), withdrawn rows (R-5) and appended rows (R-2) once more, in plain C: clear rather than fast, and sharing
    nothing with the library. Each call takes and gives what the library's call of the same name does (include/bourascul.h). */
 #ifndef HOST_NAIVE_H
 #define HOST_NAIVE_H
@@ -37,6 +37,12 @@ struct naive_query {
     size_t length;
 };
 
+/* A set of rows: bit r % 32 of word r / 32 is on for row r. */
+struct naive_set {
+    const uint32_t *words;
+    size_t length;
+};
+
 /* A lent room of 32-bit words, and one of bytes. */
 struct naive_room {
     uint32_t *words;
@@ -60,15 +66,18 @@ struct naive_says naive_build(struct naive_table table, uint32_t m, uint32_t l, 
                               struct naive_room work);
 struct naive_says naive_append(struct naive_table table, struct naive_index index, struct naive_room room, struct naive_room work);
 struct naive_says naive_check(struct naive_table table, struct naive_index index, struct naive_room work);
-struct naive_says naive_radius(struct naive_table table, struct naive_index index, struct naive_query query, uint32_t r, struct naive_bytes how);
-struct naive_says naive_nearest(struct naive_table table, struct naive_index index, struct naive_query query, uint32_t w, struct naive_room rows,
-                                struct naive_room distances, struct naive_bytes how, struct naive_room work);
+struct naive_says naive_radius(struct naive_table table, struct naive_index index, struct naive_query query, uint32_t r, struct naive_set withdrawn,
+                               struct naive_bytes how);
+struct naive_says naive_nearest(struct naive_table table, struct naive_index index, struct naive_query query, uint32_t w, struct naive_set withdrawn,
+                                struct naive_room rows, struct naive_room distances, struct naive_bytes how, struct naive_room work);
 struct naive_says naive_nearest_answers(struct naive_table table, struct naive_index index, struct naive_query query, uint32_t w,
-                                        struct naive_records answers, struct naive_room rows, struct naive_room distances, struct naive_bytes how,
-                                        struct naive_room work);
+                                        struct naive_set withdrawn, struct naive_records answers, struct naive_room rows, struct naive_room distances,
+                                        struct naive_bytes how, struct naive_room work);
 struct naive_says naive_write(struct naive_index index, struct naive_bytes image);
 struct naive_says naive_read(const uint8_t *image, size_t length, struct naive_table table, struct naive_room room);
 struct naive_part naive_list(struct naive_index index, uint32_t node);
+
+bool naive_is_in(struct naive_set set, uint32_t row);
 
 /* For the trials alone. The check word over a block's 127 words. */
 uint32_t naive_check_word(uint32_t block, const uint32_t *words);

@@ -15,7 +15,7 @@ enum {
     HEADER_WORDS = 8,
     BLOCK_WORDS = 127,
     BLOCK_BYTES = 512,
-    NUMBERS = 20
+    NUMBERS = 21
 };
 
 /* The faults that meet a call, by number. */
@@ -70,8 +70,10 @@ struct faults naive_table_faults(struct naive_table t);
 void naive_index_faults(struct faults *f, struct naive_index x, struct naive_table t);
 /* Whether a circular column holds 3,600 or more, in any row. */
 bool naive_off_circle(const uint16_t *columns, size_t length, uint32_t c, uint32_t circles);
-/* Adds 19, where 8 is not met: by the index's circles, for the table and, where there is one, the query. */
+/* Adds 19, where neither 1 nor 8 is met: by the index's circles, for the table and, where there is one, the query. */
 void naive_circle_fault(struct faults *f, struct naive_index x, struct naive_table t, struct naive_query q);
+/* 20: the set's length is not n/32 rounded up, or a bit n or above is on. */
+bool naive_set_bad(struct naive_set set, size_t n);
 /* Whether a bit is on at or above the columns' number. */
 bool naive_beyond_columns(uint32_t circles, uint32_t c);
 void naive_clear_work(struct naive_room work, size_t n);

@@ -361,6 +361,57 @@ void random_words(struct draw *d, struct sample *s)
     }
 }
 
+/* ---- Withdrawn rows ---- */
+
+static void set_bit(uint32_t *set, uint32_t row)
+{
+    set[row / 32] |= 1u << row % 32;
+}
+
+/* The rows that stand first in a node, so far as the words are an index. */
+static void withdraw_firsts(struct sample *s)
+{
+    if (s->index_length < 8 || s->index[5] >= 2 * SAMPLE_ROWS)
+        return;
+    size_t width = node_words(s->index[0]), pairs = 8 + width * s->index[5];
+    for (uint32_t k = 0; k < s->index[5] && pairs <= s->index_length; k++) {
+        uint64_t start = s->index[8 + width * k], at = pairs + 2 * start;
+        if (at < s->index_length && s->index[at] < s->n)
+            set_bit(s->withdrawn, s->index[at]);
+    }
+}
+
+void draw_withdrawn(struct draw *d, struct sample *s)
+{
+    bool firsts = false, turned = draw_one_in(d, 3);
+    uint32_t chances = 0;
+    memset(s->withdrawn, 0, sizeof s->withdrawn);
+    if (draw_one_in(d, 3))
+        return;
+    switch (draw_below(d, 4)) {
+    case 0: break;
+    case 1: firsts = true; break;
+    case 2: chances = draw_between(d, 2, 4); break;
+    default: chances = s->n + 1; break;
+    }
+    if (firsts)
+        withdraw_firsts(s);
+    for (uint32_t i = 0; i < s->n; i++) {
+        if (chances > 0 && draw_one_in(d, chances))
+            set_bit(s->withdrawn, i);
+        if (turned)
+            s->withdrawn[i / 32] ^= 1u << i % 32;
+    }
+}
+
+static uint32_t remaining_rows(const struct sample *s)
+{
+    uint32_t remaining = 0;
+    for (uint32_t i = 0; i < s->n; i++)
+        remaining += (s->withdrawn[i / 32] >> i % 32 & 1) == 0;
+    return remaining;
+}
+
 /* ---- Lots ---- */
 
 static uint32_t draw_r(struct draw *d, const struct sample *s)
@@ -374,8 +425,9 @@ static uint32_t draw_r(struct draw *d, const struct sample *s)
 
 static uint32_t draw_w(struct draw *d, const struct sample *s)
 {
-    const uint32_t ends[] = { 1, 2, s->n, s->n + 1, s->n > 1 ? s->n - 1 : 1, UINT32_MAX, 3 };
-    return draw_one_in(d, 2) ? ends[draw_below(d, 7)] : draw_between(d, 1, s->n < 12 ? s->n + 1 : 12);
+    uint32_t remaining = remaining_rows(s);
+    const uint32_t ends[] = { 1, 2, s->n, s->n + 1, s->n > 1 ? s->n - 1 : 1, UINT32_MAX, 3, remaining + 1, remaining > 0 ? remaining : 1 };
+    return draw_one_in(d, 2) ? ends[draw_below(d, 9)] : draw_between(d, 1, s->n < 12 ? s->n + 1 : 12);
 }
 
 static size_t longer(struct draw *d, size_t asked)
@@ -383,7 +435,7 @@ static size_t longer(struct draw *d, size_t asked)
     return asked + (draw_one_in(d, 2) ? 0 : draw_below(d, 9));
 }
 
-struct lot fair_lot(struct draw *d, const struct sample *s)
+struct lot fair_lot(struct draw *d, struct sample *s)
 {
     struct lot lot;
     memset(&lot, 0, sizeof lot);
@@ -399,6 +451,9 @@ struct lot fair_lot(struct draw *d, const struct sample *s)
     lot.index_length = s->index_length;
     lot.query = s->query;
     lot.query_length = s->c;
+    draw_withdrawn(d, s);
+    lot.withdrawn = s->withdrawn;
+    lot.withdrawn_length = (s->n + 31) / 32;
     lot.r = draw_r(d, s);
     lot.w = draw_w(d, s);
     lot.node = draw_below(d, s->index_length > 5 && s->index[5] < 2 * SAMPLE_ROWS ? s->index[5] + 2 : 9);

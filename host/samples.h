@@ -7,7 +7,8 @@
 enum {
     SAMPLE_ROWS = 640,
     SAMPLE_WORDS = 12 * SAMPLE_ROWS + 8 + 64,
-    SAMPLE_BLOCKS = SAMPLE_WORDS / 127 + 4
+    SAMPLE_BLOCKS = SAMPLE_WORDS / 127 + 4,
+    SET_WORDS = SAMPLE_ROWS / 32 + 4
 };
 
 struct sample {
@@ -16,6 +17,7 @@ struct sample {
     uint32_t index[SAMPLE_WORDS];
     size_t index_length;
     uint16_t query[32];
+    uint32_t withdrawn[SET_WORDS];
     uint8_t image[SAMPLE_BLOCKS * 512];
     size_t image_length;
 };
@@ -63,8 +65,11 @@ size_t build_words(size_t n);
 /* How many words come out where a card of the sample's index, of either edition, is read. */
 size_t taken_words(const struct sample *s);
 
-/* What all calls on the sample are lent, an append the row behind the table with it, with r, w and a node drawn; each room is long
-   enough, often longer. */
-struct lot fair_lot(struct draw *d, const struct sample *s);
+/* Which rows are withdrawn: none, all, a row or some, all that stand first in a node of the index, or none of these; words behind the set's are 0. */
+void draw_withdrawn(struct draw *d, struct sample *s);
+
+/* What all calls on the sample are lent, an append the row behind the table with it, with r, w, a node and a set of withdrawn rows drawn, the
+   last in the sample; each room is long enough, often longer. */
+struct lot fair_lot(struct draw *d, struct sample *s);
 
 #endif

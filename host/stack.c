@@ -11,11 +11,11 @@
 
 /* Row 0 is the origin, and a row lies 2 or 1 away from it in each direction. Of two centres the second then has a group of its own,
    so that each level has one row fewer than the one above. */
-enum { COLUMNS = 16, ROWS = 1 + 2 * COLUMNS, CENTRES = 2, LEAF = 2, WORDS = 12 * ROWS + 8, BYTES = 16 * 512, STACK = 1 << 16, PAINT = 0xa5 };
+enum { COLUMNS = 16, ROWS = 1 + 2 * COLUMNS, CENTRES = 2, LEAF = 2, WORDS = 12 * ROWS + 8, BYTES = 16 * 512, SET = (ROWS + 31) / 32, STACK = 1 << 16, PAINT = 0xa5 };
 
 static uint16_t table[ROWS * COLUMNS], query[COLUMNS];
 static uint32_t room[WORDS], back[WORDS], work[6 * ROWS], rows[ROWS], distances[ROWS], words, blocks;
-static uint32_t most_rows[WORDS], two_rows[WORDS];
+static uint32_t most_rows[WORDS], two_rows[WORDS], withdrawn[SET];
 static bourascul_answer answers[ROWS];
 static uint8_t how[ROWS], image[BYTES];
 static uint32_t number;
@@ -48,19 +48,19 @@ static void check(void)
 /* r is the distance of row 0, so that no node whose first it is can be swept or closed. */
 static void radius(void)
 {
-    number = bourascul_radius(table, ROWS * COLUMNS, COLUMNS, room, words, query, COLUMNS, 9, how, ROWS).number;
+    number = bourascul_radius(table, ROWS * COLUMNS, COLUMNS, room, words, query, COLUMNS, 9, withdrawn, SET, how, ROWS).number;
 }
 
 static void nearest(void)
 {
-    number = bourascul_nearest(table, ROWS * COLUMNS, COLUMNS, room, words, query, COLUMNS, ROWS, rows, ROWS, distances, ROWS, how, ROWS,
-                               work, 6 * ROWS).number;
+    number = bourascul_nearest(table, ROWS * COLUMNS, COLUMNS, room, words, query, COLUMNS, ROWS, withdrawn, SET, rows, ROWS,
+                               distances, ROWS, how, ROWS, work, 6 * ROWS).number;
 }
 
 static void nearest_answers(void)
 {
-    number = bourascul_nearest_answers(table, ROWS * COLUMNS, COLUMNS, room, words, query, COLUMNS, ROWS, answers, ROWS, rows, ROWS,
-                                       distances, ROWS, how, ROWS, work, 6 * ROWS).number;
+    number = bourascul_nearest_answers(table, ROWS * COLUMNS, COLUMNS, room, words, query, COLUMNS, ROWS, withdrawn, SET, answers, ROWS,
+                                       rows, ROWS, distances, ROWS, how, ROWS, work, 6 * ROWS).number;
 }
 
 static void write_image(void)

@@ -44,6 +44,7 @@
          header asks for another number of blocks; writing: words are missing
      17  reading: a word after the last is not zero
      19  a column that is a circle holds 3,600 or more, in any row of the table or in the query
+     20  a set of rows has not n/32 words, rounded up, or a bit n or above is on
    On a refusal the other fields of the result are 0 (save the places of 10 to 13 and 15) and every lent buffer is as it
    was; only 10 to 13 zero the workspace as a success does, 19 does not.
 
@@ -55,6 +56,11 @@
 
    Edition 1, which is written no longer, had no inner reach: 8 + 4N + 2n words. A card of edition 1 is read as edition 2, with
    each node's inner reach worked out from the table (bourascul_read); in memory no call takes an index of edition 1.
+
+   THE SET of withdrawn rows is 32-bit words, n/32 of them, rounded up: bit r % 32 of word r / 32 is on where row r is withdrawn, and
+   bits n and above are off. Words of zero withdraw nothing; a table without rows has a set of no words. A withdrawn row stays in the
+   index, and may be measured there, but no search gives it: its how-byte is 1 where it was measured, else 0. The set is yours: it
+   stands beside table and index, which stay as they are.
 
    A search tests an index's header, words and shape, and no more: where bourascul_check says 8 or 9, a search says the same, if
    5, 6 or 7 does not come before. On an index that the check refuses with 10 to 13 a search stays within what is lent and gives 0
@@ -101,6 +107,9 @@ extern "C" {
 #define BOURASCUL_ROOM_WORDS(n) (12u * (size_t)(n) + 8u)
 #define BOURASCUL_WORK_WORDS(n) (6u * (size_t)(n))
 
+/* Words of a set of n rows. */
+#define BOURASCUL_SET_WORDS(n) (((size_t)(n) + 31u) / 32u)
+
 /* Blocks that an index of so many words takes in an image. */
 #define BOURASCUL_BLOCKS(words) (((size_t)(words) + 126u) / 127u)
 
@@ -124,7 +133,8 @@ enum {
     BOURASCUL_WRONG_CHECK_WORD = 15,
     BOURASCUL_BAD_IMAGE_HEADER = 16,
     BOURASCUL_REST_NOT_ZERO = 17,
-    BOURASCUL_OFF_CIRCLE = 19
+    BOURASCUL_OFF_CIRCLE = 19,
+    BOURASCUL_BAD_SET = 20
 };
 
 /* A number in words, for a line to a user or a log. */
@@ -150,7 +160,8 @@ static inline const char *bourascul_message(uint32_t number)
         "the header is impossible, or the words or blocks are not as many as it asks for",
         "a word after the image's last is not zero",
         "no number of this library",
-        "a column that is a circle holds 3,600 or more"
+        "a column that is a circle holds 3,600 or more",
+        "the set of rows is not of the table's rows"
     };
     return number < sizeof messages / sizeof messages[0] ? messages[number] : "no number of this library";
 }
@@ -184,7 +195,7 @@ typedef struct bourascul_within {
 
 typedef struct bourascul_closest {
     uint32_t number;
-    uint32_t given;    /* answers: the lesser of w and n */
+    uint32_t given;    /* answers: the lesser of w and the number of rows that are not withdrawn */
     uint32_t measured; /* rows measured: how-bytes 1 and 3 */
 } bourascul_closest;
 
@@ -244,25 +255,26 @@ bourascul_built bourascul_append(const uint16_t *table, size_t table_length, uin
 bourascul_checked bourascul_check(const uint16_t *table, size_t table_length, uint32_t c,
                                   const uint32_t *index, size_t index_length, uint32_t *work, size_t work_length);
 
-/* Every row within r of the query, r included.
-   Lent: the table; the index; a query of c numbers; how of at least n bytes.
-   Numbers: 0, 1, 3, 4, 5, 6, 8, 9, 19.
-   Done, on an index that the full check accepts: how-byte i is 2 or 3 exactly when row i is at most r from the query;
-   `inside` and `measured` count how-bytes. Bytes from n on stay. */
+/* Every row within r of the query, r included, but for withdrawn ones.
+   Lent: the table; the index; a query of c numbers; the set of withdrawn rows; how of at least n bytes.
+   Numbers: 0, 1, 3, 4, 5, 6, 8, 9, 19, 20.
+   Done, on an index that the full check accepts: how-byte i is 2 or 3 exactly when row i is at most r from the query and not
+   withdrawn; `inside` and `measured` count how-bytes. Bytes from n on stay. */
 bourascul_within bourascul_radius(const uint16_t *table, size_t table_length, uint32_t c,
                                   const uint32_t *index, size_t index_length, const uint16_t *query, size_t query_length,
-                                  uint32_t r, uint8_t *how, size_t how_length);
+                                  uint32_t r, const uint32_t *withdrawn, size_t withdrawn_length, uint8_t *how, size_t how_length);
 
-/* The w rows closest to the query, by distance, then row number.
-   Lent: the table; the index; a query of c numbers; rows and distances of at least min(w, n) words each; how of at least n
-   bytes; work of at least 6n words.
-   Numbers: 0, 1, 3, 4, 5, 6, 7, 8, 9, 19.
-   Done, on an index that the full check accepts: rows[i] and distances[i] are answer i, for i below `given` = min(w, n), and
-   later entries stay; how-byte i is 3 for an answer, 1 for another measured row, 0 for a row that was not measured; bytes
+/* The w rows closest to the query, by distance, then row number, but for withdrawn ones.
+   Lent: the table; the index; a query of c numbers; the set of withdrawn rows; rows and distances of at least min(w, n) words each;
+   how of at least n bytes; work of at least 6n words.
+   Numbers: 0, 1, 3, 4, 5, 6, 7, 8, 9, 19, 20.
+   Done, on an index that the full check accepts: rows[i] and distances[i] are answer i, for i below `given`, the lesser of w and the
+   number of rows that are not withdrawn, and later entries stay; where fewer than w are not withdrawn, every row is measured; how-byte i is 3 for an answer, 1 for another measured row, 0 for a row that was not measured; bytes
    from n on stay; the first 6n words of work are 0, and the rest stays. */
 bourascul_closest bourascul_nearest(const uint16_t *table, size_t table_length, uint32_t c,
                                     const uint32_t *index, size_t index_length, const uint16_t *query, size_t query_length,
-                                    uint32_t w, uint32_t *rows, size_t rows_length, uint32_t *distances, size_t distances_length,
+                                    uint32_t w, const uint32_t *withdrawn, size_t withdrawn_length,
+                                    uint32_t *rows, size_t rows_length, uint32_t *distances, size_t distances_length,
                                     uint8_t *how, size_t how_length, uint32_t *work, size_t work_length);
 
 /* The same, with the answers as records too.
@@ -272,7 +284,7 @@ bourascul_closest bourascul_nearest(const uint16_t *table, size_t table_length, 
 bourascul_closest bourascul_nearest_answers(const uint16_t *table, size_t table_length, uint32_t c,
                                             const uint32_t *index, size_t index_length,
                                             const uint16_t *query, size_t query_length, uint32_t w,
-                                            bourascul_answer *answers, size_t answers_length,
+                                            const uint32_t *withdrawn, size_t withdrawn_length, bourascul_answer *answers, size_t answers_length,
                                             uint32_t *rows, size_t rows_length, uint32_t *distances, size_t distances_length,
                                             uint8_t *how, size_t how_length, uint32_t *work, size_t work_length);
 
