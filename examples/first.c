@@ -1,4 +1,4 @@
-/* A first program: an index over six planter minutes, its check, the two questions, and the index on a card and back.
+/* A first program: an index over six planter minutes, its check, the two questions, a minute struck, and the index on a card and back.
    It is linked with libbourascul.a (rt staticlib bourascul). */
 #include <stdio.h>
 
@@ -46,6 +46,13 @@ int main(void)
                                                   withdrawn, SET, rows, WANTED, distances, WANTED, how, ROWS, work, WORK);
     if (closest.number != BOURASCUL_DONE) return refused("nearest", closest.number);
     for (uint32_t i = 0; i < closest.given; i++) printf("minute %u at %u\n", (unsigned)rows[i], (unsigned)distances[i]);
+
+    /* Minute 5's sensor was loose: struck, it is in no answer, and the index stays. */
+    uint32_t struck = bourascul_strike(withdrawn, SET, ROWS, 5);
+    if (struck != BOURASCUL_DONE) return refused("strike", struck);
+    within = bourascul_radius(minutes, NUMBERS, COLUMNS, room, built.words, refill, COLUMNS, 20, withdrawn, SET, how, ROWS);
+    if (within.number != BOURASCUL_DONE) return refused("radius", within.number);
+    printf("without minute 5, %u is like minute 2\n", (unsigned)within.inside);
 
     /* The index as an image, which a host stores, and read again over its table. */
     bourascul_written written = bourascul_write(room, built.words, card, CARD);

@@ -20,13 +20,16 @@ enum call {
     LIST,
     WRITE,
     READ,
+    STRIKE,
+    RESTORE,
     CALLS
 };
 
-static const char *const call_names[CALLS] = { "build", "append", "check", "radius", "nearest", "nearest_answers", "list", "write", "read" };
+static const char *const call_names[CALLS] = { "build", "append", "check", "radius", "nearest", "nearest_answers", "list", "write", "read",
+                                               "strike", "restore" };
 
 enum {
-    NUMBERS = 21,
+    NUMBERS = 27,
     TOLD_IN_FULL = 3, /* differences of one kind that are printed; the others are counted */
     SHOWN = 260       /* numbers of a buffer that are printed */
 };
@@ -66,6 +69,7 @@ static void show_lot(const struct lot *lot)
 {
     printf("  c %" PRIu32 ", m %" PRIu32 ", l %" PRIu32 ", circles %" PRIu32 ", edition %" PRIu32 ", r %" PRIu32 ", w %" PRIu32 ", node %" PRIu32 "\n",
            lot->c, lot->m, lot->l, lot->circles, lot->edition, lot->r, lot->w, lot->node);
+    printf("  told %" PRIu32 ", row %" PRIu32 "\n", lot->told, lot->row);
     printf("  lengths: room %zu, taken %zu, work %zu, how %zu, rows %zu, distances %zu, answers %zu, image %zu\n", lot->room, lot->taken, lot->work,
            lot->how, lot->rows, lot->distances, lot->answers, lot->image_length);
     printf("  lengths for an append: table %zu, room %zu, work %zu\n", lot->table_length + lot->next, lot->append_room, lot->append_work);
@@ -434,4 +438,25 @@ void try_card(struct trial *t, const struct lot *lot)
     image.image_length = 512 * naive_card(lot->index, lot->index_length, bytes);
     image.image = bytes;
     try_read(t, &image);
+}
+
+/* One order, given to the set as it is lent to both. */
+static void try_order(struct trial *t, const struct lot *lot, enum call call, uint32_t (*library)(uint32_t *, size_t, uint32_t, uint32_t),
+                      uint32_t (*naive)(struct naive_room, uint32_t, uint32_t))
+{
+    static const enum lent lents[] = { LENT_WITHDRAWN };
+    lend(&t->draw, LENT_WITHDRAWN, lot->withdrawn_length * sizeof *lot->withdrawn, lot->withdrawn);
+    uint32_t is = library(lend_given(LENT_WITHDRAWN), lot->withdrawn_length, lot->told, lot->row);
+    uint32_t should = naive(model_room(LENT_WITHDRAWN), lot->told, lot->row);
+    compare(t, lot, call, three(is, 0, 0), three(should, 0, 0), lents, 1);
+}
+
+void try_strike(struct trial *t, const struct lot *lot)
+{
+    try_order(t, lot, STRIKE, bourascul_strike, naive_strike);
+}
+
+void try_restore(struct trial *t, const struct lot *lot)
+{
+    try_order(t, lot, RESTORE, bourascul_restore, naive_restore);
 }

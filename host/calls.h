@@ -24,6 +24,7 @@ struct lot {
     size_t query_length;
     const uint32_t *withdrawn;
     size_t withdrawn_length;
+    uint32_t told, row; /* an order's: for how many rows the set is, and the row */
     uint32_t r, w, node;
     size_t room, taken, work, how, rows, distances, answers; /* `room` is a build's, `taken` a reading's */
     size_t append_room, append_work;
@@ -43,6 +44,10 @@ void try_write(struct trial *t, const struct lot *lot);
 void try_read(struct trial *t, const struct lot *lot);
 /* Reading, lent a card with right check words of the lot's index words, whatever they say. */
 void try_card(struct trial *t, const struct lot *lot);
+
+/* An order: the row `row` is struck from, or restored to, a set of `told` rows. */
+void try_strike(struct trial *t, const struct lot *lot);
+void try_restore(struct trial *t, const struct lot *lot);
 
 /* Radius, nearest and nearest with records. */
 void try_searches(struct trial *t, const struct lot *lot);

@@ -387,6 +387,7 @@ static void too_many_rows(struct trial *t, uint32_t limit)
     struct lot lot = fair_lot(&t->draw, &sample);
     lot.table = table;
     lot.edition = 2;
+    lot.circles = draw_below(&t->draw, 2);
     lot.next = 0;
     lot.query_length = draw_between(&t->draw, 1, 2);
     for (lot.c = 1; lot.c <= 2; lot.c++)
@@ -662,6 +663,8 @@ const struct kind kinds[] = {
     { "equal rows appended one by one down to depth 24, and one that differs", append_equal, 8 },
     { "appends with each two of 22 faults", append_pairs, 4 },
     { "searches with sets of each length, and each bit beyond the rows", each_set_length, 4 },
+    { "rows struck and restored by two offices, mixed in two ways", mixed_orders, 2 },
+    { "orders to bad sets and of rows beyond the last", order_refusals, 4 },
     { "two tables that agree in the rows measured", two_tables, 1 },
     { "asking for more: the laws on two searches, of the library alone", asking_for_more, 1 },
     { "images written and read, rooms short, exact and long", image_rooms, 1 },

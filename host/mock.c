@@ -1,5 +1,5 @@
 /* A library in the proved one's place, to try the trial on (host/wrong.sh): the naive implementation behind the header's
-   nine calls. Only nearest is searched as the yardstick does it: the naive one scans and reckons the marks afterwards,
+   eleven calls. Only nearest is searched as the yardstick does it: the naive one scans and reckons the marks afterwards,
    which the trial of two tables finds. */
 #include "bourascul.h"
 #include "naive_inner.h"
@@ -104,6 +104,20 @@ bourascul_closest bourascul_nearest_answers(const uint16_t *table, size_t table_
     for (size_t i = 0; i < s.given; i++)
         answers[i] = (bourascul_answer){ rows[i], distances[i] };
     return s;
+}
+
+/* ---- Orders ---- */
+
+uint32_t bourascul_strike(uint32_t *withdrawn, size_t withdrawn_length, uint32_t n, uint32_t row)
+{
+    struct naive_room set = { withdrawn, withdrawn_length };
+    return naive_strike(set, n, row);
+}
+
+uint32_t bourascul_restore(uint32_t *withdrawn, size_t withdrawn_length, uint32_t n, uint32_t row)
+{
+    struct naive_room set = { withdrawn, withdrawn_length };
+    return naive_restore(set, n, row);
 }
 
 /* ---- Image and listing ---- */

@@ -83,21 +83,6 @@ bool naive_off_circle(const uint16_t *columns, size_t length, uint32_t c, uint32
     return false;
 }
 
-bool naive_is_in(struct naive_set set, uint32_t row)
-{
-    return (set.words[row / 32] >> row % 32 & 1) != 0;
-}
-
-bool naive_set_bad(struct naive_set set, size_t n)
-{
-    if (set.length != n / 32 + (n % 32 != 0))
-        return true;
-    for (size_t row = n; row < 32 * set.length; row++)
-        if (naive_is_in(set, (uint32_t)row))
-            return true;
-    return false;
-}
-
 void naive_clear_work(struct naive_room work, size_t n)
 {
     for (size_t i = 0; i < 6 * n; i++)

@@ -1,4 +1,4 @@
-/* The scope paper (01) with edition 2 (02, R-4 and R-11), circles (R-1), withdrawn rows (R-5) and appended rows (R-2) once more, in plain C: clear rather than fast, and sharing
+/* The scope paper (01) with edition 2 (02, R-4 and R-11), circles (R-1), withdrawn rows (R-5, R-12) and appended rows (R-2) once more, in plain C: clear rather than fast, and sharing
    nothing with the library. Each call takes and gives what the library's call of the same name does (include/bourascul.h). */
 #ifndef HOST_NAIVE_H
 #define HOST_NAIVE_H
@@ -76,6 +76,10 @@ struct naive_says naive_nearest_answers(struct naive_table table, struct naive_i
 struct naive_says naive_write(struct naive_index index, struct naive_bytes image);
 struct naive_says naive_read(const uint8_t *image, size_t length, struct naive_table table, struct naive_room room);
 struct naive_part naive_list(struct naive_index index, uint32_t node);
+
+/* Both give the number alone. */
+uint32_t naive_strike(struct naive_room withdrawn, uint32_t n, uint32_t row);
+uint32_t naive_restore(struct naive_room withdrawn, uint32_t n, uint32_t row);
 
 bool naive_is_in(struct naive_set set, uint32_t row);
 

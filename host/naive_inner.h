@@ -15,7 +15,7 @@ enum {
     HEADER_WORDS = 8,
     BLOCK_WORDS = 127,
     BLOCK_BYTES = 512,
-    NUMBERS = 21
+    NUMBERS = 27
 };
 
 /* The faults that meet a call, by number. */

@@ -28,6 +28,8 @@ static void taken(void)
     expect("write", bourascul_write(room, 8, image, sizeof image).number, BOURASCUL_DONE);
     expect("read", bourascul_read(image, sizeof image, NULL, 0, 1, back, 8).number, BOURASCUL_DONE);
     expect("list", bourascul_list(room, 8, 0).length, 0);
+    expect("strike", bourascul_strike(NULL, 0, 0, 0), BOURASCUL_NO_SUCH_ROW);
+    expect("restore", bourascul_restore(NULL, 0, 0, 0), BOURASCUL_NO_SUCH_ROW);
 }
 
 /* Nothing at all. */
@@ -44,6 +46,8 @@ static void refused(void)
     expect("write of nothing", bourascul_write(NULL, 0, NULL, 0).number, BOURASCUL_BAD_IMAGE_HEADER);
     expect("read of nothing", bourascul_read(NULL, 0, NULL, 0, 1, NULL, 0).number, BOURASCUL_BAD_IMAGE_LENGTH);
     expect("list of nothing", bourascul_list(NULL, 0, 0).length, 0);
+    expect("strike of nothing", bourascul_strike(NULL, 0, 1, 0), BOURASCUL_BAD_SET);
+    expect("restore of nothing", bourascul_restore(NULL, 0, 1, 0), BOURASCUL_BAD_SET);
 }
 
 int main(void)

@@ -75,6 +75,16 @@ static void read_image(void)
     number = bourascul_read(image, 512u * blocks, table, ROWS * COLUMNS, COLUMNS, back, WORDS).number;
 }
 
+static void strike(void)
+{
+    number = bourascul_strike(withdrawn, SET, ROWS, ROWS - 1);
+}
+
+static void restore(void)
+{
+    number = bourascul_restore(withdrawn, SET, ROWS, ROWS - 1);
+}
+
 static void list(void)
 {
     number = bourascul_list(room, words, 0).length == 0;
@@ -115,6 +125,8 @@ int main(void)
         { "bourascul_write", write_image },
         { "bourascul_read", read_image },
         { "bourascul_list", list },
+        { "bourascul_strike", strike },
+        { "bourascul_restore", restore },
     };
     size_t none = taken(nothing);
     int refused = 0;

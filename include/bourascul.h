@@ -15,13 +15,14 @@
    is left as it was.
 
    THREADS. There is no state between calls and no lock. Threads may share a table, an index, a query and an image and search at
-   the same time; what a call may change (room, work, how, rows, distances, answers, an image that is written) each thread lends of its own.
+   the same time; what a call may change (room, work, how, rows, distances, answers, an image that is written, a set that is struck from) each thread
+   lends of its own.
 
    STACK. Nothing else is taken. Bytes of stack that a call takes at most, measured on x86-64 code (target/host/stack): write 40,
    list 128, read 240, build 536, nearest 592, nearest_answers 608, append 616, check 1,920, radius 19,816 (25 levels). A loader
    that binds late takes about 3,500 more in the first call that needs memcpy, memmove or memset.
 
-   NUMBERS. Each call but bourascul_list gives a number first. 0 is done; any other is a refusal, and of several the lowest
+   NUMBERS. Each call but bourascul_list gives a number, first or alone. 0 is done; any other is a refusal, and of several the lowest
    is given (but 19 comes before 10 to 13; bourascul_read gives 8, 9, 19 and 5 last, in this order; bourascul_write gives 16 before 5):
       1  columns not 1 to 16
       2  build: m not 2 to 64, or l not m to 1,024, or a circle's bit at or above the columns, or an edition other than 2
@@ -45,6 +46,7 @@
      17  reading: a word after the last is not zero
      19  a column that is a circle holds 3,600 or more, in any row of the table or in the query
      20  a set of rows has not n/32 words, rounded up, or a bit n or above is on
+     26  strike, restore: there is no such row
    On a refusal the other fields of the result are 0 (save the places of 10 to 13 and 15) and every lent buffer is as it
    was; only 10 to 13 zero the workspace as a success does, 19 does not.
 
@@ -60,7 +62,7 @@
    THE SET of withdrawn rows is 32-bit words, n/32 of them, rounded up: bit r % 32 of word r / 32 is on where row r is withdrawn, and
    bits n and above are off. Words of zero withdraw nothing; a table without rows has a set of no words. A withdrawn row stays in the
    index, and may be measured there, but no search gives it: its how-byte is 1 where it was measured, else 0. The set is yours: it
-   stands beside table and index, which stay as they are.
+   stands beside table and index, which stay as they are; bourascul_strike and bourascul_restore change it, or the host does itself.
 
    A search tests an index's header, words and shape, and no more: where bourascul_check says 8 or 9, a search says the same, if
    5, 6 or 7 does not come before. On an index that the check refuses with 10 to 13 a search stays within what is lent and gives 0
@@ -134,7 +136,8 @@ enum {
     BOURASCUL_BAD_IMAGE_HEADER = 16,
     BOURASCUL_REST_NOT_ZERO = 17,
     BOURASCUL_OFF_CIRCLE = 19,
-    BOURASCUL_BAD_SET = 20
+    BOURASCUL_BAD_SET = 20,
+    BOURASCUL_NO_SUCH_ROW = 26
 };
 
 /* A number in words, for a line to a user or a log. */
@@ -163,6 +166,7 @@ static inline const char *bourascul_message(uint32_t number)
         "a column that is a circle holds 3,600 or more",
         "the set of rows is not of the table's rows"
     };
+    if (number == BOURASCUL_NO_SUCH_ROW) return "there is no such row";
     return number < sizeof messages / sizeof messages[0] ? messages[number] : "no number of this library";
 }
 
@@ -287,6 +291,19 @@ bourascul_closest bourascul_nearest_answers(const uint16_t *table, size_t table_
                                             const uint32_t *withdrawn, size_t withdrawn_length, bourascul_answer *answers, size_t answers_length,
                                             uint32_t *rows, size_t rows_length, uint32_t *distances, size_t distances_length,
                                             uint8_t *how, size_t how_length, uint32_t *work, size_t work_length);
+
+/* A row is withdrawn.
+   Lent: the set of withdrawn rows, of a table of n rows.
+   Numbers: 0, 20, 26. The number is all that comes back.
+   Done: the row's bit is on, and every other bit is as it was. Striking twice is striking once, and orders for different rows may
+   come in any order: the set is the same then, and so is every search's answer. */
+uint32_t bourascul_strike(uint32_t *withdrawn, size_t withdrawn_length, uint32_t n, uint32_t row);
+
+/* A row is withdrawn no longer, whether or not it was.
+   Lent and numbers: as bourascul_strike.
+   Done: the row's bit is off, and every other bit is as it was. A strike and a restore of one row may not change places: the later
+   one holds. */
+uint32_t bourascul_restore(uint32_t *withdrawn, size_t withdrawn_length, uint32_t n, uint32_t row);
 
 /* Writes an index as an image: blocks of 127 words and a check word, little-endian, zeros after the last word.
    Lent: the index; image of at least 512 bytes for each block (BOURASCUL_BLOCKS of the index's words).
