@@ -646,6 +646,7 @@ const struct kind kinds[] = {
     { "equal rows, 4 to 100 and more, all calls", build_equal, 2 },
     { "check and searches on built indexes", accepted_built, 1 },
     { "check and searches on accepted indexes of another hand", accepted_foreign, 1 },
+    { "searches over nine columns and more, w few, r small or met exactly", ceilings, 1 },
     { "old cards: the index of edition 1 in all calls, its card read, all calls on what comes out", old_card, 1 },
     { "all calls on indexes in shape that fit no table", wild, 1 },
     { "all calls, each word of a small index changed to 16 values", each_word, 8 },

@@ -27,6 +27,9 @@ void append_pairs(struct trial *t, uint32_t limit);
 void each_set_of_circles(struct trial *t, uint32_t limit);
 void circle_pairs(struct trial *t, uint32_t limit);
 
+/* That of ceilings.c. */
+void ceilings(struct trial *t, uint32_t limit);
+
 /* Those of sets.c. */
 void each_set_length(struct trial *t, uint32_t limit);
 void mixed_orders(struct trial *t, uint32_t limit);

@@ -11,6 +11,7 @@ enum {
     MOST_CENTRES = 64,
     MOST_DISTANCE = 1048560,
     CIRCLE = 3600,
+    BLOCK_COLUMNS = 8, /* added up before a look at the ceiling */
     NODE_WORDS = 5 /* start, count, first child, radius, inner reach */
 };
 
@@ -56,6 +57,8 @@ static inline uint32_t far_plain(const uint16_t *a, const uint16_t *b, uint32_t 
         return far_over(a, b, 6);
     if (c == 4)
         return far_over(a, b, 4);
+    if (c == BLOCK_COLUMNS)
+        return far_over(a, b, BLOCK_COLUMNS);
     if ((int)c == SIXTEEN)
         return far_over(a, b, 16);
     return far_over(a, b, c);
@@ -78,6 +81,18 @@ static inline uint32_t far(struct plain_table t, const uint16_t *a, const uint16
 {
     uint32_t sum = far_plain(a, b, t.c);
     return t.circles == 0 ? sum : sum - saved(a, b, t.circles);
+}
+
+/* The same where it is at most the ceiling; else something above it, and the columns behind the first block are not always added. */
+static inline uint32_t far_to(struct plain_table t, const uint16_t *a, const uint16_t *b, uint32_t ceiling)
+{
+    if (t.c <= BLOCK_COLUMNS)
+        return far(t, a, b);
+    const uint32_t block = (1u << BLOCK_COLUMNS) - 1;
+    uint32_t sum = far_over(a, b, BLOCK_COLUMNS) - saved(a, b, t.circles & block);
+    if (sum > ceiling)
+        return sum;
+    return sum + far_plain(a + BLOCK_COLUMNS, b + BLOCK_COLUMNS, t.c - BLOCK_COLUMNS) - saved(a, b, t.circles & ~block);
 }
 
 static inline const uint16_t *row_of(struct plain_table t, uint32_t i)

@@ -101,7 +101,7 @@ finish() {
 
 rm -rf "$out"
 mkdir -p "$out/tried" "$out/mock" "$out/edited"
-for name in trial kinds appends circles sets more samples spoil calls lend self naive naive_set naive_tree naive_append naive_search; do compile "host/$name.c" "$out/tried/$name.o"; done
+for name in trial kinds appends ceilings circles sets more samples spoil calls lend self naive naive_set naive_tree naive_append naive_search; do compile "host/$name.c" "$out/tried/$name.o"; done
 for name in $mocked; do compile "host/$name.c" "$out/mock/$name.o"; done
 
 kind=sound title='the mock as it is'
