@@ -7,11 +7,13 @@
 /* Speed, shaft turns, hopper weight and heading, a row a minute. Minutes 2 and 5 are refills, at 359.5 and at 0.5 degrees: the heading is
    in tenths of a degree, and a circle. */
 enum { COLUMNS = 4, ROWS = 6, NUMBERS = ROWS * COLUMNS, CIRCLES = 1 << 3, WANTED = 2 };
-static const uint16_t minutes[NUMBERS] = {71, 540, 880, 900, 70, 538, 860, 905, 0, 0, 905, 3595, 72, 541, 990, 2700, 71, 539, 970, 2704, 0, 2, 910, 5};
+static const uint16_t minutes[NUMBERS] = {71, 540, 880, 900,  70, 538, 860, 905,  0, 0, 905, 3595,
+                                          72, 541, 990, 2700, 71, 539, 970, 2704, 0, 2, 910, 5};
 static const uint16_t *const refill = minutes + 2 * COLUMNS;
 
 /* What the calls are lent: nothing is allocated. */
-enum { ROOM = BOURASCUL_ROOM_WORDS(ROWS), WORK = BOURASCUL_WORK_WORDS(ROWS), SET = BOURASCUL_SET_WORDS(ROWS), CARD = BOURASCUL_BLOCK_BYTES * BOURASCUL_BLOCKS(ROOM) };
+enum { ROOM = BOURASCUL_ROOM_WORDS(ROWS), WORK = BOURASCUL_WORK_WORDS(ROWS), SET = BOURASCUL_SET_WORDS(ROWS) };
+enum { CARD = BOURASCUL_BLOCK_BYTES * BOURASCUL_BLOCKS(ROOM) };
 static uint32_t room[ROOM], back[ROOM], work[WORK], rows[WANTED], distances[WANTED];
 static uint32_t withdrawn[SET]; /* a bit a row, all off: none is withdrawn */
 static uint8_t how[ROWS], card[CARD];

@@ -416,7 +416,8 @@ static bool tables(const char *path, uint32_t most)
         each++;
     for (size_t k = 0; k < SETS; k++)
         for (size_t i = 0; i < each; i++, made++) {
-            lines[made] = (struct line){ .season = sets[k].season, .c = sets[k].c, .n = sizes[i], .m = CENTRES, .l = LEAF, .circles = sets[k].circles };
+            lines[made] = (struct line){ .season = sets[k].season, .c = sets[k].c, .n = sizes[i], .m = CENTRES, .l = LEAF,
+                                         .circles = sets[k].circles };
             time_line(&lines[made]);
         }
     bench_tell(lines, made, each);

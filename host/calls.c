@@ -67,8 +67,8 @@ static void show_words(const char *name, const uint32_t *at, size_t count)
 
 static void show_lot(const struct lot *lot)
 {
-    printf("  c %" PRIu32 ", m %" PRIu32 ", l %" PRIu32 ", circles %" PRIu32 ", edition %" PRIu32 ", r %" PRIu32 ", w %" PRIu32 ", node %" PRIu32 "\n",
-           lot->c, lot->m, lot->l, lot->circles, lot->edition, lot->r, lot->w, lot->node);
+    printf("  c %" PRIu32 ", m %" PRIu32 ", l %" PRIu32 ", circles %" PRIu32 ", edition %" PRIu32, lot->c, lot->m, lot->l, lot->circles, lot->edition);
+    printf(", r %" PRIu32 ", w %" PRIu32 ", node %" PRIu32 "\n", lot->r, lot->w, lot->node);
     printf("  told %" PRIu32 ", row %" PRIu32 "\n", lot->told, lot->row);
     printf("  lengths: room %zu, taken %zu, work %zu, how %zu, rows %zu, distances %zu, answers %zu, image %zu\n", lot->room, lot->taken, lot->work,
            lot->how, lot->rows, lot->distances, lot->answers, lot->image_length);
@@ -237,7 +237,8 @@ void try_build(struct trial *t, const struct lot *lot)
     lend_words(t, LENT_WORK, lot->work);
     bourascul_built is = bourascul_build(lend_given(LENT_TABLE), lot->table_length, lot->c, lot->m, lot->l, lot->circles, lot->edition,
                                          lend_given(LENT_ROOM), lot->room, lend_given(LENT_WORK), lot->work);
-    struct naive_says should = naive_build(model_table(lot), lot->m, lot->l, lot->circles, lot->edition, model_room(LENT_ROOM), model_room(LENT_WORK));
+    struct naive_says should = naive_build(model_table(lot), lot->m, lot->l, lot->circles, lot->edition, model_room(LENT_ROOM),
+                                           model_room(LENT_WORK));
     compare(t, lot, BUILD, three(is.number, is.words, is.nodes), should, lents, 3);
 }
 
@@ -277,7 +278,8 @@ void try_radius(struct trial *t, const struct lot *lot)
     bourascul_within is = bourascul_radius(lend_given(LENT_TABLE), lot->table_length, lot->c, lend_given(LENT_INDEX), lot->index_length,
                                            lend_given(LENT_QUERY), lot->query_length, lot->r, lend_given(LENT_WITHDRAWN), lot->withdrawn_length,
                                            lend_given(LENT_HOW), lot->how);
-    struct naive_says should = naive_radius(model_table(lot), model_index(lot), model_query(lot), lot->r, model_withdrawn(lot), model_bytes(LENT_HOW));
+    struct naive_says should = naive_radius(model_table(lot), model_index(lot), model_query(lot), lot->r, model_withdrawn(lot),
+                                            model_bytes(LENT_HOW));
     compare(t, lot, RADIUS, three(is.number, is.inside, is.measured), should, lents, 5);
 }
 
@@ -373,17 +375,18 @@ void try_nearest(struct trial *t, const struct lot *lot)
 
 void try_nearest_answers(struct trial *t, const struct lot *lot)
 {
-    static const enum lent lents[] = { LENT_TABLE,   LENT_INDEX, LENT_QUERY,     LENT_WITHDRAWN, LENT_ANSWERS,
-                                       LENT_ROWS,    LENT_DISTANCES, LENT_HOW, LENT_WORK };
+    static const enum lent lents[] = { LENT_TABLE, LENT_INDEX,     LENT_QUERY, LENT_WITHDRAWN, LENT_ANSWERS,
+                                       LENT_ROWS,  LENT_DISTANCES, LENT_HOW,   LENT_WORK };
     lend_nearest(t, lot);
     lend(&t->draw, LENT_ANSWERS, lot->answers * sizeof(bourascul_answer), NULL);
     bourascul_closest got = bourascul_nearest_answers(lend_given(LENT_TABLE), lot->table_length, lot->c, lend_given(LENT_INDEX), lot->index_length,
                                                       lend_given(LENT_QUERY), lot->query_length, lot->w, lend_given(LENT_WITHDRAWN),
-                                                      lot->withdrawn_length, lend_given(LENT_ANSWERS), lot->answers, lend_given(LENT_ROWS), lot->rows, lend_given(LENT_DISTANCES),
-                                                      lot->distances, lend_given(LENT_HOW), lot->how, lend_given(LENT_WORK), lot->work);
+                                                      lot->withdrawn_length, lend_given(LENT_ANSWERS), lot->answers, lend_given(LENT_ROWS),
+                                                      lot->rows, lend_given(LENT_DISTANCES), lot->distances, lend_given(LENT_HOW), lot->how, lend_given(LENT_WORK), lot->work);
     struct naive_says is = three(got.number, got.given, got.measured);
     struct naive_says should = naive_nearest_answers(model_table(lot), model_index(lot), model_query(lot), lot->w, model_withdrawn(lot),
-                                                     model_records(LENT_ANSWERS), model_room(LENT_ROWS), model_room(LENT_DISTANCES), model_bytes(LENT_HOW), model_room(LENT_WORK));
+                                                     model_records(LENT_ANSWERS), model_room(LENT_ROWS), model_room(LENT_DISTANCES),
+                                                     model_bytes(LENT_HOW), model_room(LENT_WORK));
     if (nearest_is_open(lot, should)) {
         open_outcomes[NEAREST_ANSWERS]++;
         should = settle_nearest(lot);

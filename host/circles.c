@@ -53,10 +53,11 @@ static void wrong_word(struct draw *d, struct sample *s)
     }
 }
 
-/* All rooms of the lot one too short, where there are any. */
-static void shorten_rooms(struct lot *lot)
+/* No room at all. */
+static void take_rooms(struct lot *lot)
 {
-    size_t *rooms[] = { &lot->room, &lot->taken, &lot->work, &lot->how, &lot->rows, &lot->distances, &lot->answers, &lot->append_room, &lot->append_work };
+    size_t *rooms[] = { &lot->room, &lot->taken, &lot->work, &lot->how, &lot->rows, &lot->distances, &lot->answers, &lot->append_room,
+                        &lot->append_work };
     for (size_t i = 0; i < sizeof rooms / sizeof *rooms; i++)
         *rooms[i] = 0;
 }
@@ -71,7 +72,7 @@ static void one_fault(struct draw *d, struct sample *s, struct lot *lot, uint32_
     case 3: lot->circles |= 1u << s->c; break;
     case 4: lot->circles |= 0x80000000u; break;
     case 5: lot->table_length++; break;
-    case 6: shorten_rooms(lot); break;
+    case 6: take_rooms(lot); break;
     case 7: lot->work = lot->append_work = 0; break;
     case 8: lot->query_length = s->c - 1; break;
     case 9: lot->w = 0; break;

@@ -57,13 +57,14 @@ struct Index {
     }
     bourascul_within within(const uint16_t *query, uint32_t r)
     {
-        return bourascul_radius(rows.table.data(), rows.table.size(), columns, room.data(), words, query, columns, r, withdrawn.data(), withdrawn.size(),
-                                how.data(), how.size());
+        return bourascul_radius(rows.table.data(), rows.table.size(), columns, room.data(), words, query, columns, r, withdrawn.data(),
+                                withdrawn.size(), how.data(), how.size());
     }
     bourascul_closest closest(const uint16_t *query, uint32_t w)
     {
         return bourascul_nearest(rows.table.data(), rows.table.size(), columns, room.data(), words, query, columns, w, withdrawn.data(),
-                                 withdrawn.size(), nearest.data(), nearest.size(), distances.data(), distances.size(), how.data(), how.size(), work.data(), work.size());
+                                 withdrawn.size(), nearest.data(), nearest.size(), distances.data(), distances.size(), how.data(),
+                                 how.size(), work.data(), work.size());
     }
 };
 

@@ -464,8 +464,8 @@ static void second_table(struct draw *d, const struct sample *s, const uint8_t *
             replace_row(d, s, table + (size_t)i * s->c);
 }
 
-/* The second table in the lot, after a search on the first marked `how`. Now and then a row of it leaves the circles: then the search is refused, and it is
-   the second table that says so. */
+/* The second table in the lot, after a search on the first marked `how`. Now and then a row of it leaves the circles: then the search is
+   refused, and it is the second table that says so. */
 static void lend_second(struct draw *d, struct lot *lot, const uint8_t *how, uint16_t *table)
 {
     second_table(d, &sample, how, table);

@@ -24,7 +24,8 @@ struct slot {
 static struct slot slots[LENT_KINDS];
 static char story[512];
 
-static const char *const names[LENT_KINDS] = { "table", "index", "query", "withdrawn", "room", "work", "how", "rows", "distances", "answers", "image" };
+static const char *const names[LENT_KINDS] = { "table", "index", "query",     "withdrawn", "room", "work",
+                                               "how",   "rows",  "distances", "answers",   "image" };
 
 const char *lend_name(enum lent which)
 {

@@ -1,6 +1,6 @@
-/* The scope paper (01) with edition 2 and circles (02, R-4, R-11 and R-1) in plain C: numbers given back, index words, shape, listing, image. The tree
-   and the searches stand in naive_tree.c and naive_search.c. Every condition is tested by itself, and of several faults the
-   lowest number is taken. */
+/* The scope paper (01) with edition 2 and circles (02, R-4, R-11 and R-1) in plain C: numbers given back, index words, shape, listing, image.
+   The tree and the searches stand in naive_tree.c and naive_search.c. Every condition is tested by itself, and of several faults the lowest
+   number is taken. */
 #include "naive_inner.h"
 
 #include <stdlib.h>

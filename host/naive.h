@@ -1,5 +1,6 @@
-/* The scope paper (01) with edition 2 (02, R-4 and R-11), circles (R-1), withdrawn rows (R-5, R-12) and appended rows (R-2) once more, in plain C: clear rather than fast, and sharing
-   nothing with the library. Each call takes and gives what the library's call of the same name does (include/bourascul.h). */
+/* The scope paper (01) with edition 2 (02, R-4 and R-11), circles (R-1), withdrawn rows (R-5, R-12) and appended rows (R-2) once more, in plain
+   C: clear rather than fast, and sharing nothing with the library. Each call takes and gives what the library's call of the same name does
+   (include/bourascul.h). */
 #ifndef HOST_NAIVE_H
 #define HOST_NAIVE_H
 

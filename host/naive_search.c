@@ -215,8 +215,8 @@ static size_t answers_asked(struct naive_table table, uint32_t w)
     return w < naive_rows_of(table) ? w : naive_rows_of(table);
 }
 
-static struct faults nearest_faults(struct naive_table table, struct naive_index index, struct naive_query query, uint32_t w, struct naive_set withdrawn,
-                                    size_t rows, size_t distances, size_t how, size_t work)
+static struct faults nearest_faults(struct naive_table table, struct naive_index index, struct naive_query query, uint32_t w,
+                                    struct naive_set withdrawn, size_t rows, size_t distances, size_t how, size_t work)
 {
     struct faults f = naive_table_faults(table);
     size_t n = naive_rows_of(table), asked = answers_asked(table, w);

@@ -1,6 +1,6 @@
-/* The library's algorithms once more in plain C, written for speed and proved by nobody: the bench's yardstick.
-   Nothing is tested that a caller can get right: rooms are long enough, and but for plain_shape the index is in shape. A table off its circles is found, as
-   the library finds it: a build then gives no words, a search finds and measures none. */
+/* The library's algorithms once more in plain C, written for speed and proved by nobody: the bench's yardstick. Nothing is tested that a caller
+   can get right: rooms are long enough, and but for plain_shape the index is in shape. A table off its circles is found, as the library
+   finds it: a build then gives no words, a search finds and measures none. */
 #ifndef HOST_PLAIN_H
 #define HOST_PLAIN_H
 
@@ -35,8 +35,8 @@ PLAIN_CALL struct plain_verdict plain_check(struct plain_table t, const uint32_t
 /* The withdrawn rows are a set of n/32 words, rounded up. */
 PLAIN_CALL struct plain_counts plain_radius(struct plain_table t, const uint32_t *index, const uint16_t *query, uint32_t r, const uint32_t *withdrawn,
                                             uint8_t *how);
-PLAIN_CALL struct plain_counts plain_nearest(struct plain_table t, const uint32_t *index, const uint16_t *query, uint32_t w, const uint32_t *withdrawn,
-                                             uint32_t *rows, uint32_t *distances, uint8_t *how, uint32_t *work);
+PLAIN_CALL struct plain_counts plain_nearest(struct plain_table t, const uint32_t *index, const uint16_t *query, uint32_t w,
+                                             const uint32_t *withdrawn, uint32_t *rows, uint32_t *distances, uint8_t *how, uint32_t *work);
 
 /* Gives the number of blocks. */
 PLAIN_CALL size_t plain_write(const uint32_t *index, uint8_t *image);

@@ -1,5 +1,5 @@
-/* The scope paper's own cases, cases of the inner reach, of circles and of withdrawn rows worked out by hand, old cards, and appends worked out by another hand: the naive
-   implementation against the numbers printed there, the library against the naive one. */
+/* The scope paper's own cases, cases of the inner reach, of circles and of withdrawn rows worked out by hand, old cards, and appends worked out by
+   another hand: the naive implementation against the numbers printed there, the library against the naive one. */
 #include <inttypes.h>
 #include <stdio.h>
 #include <string.h>
@@ -193,7 +193,8 @@ static void old_cards(void)
     static const uint32_t old_empty[] = { 1, 0, 1, 2, 2, 0, 1, 0 }, empty[] = { 2, 0, 1, 2, 2, 0, 1, 0 };
     struct naive_table table = { five_rows, 5, 1 };
     uint32_t spoilt[FIVE_WORDS];
-    expect_words("the build of edition 1, how many words", (const uint32_t[]){ naive_build_old(table, 2, 2, 0, room) }, (const uint32_t[]){ OLD_WORDS }, 1);
+    expect_words("the build of edition 1, how many words", (const uint32_t[]){ naive_build_old(table, 2, 2, 0, room) },
+                 (const uint32_t[]){ OLD_WORDS }, 1);
     expect_words("the build of edition 1", room, old_words, OLD_WORDS);
     expect_says("an old card", read_card(old_words, OLD_WORDS, 5, FIVE_WORDS), 0, 0, FIVE_WORDS);
     expect_words("an old card's words", room, five_words, FIVE_WORDS);
@@ -302,6 +303,7 @@ static void across_the_seam(void)
 static void off_the_circle(void)
 {
     static const uint16_t full[] = { 3600 }, pair[] = { 0, 3600, 1, 3599 }, rows[] = { 0, 9, 20 }, other[] = { 0, 9, 3600 }, query[] = { 3600 };
+    static const uint32_t numbers[] = { 0, 0, 19, 19, 2 };
     struct naive_room w = { work, WORDS };
     struct lot lot = lot_of(full, 1, 1, 2, 2);
     lot.circles = 1;
@@ -313,7 +315,7 @@ static void off_the_circle(void)
     expect_says("a circle beyond the columns", build(&lot), 2, 0, 0);
     lot = lot_of(pair, 4, 2, 2, 2);
     for (lot.circles = 0; lot.circles < 5; lot.circles++)
-        expect_words("each set of two columns", (const uint32_t[]){ build(&lot).number }, (const uint32_t[]){ (const uint32_t[]){ 0, 0, 19, 19, 2 }[lot.circles] }, 1);
+        expect_words("each set of two columns", (const uint32_t[]){ build(&lot).number }, numbers + lot.circles, 1);
     lot = built((struct column){ rows, 3, 1, 0 });
     lot.table = other;
     room[8 + 5 * 3 + 2] = room[8 + 5 * 3];
@@ -331,7 +333,8 @@ static void off_the_circle(void)
     uint32_t none = 0;
     struct naive_bytes bytes = { how, 3 };
     table.columns = rows;
-    expect_says("a query off the circle", naive_radius(table, index, (struct naive_query){ query, 1 }, 9, (struct naive_set){ &none, 1 }, bytes), 19, 0, 0);
+    struct naive_set set = { &none, 1 };
+    expect_says("a query off the circle", naive_radius(table, index, (struct naive_query){ query, 1 }, 9, set, bytes), 19, 0, 0);
     lot.query = query;
     lot.query_length = 1;
     lot.withdrawn = &none;

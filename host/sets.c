@@ -121,7 +121,8 @@ void mixed_orders(struct trial *t, uint32_t limit)
     try_searches(t, &lot);
 }
 
-/* Sets of other lengths than the rows', bits beyond them and rows beyond them, each alone and together; and numbers of rows near the end of 32 bits. */
+/* Sets of other lengths than the rows', bits beyond them and rows beyond them, each alone and together; and numbers of rows near the end of 32
+   bits. */
 void order_refusals(struct trial *t, uint32_t limit)
 {
     static const uint32_t far[] = { 1048576, 1048577, 0x7fffffffu, 0x80000000u, UINT32_MAX - 31, UINT32_MAX - 30, UINT32_MAX - 1, UINT32_MAX };

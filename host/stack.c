@@ -11,7 +11,8 @@
 
 /* Row 0 is the origin, and a row lies 2 or 1 away from it in each direction. Of two centres the second then has a group of its own,
    so that each level has one row fewer than the one above. */
-enum { COLUMNS = 16, ROWS = 1 + 2 * COLUMNS, CENTRES = 2, LEAF = 2, WORDS = 12 * ROWS + 8, BYTES = 16 * 512, SET = (ROWS + 31) / 32, STACK = 1 << 16, PAINT = 0xa5 };
+enum { COLUMNS = 16, ROWS = 1 + 2 * COLUMNS, CENTRES = 2, LEAF = 2, WORDS = 12 * ROWS + 8, BYTES = 16 * 512, SET = (ROWS + 31) / 32 };
+enum { STACK = 1 << 16, PAINT = 0xa5 };
 
 static uint16_t table[ROWS * COLUMNS], query[COLUMNS];
 static uint32_t room[WORDS], back[WORDS], work[6 * ROWS], rows[ROWS], distances[ROWS], words, blocks;

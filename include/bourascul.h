@@ -1,9 +1,9 @@
 /* Bourascul: an exact similarity index over rows of 16-bit numbers, for C and C++ hosts on x86-64. examples/first.c is a first program.
 
-   A table is n rows of c columns, row after row. The distance of two rows is the sum over the columns of the absolute
-   differences; in a column that is a circle of 3,600 tenths of a degree, as a heading, it is the shorter way round: 3,595 and 5
-   are 10 apart. Which columns are circles is told to a build and stands in the index from then on. An index over the table answers two questions without a guess: every row within r of a query (radius),
-   and the w rows closest to it (nearest). Both say which rows were measured.
+   A table is n rows of c columns, row after row. The distance of two rows is the sum over the columns of the absolute differences;
+   in a column that is a circle of 3,600 tenths of a degree, as a heading, it is the shorter way round: 3,595 and 5 are 10 apart.
+   Which columns are circles is told to a build and stands in the index from then on. An index over the table answers two questions
+   without a guess: every row within r of a query (radius), and the w rows closest to it (nearest). Both say which rows were measured.
 
    LENDING. Every buffer is yours: nothing is allocated, nothing is kept, and when a call returns, the library holds no
    pointer of yours. A buffer is a pointer and its length in ELEMENTS (not bytes). For the time of a call:
@@ -14,16 +14,17 @@
    Any CONTENT may be lent: words and bytes from a stranger are tested, never trusted. More room than asked for may be lent, and
    is left as it was.
 
-   THREADS. There is no state between calls and no lock. Threads may share a table, an index, a query and an image and search at
-   the same time; what a call may change (room, work, how, rows, distances, answers, an image that is written, a set that is struck from) each thread
-   lends of its own.
+   THREADS. There is no state between calls and no lock. Threads may share a table, an index, a query, a set and an image and search
+   at the same time; what a call may change (room, work, how, rows, distances, answers, an image that is written, a set that rows are
+   struck from or restored to) each thread lends of its own.
 
    STACK. Nothing else is taken. Bytes of stack that a call takes at most, measured on x86-64 code (target/host/stack): write 40,
    list 128, read 240, build 536, nearest 592, nearest_answers 608, append 616, check 1,920, radius 19,816 (25 levels). A loader
    that binds late takes about 3,500 more in the first call that needs memcpy, memmove or memset.
 
    NUMBERS. Each call but bourascul_list gives a number, first or alone. 0 is done; any other is a refusal, and of several the lowest
-   is given (but 19 comes before 10 to 13; bourascul_read gives 8, 9, 19 and 5 last, in this order; bourascul_write gives 16 before 5):
+   is given (but 19 comes before 10 to 13; bourascul_read gives 8, 9, 19 and 5 last, in this order; bourascul_write gives 16 before
+   5):
       1  columns not 1 to 16
       2  build: m not 2 to 64, or l not m to 1,024, or a circle's bit at or above the columns, or an edition other than 2
       3  the table's length is no multiple of the columns
@@ -50,27 +51,30 @@
    On a refusal the other fields of the result are 0 (save the places of 10 to 13 and 15) and every lent buffer is as it
    was; only 10 to 13 zero the workspace as a success does, 19 does not.
 
-   THE INDEX is 32-bit words: edition 2, n, c, m, l, the number of nodes N, distance kind 1, the set of circles (bit j on: column j
-   is a circle; a header with a bit at or above c is impossible); then for each node its start, count, first child's number (0 for a leaf), radius and inner reach; then for each position the row number and its distance
-   from its leaf's first. The radius is the greatest distance from the node's first to a member, the inner reach the least one
-   to another member, 0 for a node of one row. That is 8 + 5N + 2n words, at most 12n + 8. It belongs to the table it was built
-   over: keep the two together, and check an index that comes from elsewhere.
+   THE INDEX is 32-bit words: edition 2, n, c, m, l, the number of nodes N, distance kind 1, the set of circles (bit j on: column j,
+   from 0, is a circle; a header with a bit at or above c is impossible); then for each node its start, count, first child's number
+   (0 for a leaf), radius and inner reach; then for each position the row number and its distance from its leaf's first. The radius
+   is the greatest distance from the node's first to a member, the inner reach the least one to another member, 0 for a node of one
+   row. That is 8 + 5N + 2n words, at most 12n + 8. It belongs to the table it was built over: keep the two together, and check an
+   index that comes from elsewhere.
 
    Edition 1, which is written no longer, had no inner reach: 8 + 4N + 2n words. A card of edition 1 is read as edition 2, with
    each node's inner reach worked out from the table (bourascul_read); in memory no call takes an index of edition 1.
 
-   THE SET of withdrawn rows is 32-bit words, n/32 of them, rounded up: bit r % 32 of word r / 32 is on where row r is withdrawn, and
-   bits n and above are off. Words of zero withdraw nothing; a table without rows has a set of no words. A withdrawn row stays in the
-   index, and may be measured there, but no search gives it: its how-byte is 1 where it was measured, else 0. The set is yours: it
-   stands beside table and index, which stay as they are; bourascul_strike and bourascul_restore change it, or the host does itself.
+   THE SET of withdrawn rows is 32-bit words, n/32 of them, rounded up: bit r % 32 of word r / 32 is on where row r is withdrawn,
+   and bits n and above are off. Words of zero withdraw nothing; a table without rows has a set of no words. A withdrawn row stays in
+   the index, and may be measured there, but no search gives it: its how-byte is 1 where it was measured, else 0. The set is yours:
+   it stands beside table and index, which stay as they are; bourascul_strike and bourascul_restore change it, or the host does so
+   itself.
 
-   A search tests an index's header, words and shape, and no more: where bourascul_check says 8 or 9, a search says the same, if
-   5, 6 or 7 does not come before. On an index that the check refuses with 10 to 13 a search stays within what is lent and gives 0
-   where nothing else is wrong, but its answer is not to be relied on: check an index from elsewhere once, before the first search.
+   A search tests an index's header, words and shape, and that table and query are on the circles, and no more: where bourascul_check
+   says 8, 9 or 19, a search says the same, if 5, 6 or 7 does not come before. On an index that the check refuses with 10 to 13 a
+   search stays within what is lent and gives 0 where nothing else is wrong, but its answer is not to be relied on: check an index
+   from elsewhere once, before the first search.
 
-   VERSION. This page and the archive belong together: take both from one commit, and compile a host of an older page anew: the
-   calls are the same by name and take more. Major is raised where a call or a structure
-   changes, minor where one is added. The index's edition, its first word, is another number: that of the words' layout. */
+   VERSION. This page and the archive belong together: take both from one commit, and compile a host of an older page anew, since calls
+   of the same name take more now. Major is raised where a call or a structure changes, minor where one is added. The index's edition,
+   its first word, is another number: that of the words' layout. */
 #ifndef BOURASCUL_H
 #define BOURASCUL_H
 
@@ -272,9 +276,10 @@ bourascul_within bourascul_radius(const uint16_t *table, size_t table_length, ui
    Lent: the table; the index; a query of c numbers; the set of withdrawn rows; rows and distances of at least min(w, n) words each;
    how of at least n bytes; work of at least 6n words.
    Numbers: 0, 1, 3, 4, 5, 6, 7, 8, 9, 19, 20.
-   Done, on an index that the full check accepts: rows[i] and distances[i] are answer i, for i below `given`, the lesser of w and the
-   number of rows that are not withdrawn, and later entries stay; where fewer than w are not withdrawn, every row is measured; how-byte i is 3 for an answer, 1 for another measured row, 0 for a row that was not measured; bytes
-   from n on stay; the first 6n words of work are 0, and the rest stays. */
+   Done, on an index that the full check accepts: rows[i] and distances[i] are answer i, for i below `given`, which is the lesser of
+   w and the number of rows that are not withdrawn, and later entries stay; how-byte i is 3 for an answer, 1 for another measured row,
+   0 for a row that was not measured; where fewer than w rows are not withdrawn, all are measured; bytes from n on stay; the first 6n
+   words of work are 0, and the rest stays. */
 bourascul_closest bourascul_nearest(const uint16_t *table, size_t table_length, uint32_t c,
                                     const uint32_t *index, size_t index_length, const uint16_t *query, size_t query_length,
                                     uint32_t w, const uint32_t *withdrawn, size_t withdrawn_length,
@@ -288,7 +293,8 @@ bourascul_closest bourascul_nearest(const uint16_t *table, size_t table_length, 
 bourascul_closest bourascul_nearest_answers(const uint16_t *table, size_t table_length, uint32_t c,
                                             const uint32_t *index, size_t index_length,
                                             const uint16_t *query, size_t query_length, uint32_t w,
-                                            const uint32_t *withdrawn, size_t withdrawn_length, bourascul_answer *answers, size_t answers_length,
+                                            const uint32_t *withdrawn, size_t withdrawn_length,
+                                            bourascul_answer *answers, size_t answers_length,
                                             uint32_t *rows, size_t rows_length, uint32_t *distances, size_t distances_length,
                                             uint8_t *how, size_t how_length, uint32_t *work, size_t work_length);
 
