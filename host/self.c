@@ -299,12 +299,11 @@ static void across_the_seam(void)
     nearest_case(round, 3580, 1, (struct closest){ nearest, ten, 1, 4, NULL });
 }
 
-/* 3,600 and more in a table and in a query; sets beyond the columns; 19 behind 5 and 9, before 10 and with the workspace as it was. */
-static void off_the_circle(void)
+/* 3,600 and more in a build's table, behind 5; sets beyond the columns. */
+static void built_off_the_circle(void)
 {
-    static const uint16_t full[] = { 3600 }, pair[] = { 0, 3600, 1, 3599 }, rows[] = { 0, 9, 20 }, other[] = { 0, 9, 3600 }, query[] = { 3600 };
+    static const uint16_t full[] = { 3600 }, pair[] = { 0, 3600, 1, 3599 };
     static const uint32_t numbers[] = { 0, 0, 19, 19, 2 };
-    struct naive_room w = { work, WORDS };
     struct lot lot = lot_of(full, 1, 1, 2, 2);
     lot.circles = 1;
     expect_says("3,600 on a circle", build(&lot), 19, 0, 0);
@@ -316,25 +315,39 @@ static void off_the_circle(void)
     lot = lot_of(pair, 4, 2, 2, 2);
     for (lot.circles = 0; lot.circles < 5; lot.circles++)
         expect_words("each set of two columns", (const uint32_t[]){ build(&lot).number }, numbers + lot.circles, 1);
-    lot = built((struct column){ rows, 3, 1, 0 });
+}
+
+/* 19 behind 9, before 10, and with the workspace as it was. */
+static void checked_off_the_circle(void)
+{
+    static const uint16_t rows[] = { 0, 9, 20 }, other[] = { 0, 9, 3600 };
+    struct naive_room w = { work, WORDS };
+    struct lot lot = built((struct column){ rows, 3, 1, 0 });
+    struct naive_table table = { other, 3, 1 };
+    struct naive_index index = { room, lot.index_length };
     lot.table = other;
     room[8 + 5 * 3 + 2] = room[8 + 5 * 3];
     work[0] = 7;
-    struct naive_table table = { other, 3, 1 };
-    struct naive_index index = { room, lot.index_length };
     expect_says("19 before 10", naive_check(table, index, w), 19, 0, 0);
     expect_words("19 leaves the workspace", work, (const uint32_t[]){ 7 }, 1);
     try_check(&trial, &lot);
     room[8] = 1;
     expect_says("9 before 19", naive_check(table, index, w), 9, 0, 0);
     try_check(&trial, &lot);
-    lot = built((struct column){ rows, 3, 1, 0 });
+}
+
+/* A query off the circle; and a header whose circle is beyond the columns, in memory and on a card. */
+static void asked_off_the_circle(void)
+{
+    static const uint16_t rows[] = { 0, 9, 20 }, query[] = { 3600 };
+    static const uint32_t none = 0;
     uint8_t how[3];
-    uint32_t none = 0;
-    struct naive_bytes bytes = { how, 3 };
-    table.columns = rows;
-    struct naive_set set = { &none, 1 };
-    expect_says("a query off the circle", naive_radius(table, index, (struct naive_query){ query, 1 }, 9, set, bytes), 19, 0, 0);
+    struct lot lot = built((struct column){ rows, 3, 1, 0 });
+    struct naive_table table = { rows, 3, 1 };
+    struct naive_index index = { room, lot.index_length };
+    struct naive_query asked = { query, 1 };
+    struct naive_set withdrawn = { &none, 1 };
+    expect_says("a query off the circle", naive_radius(table, index, asked, 9, withdrawn, (struct naive_bytes){ how, 3 }), 19, 0, 0);
     lot.query = query;
     lot.query_length = 1;
     lot.withdrawn = &none;
@@ -342,7 +355,7 @@ static void off_the_circle(void)
     lot.w = 1;
     try_searches(&trial, &lot);
     room[7] = 2;
-    expect_says("a header's circle beyond the columns", naive_check(table, index, w), 8, 0, 0);
+    expect_says("a header's circle beyond the columns", naive_check(table, index, (struct naive_room){ work, WORDS }), 8, 0, 0);
     try_check(&trial, &lot);
     try_write(&trial, &lot);
     try_card(&trial, &lot);
@@ -645,7 +658,9 @@ uint32_t self_test(void)
     wrong_inner_reaches();
     closed_by_the_middle();
     across_the_seam();
-    off_the_circle();
+    built_off_the_circle();
+    checked_off_the_circle();
+    asked_off_the_circle();
     withdrawn_rows();
     bad_sets();
     withdrawn_twice();

@@ -84,40 +84,44 @@ static void hold_to_truths(struct trial *t, const bool *truth)
         }
 }
 
-/* Even rows are the one office's and odd ones the other's, or all strike and each strikes any row: mixed in two ways, the orders leave one set. Rows
-   beyond the last are refused on the way. Then both searches with what the orders left. */
-void mixed_orders(struct trial *t, uint32_t limit)
+/* Even rows are the one office's and odd ones the other's; or all orders are strikes, of any row. Rows beyond the last are refused on the way. */
+static void draw_orders(struct draw *d, struct order offices[2][ORDERS])
 {
-    static bool truth[32 * SET_WORDS], begun[32 * SET_WORDS];
-    uint32_t before[SET_WORDS], once[SET_WORDS];
-    struct order offices[2][ORDERS];
-    struct draw *d = &t->draw;
-    draw_sample(d, &sample, limit < 100 ? limit : 100);
-    index_any(d, &sample);
-    draw_withdrawn(d, &sample);
     bool apart = draw_one_in(d, 2);
     for (uint32_t k = 0; k < 2; k++)
         for (uint32_t i = 0; i < ORDERS; i++) {
             uint32_t row = draw_one_in(d, 12) ? sample.n + draw_below(d, 40) : draw_below(d, sample.n + 1);
             offices[k][i] = (struct order){ !apart || draw_one_in(d, 2), apart && row < sample.n ? row / 2 * 2 + k : row };
         }
+}
+
+/* The orders mixed in one way, from the sample's set on, against the truths of its rows. */
+static void obey_all(struct trial *t, struct order offices[2][ORDERS])
+{
+    static bool truth[32 * SET_WORDS];
     for (uint32_t i = 0; i < 32 * SET_WORDS; i++)
-        begun[i] = (sample.withdrawn[i / 32] >> i % 32 & 1) != 0;
-    memcpy(before, sample.withdrawn, sizeof before);
-    memcpy(truth, begun, sizeof truth);
+        truth[i] = (sample.withdrawn[i / 32] >> i % 32 & 1) != 0;
     carry_out_mixed(t, offices, truth);
     hold_to_truths(t, truth);
+}
+
+/* Mixed in two ways the orders leave one set. Then both searches with what they left. */
+void mixed_orders(struct trial *t, uint32_t limit)
+{
+    uint32_t before[SET_WORDS], once[SET_WORDS];
+    struct order offices[2][ORDERS];
+    struct draw *d = &t->draw;
+    draw_sample(d, &sample, limit < 100 ? limit : 100);
+    index_any(d, &sample);
+    struct lot lot = fair_lot(d, &sample);
+    draw_orders(d, offices);
+    memcpy(before, sample.withdrawn, sizeof before);
+    obey_all(t, offices);
     memcpy(once, sample.withdrawn, sizeof once);
     memcpy(sample.withdrawn, before, sizeof before);
-    memcpy(truth, begun, sizeof truth);
-    carry_out_mixed(t, offices, truth);
-    hold_to_truths(t, truth);
-    if (memcmp(once, sample.withdrawn, sizeof once) != 0) {
-        struct lot lot = order_lot(sample.n, (sample.n + 31) / 32, 0);
+    obey_all(t, offices);
+    if (memcmp(once, sample.withdrawn, sizeof once) != 0)
         tell_difference(t, &lot, "strike and restore", "the same orders of two offices, mixed otherwise, leave another set");
-    }
-    struct lot lot = fair_lot(d, &sample);
-    memcpy(sample.withdrawn, once, sizeof once);
     try_searches(t, &lot);
 }
 
