@@ -1,17 +1,21 @@
-/* A first program: an index over six planter minutes, its check, the two questions, and the index on a card and back.
+/* A first program: an index over six planter minutes, its check, the two questions, a minute struck, and the index on a card and back.
    It is linked with libbourascul.a (rt staticlib bourascul). */
 #include <stdio.h>
 
 #include "bourascul.h"
 
-/* Speed, shaft turns and hopper weight, a row a minute. Minutes 2 and 5 are refills. */
-enum { COLUMNS = 3, ROWS = 6, NUMBERS = ROWS * COLUMNS, WANTED = 2 };
-static const uint16_t minutes[NUMBERS] = {71, 540, 880, 70, 538, 860, 0, 0, 905, 72, 541, 990, 71, 539, 970, 0, 2, 910};
+/* Speed, shaft turns, hopper weight and heading, a row a minute. Minutes 2 and 5 are refills, at 359.5 and at 0.5 degrees: the heading is
+   in tenths of a degree, and a circle. */
+enum { COLUMNS = 4, ROWS = 6, NUMBERS = ROWS * COLUMNS, CIRCLES = 1 << 3, WANTED = 2 };
+static const uint16_t minutes[NUMBERS] = {71, 540, 880, 900,  70, 538, 860, 905,  0, 0, 905, 3595,
+                                          72, 541, 990, 2700, 71, 539, 970, 2704, 0, 2, 910, 5};
 static const uint16_t *const refill = minutes + 2 * COLUMNS;
 
 /* What the calls are lent: nothing is allocated. */
-enum { ROOM = BOURASCUL_ROOM_WORDS(ROWS), WORK = BOURASCUL_WORK_WORDS(ROWS), CARD = BOURASCUL_BLOCK_BYTES * BOURASCUL_BLOCKS(ROOM) };
+enum { ROOM = BOURASCUL_ROOM_WORDS(ROWS), WORK = BOURASCUL_WORK_WORDS(ROWS), SET = BOURASCUL_SET_WORDS(ROWS) };
+enum { CARD = BOURASCUL_BLOCK_BYTES * BOURASCUL_BLOCKS(ROOM) };
 static uint32_t room[ROOM], back[ROOM], work[WORK], rows[WANTED], distances[WANTED];
+static uint32_t withdrawn[SET]; /* a bit a row, all off: none is withdrawn */
 static uint8_t how[ROWS], card[CARD];
 
 static int refused(const char *call, uint32_t number)
@@ -22,7 +26,7 @@ static int refused(const char *call, uint32_t number)
 
 int main(void)
 {
-    bourascul_built built = bourascul_build(minutes, NUMBERS, COLUMNS, BOURASCUL_CENTRES, BOURASCUL_LEAF, BOURASCUL_EDITION,
+    bourascul_built built = bourascul_build(minutes, NUMBERS, COLUMNS, BOURASCUL_CENTRES, BOURASCUL_LEAF, CIRCLES, BOURASCUL_EDITION,
                                             room, ROOM, work, WORK);
     if (built.number != BOURASCUL_DONE) return refused("build", built.number);
     printf("%u words, %u node\n", (unsigned)built.words, (unsigned)built.nodes);
@@ -32,7 +36,8 @@ int main(void)
     if (checked.number != BOURASCUL_DONE) return refused("check", checked.number);
 
     /* Every minute within 20 of minute 2, itself included. */
-    bourascul_within within = bourascul_radius(minutes, NUMBERS, COLUMNS, room, built.words, refill, COLUMNS, 20, how, ROWS);
+    bourascul_within within = bourascul_radius(minutes, NUMBERS, COLUMNS, room, built.words, refill, COLUMNS, 20, withdrawn, SET,
+                                               how, ROWS);
     if (within.number != BOURASCUL_DONE) return refused("radius", within.number);
     for (int i = 0; i < ROWS; i++) {
         if (how[i] >= BOURASCUL_IN) printf("minute %d is like minute 2\n", i);
@@ -40,9 +45,16 @@ int main(void)
 
     /* The two minutes nearest to it. */
     bourascul_closest closest = bourascul_nearest(minutes, NUMBERS, COLUMNS, room, built.words, refill, COLUMNS, WANTED,
-                                                  rows, WANTED, distances, WANTED, how, ROWS, work, WORK);
+                                                  withdrawn, SET, rows, WANTED, distances, WANTED, how, ROWS, work, WORK);
     if (closest.number != BOURASCUL_DONE) return refused("nearest", closest.number);
     for (uint32_t i = 0; i < closest.given; i++) printf("minute %u at %u\n", (unsigned)rows[i], (unsigned)distances[i]);
+
+    /* Minute 5's sensor was loose: struck, it is in no answer, and the index stays. */
+    uint32_t struck = bourascul_strike(withdrawn, SET, ROWS, 5);
+    if (struck != BOURASCUL_DONE) return refused("strike", struck);
+    within = bourascul_radius(minutes, NUMBERS, COLUMNS, room, built.words, refill, COLUMNS, 20, withdrawn, SET, how, ROWS);
+    if (within.number != BOURASCUL_DONE) return refused("radius", within.number);
+    printf("without minute 5, %u is like minute 2\n", (unsigned)within.inside);
 
     /* The index as an image, which a host stores, and read again over its table. */
     bourascul_written written = bourascul_write(room, built.words, card, CARD);

@@ -124,7 +124,7 @@ void append_equal(struct trial *t, uint32_t limit)
 /* ---- Refusals ---- */
 
 enum {
-    FAULTS = 20
+    FAULTS = 23
 };
 
 /* Another value for a word of the header. */
@@ -132,20 +132,6 @@ static void change_word(struct sample *s, const struct lot *lot, size_t at, uint
 {
     if (lot->index_length > at)
         s->index[at] = value;
-}
-
-/* A place in the index that the shape does not allow. Needs rows. */
-static void wrong_shape(struct draw *d, struct sample *s)
-{
-    size_t pairs = 8 + 5 * (size_t)s->index[5], node = 8 + 5 * (size_t)draw_below(d, s->index[5]), p = pairs + 2 * (size_t)draw_below(d, s->n);
-    switch (draw_below(d, 6)) {
-    case 0: s->index[node] += 1; break;
-    case 1: s->index[node + 1] += 1; break;
-    case 2: s->index[node + 2] += 1; break;
-    case 3: s->index[node + 3] = 1048561; break;
-    case 4: s->index[node + 4] = 1048561; break;
-    default: s->index[p + 1] = 1048561; break;
-    }
 }
 
 /* Fault number k. Some of them are none where c is 1 or there are no rows. */
@@ -172,12 +158,15 @@ static void one_fault(struct draw *d, struct sample *s, struct lot *lot, uint32_
     case 13: change_word(s, lot, 3, draw_one_in(d, 2) ? 1 : 65); break;
     case 14: change_word(s, lot, 4, draw_one_in(d, 2) ? s->m - 1 : 1025); break;
     case 15: change_word(s, lot, 5, draw_one_in(d, 2) ? 2 * s->n : 0); break;
-    case 16: change_word(s, lot, 6 + draw_below(d, 2), 2); break;
+    case 16: change_word(s, lot, 6, 2); break;
     case 17: lot->index_length = draw_one_in(d, 2) ? s->index_length - 1 : draw_below(d, 8); break;
     case 18:
         if (s->n > 0)
             wrong_shape(d, s);
         break;
+    case 19: change_word(s, lot, 7, draw_one_in(d, 2) ? 1u << s->c : 1u << draw_below(d, 32)); break;
+    case 20: leave_circle(d, s, s->table + s->c * (size_t)s->n); break;
+    case 21: leave_circle(d, s, s->table + s->c * (size_t)draw_below(d, s->n + 1)); break;
     /* The new row's own number stands in the index already. */
     default:
         if (s->n > 0)
@@ -189,17 +178,16 @@ static void one_fault(struct draw *d, struct sample *s, struct lot *lot, uint32_
 /* Each fault with each other, and alone. */
 void append_pairs(struct trial *t, uint32_t limit)
 {
-    static uint32_t whole[SAMPLE_WORDS];
+    static struct sample whole;
     draw_sample(&t->draw, &sample, limit < 20 ? limit : 20);
     index_any(&t->draw, &sample);
-    size_t length = sample.index_length;
-    memcpy(whole, sample.index, length * sizeof *whole);
+    whole = sample;
     for (uint32_t a = 0; a < FAULTS; a++)
         for (uint32_t b = 0; b < a; b++) {
             struct lot lot = fair_lot(&t->draw, &sample);
             one_fault(&t->draw, &sample, &lot, a);
             one_fault(&t->draw, &sample, &lot, b);
             try_append(t, &lot);
-            memcpy(sample.index, whole, length * sizeof *whole);
+            sample = whole;
         }
 }

@@ -21,12 +21,16 @@ enum {
     EDITION = 2,
     QUERIES = 60,
     SIZES = 4,
-    SETS = 6,
-    SHARES = 8
+    SETS = 7,
+    SHARES = 8,
+    HEADING = 4 /* the season's column that is a circle */
 };
 
 static const uint32_t sizes[SIZES] = { 1000, 10000, 100000, 1048576 };
-static const uint32_t columns[SETS / 2] = { 4, 6, 16 };
+static const struct {
+    bool season;
+    uint32_t c, circles;
+} sets[SETS] = { { true, 4, 0 }, { true, 6, 0 }, { true, 16, 0 }, { true, 6, 1u << HEADING }, { false, 4, 0 }, { false, 6, 0 }, { false, 16, 0 } };
 static const uint32_t shares[SHARES][2] = { { 2, 1024 }, { 4, 1024 }, { 8, 32 }, { 16, 32 }, { 16, 64 }, { 16, 128 }, { 16, 256 }, { 32, 128 } };
 static const uint32_t share_sizes[2] = { 100000, 500000 };
 
@@ -69,7 +73,7 @@ struct set {
     struct line *line;
     struct plain_table table;
     uint16_t *columns, query[QUERIES][16];
-    uint32_t *room[2], *work, rows[2][WANTED], distances[2][WANTED];
+    uint32_t *room[2], *work, *withdrawn, rows[2][WANTED], distances[2][WANTED];
     uint8_t *how[2], *image[2];
 };
 
@@ -132,7 +136,7 @@ static void draw_queries(struct set *s)
         uint32_t row = draw_below(&d, s->table.n);
         for (uint32_t j = 0; j < s->table.c; j++) {
             uint32_t moved = s->columns[(size_t)row * s->table.c + j] + draw_below(&d, 9);
-            s->query[q][j] = (uint16_t)(moved > 65535 ? 65535 : moved);
+            s->query[q][j] = (uint16_t)((s->table.circles >> j & 1) != 0 ? moved % BOURASCUL_CIRCLE : moved > 65535 ? 65535 : moved);
         }
     }
 }
@@ -166,7 +170,7 @@ static struct set make_set(struct line *l)
     memset(&s, 0, sizeof s);
     s.line = l;
     s.columns = must(malloc((size_t)l->n * l->c * sizeof *s.columns));
-    s.table = (struct plain_table){ s.columns, l->n, l->c };
+    s.table = (struct plain_table){ s.columns, l->n, l->c, l->circles };
     if (l->season)
         fill_season(&s);
     else
@@ -177,6 +181,7 @@ static struct set make_set(struct line *l)
         s.how[k] = bench_touched(l->n, k + 1);
     }
     s.work = bench_touched(BOURASCUL_WORK_WORDS(l->n) * sizeof(uint32_t), 1);
+    s.withdrawn = bench_touched(BOURASCUL_SET_WORDS(l->n) * sizeof(uint32_t), 0);
     draw_queries(&s);
     l->r = choose_r(&s);
     return s;
@@ -190,6 +195,7 @@ static void free_set(struct set *s)
         free(s->how[k]);
     }
     free(s->work);
+    free(s->withdrawn);
     free(s->columns);
 }
 
@@ -227,17 +233,18 @@ static struct gives by_library(struct set *s, const struct library *by, int kind
     bourascul_closest closest;
     switch (kind) {
     case BUILD:
-        built = by->build(s->columns, length, l->c, l->m, l->l, EDITION, s->room[k], room, s->work, work);
+        built = by->build(s->columns, length, l->c, l->m, l->l, l->circles, EDITION, s->room[k], room, s->work, work);
         return (struct gives){ built.words, built.number };
     case CHECK: return (struct gives){ by->check(s->columns, length, l->c, s->room[0], l->words, s->work, work).number, 0 };
     case WRITE: return (struct gives){ by->write(s->room[0], l->words, s->image[k], blocks_of(s) * BOURASCUL_BLOCK_BYTES).blocks, 0 };
     case READ: return (struct gives){ by->read(s->image[0], blocks_of(s) * BOURASCUL_BLOCK_BYTES, s->columns, length, l->c, s->room[1], room).words, 0 };
     case RADIUS:
-        within = by->radius(s->columns, length, l->c, s->room[0], l->words, s->query[q], l->c, l->r, s->how[k], l->n);
+        within = by->radius(s->columns, length, l->c, s->room[0], l->words, s->query[q], l->c, l->r, s->withdrawn,
+                            BOURASCUL_SET_WORDS(l->n), s->how[k], l->n);
         return (struct gives){ within.inside, within.measured };
     case NEAREST:
-        closest = by->nearest(s->columns, length, l->c, s->room[0], l->words, s->query[q], l->c, WANTED, s->rows[k], WANTED, s->distances[k],
-                              WANTED, s->how[k], l->n, s->work, work);
+        closest = by->nearest(s->columns, length, l->c, s->room[0], l->words, s->query[q], l->c, WANTED, s->withdrawn,
+                              BOURASCUL_SET_WORDS(l->n), s->rows[k], WANTED, s->distances[k], WANTED, s->how[k], l->n, s->work, work);
         return (struct gives){ closest.given, closest.measured };
     case CLEAR_BYTES: memset(s->how[1], 0, l->n); break;
     case CLEAR_WORDS: memset(s->work, 0, work * sizeof *s->work); break;
@@ -256,8 +263,8 @@ static struct gives by_plain(struct set *s, const struct plain_calls *by, int ki
     case CHECK: return (struct gives){ by->check(s->table, s->room[0], s->work).number, 0 };
     case WRITE: return (struct gives){ by->write(s->room[0], s->image[1]), 0 };
     case READ: return (struct gives){ by->read(s->image[0], blocks_of(s), s->room[1]), 0 };
-    case RADIUS: counts = by->radius(s->table, s->room[0], s->query[q], l->r, s->how[1]); break;
-    default: counts = by->nearest(s->table, s->room[0], s->query[q], WANTED, s->rows[1], s->distances[1], s->how[1], s->work); break;
+    case RADIUS: counts = by->radius(s->table, s->room[0], s->query[q], l->r, s->withdrawn, s->how[1]); break;
+    default: counts = by->nearest(s->table, s->room[0], s->query[q], WANTED, s->withdrawn, s->rows[1], s->distances[1], s->how[1], s->work);
     }
     return (struct gives){ counts.found, counts.measured };
 }
@@ -409,7 +416,8 @@ static bool tables(const char *path, uint32_t most)
         each++;
     for (size_t k = 0; k < SETS; k++)
         for (size_t i = 0; i < each; i++, made++) {
-            lines[made] = (struct line){ .season = k < SETS / 2, .c = columns[k % (SETS / 2)], .n = sizes[i], .m = CENTRES, .l = LEAF };
+            lines[made] = (struct line){ .season = sets[k].season, .c = sets[k].c, .n = sizes[i], .m = CENTRES, .l = LEAF,
+                                         .circles = sets[k].circles };
             time_line(&lines[made]);
         }
     bench_tell(lines, made, each);

@@ -41,7 +41,7 @@ enum kind {
 /* One table's outcome: microseconds a call, by kind and way (0: not there), and the means of the counts. */
 struct line {
     bool season;
-    uint32_t c, n, m, l, r, words;
+    uint32_t c, n, m, l, circles, r, words;
     double took[KINDS][WAYS], inside, radius_measured, nearest_measured;
 };
 

@@ -54,7 +54,7 @@ static void free_season(struct season *s)
 
 static bourascul_built build(struct season *s, uint32_t rows, int to)
 {
-    bourascul_built is = bourascul_build(s->columns, (size_t)rows * MINUTE_COLUMNS, MINUTE_COLUMNS, CENTRES, LEAF, 2, s->room[to],
+    bourascul_built is = bourascul_build(s->columns, (size_t)rows * MINUTE_COLUMNS, MINUTE_COLUMNS, CENTRES, LEAF, 0, 2, s->room[to],
                                          BOURASCUL_ROOM_WORDS(rows), s->work, BOURASCUL_WORK_WORDS(rows));
     bench_agree(is.number == 0, "build refused");
     return is;

@@ -8,7 +8,7 @@
 
 const char *bench_data(const struct line *l)
 {
-    return l->season ? "season" : "uniform";
+    return l->circles != 0 ? "season, heading a circle" : l->season ? "season" : "uniform";
 }
 
 double bench_better(const double *took, enum way first)

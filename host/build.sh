@@ -79,7 +79,9 @@ rename_other() {
 }
 
 with='' libraries=''
-compile trial -O2 trial kinds appends more samples spoil calls lend self naive naive_tree naive_append naive_search
+naive='naive naive_set naive_tree naive_append naive_search'
+# shellcheck disable=SC2086
+compile trial -O2 trial kinds appends ceilings circles sets more samples spoil calls lend self $naive
 compile season -O2 season minutes
 compile stack -O2 stack
 compile first -O2 ../examples/first

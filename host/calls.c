@@ -20,13 +20,16 @@ enum call {
     LIST,
     WRITE,
     READ,
+    STRIKE,
+    RESTORE,
     CALLS
 };
 
-static const char *const call_names[CALLS] = { "build", "append", "check", "radius", "nearest", "nearest_answers", "list", "write", "read" };
+static const char *const call_names[CALLS] = { "build", "append", "check", "radius", "nearest", "nearest_answers", "list", "write", "read",
+                                               "strike", "restore" };
 
 enum {
-    NUMBERS = 19,
+    NUMBERS = 27,
     TOLD_IN_FULL = 3, /* differences of one kind that are printed; the others are counted */
     SHOWN = 260       /* numbers of a buffer that are printed */
 };
@@ -64,8 +67,9 @@ static void show_words(const char *name, const uint32_t *at, size_t count)
 
 static void show_lot(const struct lot *lot)
 {
-    printf("  c %" PRIu32 ", m %" PRIu32 ", l %" PRIu32 ", edition %" PRIu32 ", r %" PRIu32 ", w %" PRIu32 ", node %" PRIu32 "\n", lot->c, lot->m,
-           lot->l, lot->edition, lot->r, lot->w, lot->node);
+    printf("  c %" PRIu32 ", m %" PRIu32 ", l %" PRIu32 ", circles %" PRIu32 ", edition %" PRIu32, lot->c, lot->m, lot->l, lot->circles, lot->edition);
+    printf(", r %" PRIu32 ", w %" PRIu32 ", node %" PRIu32 "\n", lot->r, lot->w, lot->node);
+    printf("  told %" PRIu32 ", row %" PRIu32 "\n", lot->told, lot->row);
     printf("  lengths: room %zu, taken %zu, work %zu, how %zu, rows %zu, distances %zu, answers %zu, image %zu\n", lot->room, lot->taken, lot->work,
            lot->how, lot->rows, lot->distances, lot->answers, lot->image_length);
     printf("  lengths for an append: table %zu, room %zu, work %zu\n", lot->table_length + lot->next, lot->append_room, lot->append_work);
@@ -74,6 +78,7 @@ static void show_lot(const struct lot *lot)
     if (lot->fitting != NULL)
         show_columns("table that fits", lot->fitting, lot->table_length);
     show_columns("query", lot->query, lot->query_length);
+    show_words("withdrawn", lot->withdrawn, lot->withdrawn_length);
     show_words("index", lot->index, lot->index_length);
 }
 
@@ -142,6 +147,12 @@ static struct naive_query model_query(const struct lot *lot)
     return q;
 }
 
+static struct naive_set model_withdrawn(const struct lot *lot)
+{
+    struct naive_set s = { lot->withdrawn, lot->withdrawn_length };
+    return s;
+}
+
 static struct naive_room model_room(enum lent which)
 {
     struct naive_room r = { lend_expected(which), lend_bytes(which) / sizeof(uint32_t) };
@@ -198,9 +209,11 @@ static void lend_index(struct trial *t, const struct lot *lot)
     lend(&t->draw, LENT_INDEX, lot->index_length * sizeof *lot->index, lot->index);
 }
 
-static void lend_query(struct trial *t, const struct lot *lot)
+/* What a search asks: the query, and the rows that are withdrawn. */
+static void lend_question(struct trial *t, const struct lot *lot)
 {
     lend(&t->draw, LENT_QUERY, lot->query_length * sizeof *lot->query, lot->query);
+    lend(&t->draw, LENT_WITHDRAWN, lot->withdrawn_length * sizeof *lot->withdrawn, lot->withdrawn);
 }
 
 static void lend_words(struct trial *t, enum lent which, size_t length)
@@ -222,9 +235,10 @@ void try_build(struct trial *t, const struct lot *lot)
     lend_table(t, lot);
     lend_words(t, LENT_ROOM, lot->room);
     lend_words(t, LENT_WORK, lot->work);
-    bourascul_built is = bourascul_build(lend_given(LENT_TABLE), lot->table_length, lot->c, lot->m, lot->l, lot->edition, lend_given(LENT_ROOM),
-                                         lot->room, lend_given(LENT_WORK), lot->work);
-    struct naive_says should = naive_build(model_table(lot), lot->m, lot->l, lot->edition, model_room(LENT_ROOM), model_room(LENT_WORK));
+    bourascul_built is = bourascul_build(lend_given(LENT_TABLE), lot->table_length, lot->c, lot->m, lot->l, lot->circles, lot->edition,
+                                         lend_given(LENT_ROOM), lot->room, lend_given(LENT_WORK), lot->work);
+    struct naive_says should = naive_build(model_table(lot), lot->m, lot->l, lot->circles, lot->edition, model_room(LENT_ROOM),
+                                           model_room(LENT_WORK));
     compare(t, lot, BUILD, three(is.number, is.words, is.nodes), should, lents, 3);
 }
 
@@ -256,52 +270,67 @@ void try_check(struct trial *t, const struct lot *lot)
 
 void try_radius(struct trial *t, const struct lot *lot)
 {
-    static const enum lent lents[] = { LENT_TABLE, LENT_INDEX, LENT_QUERY, LENT_HOW };
+    static const enum lent lents[] = { LENT_TABLE, LENT_INDEX, LENT_QUERY, LENT_WITHDRAWN, LENT_HOW };
     lend_table(t, lot);
     lend_index(t, lot);
-    lend_query(t, lot);
+    lend_question(t, lot);
     lend(&t->draw, LENT_HOW, lot->how, NULL);
     bourascul_within is = bourascul_radius(lend_given(LENT_TABLE), lot->table_length, lot->c, lend_given(LENT_INDEX), lot->index_length,
-                                           lend_given(LENT_QUERY), lot->query_length, lot->r, lend_given(LENT_HOW), lot->how);
-    struct naive_says should = naive_radius(model_table(lot), model_index(lot), model_query(lot), lot->r, model_bytes(LENT_HOW));
-    compare(t, lot, RADIUS, three(is.number, is.inside, is.measured), should, lents, 4);
+                                           lend_given(LENT_QUERY), lot->query_length, lot->r, lend_given(LENT_WITHDRAWN), lot->withdrawn_length,
+                                           lend_given(LENT_HOW), lot->how);
+    struct naive_says should = naive_radius(model_table(lot), model_index(lot), model_query(lot), lot->r, model_withdrawn(lot),
+                                            model_bytes(LENT_HOW));
+    compare(t, lot, RADIUS, three(is.number, is.inside, is.measured), should, lents, 5);
 }
 
 static void lend_nearest(struct trial *t, const struct lot *lot)
 {
     lend_table(t, lot);
     lend_index(t, lot);
-    lend_query(t, lot);
+    lend_question(t, lot);
     lend_words(t, LENT_ROWS, lot->rows);
     lend_words(t, LENT_DISTANCES, lot->distances);
     lend(&t->draw, LENT_HOW, lot->how, NULL);
     lend_words(t, LENT_WORK, lot->work);
 }
 
-/* An answer that can stand behind the one before it: a row that there is, and no nearer; of two as near no lower row. */
-static bool stands(const uint32_t *rows, const uint32_t *distances, size_t i, size_t n)
+/* How many answers a nearest search gives on an index in shape: as many as are wanted, or positions hold a row that is not withdrawn. */
+static size_t settled_answers(const struct lot *lot)
 {
-    if (rows[i] >= n)
+    struct naive_set withdrawn = model_withdrawn(lot);
+    const uint32_t *pair = lot->index + 8 + 5 * (size_t)lot->index[5];
+    size_t n = lot->table_length / lot->c, remaining = 0;
+    for (size_t p = 0; p < n; p++)
+        remaining += !naive_is_in(withdrawn, pair[2 * p]);
+    return lot->w < remaining ? lot->w : remaining;
+}
+
+/* An answer that can stand behind the one before it: a row that there is, not withdrawn, and no nearer; of two as near no lower row. */
+static bool stands(struct naive_set withdrawn, const uint32_t *rows, const uint32_t *distances, size_t i, size_t n)
+{
+    if (rows[i] >= n || naive_is_in(withdrawn, rows[i]))
         return false;
     return i == 0 || distances[i - 1] < distances[i] || (distances[i - 1] == distances[i] && rows[i - 1] <= rows[i]);
 }
 
-/* On an index that the full check refuses it is open which rows are answers and which were measured. Settled is: as many answers as are wanted or there
-   are rows, each a row with its own distance, in order; 3 exactly at the answers, else 0 or 1; and the count of 1 and 3. What is settled is put in the place
-   of what is open; where an answer can't stand, another number shows it. */
+/* On an index that the full check refuses it is open which rows are answers and which were measured. Settled is: how many answers there are, each a
+   row that is not withdrawn with its own distance, in order; 3 exactly at the answers, else 0 or 1; and the count of 1 and 3. What is settled is put
+   in the place of what is open; where an answer can't stand, another number shows it. */
 static struct naive_says settle_nearest(const struct lot *lot)
 {
-    size_t n = lot->table_length / lot->c, asked = lot->w < n ? lot->w : n;
+    size_t n = lot->table_length / lot->c, asked = settled_answers(lot);
     const uint32_t *rows = lend_given(LENT_ROWS), *distances = lend_given(LENT_DISTANCES);
     const uint8_t *how = lend_given(LENT_HOW);
     uint32_t *rows_should = lend_expected(LENT_ROWS), *distances_should = lend_expected(LENT_DISTANCES), measured = 0;
     uint8_t *how_should = lend_expected(LENT_HOW);
+    lend_undo(LENT_ROWS);
+    lend_undo(LENT_DISTANCES);
     for (size_t i = 0; i < n; i++)
         how_should[i] = how[i] % 2;
     for (size_t i = 0; i < asked; i++) {
-        rows_should[i] = stands(rows, distances, i, n) ? rows[i] : ~rows[i];
+        rows_should[i] = stands(model_withdrawn(lot), rows, distances, i, n) ? rows[i] : ~rows[i];
         if (rows[i] < n) {
-            distances_should[i] = naive_distance(lot->table + lot->c * rows[i], lot->query, lot->c);
+            distances_should[i] = naive_distance(lot->table + lot->c * rows[i], lot->query, lot->c, lot->index[7]);
             how_should[rows[i]] = 3;
         }
     }
@@ -313,9 +342,10 @@ static struct naive_says settle_nearest(const struct lot *lot)
 /* The records are the rows and distances of the same call. */
 static void settle_records(const struct lot *lot)
 {
-    size_t n = lot->table_length / lot->c, asked = lot->w < n ? lot->w : n;
+    size_t asked = settled_answers(lot);
     const uint32_t *rows = lend_expected(LENT_ROWS), *distances = lend_expected(LENT_DISTANCES);
     bourascul_answer *answers = lend_expected(LENT_ANSWERS);
+    lend_undo(LENT_ANSWERS);
     for (size_t i = 0; i < asked; i++)
         answers[i] = (bourascul_answer){ rows[i], distances[i] };
 }
@@ -327,40 +357,42 @@ static bool nearest_is_open(const struct lot *lot, struct naive_says should)
 
 void try_nearest(struct trial *t, const struct lot *lot)
 {
-    static const enum lent lents[] = { LENT_TABLE, LENT_INDEX, LENT_QUERY, LENT_ROWS, LENT_DISTANCES, LENT_HOW, LENT_WORK };
+    static const enum lent lents[] = { LENT_TABLE, LENT_INDEX, LENT_QUERY, LENT_WITHDRAWN, LENT_ROWS, LENT_DISTANCES, LENT_HOW, LENT_WORK };
     lend_nearest(t, lot);
     bourascul_closest got = bourascul_nearest(lend_given(LENT_TABLE), lot->table_length, lot->c, lend_given(LENT_INDEX), lot->index_length,
-                                              lend_given(LENT_QUERY), lot->query_length, lot->w, lend_given(LENT_ROWS), lot->rows,
-                                              lend_given(LENT_DISTANCES), lot->distances, lend_given(LENT_HOW), lot->how, lend_given(LENT_WORK),
-                                              lot->work);
+                                              lend_given(LENT_QUERY), lot->query_length, lot->w, lend_given(LENT_WITHDRAWN), lot->withdrawn_length,
+                                              lend_given(LENT_ROWS), lot->rows, lend_given(LENT_DISTANCES), lot->distances, lend_given(LENT_HOW),
+                                              lot->how, lend_given(LENT_WORK), lot->work);
     struct naive_says is = three(got.number, got.given, got.measured);
-    struct naive_says should = naive_nearest(model_table(lot), model_index(lot), model_query(lot), lot->w, model_room(LENT_ROWS),
-                                             model_room(LENT_DISTANCES), model_bytes(LENT_HOW), model_room(LENT_WORK));
+    struct naive_says should = naive_nearest(model_table(lot), model_index(lot), model_query(lot), lot->w, model_withdrawn(lot),
+                                             model_room(LENT_ROWS), model_room(LENT_DISTANCES), model_bytes(LENT_HOW), model_room(LENT_WORK));
     if (nearest_is_open(lot, should)) {
         open_outcomes[NEAREST]++;
         should = settle_nearest(lot);
     }
-    compare(t, lot, NEAREST, is, should, lents, 7);
+    compare(t, lot, NEAREST, is, should, lents, 8);
 }
 
 void try_nearest_answers(struct trial *t, const struct lot *lot)
 {
-    static const enum lent lents[] = { LENT_TABLE, LENT_INDEX, LENT_QUERY, LENT_ANSWERS, LENT_ROWS, LENT_DISTANCES, LENT_HOW, LENT_WORK };
+    static const enum lent lents[] = { LENT_TABLE, LENT_INDEX,     LENT_QUERY, LENT_WITHDRAWN, LENT_ANSWERS,
+                                       LENT_ROWS,  LENT_DISTANCES, LENT_HOW,   LENT_WORK };
     lend_nearest(t, lot);
     lend(&t->draw, LENT_ANSWERS, lot->answers * sizeof(bourascul_answer), NULL);
     bourascul_closest got = bourascul_nearest_answers(lend_given(LENT_TABLE), lot->table_length, lot->c, lend_given(LENT_INDEX), lot->index_length,
-                                                      lend_given(LENT_QUERY), lot->query_length, lot->w, lend_given(LENT_ANSWERS), lot->answers,
-                                                      lend_given(LENT_ROWS), lot->rows, lend_given(LENT_DISTANCES), lot->distances,
-                                                      lend_given(LENT_HOW), lot->how, lend_given(LENT_WORK), lot->work);
+                                                      lend_given(LENT_QUERY), lot->query_length, lot->w, lend_given(LENT_WITHDRAWN),
+                                                      lot->withdrawn_length, lend_given(LENT_ANSWERS), lot->answers, lend_given(LENT_ROWS),
+                                                      lot->rows, lend_given(LENT_DISTANCES), lot->distances, lend_given(LENT_HOW), lot->how, lend_given(LENT_WORK), lot->work);
     struct naive_says is = three(got.number, got.given, got.measured);
-    struct naive_says should = naive_nearest_answers(model_table(lot), model_index(lot), model_query(lot), lot->w, model_records(LENT_ANSWERS),
-                                                     model_room(LENT_ROWS), model_room(LENT_DISTANCES), model_bytes(LENT_HOW), model_room(LENT_WORK));
+    struct naive_says should = naive_nearest_answers(model_table(lot), model_index(lot), model_query(lot), lot->w, model_withdrawn(lot),
+                                                     model_records(LENT_ANSWERS), model_room(LENT_ROWS), model_room(LENT_DISTANCES),
+                                                     model_bytes(LENT_HOW), model_room(LENT_WORK));
     if (nearest_is_open(lot, should)) {
         open_outcomes[NEAREST_ANSWERS]++;
         should = settle_nearest(lot);
         settle_records(lot);
     }
-    compare(t, lot, NEAREST_ANSWERS, is, should, lents, 8);
+    compare(t, lot, NEAREST_ANSWERS, is, should, lents, 9);
 }
 
 void try_searches(struct trial *t, const struct lot *lot)
@@ -409,4 +441,25 @@ void try_card(struct trial *t, const struct lot *lot)
     image.image_length = 512 * naive_card(lot->index, lot->index_length, bytes);
     image.image = bytes;
     try_read(t, &image);
+}
+
+/* One order, given to the set as it is lent to both. */
+static void try_order(struct trial *t, const struct lot *lot, enum call call, uint32_t (*library)(uint32_t *, size_t, uint32_t, uint32_t),
+                      uint32_t (*naive)(struct naive_room, uint32_t, uint32_t))
+{
+    static const enum lent lents[] = { LENT_WITHDRAWN };
+    lend(&t->draw, LENT_WITHDRAWN, lot->withdrawn_length * sizeof *lot->withdrawn, lot->withdrawn);
+    uint32_t is = library(lend_given(LENT_WITHDRAWN), lot->withdrawn_length, lot->told, lot->row);
+    uint32_t should = naive(model_room(LENT_WITHDRAWN), lot->told, lot->row);
+    compare(t, lot, call, three(is, 0, 0), three(should, 0, 0), lents, 1);
+}
+
+void try_strike(struct trial *t, const struct lot *lot)
+{
+    try_order(t, lot, STRIKE, bourascul_strike, naive_strike);
+}
+
+void try_restore(struct trial *t, const struct lot *lot)
+{
+    try_order(t, lot, RESTORE, bourascul_restore, naive_restore);
 }

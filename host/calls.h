@@ -17,11 +17,14 @@ struct lot {
     size_t table_length;
     size_t next; /* the numbers behind the table that an append is lent with it: those of one row, where nothing is wrong */
     const uint16_t *fitting; /* the table that decides the outcome in a trial of two tables, else NULL */
-    uint32_t c, m, l, edition;
+    uint32_t c, m, l, circles, edition;
     const uint32_t *index;
     size_t index_length;
     const uint16_t *query;
     size_t query_length;
+    const uint32_t *withdrawn;
+    size_t withdrawn_length;
+    uint32_t told, row; /* an order's: for how many rows the set is, and the row */
     uint32_t r, w, node;
     size_t room, taken, work, how, rows, distances, answers; /* `room` is a build's, `taken` a reading's */
     size_t append_room, append_work;
@@ -41,6 +44,10 @@ void try_write(struct trial *t, const struct lot *lot);
 void try_read(struct trial *t, const struct lot *lot);
 /* Reading, lent a card with right check words of the lot's index words, whatever they say. */
 void try_card(struct trial *t, const struct lot *lot);
+
+/* An order: the row `row` is struck from, or restored to, a set of `told` rows. */
+void try_strike(struct trial *t, const struct lot *lot);
+void try_restore(struct trial *t, const struct lot *lot);
 
 /* Radius, nearest and nearest with records. */
 void try_searches(struct trial *t, const struct lot *lot);

@@ -87,7 +87,7 @@ static int list(void)
         return 0;
     }
     struct naive_room room = { room_for(12296, 4), 12296 }, work = { room_for(6144, 4), 6144 };
-    struct naive_says says = naive_build((struct naive_table){ number + 3, count - 3, number[0] }, number[1], number[2], EDITION, room, work);
+    struct naive_says says = naive_build((struct naive_table){ number + 3, count - 3, number[0] }, number[1], number[2], 0, EDITION, room, work);
     if (says.number != 0)
         printf("refused %u\n", says.number);
     else {
@@ -308,12 +308,14 @@ static size_t measured_by(uint32_t k, const uint16_t *query, size_t queries, int
     struct naive_table table = { number, rows * k, k };
     struct naive_room room = { room_for(12 * rows + 8, 4), 12 * rows + 8 }, work = { room_for(6 * rows, 4), 6 * rows };
     struct naive_room answers = { room_for(rows, 4), rows }, distances = { room_for(rows, 4), rows };
+    struct naive_set none = { room_for(rows / 32 + 1, 4), (rows + 31) / 32 };
     struct naive_bytes how = { room_for(rows, 1), rows };
-    struct naive_index index = { room.words, naive_build(table, CENTRES, LEAF, EDITION, room, work).one };
+    struct naive_index index = { room.words, naive_build(table, CENTRES, LEAF, 0, EDITION, room, work).one };
     size_t measured = 0;
     for (size_t i = 0; i < queries; i++) {
         struct naive_query asked = { query + i * k, k };
-        measured += like ? naive_radius(table, index, asked, amount, how).two : naive_nearest(table, index, asked, amount, answers, distances, how, work).two;
+        measured += like ? naive_radius(table, index, asked, amount, none, how).two
+                         : naive_nearest(table, index, asked, amount, none, answers, distances, how, work).two;
     }
     return measured;
 }
@@ -331,7 +333,7 @@ static int minutes(int count, char **word)
     for (size_t i = 0; i < rows; i++) {
         away[i] = UINT32_MAX;
         for (size_t j = 0; j < queries; j++) {
-            uint32_t d = naive_distance(query + j * k, number + i * k, k);
+            uint32_t d = naive_distance(query + j * k, number + i * k, k, 0);
             away[i] = d < away[i] ? d : away[i];
         }
         if (!like || away[i] <= amount)

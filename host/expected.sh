@@ -6,7 +6,9 @@ cd "$(dirname "$0")/.."
 
 out=target/host
 mkdir -p "$out"
-"${CC:-cc}" -std=c99 -O2 -Wall -Wextra -Wpedantic -Ihost -o "$out/expected" host/expected.c host/naive.c host/naive_tree.c host/naive_search.c
+naive="host/naive.c host/naive_set.c host/naive_tree.c host/naive_search.c"
+# shellcheck disable=SC2086
+"${CC:-cc}" -std=c99 -O2 -Wall -Wextra -Wpedantic -Ihost -o "$out/expected" host/expected.c $naive
 
 wrong=0
 same=0

@@ -39,29 +39,32 @@ using Tree = nanoflann::KDTreeSingleIndexAdaptor<nanoflann::L1_Adaptor<float, Ro
 /* Everything that the library is lent. */
 struct Index {
     const Rows &rows;
-    std::vector<uint32_t> room, work, nearest, distances;
+    std::vector<uint32_t> room, work, withdrawn, nearest, distances;
     std::vector<uint8_t> how;
     uint32_t words = 0;
 
     explicit Index(const Rows &lent)
-        : rows(lent), room(BOURASCUL_ROOM_WORDS(count())), work(BOURASCUL_WORK_WORDS(count())), nearest(neighbour), distances(neighbour), how(count())
+        : rows(lent), room(BOURASCUL_ROOM_WORDS(count())), work(BOURASCUL_WORK_WORDS(count())), withdrawn(BOURASCUL_SET_WORDS(count())),
+          nearest(neighbour), distances(neighbour), how(count())
     {
     }
     uint32_t count() const { return static_cast<uint32_t>(rows.kdtree_get_point_count()); }
     void build()
     {
-        words = bourascul_build(rows.table.data(), rows.table.size(), columns, centres, leaf, edition, room.data(), room.size(), work.data(),
+        words = bourascul_build(rows.table.data(), rows.table.size(), columns, centres, leaf, 0, edition, room.data(), room.size(), work.data(),
                                 work.size())
                     .words;
     }
     bourascul_within within(const uint16_t *query, uint32_t r)
     {
-        return bourascul_radius(rows.table.data(), rows.table.size(), columns, room.data(), words, query, columns, r, how.data(), how.size());
+        return bourascul_radius(rows.table.data(), rows.table.size(), columns, room.data(), words, query, columns, r, withdrawn.data(),
+                                withdrawn.size(), how.data(), how.size());
     }
     bourascul_closest closest(const uint16_t *query, uint32_t w)
     {
-        return bourascul_nearest(rows.table.data(), rows.table.size(), columns, room.data(), words, query, columns, w, nearest.data(),
-                                 nearest.size(), distances.data(), distances.size(), how.data(), how.size(), work.data(), work.size());
+        return bourascul_nearest(rows.table.data(), rows.table.size(), columns, room.data(), words, query, columns, w, withdrawn.data(),
+                                 withdrawn.size(), nearest.data(), nearest.size(), distances.data(), distances.size(), how.data(),
+                                 how.size(), work.data(), work.size());
     }
 };
 

@@ -174,8 +174,10 @@ static size_t make_old(uint32_t *words)
 /* Another table of the same rows and columns. */
 static void change_table(struct draw *d, struct sample *s)
 {
-    for (uint32_t i = s->n == 0 ? 0 : draw_between(d, 1, s->n); i > 0; i--)
-        s->table[draw_below(d, s->n * s->c)] = (uint16_t)draw_below(d, draw_one_in(d, 2) ? 65536 : 8);
+    for (uint32_t i = s->n == 0 ? 0 : draw_between(d, 1, s->n); i > 0; i--) {
+        uint32_t at = draw_below(d, s->n * s->c);
+        s->table[at] = on_circle(s, at % s->c, draw_below(d, draw_one_in(d, 2) ? 65536 : 8));
+    }
 }
 
 /* An index of edition 1: all other calls on it, and its card read with each length of room that matters. What was accepted but
@@ -327,7 +329,7 @@ static void one_fault(struct draw *d, struct sample *s, struct lot *lot)
     const uint32_t bad_m[] = { 0, 1, 65, 64, UINT32_MAX }, bad_l[] = { 0, 1, lot->m - 1, lot->m, 1024, 1025, UINT32_MAX };
     const uint32_t bad_editions[] = { 0, 3, 3 - s->edition, UINT32_MAX };
     size_t n = s->n, asked = lot->w < n ? lot->w : n;
-    switch (draw_below(d, 20)) {
+    switch (draw_below(d, 25)) {
     case 0: lot->c = draw_bad_columns(d, lot->c); break;
     case 1: lot->m = bad_m[draw_below(d, 5)]; break;
     case 2: lot->l = bad_l[draw_below(d, 7)]; break;
@@ -346,6 +348,11 @@ static void one_fault(struct draw *d, struct sample *s, struct lot *lot)
     case 15: lot->next = draw_below(d, s->c + 1); break;
     case 16: lot->append_room = shorter(d, build_words(n + 1)); break;
     case 17: lot->append_work = shorter(d, 6 * (n + 1)); break;
+    case 18: lot->circles |= 1u << draw_between(d, s->c, 31); break;
+    case 19: leave_circle(d, s, s->table + s->c * (size_t)draw_below(d, s->n + 1)); break;
+    case 20: leave_circle(d, s, s->query); break;
+    case 21: lot->withdrawn_length += draw_one_in(d, 2) && lot->withdrawn_length > 0 ? -1 : 1; break;
+    case 22: s->withdrawn[n / 32] |= 1u << draw_between(d, n % 32, 31); break;
     default:
         spoil_index(d, s);
         lot->index_length = s->index_length;
@@ -380,6 +387,7 @@ static void too_many_rows(struct trial *t, uint32_t limit)
     struct lot lot = fair_lot(&t->draw, &sample);
     lot.table = table;
     lot.edition = 2;
+    lot.circles = draw_below(&t->draw, 2);
     lot.next = 0;
     lot.query_length = draw_between(&t->draw, 1, 2);
     for (lot.c = 1; lot.c <= 2; lot.c++)
@@ -399,7 +407,7 @@ static void append_last(struct trial *t, struct lot lot, uint32_t *room, uint32_
 {
     lot.next = lot.c;
     lot.table_length -= lot.next;
-    lot.index_length = bourascul_build(lot.table, lot.table_length, lot.c, lot.m, lot.l, 2, room, lot.room, work, lot.work).words;
+    lot.index_length = bourascul_build(lot.table, lot.table_length, lot.c, lot.m, lot.l, lot.circles, 2, room, lot.room, work, lot.work).words;
     try_append(t, &lot);
 }
 
@@ -409,18 +417,20 @@ static void largest_table(struct trial *t, uint32_t limit)
     (void)limit;
     struct draw *d = &t->draw;
     size_t n = 1048576, asked = build_words(n);
-    uint32_t c = draw_between(d, 1, 3);
+    uint32_t c = draw_between(d, 1, 3), circles = draw_below(d, 2);
     uint16_t *table = malloc(n * c * sizeof *table), query[3] = { 100, 60000, 7 };
-    uint32_t *room = malloc(asked * sizeof *room), *work = malloc(6 * n * sizeof *work);
-    if (table == NULL || room == NULL || work == NULL)
+    uint32_t *room = malloc(asked * sizeof *room), *work = malloc(6 * n * sizeof *work), *withdrawn = calloc(n / 32, sizeof *withdrawn);
+    if (table == NULL || room == NULL || work == NULL || withdrawn == NULL)
         abort();
     for (size_t i = 0; i < n * c; i++)
-        table[i] = (uint16_t)draw_below(d, 65536);
-    bourascul_built built = bourascul_build(table, n * c, c, 32, 200, 2, room, asked, work, 6 * n);
-    struct lot lot = { .table = table, .table_length = n * c, .c = c, .m = 32, .l = 200, .edition = 2, .index = room,
+        table[i] = (uint16_t)draw_below(d, circles == 1 && i % c == 0 ? 3600 : 65536);
+    bourascul_built built = bourascul_build(table, n * c, c, 32, 200, circles, 2, room, asked, work, 6 * n);
+    struct lot lot = { .table = table, .table_length = n * c, .c = c, .m = 32, .l = 200, .circles = circles, .edition = 2, .index = room,
                        .index_length = built.words, .query = query, .query_length = c, .r = 900, .w = 20, .node = 3, .room = asked,
                        .taken = built.words, .work = 6 * n, .how = n, .rows = 20, .distances = 20, .answers = 20, .append_room = asked,
-                       .append_work = 6 * n };
+                       .append_work = 6 * n, .withdrawn = withdrawn, .withdrawn_length = n / 32 };
+    for (size_t i = 0; i < n / 32; i++)
+        withdrawn[i] = (uint32_t)draw_next(d) & (uint32_t)draw_next(d);
     try_build(t, &lot);
     every_call(t, &lot);
     if (built.number == 0) {
@@ -431,6 +441,7 @@ static void largest_table(struct trial *t, uint32_t limit)
     free(table);
     free(room);
     free(work);
+    free(withdrawn);
 }
 
 /* ---- Two tables ---- */
@@ -440,7 +451,7 @@ static void replace_row(struct draw *d, const struct sample *s, uint16_t *row)
 {
     uint32_t how = draw_below(d, 4);
     for (uint32_t j = 0; j < s->c; j++)
-        row[j] = how == 0 ? s->query[j] : how == 1 ? (uint16_t)draw_next(d) : how == 2 ? 65535 : (uint16_t)(row[j] + draw_below(d, 3));
+        row[j] = on_circle(s, j, how == 0 ? s->query[j] : how == 1 ? (uint32_t)draw_next(d) : how == 2 ? 65535 : row[j] + draw_below(d, 3));
 }
 
 /* The second table: rows that `how` says were measured stay, of the others as many as drawn are replaced. */
@@ -451,6 +462,19 @@ static void second_table(struct draw *d, const struct sample *s, const uint8_t *
     for (uint32_t i = 0; i < s->n; i++)
         if ((how[i] & 1) == 0 && draw_one_in(d, chances))
             replace_row(d, s, table + (size_t)i * s->c);
+}
+
+/* The second table in the lot, after a search on the first marked `how`. Now and then a row of it leaves the circles: then the search is
+   refused, and it is the second table that says so. */
+static void lend_second(struct draw *d, struct lot *lot, const uint8_t *how, uint16_t *table)
+{
+    second_table(d, &sample, how, table);
+    lot->table = table;
+    lot->fitting = sample.table;
+    if (sample.n > 0 && draw_one_in(d, 5)) {
+        leave_circle(d, &sample, table + (size_t)draw_below(d, sample.n) * sample.c);
+        lot->fitting = NULL;
+    }
 }
 
 static void two_tables(struct trial *t, uint32_t limit)
@@ -466,14 +490,13 @@ static void two_tables(struct trial *t, uint32_t limit)
     for (uint32_t i = 0; i < 4; i++) {
         draw_query(&t->draw, &sample);
         struct lot lot = fair_lot(&t->draw, &sample);
-        lot.fitting = sample.table;
-        lot.table = table;
-        bourascul_radius(sample.table, lot.table_length, lot.c, lot.index, lot.index_length, lot.query, lot.c, lot.r, how, SAMPLE_ROWS);
-        second_table(&t->draw, &sample, how, table);
+        bourascul_radius(sample.table, lot.table_length, lot.c, lot.index, lot.index_length, lot.query, lot.c, lot.r, lot.withdrawn,
+                         lot.withdrawn_length, how, SAMPLE_ROWS);
+        lend_second(&t->draw, &lot, how, table);
         try_radius(t, &lot);
-        bourascul_nearest(sample.table, lot.table_length, lot.c, lot.index, lot.index_length, lot.query, lot.c, lot.w, rows, SAMPLE_ROWS, distances,
-                          SAMPLE_ROWS, how, SAMPLE_ROWS, work, 6 * SAMPLE_ROWS);
-        second_table(&t->draw, &sample, how, table);
+        bourascul_nearest(sample.table, lot.table_length, lot.c, lot.index, lot.index_length, lot.query, lot.c, lot.w, lot.withdrawn,
+                          lot.withdrawn_length, rows, SAMPLE_ROWS, distances, SAMPLE_ROWS, how, SAMPLE_ROWS, work, 6 * SAMPLE_ROWS);
+        lend_second(&t->draw, &lot, how, table);
         try_nearest(t, &lot);
         try_nearest_answers(t, &lot);
     }
@@ -617,10 +640,13 @@ const struct kind kinds[] = {
     { "build of tables of every style", build_any, 1 },
     { "all calls with each end of m and l, and beyond", each_end, 4 },
     { "all calls with edition 2 and others", each_edition, 2 },
+    { "all calls with each set of circles, values around the seam", each_set_of_circles, 4 },
+    { "all calls with each two of 22 faults, numbers off the circle and bad sets among them", circle_pairs, 4 },
     { "build with m and l at their ends, all calls on it", build_ends, 2 },
     { "equal rows, 4 to 100 and more, all calls", build_equal, 2 },
     { "check and searches on built indexes", accepted_built, 1 },
     { "check and searches on accepted indexes of another hand", accepted_foreign, 1 },
+    { "searches over nine columns and more, w few, r small or met exactly", ceilings, 1 },
     { "old cards: the index of edition 1 in all calls, its card read, all calls on what comes out", old_card, 1 },
     { "all calls on indexes in shape that fit no table", wild, 1 },
     { "all calls, each word of a small index changed to 16 values", each_word, 8 },
@@ -636,7 +662,10 @@ const struct kind kinds[] = {
     { "200 rows appended one by one, from none on", append_chain, 8 },
     { "50 rows appended one by one to indexes of any kind", append_chain_on, 8 },
     { "equal rows appended one by one down to depth 24, and one that differs", append_equal, 8 },
-    { "appends with each two of 19 faults", append_pairs, 4 },
+    { "appends with each two of 22 faults", append_pairs, 4 },
+    { "searches with sets of each length, and each bit beyond the rows", each_set_length, 4 },
+    { "rows struck and restored by two offices, mixed in two ways", mixed_orders, 2 },
+    { "orders to bad sets and of rows beyond the last", order_refusals, 4 },
     { "two tables that agree in the rows measured", two_tables, 1 },
     { "asking for more: the laws on two searches, of the library alone", asking_for_more, 1 },
     { "images written and read, rooms short, exact and long", image_rooms, 1 },

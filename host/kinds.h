@@ -23,6 +23,18 @@ void append_chain_on(struct trial *t, uint32_t limit);
 void append_equal(struct trial *t, uint32_t limit);
 void append_pairs(struct trial *t, uint32_t limit);
 
+/* Those of circles.c. */
+void each_set_of_circles(struct trial *t, uint32_t limit);
+void circle_pairs(struct trial *t, uint32_t limit);
+
+/* That of ceilings.c. */
+void ceilings(struct trial *t, uint32_t limit);
+
+/* Those of sets.c. */
+void each_set_length(struct trial *t, uint32_t limit);
+void mixed_orders(struct trial *t, uint32_t limit);
+void order_refusals(struct trial *t, uint32_t limit);
+
 /* And that of more.c: two searches, of which the second asks for more. */
 void asking_for_more(struct trial *t, uint32_t limit);
 

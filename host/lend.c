@@ -17,14 +17,15 @@ enum {
 struct slot {
     uint8_t *low;
     size_t room;
-    uint8_t *given, *guard, *expected;
+    uint8_t *given, *guard, *expected, *lent;
     size_t bytes;
 };
 
 static struct slot slots[LENT_KINDS];
 static char story[512];
 
-static const char *const names[LENT_KINDS] = { "table", "index", "query", "room", "work", "how", "rows", "distances", "answers", "image" };
+static const char *const names[LENT_KINDS] = { "table", "index", "query",     "withdrawn", "room", "work",
+                                               "how",   "rows",  "distances", "answers",   "image" };
 
 const char *lend_name(enum lent which)
 {
@@ -94,9 +95,10 @@ static void make_room(struct slot *s, size_t bytes)
     s->low = all + page;
     s->room = need;
     free(s->expected);
-    s->expected = malloc(need);
+    s->expected = malloc(2 * need);
     if (s->expected == NULL)
         out_of_memory();
+    s->lent = s->expected + need;
 }
 
 static void fill(struct draw *d, uint8_t *at, size_t bytes)
@@ -122,8 +124,14 @@ void *lend(struct draw *d, enum lent which, size_t bytes, const void *content)
         memcpy(s->given, content, bytes);
     else
         fill(d, s->given, bytes);
-    memcpy(s->expected, s->given, bytes);
+    memcpy(s->lent, s->given, bytes);
+    lend_undo(which);
     return s->given;
+}
+
+void lend_undo(enum lent which)
+{
+    memcpy(slots[which].expected, slots[which].lent, slots[which].bytes);
 }
 
 void *lend_expected(enum lent which)

@@ -9,6 +9,7 @@ enum lent {
     LENT_TABLE,
     LENT_INDEX,
     LENT_QUERY,
+    LENT_WITHDRAWN,
     LENT_ROOM,
     LENT_WORK,
     LENT_HOW,
@@ -30,6 +31,8 @@ void *lend(struct draw *d, enum lent which, size_t bytes, const void *content);
 
 /* A copy of what was lent, to be made what it should become. */
 void *lend_expected(enum lent which);
+/* Makes that copy again what was lent. */
+void lend_undo(enum lent which);
 void *lend_given(enum lent which);
 size_t lend_bytes(enum lent which);
 

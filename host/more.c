@@ -31,17 +31,20 @@ static void ask_nearest(struct trial *t, const struct lot *lot, struct closest *
     t->calls++;
     o->with_records = draw_one_in(&t->draw, 2);
     if (o->with_records)
-        o->says = bourascul_nearest_answers(lot->table, lot->table_length, lot->c, lot->index, lot->index_length, lot->query, lot->query_length, lot->w,
-                                            o->answers, lot->answers, o->rows, lot->rows, o->distances, lot->distances, o->how, lot->how, work, lot->work);
+        o->says = bourascul_nearest_answers(lot->table, lot->table_length, lot->c, lot->index, lot->index_length, lot->query, lot->query_length,
+                                            lot->w, lot->withdrawn, lot->withdrawn_length, o->answers, lot->answers, o->rows, lot->rows,
+                                            o->distances, lot->distances, o->how, lot->how, work, lot->work);
     else
-        o->says = bourascul_nearest(lot->table, lot->table_length, lot->c, lot->index, lot->index_length, lot->query, lot->query_length, lot->w, o->rows,
-                                    lot->rows, o->distances, lot->distances, o->how, lot->how, work, lot->work);
+        o->says = bourascul_nearest(lot->table, lot->table_length, lot->c, lot->index, lot->index_length, lot->query, lot->query_length, lot->w,
+                                    lot->withdrawn, lot->withdrawn_length, o->rows, lot->rows, o->distances, lot->distances, o->how, lot->how,
+                                    work, lot->work);
 }
 
 static void ask_radius(struct trial *t, const struct lot *lot, struct within *o)
 {
     t->calls++;
-    o->says = bourascul_radius(lot->table, lot->table_length, lot->c, lot->index, lot->index_length, lot->query, lot->query_length, lot->r, o->how, lot->how);
+    o->says = bourascul_radius(lot->table, lot->table_length, lot->c, lot->index, lot->index_length, lot->query, lot->query_length, lot->r,
+                               lot->withdrawn, lot->withdrawn_length, o->how, lot->how);
 }
 
 static bool is_measured(uint8_t how)
@@ -78,8 +81,8 @@ static const char *broken_radius(const struct within *near, const struct within 
     return NULL;
 }
 
-/* Two lots of one index and query, each with its own rooms, that ask for no less in the second. One row is asked for at least: a fair
-   lot asks for none where there is none. */
+/* Two lots of one index, query and set of withdrawn rows, each with its own rooms, that ask for no less in the second. One row is asked for at
+   least: a fair lot asks for none where there is none. */
 static void draw_two(struct draw *d, struct lot lots[2])
 {
     for (size_t i = 0; i < 2; i++) {

@@ -1,6 +1,6 @@
-/* The scope paper (01) with edition 2 (02, R-4 and R-11) in plain C: numbers given back, index words, shape, listing, image. The tree
-   and the searches stand in naive_tree.c and naive_search.c. Every condition is tested by itself, and of several faults the
-   lowest number is taken. */
+/* The scope paper (01) with edition 2 and circles (02, R-4, R-11 and R-1) in plain C: numbers given back, index words, shape, listing, image.
+   The tree and the searches stand in naive_tree.c and naive_search.c. Every condition is tested by itself, and of several faults the lowest
+   number is taken. */
 #include "naive_inner.h"
 
 #include <stdlib.h>
@@ -17,17 +17,31 @@ void *naive_fresh(size_t count, size_t size)
     return p;
 }
 
-uint32_t naive_distance(const uint16_t *a, const uint16_t *b, uint32_t c)
+static bool is_circle(uint32_t circles, uint32_t column)
+{
+    return (circles >> column & 1) != 0;
+}
+
+/* The way from a up to b, and the way from b up to a: the one of the two that is shorter. */
+static uint32_t shorter_way(uint32_t a, uint32_t b)
+{
+    uint32_t up = (b + CIRCLE - a) % CIRCLE, down = (a + CIRCLE - b) % CIRCLE;
+    return up < down ? up : down;
+}
+
+uint32_t naive_distance(const uint16_t *a, const uint16_t *b, uint32_t c, uint32_t circles)
 {
     uint32_t sum = 0;
     for (uint32_t j = 0; j < c; j++)
-        sum += apart(a[j], b[j]);
+        sum += is_circle(circles, j) ? shorter_way(a[j], b[j]) : apart(a[j], b[j]);
     return sum;
 }
 
-uint32_t naive_between(struct naive_table t, uint32_t i, uint32_t j)
+uint32_t naive_between(const struct tree *t, uint32_t i, uint32_t j)
 {
-    return naive_distance(t.columns + (size_t)i * t.c, t.columns + (size_t)j * t.c, t.c);
+    const uint16_t *columns = t->table.columns;
+    uint32_t c = t->table.c;
+    return naive_distance(columns + (size_t)i * c, columns + (size_t)j * c, c, t->circles);
 }
 
 /* ---- Numbers given back ---- */
@@ -53,6 +67,20 @@ struct faults naive_table_faults(struct naive_table t)
     f.met[3] = t.c != 0 && t.length % t.c != 0;
     f.met[4] = naive_rows_of(t) > MOST_ROWS;
     return f;
+}
+
+bool naive_beyond_columns(uint32_t circles, uint32_t c)
+{
+    return c < 32 && circles >> c != 0;
+}
+
+bool naive_off_circle(const uint16_t *columns, size_t length, uint32_t c, uint32_t circles)
+{
+    for (size_t row = 0; row + c <= length; row += c)
+        for (uint32_t j = 0; j < c; j++)
+            if (is_circle(circles, j) && columns[row + j] >= CIRCLE)
+                return true;
+    return false;
 }
 
 void naive_clear_work(struct naive_room work, size_t n)
@@ -97,7 +125,7 @@ static bool fields_possible(const uint32_t *w)
     uint32_t n = w[1], c = w[2], m = w[3], l = w[4], nodes = w[5];
     bool nodes_fit = n == 0 ? nodes == 0 : nodes >= 1 && nodes <= 2 * (uint64_t)n - 1;
     return n <= MOST_ROWS && c >= 1 && c <= MOST_COLUMNS && m >= 2 && m <= MOST_CENTRES && l >= m && l <= MOST_LEAF && nodes_fit
-        && w[6] == 1 && w[7] == 0;
+        && w[6] == 1 && !naive_beyond_columns(w[7], c);
 }
 
 static bool header_possible(const uint32_t *w)
@@ -184,6 +212,13 @@ void naive_index_faults(struct faults *f, struct naive_index x, struct naive_tab
 {
     f->met[8] = !words_there(x) || !of_table(x.words, t);
     f->met[9] = !f->met[8] && !in_shape(x.words);
+}
+
+void naive_circle_fault(struct faults *f, struct naive_index x, struct naive_table t, struct naive_query q)
+{
+    if (f->met[1] || f->met[8])
+        return;
+    f->met[19] = naive_off_circle(t.columns, t.length, t.c, x.words[7]) || naive_off_circle(q.columns, q.length, t.c, x.words[7]);
 }
 
 /* ---- Listing a node ---- */
@@ -276,6 +311,8 @@ static struct naive_says read_words(const uint32_t *words, size_t blocks, struct
         return says(8, 0, 0);
     if (!in_shape(words))
         return says(9, 0, 0);
+    if (naive_off_circle(table.columns, table.length, table.c, words[7]))
+        return says(19, 0, 0);
     if (room.length < given)
         return says(5, 0, 0);
     if (words[0] == 1)

@@ -11,7 +11,7 @@ static struct node *closest_child(const struct tree *t, const struct node *v, ui
 {
     uint32_t closest = 0;
     for (uint32_t j = 1; j < t->m; j++)
-        if (naive_between(t->table, first_of(t, v->child[j]), row) < naive_between(t->table, first_of(t, v->child[closest]), row))
+        if (naive_between(t, first_of(t, v->child[j]), row) < naive_between(t, first_of(t, v->child[closest]), row))
             closest = j;
     return v->child[closest];
 }
@@ -70,7 +70,7 @@ static bool has_row_twice(const struct tree *t, const struct node *v)
 static void measure_leaf(struct tree *t, const struct node *v)
 {
     for (uint32_t p = v->start; p < v->start + v->count; p++)
-        t->stored[p] = naive_between(t->table, first_of(t, v), t->row[p]);
+        t->stored[p] = naive_between(t, first_of(t, v), t->row[p]);
 }
 
 /* The node keeps its own reach; what is below it is the build's. */
@@ -89,7 +89,7 @@ static void add_row(struct tree *t, uint32_t row)
     struct node *way[MOST_DEPTH + 1];
     uint32_t depth = find_way(t, row, way), place = way[depth]->start + way[depth]->count;
     for (uint32_t k = 0; k <= depth; k++)
-        take_in(way[k], naive_between(t->table, first_of(t, way[k]), row));
+        take_in(way[k], naive_between(t, first_of(t, way[k]), row));
     move_behind(t, t->root, place);
     t->row = with_one_more(t->row, t->n, place, row);
     t->stored = with_one_more(t->stored, t->n, place, 0);
@@ -110,6 +110,7 @@ static struct faults append_faults(struct naive_table table, struct naive_index 
     f.met[8] = n == 0;
     if (n > 0)
         naive_index_faults(&f, index, before);
+    naive_circle_fault(&f, index, table, (struct naive_query){ NULL, 0 });
     return f;
 }
 
@@ -120,7 +121,7 @@ struct naive_says naive_append(struct naive_table table, struct naive_index inde
     if (naive_lowest(&f) != 0)
         return says(naive_lowest(&f), 0, 0);
     if (w[1] == 0)
-        return naive_build(table, w[3], w[4], 2, room, work);
+        return naive_build(table, w[3], w[4], w[7], 2, room, work);
     struct tree t = naive_read_tree(w, table);
     add_row(&t, t.n);
     uint32_t nodes = naive_put_tree(&t, room.words);

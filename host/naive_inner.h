@@ -11,10 +11,11 @@ enum {
     MOST_CENTRES = 64,
     MOST_LEAF = 1024,
     MOST_DISTANCE = 1048560,
+    CIRCLE = 3600, /* tenths of a degree */
     HEADER_WORDS = 8,
     BLOCK_WORDS = 127,
     BLOCK_BYTES = 512,
-    NUMBERS = 19
+    NUMBERS = 27
 };
 
 /* The faults that meet a call, by number. */
@@ -31,7 +32,7 @@ struct node {
 /* `row` and `stored` stand by position. */
 struct tree {
     struct naive_table table;
-    uint32_t n, m, l, edition;
+    uint32_t n, m, l, circles, edition;
     uint32_t *row, *stored;
     struct node *root; /* NULL where there are no rows */
 };
@@ -60,13 +61,21 @@ static inline uint32_t first_of(const struct tree *t, const struct node *v)
 
 /* Zeroed memory for `count` things, never NULL. */
 void *naive_fresh(size_t count, size_t size);
-uint32_t naive_between(struct naive_table t, uint32_t i, uint32_t j);
+uint32_t naive_between(const struct tree *t, uint32_t i, uint32_t j);
 
 uint32_t naive_lowest(const struct faults *f);
 size_t naive_rows_of(struct naive_table t);
 struct faults naive_table_faults(struct naive_table t);
 /* Adds 8 and 9. */
 void naive_index_faults(struct faults *f, struct naive_index x, struct naive_table t);
+/* Whether a circular column holds 3,600 or more, in any row. */
+bool naive_off_circle(const uint16_t *columns, size_t length, uint32_t c, uint32_t circles);
+/* Adds 19, where neither 1 nor 8 is met: by the index's circles, for the table and, where there is one, the query. */
+void naive_circle_fault(struct faults *f, struct naive_index x, struct naive_table t, struct naive_query q);
+/* 20: the set's length is not n/32 rounded up, or a bit n or above is on. */
+bool naive_set_bad(struct naive_set set, size_t n);
+/* Whether a bit is on at or above the columns' number. */
+bool naive_beyond_columns(uint32_t circles, uint32_t c);
 void naive_clear_work(struct naive_room work, size_t n);
 
 /* How many words a node takes in an edition; edition 1 stands on old cards alone. */

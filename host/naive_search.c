@@ -1,5 +1,5 @@
-/* 01's searches, with 02's inner reach: radius by its recursive rules, nearest by sorting all rows and by home bounds from the
-   top down. */
+/* 01's searches, with 02's inner reach and withdrawn rows: radius by its recursive rules, nearest by sorting all rows that remain and by home
+   bounds from the top down. */
 #include "naive_inner.h"
 
 #include <stdlib.h>
@@ -11,15 +11,17 @@ struct search {
     struct tree tree;
     uint32_t *x;
     uint32_t r;
+    struct naive_set withdrawn;
     uint8_t *how;
 };
 
-static struct search begin_search(struct naive_index index, struct naive_table table, const uint16_t *query, uint32_t r, uint8_t *how)
+static struct search begin_search(struct naive_index index, struct naive_table table, const uint16_t *query, uint32_t r, struct naive_set withdrawn,
+                                  uint8_t *how)
 {
-    struct search s = { naive_read_tree(index.words, table), NULL, r, how };
+    struct search s = { naive_read_tree(index.words, table), NULL, r, withdrawn, how };
     s.x = naive_fresh(s.tree.n, sizeof *s.x);
     for (uint32_t i = 0; i < s.tree.n; i++)
-        s.x[i] = naive_distance(query, table.columns + (size_t)i * table.c, table.c);
+        s.x[i] = naive_distance(query, table.columns + (size_t)i * table.c, table.c, s.tree.circles);
     return s;
 }
 
@@ -55,10 +57,17 @@ static uint32_t child_bound(const struct search *s, const struct node *child, ui
 /* ---- Radius ---- */
 
 /* Marks are set in the descent's order, and out unmeasured is not set: it stands there from the start. So where a row number stands
-   twice, the last mark that is not 0 stands. */
+   twice, the last mark that is not 0 stands. A withdrawn row is never in: 1 if measured, and else its mark is 0. */
+static void mark(struct search *s, uint32_t row, uint8_t how)
+{
+    uint8_t shown = naive_is_in(s->withdrawn, row) ? how % 2 : how;
+    if (shown != 0)
+        s->how[row] = shown;
+}
+
 static void mark_measured(struct search *s, uint32_t row)
 {
-    s->how[row] = s->x[row] <= s->r ? 3 : 1;
+    mark(s, row, s->x[row] <= s->r ? 3 : 1);
 }
 
 static void treat_leaf(struct search *s, const struct node *v)
@@ -69,7 +78,7 @@ static void treat_leaf(struct search *s, const struct node *v)
         if (apart(x, stored) > s->r)
             continue;
         if (x + stored <= s->r)
-            s->how[row] = 2;
+            mark(s, row, 2);
         else
             mark_measured(s, row);
     }
@@ -80,7 +89,7 @@ static void descend(struct search *s, const struct node *v, uint32_t bound)
 {
     if (first_distance(s, v) + v->radius <= s->r) {
         for (uint32_t p = v->start + 1; p < v->start + v->count; p++)
-            s->how[s->tree.row[p]] = 2;
+            mark(s, s->tree.row[p], 2);
         return;
     }
     if (bound > s->r)
@@ -104,15 +113,18 @@ static uint32_t tally(const uint8_t *how, uint32_t n, uint8_t a, uint8_t b)
     return sum;
 }
 
-struct naive_says naive_radius(struct naive_table table, struct naive_index index, struct naive_query query, uint32_t r, struct naive_bytes how)
+struct naive_says naive_radius(struct naive_table table, struct naive_index index, struct naive_query query, uint32_t r, struct naive_set withdrawn,
+                               struct naive_bytes how)
 {
     struct faults f = naive_table_faults(table);
     f.met[5] = how.length < naive_rows_of(table);
     f.met[6] = query.length != table.c;
     naive_index_faults(&f, index, table);
+    naive_circle_fault(&f, index, table, query);
+    f.met[20] = naive_set_bad(withdrawn, naive_rows_of(table));
     if (naive_lowest(&f) != 0)
         return says(naive_lowest(&f), 0, 0);
-    struct search s = begin_search(index, table, query.columns, r, how.bytes);
+    struct search s = begin_search(index, table, query.columns, r, withdrawn, how.bytes);
     uint32_t n = s.tree.n;
     for (uint32_t i = 0; i < n; i++)
         how.bytes[i] = 0;
@@ -149,19 +161,20 @@ static int by_distance(const void *a, const void *b)
     return (x->row > y->row) - (x->row < y->row);
 }
 
-static struct naive_answer *sorted_rows(const struct search *s)
+/* The rows that are not withdrawn, in order; `*remaining` gets how many. */
+static struct naive_answer *sorted_rows(const struct search *s, uint32_t *remaining)
 {
     struct naive_answer *all = naive_fresh(s->tree.n, sizeof *all);
-    for (uint32_t i = 0; i < s->tree.n; i++) {
-        all[i].row = i;
-        all[i].distance = s->x[i];
-    }
-    qsort(all, s->tree.n, sizeof *all, by_distance);
+    *remaining = 0;
+    for (uint32_t i = 0; i < s->tree.n; i++)
+        if (!naive_is_in(s->withdrawn, i))
+            all[(*remaining)++] = (struct naive_answer){ i, s->x[i] };
+    qsort(all, *remaining, sizeof *all, by_distance);
     return all;
 }
 
-/* How-bytes of a search that gives the first `given` of all rows in order. */
-static void mark_nearest(struct search *s, const struct naive_answer *all, uint32_t given, uint32_t w)
+/* How-bytes of a search for w that gives the first `given` of `remaining` rows in order. */
+static void mark_nearest(struct search *s, const struct naive_answer *all, uint32_t remaining, uint32_t given, uint32_t w)
 {
     uint32_t n = s->tree.n;
     uint32_t *home = naive_fresh(n, sizeof *home);
@@ -170,21 +183,23 @@ static void mark_nearest(struct search *s, const struct naive_answer *all, uint3
         find_homes(s, s->tree.root, 0, home);
     }
     for (uint32_t i = 0; i < n; i++)
-        s->how[i] = n < w || home[i] <= all[given - 1].distance;
+        s->how[i] = remaining < w || home[i] <= all[given - 1].distance;
     for (uint32_t a = 0; a < given; a++)
         s->how[all[a].row] = 3;
     free(home);
 }
 
 static struct naive_says nearest_or(struct faults f, struct naive_table table, struct naive_index index, struct naive_query query, uint32_t w,
-                                    struct naive_room rows, struct naive_room distances, struct naive_bytes how, struct naive_room work)
+                                    struct naive_set withdrawn, struct naive_room rows, struct naive_room distances, struct naive_bytes how,
+                                    struct naive_room work)
 {
     if (naive_lowest(&f) != 0)
         return says(naive_lowest(&f), 0, 0);
-    struct search s = begin_search(index, table, query.columns, 0, how.bytes);
-    uint32_t n = s.tree.n, given = w < n ? w : n;
-    struct naive_answer *all = sorted_rows(&s);
-    mark_nearest(&s, all, given, w);
+    struct search s = begin_search(index, table, query.columns, 0, withdrawn, how.bytes);
+    uint32_t n = s.tree.n, remaining;
+    struct naive_answer *all = sorted_rows(&s, &remaining);
+    uint32_t given = w < remaining ? w : remaining;
+    mark_nearest(&s, all, remaining, given, w);
     for (uint32_t a = 0; a < given; a++) {
         rows.words[a] = all[a].row;
         distances.words[a] = all[a].distance;
@@ -200,8 +215,8 @@ static size_t answers_asked(struct naive_table table, uint32_t w)
     return w < naive_rows_of(table) ? w : naive_rows_of(table);
 }
 
-static struct faults nearest_faults(struct naive_table table, struct naive_index index, struct naive_query query, uint32_t w, size_t rows,
-                                    size_t distances, size_t how, size_t work)
+static struct faults nearest_faults(struct naive_table table, struct naive_index index, struct naive_query query, uint32_t w,
+                                    struct naive_set withdrawn, size_t rows, size_t distances, size_t how, size_t work)
 {
     struct faults f = naive_table_faults(table);
     size_t n = naive_rows_of(table), asked = answers_asked(table, w);
@@ -209,23 +224,25 @@ static struct faults nearest_faults(struct naive_table table, struct naive_index
     f.met[6] = query.length != table.c;
     f.met[7] = w == 0;
     naive_index_faults(&f, index, table);
+    naive_circle_fault(&f, index, table, query);
+    f.met[20] = naive_set_bad(withdrawn, n);
     return f;
 }
 
-struct naive_says naive_nearest(struct naive_table table, struct naive_index index, struct naive_query query, uint32_t w, struct naive_room rows,
-                                struct naive_room distances, struct naive_bytes how, struct naive_room work)
+struct naive_says naive_nearest(struct naive_table table, struct naive_index index, struct naive_query query, uint32_t w, struct naive_set withdrawn,
+                                struct naive_room rows, struct naive_room distances, struct naive_bytes how, struct naive_room work)
 {
-    struct faults f = nearest_faults(table, index, query, w, rows.length, distances.length, how.length, work.length);
-    return nearest_or(f, table, index, query, w, rows, distances, how, work);
+    struct faults f = nearest_faults(table, index, query, w, withdrawn, rows.length, distances.length, how.length, work.length);
+    return nearest_or(f, table, index, query, w, withdrawn, rows, distances, how, work);
 }
 
 struct naive_says naive_nearest_answers(struct naive_table table, struct naive_index index, struct naive_query query, uint32_t w,
-                                        struct naive_records answers, struct naive_room rows, struct naive_room distances, struct naive_bytes how,
-                                        struct naive_room work)
+                                        struct naive_set withdrawn, struct naive_records answers, struct naive_room rows, struct naive_room distances,
+                                        struct naive_bytes how, struct naive_room work)
 {
-    struct faults f = nearest_faults(table, index, query, w, rows.length, distances.length, how.length, work.length);
+    struct faults f = nearest_faults(table, index, query, w, withdrawn, rows.length, distances.length, how.length, work.length);
     f.met[5] = f.met[5] || answers.length < answers_asked(table, w);
-    struct naive_says s = nearest_or(f, table, index, query, w, rows, distances, how, work);
+    struct naive_says s = nearest_or(f, table, index, query, w, withdrawn, rows, distances, how, work);
     for (uint32_t a = 0; s.number == 0 && a < s.one; a++) {
         answers.records[a].row = rows.words[a];
         answers.records[a].distance = distances.words[a];

@@ -23,9 +23,9 @@ void naive_free_tree(struct tree *t)
     free(t->stored);
 }
 
-static struct tree bare_tree(struct naive_table table, uint32_t n, uint32_t m, uint32_t l, uint32_t edition)
+static struct tree bare_tree(struct naive_table table, uint32_t n, uint32_t m, uint32_t l, uint32_t circles, uint32_t edition)
 {
-    struct tree t = { table, n, m, l, edition, NULL, NULL, NULL };
+    struct tree t = { table, n, m, l, circles, edition, NULL, NULL, NULL };
     t.row = naive_fresh(n, sizeof *t.row);
     t.stored = naive_fresh(n, sizeof *t.stored);
     return t;
@@ -35,7 +35,7 @@ static uint32_t true_radius(const struct tree *t, const struct node *v)
 {
     uint32_t most = 0;
     for (uint32_t p = v->start; p < v->start + v->count; p++)
-        most = greater(most, naive_between(t->table, first_of(t, v), t->row[p]));
+        most = greater(most, naive_between(t, first_of(t, v), t->row[p]));
     return most;
 }
 
@@ -44,7 +44,7 @@ static uint32_t true_inner_reach(const struct tree *t, const struct node *v)
 {
     uint32_t least = UINT32_MAX;
     for (uint32_t p = v->start + 1; p < v->start + v->count; p++) {
-        uint32_t d = naive_between(t->table, first_of(t, v), t->row[p]);
+        uint32_t d = naive_between(t, first_of(t, v), t->row[p]);
         least = d < least ? d : least;
     }
     return v->count == 1 ? 0 : least;
@@ -69,7 +69,7 @@ static void choose_centres(const struct tree *t, const struct node *v, uint32_t 
         chosen[now] = true;
         centre[j] = v->start + now;
         for (uint32_t i = 0; i < v->count; i++) {
-            uint32_t d = naive_between(t->table, row[now], row[i]);
+            uint32_t d = naive_between(t, row[now], row[i]);
             least[i] = d < least[i] ? d : least[i];
         }
     }
@@ -85,7 +85,7 @@ static uint32_t group_of(const struct tree *t, const uint32_t *centre, uint32_t 
         if (centre[j] == p)
             return j;
     for (uint32_t j = 1; j < t->m; j++)
-        if (naive_between(t->table, t->row[centre[j]], t->row[p]) < naive_between(t->table, t->row[centre[closest]], t->row[p]))
+        if (naive_between(t, t->row[centre[j]], t->row[p]) < naive_between(t, t->row[centre[closest]], t->row[p]))
             closest = j;
     return closest;
 }
@@ -125,7 +125,7 @@ struct node *naive_grow(struct tree *t, uint32_t start, uint32_t count, uint32_t
     v->inner_reach = t->edition == 2 ? true_inner_reach(t, v) : 0;
     if (count <= t->l || depth == MOST_DEPTH) {
         for (uint32_t p = start; p < start + count; p++)
-            t->stored[p] = naive_between(t->table, first_of(t, v), t->row[p]);
+            t->stored[p] = naive_between(t, first_of(t, v), t->row[p]);
         return v;
     }
     uint32_t centre[MOST_CENTRES], size[MOST_CENTRES];
@@ -161,7 +161,7 @@ static const struct node **by_level(const struct tree *t, uint32_t nodes)
 static void put_index(const struct tree *t, uint32_t nodes, uint32_t *w)
 {
     const struct node **list = by_level(t, nodes);
-    const uint32_t header[HEADER_WORDS] = { t->edition, t->n, t->table.c, t->m, t->l, nodes, 1, 0 };
+    const uint32_t header[HEADER_WORDS] = { t->edition, t->n, t->table.c, t->m, t->l, nodes, 1, t->circles };
     memcpy(w, header, sizeof header);
     for (uint32_t k = 0, child = 1; k < nodes; k++) {
         uint32_t *at = w + HEADER_WORDS + naive_node_words(t->edition) * k;
@@ -189,9 +189,9 @@ uint32_t naive_put_tree(const struct tree *t, uint32_t *room)
 }
 
 /* Puts the index into the room and gives the number of nodes. */
-static uint32_t build_in(uint32_t edition, struct naive_table table, uint32_t m, uint32_t l, uint32_t *room)
+static uint32_t build_in(uint32_t edition, struct naive_table table, uint32_t m, uint32_t l, uint32_t circles, uint32_t *room)
 {
-    struct tree t = bare_tree(table, (uint32_t)naive_rows_of(table), m, l, edition);
+    struct tree t = bare_tree(table, (uint32_t)naive_rows_of(table), m, l, circles, edition);
     for (uint32_t i = 0; i < t.n; i++)
         t.row[i] = i;
     if (t.n > 0)
@@ -201,22 +201,24 @@ static uint32_t build_in(uint32_t edition, struct naive_table table, uint32_t m,
     return nodes;
 }
 
-struct naive_says naive_build(struct naive_table table, uint32_t m, uint32_t l, uint32_t edition, struct naive_room room, struct naive_room work)
+struct naive_says naive_build(struct naive_table table, uint32_t m, uint32_t l, uint32_t circles, uint32_t edition, struct naive_room room,
+                              struct naive_room work)
 {
     struct faults f = naive_table_faults(table);
     size_t n = naive_rows_of(table);
-    f.met[2] = m < 2 || m > MOST_CENTRES || l < m || l > MOST_LEAF || edition != 2;
+    f.met[2] = m < 2 || m > MOST_CENTRES || l < m || l > MOST_LEAF || naive_beyond_columns(circles, table.c) || edition != 2;
     f.met[5] = room.length < 12 * n + 8 || work.length < 6 * n;
+    f.met[19] = !f.met[1] && naive_off_circle(table.columns, table.length, table.c, circles);
     if (naive_lowest(&f) != 0)
         return says(naive_lowest(&f), 0, 0);
-    uint32_t nodes = build_in(edition, table, m, l, room.words);
+    uint32_t nodes = build_in(edition, table, m, l, circles, room.words);
     naive_clear_work(work, n);
     return says(0, (uint32_t)naive_words_asked(room.words), nodes);
 }
 
-uint32_t naive_build_old(struct naive_table table, uint32_t m, uint32_t l, uint32_t *room)
+uint32_t naive_build_old(struct naive_table table, uint32_t m, uint32_t l, uint32_t circles, uint32_t *room)
 {
-    build_in(1, table, m, l, room);
+    build_in(1, table, m, l, circles, room);
     return (uint32_t)naive_words_asked(room);
 }
 
@@ -240,7 +242,7 @@ static struct node *read_node(const uint32_t *w, uint32_t k)
 
 struct tree naive_read_tree(const uint32_t *w, struct naive_table table)
 {
-    struct tree t = bare_tree(table, w[1], w[3], w[4], w[0]);
+    struct tree t = bare_tree(table, w[1], w[3], w[4], w[7], w[0]);
     for (uint32_t p = 0; p < t.n; p++) {
         t.row[p] = w[naive_pair_place(w, p)];
         t.stored[p] = w[naive_pair_place(w, p) + 1];
@@ -297,7 +299,7 @@ static struct place wrong_distance(const struct tree *t, const struct node **lis
     struct place at = { false, 0, 0 };
     for (uint32_t k = 0; k < nodes; k++)
         for (uint32_t p = list[k]->start; list[k]->child == NULL && p < list[k]->start + list[k]->count; p++)
-            if (t->stored[p] != naive_between(t->table, first_of(t, list[k]), t->row[p]) && (!at.found || p < at.one)) {
+            if (t->stored[p] != naive_between(t, first_of(t, list[k]), t->row[p]) && (!at.found || p < at.one)) {
                 at.found = true;
                 at.one = p;
             }
@@ -323,9 +325,9 @@ static struct place wrong_reach(const struct tree *t, const struct node **list, 
 /* Whether a centre of v is closer to the row at position p, a member of v's child `own`, than that child's. */
 static bool closer_elsewhere(const struct tree *t, const struct node *v, const struct node *own, uint32_t p)
 {
-    uint32_t mine = naive_between(t->table, first_of(t, own), t->row[p]);
+    uint32_t mine = naive_between(t, first_of(t, own), t->row[p]);
     for (uint32_t j = 0; j < t->m; j++)
-        if (naive_between(t->table, first_of(t, v->child[j]), t->row[p]) < mine)
+        if (naive_between(t, first_of(t, v->child[j]), t->row[p]) < mine)
             return true;
     return false;
 }
@@ -363,6 +365,7 @@ struct naive_says naive_check(struct naive_table table, struct naive_index index
     struct faults f = naive_table_faults(table);
     f.met[5] = work.length < 6 * naive_rows_of(table);
     naive_index_faults(&f, index, table);
+    naive_circle_fault(&f, index, table, (struct naive_query){ NULL, 0 });
     if (naive_lowest(&f) != 0)
         return says(naive_lowest(&f), 0, 0);
     struct tree t = naive_read_tree(index.words, table);

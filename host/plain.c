@@ -13,6 +13,22 @@ static inline const uint32_t *pairs_of(const uint32_t *index)
     return index + 8 + NODE_WORDS * (size_t)index[5];
 }
 
+/* ---- Circles ---- */
+
+/* The greatest number of each circular column, looked at once. */
+bool plain_off_circle(struct plain_table t)
+{
+    for (uint32_t left = t.circles; left != 0; left &= left - 1) {
+        const uint16_t *at = t.columns + __builtin_ctz(left);
+        uint32_t most = 0;
+        for (uint32_t i = 0; i < t.n; i++, at += t.c)
+            most = greater(most, *at);
+        if (most >= CIRCLE)
+            return true;
+    }
+    return false;
+}
+
 /* ---- Build ---- */
 
 /* By position: the rows in order, the distance from the closest centre so far, that centre's place among the m with the
@@ -32,7 +48,7 @@ static uint32_t one_round(struct making *k, uint32_t start, uint32_t count, uint
     k->least[at] = 0;
     k->group[at] = j | CENTRE;
     for (uint32_t p = start; p < start + count; p++) {
-        uint32_t d = far(centre, row_of(k->table, k->order[p]), k->table.c);
+        uint32_t d = far(k->table, centre, row_of(k->table, k->order[p]));
         if (d < k->least[p]) {
             k->least[p] = d;
             k->group[p] = j;
@@ -134,14 +150,16 @@ static uint32_t make_nodes(struct making *k, uint32_t l, uint32_t *node)
 uint32_t plain_build(struct plain_table t, uint32_t m, uint32_t l, uint32_t *room, uint32_t *work)
 {
     size_t n = t.n;
+    if (plain_off_circle(t))
+        return 0;
     struct making k = { t, m, work, work + n, work + 2 * n, work + 3 * n, work + 4 * n };
     for (uint32_t i = 0; i < t.n; i++) {
         k.order[i] = i;
-        k.least[i] = far(row_of(t, 0), row_of(t, i), t.c);
+        k.least[i] = far(t, row_of(t, 0), row_of(t, i));
     }
     /* With no rows the root's first two words would be written; the header is then all there is. */
     uint32_t nodes = n == 0 ? 0 : make_nodes(&k, l, room + 8);
-    const uint32_t header[8] = { 2, t.n, t.c, m, l, nodes, 1, 0 };
+    const uint32_t header[8] = { 2, t.n, t.c, m, l, nodes, 1, t.circles };
     memcpy(room, header, sizeof header);
     uint32_t *pair = room + 8 + NODE_WORDS * (size_t)nodes;
     for (size_t p = 0; p < n; p++) {
@@ -232,7 +250,7 @@ static void check_child(struct plain_table t, const uint32_t *index, uint32_t pa
         const uint16_t *row = row_of(t, pair[2 * (size_t)p]);
         uint32_t d = 0, least = MOST_DISTANCE;
         for (uint32_t j = 0; j < centres; j++) {
-            uint32_t x = far(centre[j], row, t.c);
+            uint32_t x = far(t, centre[j], row);
             least = x < least ? x : least;
             d = j == own ? x : d;
         }
@@ -275,6 +293,10 @@ struct plain_verdict plain_check(struct plain_table t, const uint32_t *index, ui
     struct faults f = { none, none, none, none };
     if (!plain_shape(index))
         return v;
+    if (plain_off_circle(t)) {
+        v.number = 19;
+        return v;
+    }
     memset(work, 0, 6 * (size_t)t.n * sizeof *work);
     uint32_t again = row_again(index, work);
     memset(work, 0, 6 * (size_t)t.n * sizeof *work);

@@ -1,5 +1,6 @@
-/* The library's algorithms once more in plain C, written for speed and proved by nobody: the bench's yardstick.
-   Nothing is tested that a caller can get right: rooms are long enough, and but for plain_shape the index is in shape. */
+/* The library's algorithms once more in plain C, written for speed and proved by nobody: the bench's yardstick. Nothing is tested that a caller
+   can get right: rooms are long enough, and but for plain_shape the index is in shape. A table off its circles is found, as the library
+   finds it: a build then gives no words, a search finds and measures none. */
 #ifndef HOST_PLAIN_H
 #define HOST_PLAIN_H
 
@@ -7,9 +8,10 @@
 #include <stddef.h>
 #include <stdint.h>
 
+/* Bit j of `circles` is on where column j is a circle, in the table as in the header of its index. */
 struct plain_table {
     const uint16_t *columns;
-    uint32_t n, c;
+    uint32_t n, c, circles;
 };
 
 struct plain_counts {
@@ -28,10 +30,13 @@ struct plain_verdict {
 /* Gives the number of words; work is 6n words, and is zero afterwards. */
 PLAIN_CALL uint32_t plain_build(struct plain_table t, uint32_t m, uint32_t l, uint32_t *room, uint32_t *work);
 PLAIN_CALL bool plain_shape(const uint32_t *index);
+PLAIN_CALL bool plain_off_circle(struct plain_table t);
 PLAIN_CALL struct plain_verdict plain_check(struct plain_table t, const uint32_t *index, uint32_t *work);
-PLAIN_CALL struct plain_counts plain_radius(struct plain_table t, const uint32_t *index, const uint16_t *query, uint32_t r, uint8_t *how);
-PLAIN_CALL struct plain_counts plain_nearest(struct plain_table t, const uint32_t *index, const uint16_t *query, uint32_t w, uint32_t *rows,
-                                             uint32_t *distances, uint8_t *how, uint32_t *work);
+/* The withdrawn rows are a set of n/32 words, rounded up. */
+PLAIN_CALL struct plain_counts plain_radius(struct plain_table t, const uint32_t *index, const uint16_t *query, uint32_t r, const uint32_t *withdrawn,
+                                            uint8_t *how);
+PLAIN_CALL struct plain_counts plain_nearest(struct plain_table t, const uint32_t *index, const uint16_t *query, uint32_t w,
+                                             const uint32_t *withdrawn, uint32_t *rows, uint32_t *distances, uint8_t *how, uint32_t *work);
 
 /* Gives the number of blocks. */
 PLAIN_CALL size_t plain_write(const uint32_t *index, uint8_t *image);
@@ -40,7 +45,7 @@ PLAIN_CALL size_t plain_write(const uint32_t *index, uint8_t *image);
    the shape in the room. */
 PLAIN_CALL size_t plain_read(const uint8_t *image, size_t blocks, uint32_t *room);
 
-/* The same answers by a scan of every row. */
+/* The answers by a scan of every row, where none is withdrawn. */
 PLAIN_CALL uint32_t plain_scan_radius(struct plain_table t, const uint16_t *query, uint32_t r, uint8_t *how);
 PLAIN_CALL uint32_t plain_scan_nearest(struct plain_table t, const uint16_t *query, uint32_t w, uint32_t *rows, uint32_t *distances);
 

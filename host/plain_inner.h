@@ -10,6 +10,8 @@ enum {
     MOST_DEPTH = 24,
     MOST_CENTRES = 64,
     MOST_DISTANCE = 1048560,
+    CIRCLE = 3600,
+    BLOCK_COLUMNS = 8, /* added up before a look at the ceiling */
     NODE_WORDS = 5 /* start, count, first child, radius, inner reach */
 };
 
@@ -48,16 +50,49 @@ static inline uint32_t far_over(const uint16_t *a, const uint16_t *b, uint32_t c
     return sum;
 }
 
-/* The distance of two rows. A loop to a constant is compiled without a loop. */
-static inline uint32_t far(const uint16_t *a, const uint16_t *b, uint32_t c)
+/* The distance of two rows without circles. A loop to a constant is compiled without a loop. */
+static inline uint32_t far_plain(const uint16_t *a, const uint16_t *b, uint32_t c)
 {
     if (c == 6)
         return far_over(a, b, 6);
     if (c == 4)
         return far_over(a, b, 4);
+    if (c == BLOCK_COLUMNS)
+        return far_over(a, b, BLOCK_COLUMNS);
     if ((int)c == SIXTEEN)
         return far_over(a, b, 16);
     return far_over(a, b, c);
+}
+
+/* How much shorter the other way round is in these columns, where it is. */
+static inline uint32_t saved(const uint16_t *a, const uint16_t *b, uint32_t circles)
+{
+    uint32_t less = 0;
+    for (; circles != 0; circles &= circles - 1) {
+        int j = __builtin_ctz(circles);
+        uint32_t twice = 2 * column(a[j], b[j]);
+        less += twice > CIRCLE ? twice - CIRCLE : 0;
+    }
+    return less;
+}
+
+/* The distance of two rows of the table, or of one and a query. */
+static inline uint32_t far(struct plain_table t, const uint16_t *a, const uint16_t *b)
+{
+    uint32_t sum = far_plain(a, b, t.c);
+    return t.circles == 0 ? sum : sum - saved(a, b, t.circles);
+}
+
+/* The same where it is at most the ceiling; else something above it, and the columns behind the first block are not always added. */
+static inline uint32_t far_to(struct plain_table t, const uint16_t *a, const uint16_t *b, uint32_t ceiling)
+{
+    if (t.c <= BLOCK_COLUMNS)
+        return far(t, a, b);
+    const uint32_t block = (1u << BLOCK_COLUMNS) - 1;
+    uint32_t sum = far_over(a, b, BLOCK_COLUMNS) - saved(a, b, t.circles & block);
+    if (sum > ceiling)
+        return sum;
+    return sum + far_plain(a + BLOCK_COLUMNS, b + BLOCK_COLUMNS, t.c - BLOCK_COLUMNS) - saved(a, b, t.circles & ~block);
 }
 
 static inline const uint16_t *row_of(struct plain_table t, uint32_t i)

@@ -16,7 +16,7 @@ enum {
     TEXT = 14
 };
 
-static const char *const colours[PLOT_LINES] = { "#1b6e3c", "#3b6fb6", "#b5533c", "#8a5fb0", "#c08a1e", "#555555" };
+static const char *const colours[PLOT_LINES] = { "#1b6e3c", "#3b6fb6", "#b5533c", "#8a5fb0", "#c08a1e", "#2a9d9d", "#555555" };
 
 /* A panel's corner and the powers of ten that its axes span. */
 struct frame {

@@ -6,7 +6,7 @@
 
 enum {
     PLOT_SIZES = 8,
-    PLOT_LINES = 6
+    PLOT_LINES = 7
 };
 
 /* Microseconds, or percent. */

@@ -18,6 +18,7 @@ enum style {
     LINE,     /* ascending */
     FEW,      /* copies of a few rows */
     CLUSTERS, /* narrow groups far apart */
+    SEAM,     /* around 0 degrees, and around 180 */
     STYLES
 };
 
@@ -31,10 +32,32 @@ static uint16_t draw_value(struct draw *d, enum style style, uint32_t row)
     case WIDE: return (uint16_t)draw_below(d, 65536);
     case ENDS: return draw_one_in(d, 2) ? 65535 : 0;
     case LINE: return (uint16_t)(3 * row + draw_below(d, 2));
+    case SEAM: return (uint16_t)((3600 + (draw_one_in(d, 4) ? 1800 : 0) - 4 + draw_below(d, 9)) % 3600);
     default: break;
     }
     uint32_t cluster = draw_below(d, 7);
     return (uint16_t)(9000 * cluster + draw_below(d, 30));
+}
+
+static bool is_circle(const struct sample *s, uint32_t j)
+{
+    return (s->circles >> j & 1) != 0;
+}
+
+uint16_t on_circle(const struct sample *s, uint32_t j, uint32_t value)
+{
+    return (uint16_t)(is_circle(s, j) ? (value & 65535) % 3600 : value);
+}
+
+void leave_circle(struct draw *d, const struct sample *s, uint16_t *row)
+{
+    static const uint16_t values[] = { 3600, 3600, 3601, 7199, 7200, 36000, 65535, 3599 };
+    uint32_t begin = draw_below(d, s->c);
+    for (uint32_t i = 0, j = begin; i < s->c; i++, j = (j + 1) % s->c)
+        if (is_circle(s, j)) {
+            row[j] = values[draw_below(d, 8)];
+            return;
+        }
 }
 
 /* The table and the row behind it. */
@@ -45,7 +68,7 @@ static void fill_table(struct draw *d, struct sample *s, enum style style)
         bool copied = i > 0 && draw_one_in(d, style == FEW ? 2 : 9);
         const uint16_t *from = s->table + (size_t)(copied ? draw_below(d, i) : 0) * s->c;
         for (uint32_t j = 0; j < s->c; j++)
-            row[j] = copied ? from[j] : draw_value(d, style, i);
+            row[j] = copied ? from[j] : on_circle(s, j, draw_value(d, style, i));
     }
 }
 
@@ -59,6 +82,12 @@ static void draw_centres(struct draw *d, struct sample *s)
         s->l = draw_one_in(d, 2) ? 1024 : draw_between(d, s->m, 1024);
 }
 
+static void draw_circles(struct draw *d, struct sample *s)
+{
+    uint32_t all = (1u << s->c) - 1;
+    s->circles = draw_one_in(d, 2) ? 0 : draw_one_in(d, 4) ? all : (uint32_t)draw_next(d) & all;
+}
+
 void draw_query(struct draw *d, struct sample *s)
 {
     bool near = s->n > 0 && !draw_one_in(d, 4);
@@ -66,7 +95,7 @@ void draw_query(struct draw *d, struct sample *s)
     enum style style = draw_below(d, STYLES);
     uint32_t shift = draw_one_in(d, 3) ? 0 : draw_below(d, 4);
     for (uint32_t j = 0; j < 32; j++)
-        s->query[j] = near && j < s->c ? (uint16_t)(row[j] + draw_below(d, shift + 1)) : draw_value(d, style, draw_below(d, SAMPLE_ROWS));
+        s->query[j] = on_circle(s, j, near && j < s->c ? row[j] + draw_below(d, shift + 1) : draw_value(d, style, draw_below(d, SAMPLE_ROWS)));
 }
 
 void draw_next_row(struct draw *d, struct sample *s)
@@ -77,7 +106,7 @@ void draw_next_row(struct draw *d, struct sample *s)
     enum style style = draw_below(d, STYLES);
     uint32_t shift = draw_one_in(d, 3) ? 0 : draw_below(d, 4);
     for (uint32_t j = 0; j < s->c; j++)
-        row[j] = near ? (uint16_t)(from[j] + draw_below(d, shift + 1)) : draw_value(d, style, s->n);
+        row[j] = on_circle(s, j, near ? from[j] + draw_below(d, shift + 1) : draw_value(d, style, s->n));
 }
 
 void draw_sample(struct draw *d, struct sample *s, uint32_t limit)
@@ -91,7 +120,8 @@ void draw_sample_of(struct draw *d, struct sample *s, uint32_t n)
     s->c = draw_one_in(d, 3) ? draw_between(d, 1, 2) : draw_between(d, 1, 16);
     s->edition = 2;
     draw_centres(d, s);
-    fill_table(d, s, draw_one_in(d, 2) ? TIES : (enum style)draw_below(d, STYLES));
+    draw_circles(d, s);
+    fill_table(d, s, draw_one_in(d, 2) ? draw_one_in(d, s->circles == 0 ? 5 : 2) ? SEAM : TIES : (enum style)draw_below(d, STYLES));
     s->index_length = s->image_length = 0;
     draw_query(d, s);
 }
@@ -103,6 +133,7 @@ void draw_equal_rows(struct draw *d, struct sample *s, uint32_t n)
     s->edition = 2;
     s->m = draw_between(d, 2, 4);
     s->l = s->m + draw_below(d, 3);
+    draw_circles(d, s);
     fill_table(d, s, EQUAL);
     s->index_length = s->image_length = 0;
     draw_query(d, s);
@@ -137,8 +168,8 @@ void index_built(struct sample *s)
 {
     static uint32_t scratch[6 * SAMPLE_ROWS];
     struct naive_room room = { s->index, SAMPLE_WORDS }, work = { scratch, sizeof scratch / sizeof *scratch };
-    s->index_length = s->edition == 1 ? naive_build_old(table_of(s), s->m, s->l, s->index)
-                                      : naive_build(table_of(s), s->m, s->l, s->edition, room, work).one;
+    s->index_length = s->edition == 1 ? naive_build_old(table_of(s), s->m, s->l, s->circles, s->index)
+                                      : naive_build(table_of(s), s->m, s->l, s->circles, s->edition, room, work).one;
 }
 
 /* How often something is wrong in an index: 0 for never, k for one time in k. Groups are wrong from a depth on. */
@@ -161,7 +192,7 @@ static uint32_t *node_at(struct sample *s, uint32_t k)
 
 static uint32_t apart(const struct sample *s, uint32_t i, uint32_t j)
 {
-    return naive_distance(s->table + (size_t)i * s->c, s->table + (size_t)j * s->c, s->c);
+    return naive_distance(s->table + (size_t)i * s->c, s->table + (size_t)j * s->c, s->c, s->circles);
 }
 
 static void shuffle(struct draw *d, uint32_t *at, uint32_t count)
@@ -270,7 +301,7 @@ static void make_index(struct draw *d, struct sample *s, struct wrongs wrongs)
     for (uint32_t v = 0; v < k.nodes; v++)
         set_reaches(&k, v);
     set_pairs(&k);
-    const uint32_t header[8] = { s->edition, s->n, s->c, s->m, s->l, k.nodes, 1, 0 };
+    const uint32_t header[8] = { s->edition, s->n, s->c, s->m, s->l, k.nodes, 1, s->circles };
     memcpy(s->index, header, sizeof header);
     s->index_length = 8 + node_words(s->edition) * k.nodes + 2 * (size_t)s->n;
 }
@@ -322,12 +353,63 @@ void random_words(struct draw *d, struct sample *s)
         s->index[i] = draw_one_in(d, 20) ? (uint32_t)draw_next(d) : draw_below(d, most);
     if (s->index_length < 8 || draw_one_in(d, 2))
         return;
-    const uint32_t header[8] = { s->edition, s->n, s->c, s->m, s->l, s->n == 0 ? 0 : draw_between(d, 1, 2 * s->n - 1), 1, 0 };
+    const uint32_t header[8] = { s->edition, s->n, s->c, s->m, s->l, s->n == 0 ? 0 : draw_between(d, 1, 2 * s->n - 1), 1, s->circles };
     memcpy(s->index, header, sizeof header);
     if (s->n > 0 && s->index_length >= 12) {
         s->index[8] = 0;
         s->index[9] = s->n;
     }
+}
+
+/* ---- Withdrawn rows ---- */
+
+static void set_bit(uint32_t *set, uint32_t row)
+{
+    set[row / 32] |= 1u << row % 32;
+}
+
+/* The rows that stand first in a node, so far as the words are an index. */
+static void withdraw_firsts(struct sample *s)
+{
+    if (s->index_length < 8 || s->index[5] >= 2 * SAMPLE_ROWS)
+        return;
+    size_t width = node_words(s->index[0]), pairs = 8 + width * s->index[5];
+    for (uint32_t k = 0; k < s->index[5] && pairs <= s->index_length; k++) {
+        uint64_t start = s->index[8 + width * k], at = pairs + 2 * start;
+        if (at < s->index_length && s->index[at] < s->n)
+            set_bit(s->withdrawn, s->index[at]);
+    }
+}
+
+void draw_withdrawn(struct draw *d, struct sample *s)
+{
+    bool firsts = false, turned = draw_one_in(d, 3);
+    uint32_t chances = 0;
+    memset(s->withdrawn, 0, sizeof s->withdrawn);
+    if (draw_one_in(d, 3))
+        return;
+    switch (draw_below(d, 4)) {
+    case 0: break;
+    case 1: firsts = true; break;
+    case 2: chances = draw_between(d, 2, 4); break;
+    default: chances = s->n + 1; break;
+    }
+    if (firsts)
+        withdraw_firsts(s);
+    for (uint32_t i = 0; i < s->n; i++) {
+        if (chances > 0 && draw_one_in(d, chances))
+            set_bit(s->withdrawn, i);
+        if (turned)
+            s->withdrawn[i / 32] ^= 1u << i % 32;
+    }
+}
+
+static uint32_t remaining_rows(const struct sample *s)
+{
+    uint32_t remaining = 0;
+    for (uint32_t i = 0; i < s->n; i++)
+        remaining += (s->withdrawn[i / 32] >> i % 32 & 1) == 0;
+    return remaining;
 }
 
 /* ---- Lots ---- */
@@ -337,14 +419,15 @@ static uint32_t draw_r(struct draw *d, const struct sample *s)
     static const uint32_t ends[] = { 0, 1, 1048560, 1048561, 2097120, UINT32_MAX - 1, UINT32_MAX };
     if (s->n == 0 || draw_one_in(d, 8))
         return ends[draw_below(d, 7)];
-    uint32_t at = naive_distance(s->query, s->table + (size_t)draw_below(d, s->n) * s->c, s->c);
+    uint32_t at = naive_distance(s->query, s->table + (size_t)draw_below(d, s->n) * s->c, s->c, s->circles);
     return draw_one_in(d, 2) ? at : at + draw_below(d, 3) - (at > 0);
 }
 
 static uint32_t draw_w(struct draw *d, const struct sample *s)
 {
-    const uint32_t ends[] = { 1, 2, s->n, s->n + 1, s->n > 1 ? s->n - 1 : 1, UINT32_MAX, 3 };
-    return draw_one_in(d, 2) ? ends[draw_below(d, 7)] : draw_between(d, 1, s->n < 12 ? s->n + 1 : 12);
+    uint32_t remaining = remaining_rows(s);
+    const uint32_t ends[] = { 1, 2, s->n, s->n + 1, s->n > 1 ? s->n - 1 : 1, UINT32_MAX, 3, remaining + 1, remaining > 0 ? remaining : 1 };
+    return draw_one_in(d, 2) ? ends[draw_below(d, 9)] : draw_between(d, 1, s->n < 12 ? s->n + 1 : 12);
 }
 
 static size_t longer(struct draw *d, size_t asked)
@@ -352,7 +435,7 @@ static size_t longer(struct draw *d, size_t asked)
     return asked + (draw_one_in(d, 2) ? 0 : draw_below(d, 9));
 }
 
-struct lot fair_lot(struct draw *d, const struct sample *s)
+struct lot fair_lot(struct draw *d, struct sample *s)
 {
     struct lot lot;
     memset(&lot, 0, sizeof lot);
@@ -362,11 +445,15 @@ struct lot fair_lot(struct draw *d, const struct sample *s)
     lot.c = s->c;
     lot.m = s->m;
     lot.l = s->l;
+    lot.circles = s->circles;
     lot.edition = s->edition;
     lot.index = s->index;
     lot.index_length = s->index_length;
     lot.query = s->query;
     lot.query_length = s->c;
+    draw_withdrawn(d, s);
+    lot.withdrawn = s->withdrawn;
+    lot.withdrawn_length = (s->n + 31) / 32;
     lot.r = draw_r(d, s);
     lot.w = draw_w(d, s);
     lot.node = draw_below(d, s->index_length > 5 && s->index[5] < 2 * SAMPLE_ROWS ? s->index[5] + 2 : 9);

@@ -1,5 +1,5 @@
-/* The scope paper's own cases, cases of the inner reach worked out by hand, old cards, and appends worked out by another hand: the naive
-   implementation against the numbers printed there, the library against the naive one. */
+/* The scope paper's own cases, cases of the inner reach, of circles and of withdrawn rows worked out by hand, old cards, and appends worked out by
+   another hand: the naive implementation against the numbers printed there, the library against the naive one. */
 #include <inttypes.h>
 #include <stdio.h>
 #include <string.h>
@@ -46,21 +46,22 @@ static struct naive_says build(struct lot *lot)
 {
     struct naive_table table = { lot->table, lot->table_length, lot->c };
     struct naive_room r = { room, lot->room }, w = { work, lot->work };
-    struct naive_says s = naive_build(table, lot->m, lot->l, lot->edition, r, w);
+    struct naive_says s = naive_build(table, lot->m, lot->l, lot->circles, lot->edition, r, w);
     lot->index_length = s.one;
     try_build(&trial, lot);
     return s;
 }
 
-/* Some rows of one column, with m = l = 2. */
+/* Some rows of one column, a circle or not, with m = l = 2; and the set of those withdrawn, which is one word where there are rows. */
 struct column {
     const uint16_t *rows;
-    uint32_t n;
+    uint32_t n, circles, withdrawn;
 };
 
 static struct lot built(struct column t)
 {
     struct lot lot = lot_of(t.rows, t.n, 1, 2, 2);
+    lot.circles = t.circles;
     build(&lot);
     return lot;
 }
@@ -81,10 +82,13 @@ static void radius_case(struct column t, uint16_t query, uint32_t r, const char 
     struct naive_index index = { room, lot.index_length };
     struct naive_query q = { &query, 1 };
     struct naive_bytes bytes = { how, 5 };
-    expect_says("radius, numbers", naive_radius(table, index, q, r, bytes), 0, inside, measured);
+    struct naive_set withdrawn = { &t.withdrawn, 1 };
+    expect_says("radius, numbers", naive_radius(table, index, q, r, withdrawn, bytes), 0, inside, measured);
     expect_marks("radius, how-bytes", how, marks);
     lot.query = &query;
     lot.query_length = 1;
+    lot.withdrawn = &t.withdrawn;
+    lot.withdrawn_length = 1;
     lot.r = r;
     try_radius(&trial, &lot);
 }
@@ -106,7 +110,8 @@ static void nearest_case(struct column t, uint16_t query, uint32_t w, struct clo
     struct naive_query q = { &query, 1 };
     struct naive_bytes bytes = { how, 5 };
     struct naive_room r = { row, 5 }, d = { distance, 5 }, k = { work, WORDS };
-    expect_says("nearest, numbers", naive_nearest(table, index, q, w, r, d, bytes, k), 0, should.given, should.measured);
+    struct naive_set withdrawn = { &t.withdrawn, 1 };
+    expect_says("nearest, numbers", naive_nearest(table, index, q, w, withdrawn, r, d, bytes, k), 0, should.given, should.measured);
     expect_words("nearest, rows", row, should.rows, should.given);
     if (should.distances != NULL)
         expect_words("nearest, distances", distance, should.distances, should.given);
@@ -114,6 +119,8 @@ static void nearest_case(struct column t, uint16_t query, uint32_t w, struct clo
         expect_marks("nearest, how-bytes", how, should.marks);
     lot.query = &query;
     lot.query_length = 1;
+    lot.withdrawn = &t.withdrawn;
+    lot.withdrawn_length = 1;
     lot.w = w;
     try_nearest(&trial, &lot);
     try_nearest_answers(&trial, &lot);
@@ -121,7 +128,7 @@ static void nearest_case(struct column t, uint16_t query, uint32_t w, struct clo
 
 /* ---- The five-row table ---- */
 
-static const struct column five = { five_rows, 5 };
+static const struct column five = { five_rows, 5, 0, 0 };
 
 /* 01's words, which stand on old cards; and with one word more a node, the inner reach: 1 1 9 1 0. */
 static const uint32_t old_words[] = { 1, 5, 1, 2, 2, 5, 1, 0, 0, 5, 1, 20, 0, 3, 3, 10, 3, 2, 0, 9, 0, 2, 0, 1, 2, 1, 0, 0,
@@ -186,7 +193,8 @@ static void old_cards(void)
     static const uint32_t old_empty[] = { 1, 0, 1, 2, 2, 0, 1, 0 }, empty[] = { 2, 0, 1, 2, 2, 0, 1, 0 };
     struct naive_table table = { five_rows, 5, 1 };
     uint32_t spoilt[FIVE_WORDS];
-    expect_words("the build of edition 1, how many words", (const uint32_t[]){ naive_build_old(table, 2, 2, room) }, (const uint32_t[]){ OLD_WORDS }, 1);
+    expect_words("the build of edition 1, how many words", (const uint32_t[]){ naive_build_old(table, 2, 2, 0, room) },
+                 (const uint32_t[]){ OLD_WORDS }, 1);
     expect_words("the build of edition 1", room, old_words, OLD_WORDS);
     expect_says("an old card", read_card(old_words, OLD_WORDS, 5, FIVE_WORDS), 0, 0, FIVE_WORDS);
     expect_words("an old card's words", room, five_words, FIVE_WORDS);
@@ -263,12 +271,151 @@ static void closed_by_the_middle(void)
 {
     static const uint16_t gap[] = { 4, 2, 2, 8 }, ring[] = { 7, 4, 4, 1 }, line[] = { 0, 10, 20 };
     static const uint32_t zero[] = { 0 };
-    const struct column gaps = { gap, 4 }, rings = { ring, 4 }, lines = { line, 3 };
+    const struct column gaps = { gap, 4, 0, 0 }, rings = { ring, 4, 0, 0 }, lines = { line, 3, 0, 0 };
     radius_case(gaps, 5, 0, "1001", 0, 2);
     nearest_case(rings, 7, 1, (struct closest){ zero, zero, 1, 2, "3001" });
     nearest_case(lines, 0, 1, (struct closest){ zero, zero, 1, 2, "301" });
     /* The closed node's first is in, by its own distance. */
     radius_case(lines, 1, 1, "301", 1, 2);
+}
+
+/* ---- Circles ---- */
+
+/* Rows on both sides of the seam and one opposite: 0 is 5 from the first two, 10 from the last. */
+static void across_the_seam(void)
+{
+    static const uint16_t rows[] = { 3595, 5, 1800, 3590 };
+    static const uint32_t words[] = { 2, 4, 1, 2, 2, 5, 1, 1, 0, 4, 1, 1795, 5, 0, 3, 3, 10, 5, 3, 1, 0, 0, 0, 0, 2, 0, 5, 5, 2, 1, 0, 0, 0,
+                                      0, 0, 3, 5, 1, 0, 2, 0 };
+    static const uint32_t near[] = { 0, 1 }, far[] = { 5, 5 }, nearest[] = { 3 }, ten[] = { 10 };
+    const struct column round = { rows, 4, 1, 0 }, plain = { rows, 4, 0, 0 };
+    struct lot lot = built(round);
+    expect_words("rows on a circle", room, words, 41);
+    try_check(&trial, &lot);
+    radius_case(round, 0, 5, "3311", 2, 4);
+    nearest_case(round, 0, 2, (struct closest){ near, far, 2, 4, "3311" });
+    /* The same rows as plain numbers: only the second is near 0, in a group of its own. */
+    radius_case(plain, 0, 5, "1300", 1, 2);
+    nearest_case(round, 3580, 1, (struct closest){ nearest, ten, 1, 4, NULL });
+}
+
+/* 3,600 and more in a build's table, behind 5; sets beyond the columns. */
+static void built_off_the_circle(void)
+{
+    static const uint16_t full[] = { 3600 }, pair[] = { 0, 3600, 1, 3599 };
+    static const uint32_t numbers[] = { 0, 0, 19, 19, 2 };
+    struct lot lot = lot_of(full, 1, 1, 2, 2);
+    lot.circles = 1;
+    expect_says("3,600 on a circle", build(&lot), 19, 0, 0);
+    lot.work = 5;
+    expect_says("3,600 on a circle, a word of workspace too few", build(&lot), 5, 0, 0);
+    lot = lot_of(full, 1, 1, 2, 2);
+    lot.circles = 2;
+    expect_says("a circle beyond the columns", build(&lot), 2, 0, 0);
+    lot = lot_of(pair, 4, 2, 2, 2);
+    for (lot.circles = 0; lot.circles < 5; lot.circles++)
+        expect_words("each set of two columns", (const uint32_t[]){ build(&lot).number }, numbers + lot.circles, 1);
+}
+
+/* 19 behind 9, before 10, and with the workspace as it was. */
+static void checked_off_the_circle(void)
+{
+    static const uint16_t rows[] = { 0, 9, 20 }, other[] = { 0, 9, 3600 };
+    struct naive_room w = { work, WORDS };
+    struct lot lot = built((struct column){ rows, 3, 1, 0 });
+    struct naive_table table = { other, 3, 1 };
+    struct naive_index index = { room, lot.index_length };
+    lot.table = other;
+    room[8 + 5 * 3 + 2] = room[8 + 5 * 3];
+    work[0] = 7;
+    expect_says("19 before 10", naive_check(table, index, w), 19, 0, 0);
+    expect_words("19 leaves the workspace", work, (const uint32_t[]){ 7 }, 1);
+    try_check(&trial, &lot);
+    room[8] = 1;
+    expect_says("9 before 19", naive_check(table, index, w), 9, 0, 0);
+    try_check(&trial, &lot);
+}
+
+/* A query off the circle; and a header whose circle is beyond the columns, in memory and on a card. */
+static void asked_off_the_circle(void)
+{
+    static const uint16_t rows[] = { 0, 9, 20 }, query[] = { 3600 };
+    static const uint32_t none = 0;
+    uint8_t how[3];
+    struct lot lot = built((struct column){ rows, 3, 1, 0 });
+    struct naive_table table = { rows, 3, 1 };
+    struct naive_index index = { room, lot.index_length };
+    struct naive_query asked = { query, 1 };
+    struct naive_set withdrawn = { &none, 1 };
+    expect_says("a query off the circle", naive_radius(table, index, asked, 9, withdrawn, (struct naive_bytes){ how, 3 }), 19, 0, 0);
+    lot.query = query;
+    lot.query_length = 1;
+    lot.withdrawn = &none;
+    lot.withdrawn_length = 1;
+    lot.w = 1;
+    try_searches(&trial, &lot);
+    room[7] = 2;
+    expect_says("a header's circle beyond the columns", naive_check(table, index, (struct naive_room){ work, WORDS }), 8, 0, 0);
+    try_check(&trial, &lot);
+    try_write(&trial, &lot);
+    try_card(&trial, &lot);
+}
+
+/* ---- Withdrawn rows ---- */
+
+/* The five rows with one of them struck, or all: the plan's cases, from another hand. */
+static void withdrawn_rows(void)
+{
+    static const uint32_t rows[3][4] = { { 3 }, { 3, 1, 0, 4 }, { 1, 2 } }, far[3][4] = { { 2 }, { 2, 8, 9, 11 }, { 4, 5 } };
+    const struct column ten = { five_rows, 5, 0, 4 }, nought = { five_rows, 5, 0, 1 }, all = { five_rows, 5, 0, 31 };
+    radius_case(ten, 9, 1, "10101", 0, 3);
+    radius_case(ten, 0, 20, "32022", 4, 1);
+    radius_case(all, 0, 20, "10000", 0, 1);
+    nearest_case(ten, 9, 1, (struct closest){ rows[0], far[0], 1, 4, "10131" });
+    nearest_case(ten, 9, 9, (struct closest){ rows[1], far[1], 4, 5, "33133" });
+    nearest_case(nought, 5, 2, (struct closest){ rows[2], far[2], 2, 4, "13301" });
+    nearest_case(all, 9, 1, (struct closest){ rows[0], far[0], 0, 5, "11111" });
+}
+
+/* Sets of other lengths than the rows', and a bit that no row has; 20 behind 19. */
+static void bad_sets(void)
+{
+    static const uint16_t query[] = { 9 }, off[] = { 3600 };
+    static const uint32_t sets[3][2] = { { 0, 0 }, { 0, 0 }, { 32, 0 } };
+    static const size_t lengths[] = { 0, 2, 1 };
+    uint8_t how[5];
+    struct naive_bytes bytes = { how, 5 };
+    struct lot lot = built((struct column){ five_rows, 5, 1, 0 });
+    struct naive_table table = { five_rows, 5, 1 };
+    struct naive_index index = { room, lot.index_length };
+    lot.query_length = 1;
+    lot.w = 1;
+    for (size_t i = 0; i < 3; i++) {
+        struct naive_set set = { sets[i], lengths[i] };
+        expect_says("a bad set", naive_radius(table, index, (struct naive_query){ query, 1 }, 9, set, bytes), 20, 0, 0);
+        expect_says("a bad set, and a query off the circle", naive_radius(table, index, (struct naive_query){ off, 1 }, 9, set, bytes), 19, 0, 0);
+        lot.withdrawn = sets[i];
+        lot.withdrawn_length = lengths[i];
+        lot.query = query;
+        try_searches(&trial, &lot);
+        lot.query = off;
+        try_searches(&trial, &lot);
+    }
+}
+
+/* Two rows in a leaf, row 0 at both positions and withdrawn: row 1 remains, but stands nowhere, so that none is given. */
+static void withdrawn_twice(void)
+{
+    static const uint16_t rows[] = { 3, 4 }, query[] = { 9 };
+    static const uint32_t first = 1;
+    struct lot lot = built((struct column){ rows, 2, 0, 0 });
+    room[8 + 5 + 2] = 0;
+    lot.query = query;
+    lot.query_length = 1;
+    lot.withdrawn = &first;
+    lot.withdrawn_length = 1;
+    for (lot.w = 1; lot.w < 4; lot.w++)
+        try_searches(&trial, &lot);
 }
 
 /* ---- Equal rows ---- */
@@ -510,6 +657,13 @@ uint32_t self_test(void)
     old_index();
     wrong_inner_reaches();
     closed_by_the_middle();
+    across_the_seam();
+    built_off_the_circle();
+    checked_off_the_circle();
+    asked_off_the_circle();
+    withdrawn_rows();
+    bad_sets();
+    withdrawn_twice();
     append_cases();
     append_deepest();
     append_refusals();

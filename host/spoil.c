@@ -8,11 +8,12 @@
 
 static uint32_t draw_other(struct draw *d, const struct sample *s, uint32_t word)
 {
-    const uint32_t ends[] = { 0, 1, 2, s->n, s->n + 1, s->n - 1, 1048560, 1048561, 0x80000000u, UINT32_MAX, word + s->m, word - s->m, s->m, s->l };
+    const uint32_t ends[] = { 0, 1, 2, s->n, s->n + 1, s->n - 1, 1048560, 1048561, 0x80000000u, UINT32_MAX, word + s->m, word - s->m, s->m, s->l,
+                              1u << s->c, (1u << s->c) - 1 };
     switch (draw_below(d, 5)) {
     case 0: return word + 1;
     case 1: return word - 1;
-    case 2: return ends[draw_below(d, 14)];
+    case 2: return ends[draw_below(d, 16)];
     case 3: return word ^ (1u << draw_below(d, 32));
     default: return s->index[draw_below(d, (uint32_t)s->index_length)];
     }
@@ -113,6 +114,19 @@ void spoil_index(struct draw *d, struct sample *s)
     case 0: change_length(d, s); break;
     case 1: swap_parts(s->index + at, s->index + draw_below(d, length), 1); break;
     default: s->index[at] = draw_other(d, s, s->index[at]); break;
+    }
+}
+
+void wrong_shape(struct draw *d, struct sample *s)
+{
+    size_t pairs = 8 + 5 * (size_t)s->index[5], node = 8 + 5 * (size_t)draw_below(d, s->index[5]), p = pairs + 2 * (size_t)draw_below(d, s->n);
+    switch (draw_below(d, 6)) {
+    case 0: s->index[node] += 1; break;
+    case 1: s->index[node + 1] += 1; break;
+    case 2: s->index[node + 2] += 1; break;
+    case 3: s->index[node + 3] = 1048561; break;
+    case 4: s->index[node + 4] = 1048561; break;
+    default: s->index[p + 1] = 1048561; break;
     }
 }
 

@@ -11,11 +11,12 @@
 
 /* Row 0 is the origin, and a row lies 2 or 1 away from it in each direction. Of two centres the second then has a group of its own,
    so that each level has one row fewer than the one above. */
-enum { COLUMNS = 16, ROWS = 1 + 2 * COLUMNS, CENTRES = 2, LEAF = 2, WORDS = 12 * ROWS + 8, BYTES = 16 * 512, STACK = 1 << 16, PAINT = 0xa5 };
+enum { COLUMNS = 16, ROWS = 1 + 2 * COLUMNS, CENTRES = 2, LEAF = 2, WORDS = 12 * ROWS + 8, BYTES = 16 * 512, SET = (ROWS + 31) / 32 };
+enum { STACK = 1 << 16, PAINT = 0xa5 };
 
 static uint16_t table[ROWS * COLUMNS], query[COLUMNS];
 static uint32_t room[WORDS], back[WORDS], work[6 * ROWS], rows[ROWS], distances[ROWS], words, blocks;
-static uint32_t most_rows[WORDS], two_rows[WORDS];
+static uint32_t most_rows[WORDS], two_rows[WORDS], withdrawn[SET];
 static bourascul_answer answers[ROWS];
 static uint8_t how[ROWS], image[BYTES];
 static uint32_t number;
@@ -27,7 +28,7 @@ static void nothing(void)
 
 static void build(void)
 {
-    bourascul_built built = bourascul_build(table, ROWS * COLUMNS, COLUMNS, CENTRES, LEAF, 2, room, WORDS, work, 6 * ROWS);
+    bourascul_built built = bourascul_build(table, ROWS * COLUMNS, COLUMNS, CENTRES, LEAF, 0, 2, room, WORDS, work, 6 * ROWS);
     number = built.number;
     words = built.words;
 }
@@ -48,19 +49,19 @@ static void check(void)
 /* r is the distance of row 0, so that no node whose first it is can be swept or closed. */
 static void radius(void)
 {
-    number = bourascul_radius(table, ROWS * COLUMNS, COLUMNS, room, words, query, COLUMNS, 9, how, ROWS).number;
+    number = bourascul_radius(table, ROWS * COLUMNS, COLUMNS, room, words, query, COLUMNS, 9, withdrawn, SET, how, ROWS).number;
 }
 
 static void nearest(void)
 {
-    number = bourascul_nearest(table, ROWS * COLUMNS, COLUMNS, room, words, query, COLUMNS, ROWS, rows, ROWS, distances, ROWS, how, ROWS,
-                               work, 6 * ROWS).number;
+    number = bourascul_nearest(table, ROWS * COLUMNS, COLUMNS, room, words, query, COLUMNS, ROWS, withdrawn, SET, rows, ROWS,
+                               distances, ROWS, how, ROWS, work, 6 * ROWS).number;
 }
 
 static void nearest_answers(void)
 {
-    number = bourascul_nearest_answers(table, ROWS * COLUMNS, COLUMNS, room, words, query, COLUMNS, ROWS, answers, ROWS, rows, ROWS,
-                                       distances, ROWS, how, ROWS, work, 6 * ROWS).number;
+    number = bourascul_nearest_answers(table, ROWS * COLUMNS, COLUMNS, room, words, query, COLUMNS, ROWS, withdrawn, SET, answers, ROWS,
+                                       rows, ROWS, distances, ROWS, how, ROWS, work, 6 * ROWS).number;
 }
 
 static void write_image(void)
@@ -73,6 +74,16 @@ static void write_image(void)
 static void read_image(void)
 {
     number = bourascul_read(image, 512u * blocks, table, ROWS * COLUMNS, COLUMNS, back, WORDS).number;
+}
+
+static void strike(void)
+{
+    number = bourascul_strike(withdrawn, SET, ROWS, ROWS - 1);
+}
+
+static void restore(void)
+{
+    number = bourascul_restore(withdrawn, SET, ROWS, ROWS - 1);
 }
 
 static void list(void)
@@ -115,6 +126,8 @@ int main(void)
         { "bourascul_write", write_image },
         { "bourascul_read", read_image },
         { "bourascul_list", list },
+        { "bourascul_strike", strike },
+        { "bourascul_restore", restore },
     };
     size_t none = taken(nothing);
     int refused = 0;
@@ -122,8 +135,8 @@ int main(void)
     for (int i = 0; i < 2 * COLUMNS; i++)
         table[(1 + i) * COLUMNS + i % COLUMNS] = (uint16_t)(i < COLUMNS ? 2 : 1);
     query[0] = 9;
-    bourascul_build(table, (ROWS - 1) * COLUMNS, COLUMNS, CENTRES, LEAF, 2, most_rows, WORDS, work, 6 * ROWS);
-    bourascul_build(table, 2 * COLUMNS, COLUMNS, CENTRES, LEAF, 2, two_rows, WORDS, work, 6 * ROWS);
+    bourascul_build(table, (ROWS - 1) * COLUMNS, COLUMNS, CENTRES, LEAF, 0, 2, most_rows, WORDS, work, 6 * ROWS);
+    bourascul_build(table, 2 * COLUMNS, COLUMNS, CENTRES, LEAF, 0, 2, two_rows, WORDS, work, 6 * ROWS);
     puts("| call | bytes of stack |\n|---|---|");
     for (size_t i = 0; i < sizeof calls / sizeof *calls; i++) {
         taken(calls[i].call);

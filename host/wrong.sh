@@ -16,7 +16,8 @@ rounds=${1:-480}
 seed=${2:-20}
 cc=${CC:-cc}
 out=target/host/wrong
-mocked='mock naive naive_tree naive_append naive_search plain plain_search'
+naive='naive naive_set naive_tree naive_append naive_search'
+mocked="mock $naive plain plain_search"
 wrong=0 found=0 sound=0 differing=0
 
 stop() {
@@ -78,6 +79,10 @@ replace() {
 # Tries the library whose edits have been read, if there is one, and makes room for the next.
 finish() {
     if [ -n "$title" ]; then
+        # A file includes what stands beside it first, so with an edited header every part is compiled there.
+        if [ -n "$(find "$out/edited" -name '*.h')" ]; then
+            for name in $mocked; do [ -f "$out/edited/$name.c" ] || cp "host/$name.c" "$out/edited"; done
+        fi
         for copy in "$out"/edited/*.c; do
             [ ! -f "$copy" ] || compile "$copy" "${copy%.c}.o"
         done
@@ -97,7 +102,7 @@ finish() {
 
 rm -rf "$out"
 mkdir -p "$out/tried" "$out/mock" "$out/edited"
-for name in trial kinds appends more samples spoil calls lend self naive naive_tree naive_append naive_search; do compile "host/$name.c" "$out/tried/$name.o"; done
+for name in trial kinds appends ceilings circles sets more samples spoil calls lend self $naive; do compile "host/$name.c" "$out/tried/$name.o"; done
 for name in $mocked; do compile "host/$name.c" "$out/mock/$name.o"; done
 
 kind=sound title='the mock as it is'

@@ -1,8 +1,9 @@
 /* Bourascul: an exact similarity index over rows of 16-bit numbers, for C and C++ hosts on x86-64. examples/first.c is a first program.
 
-   A table is n rows of c columns, row after row. The distance of two rows is the sum over the columns of the absolute
-   differences. An index over the table answers two questions without a guess: every row within r of a query (radius),
-   and the w rows closest to it (nearest). Both say which rows were measured.
+   A table is n rows of c columns, row after row. The distance of two rows is the sum over the columns of the absolute differences;
+   in a column that is a circle of 3,600 tenths of a degree, as a heading, it is the shorter way round: 3,595 and 5 are 10 apart.
+   Which columns are circles is told to a build and stands in the index from then on. An index over the table answers two questions
+   without a guess: every row within r of a query (radius), and the w rows closest to it (nearest). Both say which rows were measured.
 
    LENDING. Every buffer is yours: nothing is allocated, nothing is kept, and when a call returns, the library holds no
    pointer of yours. A buffer is a pointer and its length in ELEMENTS (not bytes). For the time of a call:
@@ -13,17 +14,19 @@
    Any CONTENT may be lent: words and bytes from a stranger are tested, never trusted. More room than asked for may be lent, and
    is left as it was.
 
-   THREADS. There is no state between calls and no lock. Threads may share a table, an index, a query and an image and search at
-   the same time; what a call may change (room, work, how, rows, distances, answers, an image that is written) each thread lends of its own.
+   THREADS. There is no state between calls and no lock. Threads may share a table, an index, a query, a set and an image and search
+   at the same time; what a call may change (room, work, how, rows, distances, answers, an image that is written, a set that rows are
+   struck from or restored to) each thread lends of its own.
 
    STACK. Nothing else is taken. Bytes of stack that a call takes at most, measured on x86-64 code (target/host/stack): write 40,
    list 128, read 240, build 536, nearest 592, nearest_answers 608, append 616, check 1,920, radius 19,816 (25 levels). A loader
    that binds late takes about 3,500 more in the first call that needs memcpy, memmove or memset.
 
-   NUMBERS. Each call but bourascul_list gives a number first. 0 is done; any other is a refusal, and of several the lowest
-   is given (bourascul_read gives 8, 9 and 5 last, in this order; bourascul_write gives 16 before 5):
+   NUMBERS. Each call but bourascul_list gives a number, first or alone. 0 is done; any other is a refusal, and of several the lowest
+   is given (but 19 comes before 10 to 13; bourascul_read gives 8, 9, 19 and 5 last, in this order; bourascul_write gives 16 before
+   5):
       1  columns not 1 to 16
-      2  build: m not 2 to 64, or l not m to 1,024, or an edition other than 2
+      2  build: m not 2 to 64, or l not m to 1,024, or a circle's bit at or above the columns, or an edition other than 2
       3  the table's length is no multiple of the columns
       4  more than 1,048,576 rows
       5  a lent room is too short (reading: for the words that would come out)
@@ -42,24 +45,36 @@
      16  the header is impossible (of an index an edition other than 2 is, of an image one other than 1 and 2); reading: the
          header asks for another number of blocks; writing: words are missing
      17  reading: a word after the last is not zero
+     19  a column that is a circle holds 3,600 or more, in any row of the table or in the query
+     20  a set of rows has not n/32 words, rounded up, or a bit n or above is on
+     26  strike, restore: there is no such row
    On a refusal the other fields of the result are 0 (save the places of 10 to 13 and 15) and every lent buffer is as it
-   was; only 10 to 13 zero the workspace as a success does.
+   was; only 10 to 13 zero the workspace as a success does, 19 does not.
 
-   THE INDEX is 32-bit words: edition 2, n, c, m, l, the number of nodes N, distance kind 1, 0; then for each node its start,
-   count, first child's number (0 for a leaf), radius and inner reach; then for each position the row number and its distance
-   from its leaf's first. The radius is the greatest distance from the node's first to a member, the inner reach the least one
-   to another member, 0 for a node of one row. That is 8 + 5N + 2n words, at most 12n + 8. It belongs to the table it was built
-   over: keep the two together, and check an index that comes from elsewhere.
+   THE INDEX is 32-bit words: edition 2, n, c, m, l, the number of nodes N, distance kind 1, the set of circles (bit j on: column j,
+   from 0, is a circle; a header with a bit at or above c is impossible); then for each node its start, count, first child's number
+   (0 for a leaf), radius and inner reach; then for each position the row number and its distance from its leaf's first. The radius
+   is the greatest distance from the node's first to a member, the inner reach the least one to another member, 0 for a node of one
+   row. That is 8 + 5N + 2n words, at most 12n + 8. It belongs to the table it was built over: keep the two together, and check an
+   index that comes from elsewhere.
 
    Edition 1, which is written no longer, had no inner reach: 8 + 4N + 2n words. A card of edition 1 is read as edition 2, with
    each node's inner reach worked out from the table (bourascul_read); in memory no call takes an index of edition 1.
 
-   A search tests an index's header, words and shape, and no more: where bourascul_check says 8 or 9, a search says the same, if
-   5, 6 or 7 does not come before. On an index that the check refuses with 10 to 13 a search stays within what is lent and gives 0
-   where nothing else is wrong, but its answer is not to be relied on: check an index from elsewhere once, before the first search.
+   THE SET of withdrawn rows is 32-bit words, n/32 of them, rounded up: bit r % 32 of word r / 32 is on where row r is withdrawn,
+   and bits n and above are off. Words of zero withdraw nothing; a table without rows has a set of no words. A withdrawn row stays in
+   the index, and may be measured there, but no search gives it: its how-byte is 1 where it was measured, else 0. The set is yours:
+   it stands beside table and index, which stay as they are; bourascul_strike and bourascul_restore change it, or the host does so
+   itself.
 
-   VERSION. This page and the archive belong together: take both from one commit. Major is raised where a call or a structure
-   changes, minor where one is added. The index's edition, its first word, is another number: that of the words' layout. */
+   A search tests an index's header, words and shape, and that table and query are on the circles, and no more: where bourascul_check
+   says 8, 9 or 19, a search says the same, if 5, 6 or 7 does not come before. On an index that the check refuses with 10 to 13 a
+   search stays within what is lent and gives 0 where nothing else is wrong, but its answer is not to be relied on: check an index
+   from elsewhere once, before the first search.
+
+   VERSION. This page and the archive belong together: take both from one commit, and compile a host of an older page anew, since calls
+   of the same name take more now. Major is raised where a call or a structure changes, minor where one is added. The index's edition,
+   its first word, is another number: that of the words' layout. */
 #ifndef BOURASCUL_H
 #define BOURASCUL_H
 
@@ -72,8 +87,8 @@
 #include <stddef.h>
 #include <stdint.h>
 
-#define BOURASCUL_VERSION_MAJOR 2
-#define BOURASCUL_VERSION_MINOR 1
+#define BOURASCUL_VERSION_MAJOR 3
+#define BOURASCUL_VERSION_MINOR 0
 
 #ifdef __cplusplus
 extern "C" {
@@ -90,12 +105,16 @@ extern "C" {
 #define BOURASCUL_MOST_COLUMNS 16u
 #define BOURASCUL_MOST_ROWS 1048576u
 #define BOURASCUL_MOST_DISTANCE 1048560u
+#define BOURASCUL_CIRCLE 3600u
 #define BOURASCUL_BLOCK_BYTES 512u
 
 /* Words of room that a build over n rows asks for, and an append to the n-th, enough for reading too; and words of workspace for
    build, append, check and nearest. */
 #define BOURASCUL_ROOM_WORDS(n) (12u * (size_t)(n) + 8u)
 #define BOURASCUL_WORK_WORDS(n) (6u * (size_t)(n))
+
+/* Words of a set of n rows. */
+#define BOURASCUL_SET_WORDS(n) (((size_t)(n) + 31u) / 32u)
 
 /* Blocks that an index of so many words takes in an image. */
 #define BOURASCUL_BLOCKS(words) (((size_t)(words) + 126u) / 127u)
@@ -119,7 +138,10 @@ enum {
     BOURASCUL_BAD_IMAGE_LENGTH = 14,
     BOURASCUL_WRONG_CHECK_WORD = 15,
     BOURASCUL_BAD_IMAGE_HEADER = 16,
-    BOURASCUL_REST_NOT_ZERO = 17
+    BOURASCUL_REST_NOT_ZERO = 17,
+    BOURASCUL_OFF_CIRCLE = 19,
+    BOURASCUL_BAD_SET = 20,
+    BOURASCUL_NO_SUCH_ROW = 26
 };
 
 /* A number in words, for a line to a user or a log. */
@@ -128,7 +150,7 @@ static inline const char *bourascul_message(uint32_t number)
     static const char *const messages[] = {
         "done",
         "the columns are not 1 to 16",
-        "m is not 2 to 64, or l is not m to 1,024, or the edition is not 2",
+        "m is not 2 to 64, or l is not m to 1,024, or a circle is no column, or the edition is not 2",
         "the table's length is no multiple of the columns",
         "the table has more than 1,048,576 rows",
         "a lent buffer is too short",
@@ -143,8 +165,12 @@ static inline const char *bourascul_message(uint32_t number)
         "the image is empty or no multiple of 512 bytes",
         "a block's check word is wrong",
         "the header is impossible, or the words or blocks are not as many as it asks for",
-        "a word after the image's last is not zero"
+        "a word after the image's last is not zero",
+        "no number of this library",
+        "a column that is a circle holds 3,600 or more",
+        "the set of rows is not of the table's rows"
     };
+    if (number == BOURASCUL_NO_SUCH_ROW) return "there is no such row";
     return number < sizeof messages / sizeof messages[0] ? messages[number] : "no number of this library";
 }
 
@@ -177,7 +203,7 @@ typedef struct bourascul_within {
 
 typedef struct bourascul_closest {
     uint32_t number;
-    uint32_t given;    /* answers: the lesser of w and n */
+    uint32_t given;    /* answers: the lesser of w and the number of rows that are not withdrawn */
     uint32_t measured; /* rows measured: how-bytes 1 and 3 */
 } bourascul_closest;
 
@@ -202,19 +228,22 @@ typedef struct bourascul_part {
     uint32_t length; /* in words: two for each row */
 } bourascul_part;
 
-/* Builds an index over the table, with m centres in each inner node and leaves of at most l rows. The edition is 2.
+/* Builds an index over the table, with m centres in each inner node and leaves of at most l rows. Bit j of circles is on where
+   column j, from 0, is a circle: 0 where none is. The edition is 2.
    Lent: table of n * c numbers; room of at least 12n + 8 words; work of at least 6n words.
-   Numbers: 0, 1, 2, 3, 4, 5.
+   Numbers: 0, 1, 2, 3, 4, 5, 19.
    Done: the first `words` words of room are the index, which bourascul_check accepts, and the rest stays; the first 6n
-   words of work are 0, and the rest stays. The same table, m and l always give the same index.
+   words of work are 0, and the rest stays. The same table, m, l and circles always give the
+   same index.
    BOURASCUL_CENTRES, BOURASCUL_LEAF and BOURASCUL_EDITION are a good choice of m, l and edition. */
-bourascul_built bourascul_build(const uint16_t *table, size_t table_length, uint32_t c, uint32_t m, uint32_t l, uint32_t edition,
-                                uint32_t *room, size_t room_length, uint32_t *work, size_t work_length);
+bourascul_built bourascul_build(const uint16_t *table, size_t table_length, uint32_t c, uint32_t m, uint32_t l, uint32_t circles,
+                                uint32_t edition, uint32_t *room, size_t room_length, uint32_t *work, size_t work_length);
 
 /* One row more: the table's last row goes into an index of the rows before it.
    Lent: the table of n rows, the new one last; the index of the first n - 1 rows (more words may be lent); room of at least
    12n + 8 words; work of at least 6n words. Index and room are different buffers.
-   Numbers: 0, 1, 3, 4, 5, 8, 9. 8 unless the table has just one row more than the header says, so for a table without rows.
+   Numbers: 0, 1, 3, 4, 5, 8, 9, 19. 8 unless the table has just one row more than the header says, so for a table without rows;
+   19 looks at the new row too.
    Done: the first `words` words of room are the new index, and the rest stays; the first 6n words of work are 0, and the rest
    stays. From the root the row goes to the child whose first is closest, the earliest among equals, down to a leaf, where it
    stands last; radii on the way grow and inner reaches shrink as it asks. A leaf of more than l rows above depth 24 is split as
@@ -227,32 +256,34 @@ bourascul_built bourascul_append(const uint16_t *table, size_t table_length, uin
 
 /* The full check of an index from anyone, against its table.
    Lent: the table; the index; work of at least 6n words.
-   Numbers: 0, 1, 3, 4, 5, 8, 9, 10, 11, 12, 13.
+   Numbers: 0, 1, 3, 4, 5, 8, 9, 19, 10, 11, 12, 13 (of several the first in this row).
    0 exactly when the index is in shape, each row stands once, stored distances, radii and inner reaches are right, and each
    member is as close to its own centre as to any other centre of the node above. 10 to 13 name the lowest place.
    Done, or 10 to 13: the first 6n words of work are 0, and the rest stays. */
 bourascul_checked bourascul_check(const uint16_t *table, size_t table_length, uint32_t c,
                                   const uint32_t *index, size_t index_length, uint32_t *work, size_t work_length);
 
-/* Every row within r of the query, r included.
-   Lent: the table; the index; a query of c numbers; how of at least n bytes.
-   Numbers: 0, 1, 3, 4, 5, 6, 8, 9.
-   Done, on an index that the full check accepts: how-byte i is 2 or 3 exactly when row i is at most r from the query;
-   `inside` and `measured` count how-bytes. Bytes from n on stay. */
+/* Every row within r of the query, r included, but for withdrawn ones.
+   Lent: the table; the index; a query of c numbers; the set of withdrawn rows; how of at least n bytes.
+   Numbers: 0, 1, 3, 4, 5, 6, 8, 9, 19, 20.
+   Done, on an index that the full check accepts: how-byte i is 2 or 3 exactly when row i is at most r from the query and not
+   withdrawn; `inside` and `measured` count how-bytes. Bytes from n on stay. */
 bourascul_within bourascul_radius(const uint16_t *table, size_t table_length, uint32_t c,
                                   const uint32_t *index, size_t index_length, const uint16_t *query, size_t query_length,
-                                  uint32_t r, uint8_t *how, size_t how_length);
+                                  uint32_t r, const uint32_t *withdrawn, size_t withdrawn_length, uint8_t *how, size_t how_length);
 
-/* The w rows closest to the query, by distance, then row number.
-   Lent: the table; the index; a query of c numbers; rows and distances of at least min(w, n) words each; how of at least n
-   bytes; work of at least 6n words.
-   Numbers: 0, 1, 3, 4, 5, 6, 7, 8, 9.
-   Done, on an index that the full check accepts: rows[i] and distances[i] are answer i, for i below `given` = min(w, n), and
-   later entries stay; how-byte i is 3 for an answer, 1 for another measured row, 0 for a row that was not measured; bytes
-   from n on stay; the first 6n words of work are 0, and the rest stays. */
+/* The w rows closest to the query, by distance, then row number, but for withdrawn ones.
+   Lent: the table; the index; a query of c numbers; the set of withdrawn rows; rows and distances of at least min(w, n) words each;
+   how of at least n bytes; work of at least 6n words.
+   Numbers: 0, 1, 3, 4, 5, 6, 7, 8, 9, 19, 20.
+   Done, on an index that the full check accepts: rows[i] and distances[i] are answer i, for i below `given`, which is the lesser of
+   w and the number of rows that are not withdrawn, and later entries stay; how-byte i is 3 for an answer, 1 for another measured row,
+   0 for a row that was not measured; where fewer than w rows are not withdrawn, all are measured; bytes from n on stay; the first 6n
+   words of work are 0, and the rest stays. */
 bourascul_closest bourascul_nearest(const uint16_t *table, size_t table_length, uint32_t c,
                                     const uint32_t *index, size_t index_length, const uint16_t *query, size_t query_length,
-                                    uint32_t w, uint32_t *rows, size_t rows_length, uint32_t *distances, size_t distances_length,
+                                    uint32_t w, const uint32_t *withdrawn, size_t withdrawn_length,
+                                    uint32_t *rows, size_t rows_length, uint32_t *distances, size_t distances_length,
                                     uint8_t *how, size_t how_length, uint32_t *work, size_t work_length);
 
 /* The same, with the answers as records too.
@@ -262,9 +293,23 @@ bourascul_closest bourascul_nearest(const uint16_t *table, size_t table_length, 
 bourascul_closest bourascul_nearest_answers(const uint16_t *table, size_t table_length, uint32_t c,
                                             const uint32_t *index, size_t index_length,
                                             const uint16_t *query, size_t query_length, uint32_t w,
+                                            const uint32_t *withdrawn, size_t withdrawn_length,
                                             bourascul_answer *answers, size_t answers_length,
                                             uint32_t *rows, size_t rows_length, uint32_t *distances, size_t distances_length,
                                             uint8_t *how, size_t how_length, uint32_t *work, size_t work_length);
+
+/* A row is withdrawn.
+   Lent: the set of withdrawn rows, of a table of n rows.
+   Numbers: 0, 20, 26. The number is all that comes back.
+   Done: the row's bit is on, and every other bit is as it was. Striking twice is striking once, and orders for different rows may
+   come in any order: the set is the same then, and so is every search's answer. */
+uint32_t bourascul_strike(uint32_t *withdrawn, size_t withdrawn_length, uint32_t n, uint32_t row);
+
+/* A row is withdrawn no longer, whether or not it was.
+   Lent and numbers: as bourascul_strike.
+   Done: the row's bit is off, and every other bit is as it was. A strike and a restore of one row may not change places: the later
+   one holds. */
+uint32_t bourascul_restore(uint32_t *withdrawn, size_t withdrawn_length, uint32_t n, uint32_t row);
 
 /* Writes an index as an image: blocks of 127 words and a check word, little-endian, zeros after the last word.
    Lent: the index; image of at least 512 bytes for each block (BOURASCUL_BLOCKS of the index's words).
@@ -276,7 +321,7 @@ bourascul_written bourascul_write(const uint32_t *index, size_t index_length, ui
    found (15).
    Lent: the image, whole and nothing else; the table; room for the words that come out, 8 + 5N + 2n from an image of either
    edition.
-   Numbers: 0, 1, 3, 4, 14, 15, 16, 17, 8, 9, 5 (of several the first in this row).
+   Numbers: 0, 1, 3, 4, 14, 15, 16, 17, 8, 9, 19, 5 (of several the first in this row).
    Done: the first `words` words of room are the index, and the rest stays. From an image of edition 2 they are its words: an
    index in shape that bourascul_write wrote is read the same again over its table. A card of edition 1 is read as edition 2:
    each node gets as its inner reach the least distance from the row at its run's start to the rows at its other positions, 0
