@@ -194,14 +194,15 @@ module _ {t : List ℕ} {c : ℕ} {w work₀ work₁ : List ℕ} {place second :
       → as₁ ≡ map (λ a. made (a .0) (a .1)) (answers (from t c (circles# w) q) (isIn set) (n# w) wanted) ++ drop given as₀
   answers-exact s = records-exact s refl (passed ok .accepted)
 
--- an index in shape that was written, and the written blocks read over a table of its rows and columns into a room that is long enough
+-- an index in shape that was written, and the written blocks read over a table of its rows and columns, which stands on its circles, into a room that is
+-- long enough
 module _ {t : List ℕ} {c : ℕ} {w before after room room′ : List ℕ} {blocks number place words : ℕ} (fine : Sized (length t) c) (rows : n# w ≡ rowsOf t c)
-    (columns : c# w ≡ c) (shape : shapeOk w ≡ true) (s : Writes w before after 0 blocks) (low : Below (2 ^ 32) w) (enough : wordsOf w ≤ length room)
+    (columns : c# w ≡ c) (shape : shapeOk w ≡ true) (on : offCircle c (circles# w) t ≡ false) (s : Writes w before after 0 blocks) (low : Below (2 ^ 32) w) (enough : wordsOf w ≤ length room)
     (r : ReadsBlock t c (take (512 * blocks) after) room room′ number place words) where
   -- it is the same, word for word
   pub image-same : (number ≡ 0) × (place ≡ 0) × (words ≡ wordsOf w) × (take words room′ ≡ take (wordsOf w) w)
   image-same =
-      let d = round-trip fine rows columns shape low s enough (r .reads) in
+      let d = round-trip fine rows columns shape on low s enough (r .reads) in
       let f = take-at (take (wordsOf w) w) (drop (wordsOf w) room) (wordsOf w) (length-take-le (wordsOf w) w (write-whole s)) in
       (d .0, omega (arith, r .named, read-placed (r .reads) (λ e. omega (arith, d .0))), d .1, ap₂ take (d .1) (d .2) ∙ f)
 
@@ -227,6 +228,7 @@ card-passes {t} {c} s ok enough k =
       same-rows = h .1;
       same-columns = h .2;
       edition = h .0;
+      circled = subst (λ (o : ℕ). offCircle c o t ≡ false) (sym (h .3)) (read-clear (s .reads) refl .circled);
       accepted = read-accepted (s .reads) refl ok;
     }) in
     let q = check-placeless k (λ u. omega arith) in
@@ -321,7 +323,7 @@ module _ {t : List ℕ} {c : ℕ} {w work₀ work₁ : List ℕ} {place second :
         → ((i : ℕ) → i < n# w → T (isMeasured (getD (lent′ .how) i 0)) → row t c i ≡ row t₂ c i)
         → (offCircle c (circles# w) t₂ ≡ false → (0 ≡ number₂) × (given ≡ given₂) × (met ≡ met₂) × (lent′ ≡ lent₂))
         × (offCircle c (circles# w) t₂ ≡ true → number₂ ≡ 19)
-    same-outcome {t₂} {lent₂} s₂ e agree =
+    same-outcome {t₂} {lent₂} {given₂ = given₂} s₂ e agree =
         let number = other-number s s₂ e in (
           λ on.
               let z = sym (number ∙ ap (λ (b : Bool). cond b 19 0) on) in

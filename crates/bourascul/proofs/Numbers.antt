@@ -6,12 +6,12 @@ use Rattle.audit.specs.Calls.{Checks, Passed}
 use Rattle.laws.specs.Lists.{last}
 use Rattle.limits.proofs.Faults.{early-numbered, numberOf, says-first, says-next, says-none}
 use Rattle.limits.proofs.Numbers.{passed-none, sized-of}
-use Rattle.limits.specs.Said.{Said, said, tabled}
+use Rattle.limits.specs.Said.{Said, fault, said, tabled}
 use Rattle.limits.specs.declared.Asked.{Asked}
 use Rattle.measure.specs.Table.{offCircle, rowsOf}
 use Rattle.nearest.proofs.Refusals as near
 use Rattle.nearest.specs.Calls.{Answered}
-use Rattle.nearest.specs.Numbers.{nearestAsks, saidNearest}
+use Rattle.nearest.specs.Numbers.{nearestAsks, nearestShort, saidNearest}
 use Rattle.nearest_search.specs.Asked.{NearestLent, asks}
 use Rattle.nearest_search.specs.Found.{Settled}
 use Rattle.radius.proofs.Refusals as within-radius
@@ -27,7 +27,9 @@ use Rattle.words.proofs.Indexes.{by-shape}
 use Rattle.words.specs.Words.{circles#, n#, wordsOk}
 use lib.ListN.{drop, length, length-map, take, take-append-drop}
 use lib.Seq.{take-at}
-use mathlib.Core.Bool.{Bool, cond, false, true}
+use borrow.Author.Tests.{eq-eqb, le-ltb}
+use lib.Dec.{eqb}
+use mathlib.Core.Bool.{Bool, cond, false, not, true}
 use mathlib.Core.List.{List, _++_, map}
 use mathlib.Core.Path.{_∙_, _≡_, ap, ap₂, refl, sym}
 use native.Mathlib.Omega.{arith}
@@ -62,7 +64,26 @@ module _ {t : List ℕ} {c : ℕ} {w work₀ work₁ : List ℕ} {place second :
   pub radius-taken : {q : List ℕ} {r : ℕ} {set before after : List ℕ} {number in# met : ℕ} → Searched t c w q r set before after number in# met
       → length q ≡ c → offCircle c (circles# w) q ≡ false → setBad set (n# w) ≡ false → n# w ≤ length before → number ≡ 0
   radius-taken {q} {set = set} {before} s e on right-set h =
-      s .said ∙ sym (?)
+      let R = right {q = q} on in
+      let n = passed .same-rows in
+      let none : 0 ≡ said (callFaults (radiusAsks t c q (length before)) t w q) .0 =
+      clear-none (radiusAsks t c q (length before)) t w q (record {
+        numbers =
+            record {
+              table = R .numbers .table;
+              fit = refl;
+              room = le-ltb (length before) (rowsOf t c) (omega arith);
+              like = ap not (eq-eqb (length q) c e);
+              some = refl;
+            };
+        whole = R .whole;
+        rows = R .rows;
+        columns = R .columns;
+        shape = R .shape;
+        table = R .table;
+        query = R .query;
+      }) in
+      s .said ∙ sym (within-radius.none-said t c w q set (length before) none refl n (sym right-set) refl)
 
   -- NOR IS A NEAREST SEARCH WHERE SOME ARE WANTED AND THERE IS ROOM FOR THE ANSWERS, THE HOW-BYTES AND 6n WORDS
   pub nearest-taken : {q set : List ℕ} {wanted room : ℕ} {lent lent′ : NearestLent} {number given met : ℕ}
@@ -122,7 +143,18 @@ pub other-number : {t t₂ : List ℕ} {c : ℕ} {w q set : List ℕ} {wanted ro
     → length t ≡ length t₂ → number₂ ≡ cond (offCircle c (circles# w) t₂) 19 0
 unfolding saidNearest
 other-number {t} {t₂} {c} {w} {q} {set} {wanted} {room} {lent} s s₂ e =
-    s₂ .said ∙ rw (← e) (elsewhere (nearestAsks t c q wanted room (length (lent .how)) (length (lent .work))) t t₂ w q _ (sym (s .said)))
+    let how : ℕ = length (lent .how) in
+    let work : ℕ = length (lent .work) in
+    let asked : ℕ → Asked = λ k. record {
+      length = k;
+      columns = c;
+      unfit = false;
+      short = nearestShort (k / c) wanted room how work;
+      unlike = not (eqb (length q) c);
+      none = eqb wanted 0;
+    } in
+    s₂ .said ∙ ap (λ (k : ℕ). said (callFaults (asked k) t₂ w q ++ fault 20 (setBad set (k / c))) .0) (sym e)
+    ∙ elsewhere (nearestAsks t c q wanted room how work) t t₂ w q (fault 20 (setBad set (rowsOf t c))) (sym (s .said))
 
 -- AND SO OF TWO RADIUS SEARCHES
 pub other-radius-number : {t t₂ : List ℕ} {c : ℕ} {w q : List ℕ} {r : ℕ} {set before after after₂ : List ℕ} {in# met number₂ in₂ met₂ : ℕ}

@@ -6,13 +6,13 @@ use Rattle.nearest.proofs.Promises.{nearest-small}
 use borrow.Author.Needs.{needs}
 use native.Mathlib.Omega.{arith}
 
-cast-t21 : tie.Need-cast-t21
-cast-t21 c =
+cast-t22 : tie.Need-cast-t22
+cast-t22 c =
     let nearest = c .before .before .before .before .before .before .before .before .before .nearest in
     let small = nearest-small (nearest .ensures) in omega (arith, small .0, small .1)
 
-cast-t22 : tie.Need-cast-t22
-cast-t22 c =
+cast-t23 : tie.Need-cast-t23
+cast-t23 c =
     let nearest = c .before .before .before .before .before .before .before .before .before .before .nearest in
     let small = nearest-small (nearest .ensures) in omega (arith, small .0, small .1)
 
@@ -21,8 +21,8 @@ bourascul-nearest-spec =
     tie.close
     (tie.spec
     (λ c κs. search needs)
-    cast-t21
     cast-t22
+    cast-t23
     (λ c. search needs)
     (λ c. search needs)
     (λ c. search needs)

@@ -6,15 +6,15 @@ use Rattle.radius.proofs.Promises.{radius-small}
 use borrow.Author.Needs.{needs}
 use native.Mathlib.Omega.{arith}
 
-cast-t11 : tie.Need-cast-t11
-cast-t11 c =
+cast-t12 : tie.Need-cast-t12
+cast-t12 c =
     let radius = c .before .before .before .radius in
     let small = radius-small (radius .ensures) in omega (arith, small .0, small .1)
 
-cast-t12 : tie.Need-cast-t12
-cast-t12 c =
+cast-t13 : tie.Need-cast-t13
+cast-t13 c =
     let radius = c .before .before .before .before .radius in
     let small = radius-small (radius .ensures) in omega (arith, small .0, small .1)
 
 pub bourascul-radius-spec : {M : Type 1} → statement M
-bourascul-radius-spec = tie.close (tie.spec (λ c κs. search needs) cast-t11 cast-t12 (λ c. search needs) (λ c. search needs))
+bourascul-radius-spec = tie.close (tie.spec (λ c κs. search needs) cast-t12 cast-t13 (λ c. search needs) (λ c. search needs))

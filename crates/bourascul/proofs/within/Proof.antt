@@ -6,13 +6,13 @@ use Rattle.nearest.proofs.Promises.{nearest-small}
 use borrow.Author.Needs.{needs}
 use native.Mathlib.Omega.{arith}
 
-cast-t22 : tie.Need-cast-t22
-cast-t22 c =
+cast-t23 : tie.Need-cast-t23
+cast-t23 c =
     let k = nearest-small (c .before .before .before .before .before .before .before .before .before .within .ensures) in
     omega (arith, k .0, k .1)
 
-cast-t23 : tie.Need-cast-t23
-cast-t23 c =
+cast-t24 : tie.Need-cast-t24
+cast-t24 c =
     let k = nearest-small (c .before .before .before .before .before .before .before .before .before .before .within .ensures) in
     omega (arith, k .0, k .1)
 
@@ -21,8 +21,8 @@ within-spec =
     tie.close
     (tie.spec
     (λ c κs. search needs)
-    cast-t22
     cast-t23
+    cast-t24
     (λ c. search needs)
     (λ c. search needs)
     (λ c. search needs)
