@@ -104,6 +104,31 @@ fn wrong_set() {
     five_but(9, 1, 2147483648);
 }
 
+// The index of two headings, 359.5 and 0.5 degrees, on a circle.
+fn round_index() -> [u32; 17]
+    ensures { λ r. ⌜ 17 ≡ length r ⌝ }
+{
+    let mut index = [0; 17];
+    put(&[2, 2, 1, 2, 2, 1, 1, 1], &mut index, 0);
+    put(&[0, 2, 0, 10, 10], &mut index, 8);
+    put(&[0, 0, 1, 10], &mut index, 13);
+    index
+}
+
+// Only the shorter way round they are near to each other, and to a query between them.
+fn headings() {
+    let index = round_index();
+    show(&[3595, 5], 1, &index, &[3599], 4, &[0]);
+    show(&[3595, 5], 1, &index, &[1], 6, &[0]);
+}
+
+// 19: a query that is no heading, a row that is none, and a set of no word.
+fn no_heading() {
+    let index = round_index();
+    show(&[3595, 5], 1, &index, &[3600], 4, &[]);
+    show(&[3595, 3600], 1, &index, &[1], 6, &[]);
+}
+
 // Rows on which (x - y)/2 rounded down would open one more leaf.
 fn odd_rows() {
     let index = odd_index();
@@ -177,9 +202,10 @@ fn changed(at: usize, word: u32) {
     }
 }
 
-// 8: the edition. 9: the root's start, its radius, and a row number.
+// 8: the edition, and a circle that is no column. 9: the root's start, its radius, and a row number.
 fn wrong_index() {
     changed(0, 1);
+    changed(7, 2);
     changed(8, 1);
     changed(11, 1048561);
     changed(33, 5);
@@ -194,6 +220,7 @@ fn too_many() {
 fn main() {
     five_rows();
     withdrawn_rows();
+    headings();
     odd_rows();
     two_columns();
     no_row();
@@ -207,5 +234,6 @@ fn main() {
     other_table();
     missing_words();
     wrong_index();
+    no_heading();
     wrong_set();
 }
