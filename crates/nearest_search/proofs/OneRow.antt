@@ -1,9 +1,11 @@
--- One row measured: it is marked and entered among the answers, unless it is withdrawn; of a centre the distance is kept besides. Assumes nothing.
+-- One row measured: it is marked and entered among the answers, unless it is withdrawn or too far; of a centre the distance is kept besides.
+-- Assumes nothing.
 use Prim.Native.Nat.{_*_, _+_, _<_, _≤_, min, ℕ}
-use Rattle.answers_held.proofs.Entering.{enter-most, enter-none, enter-one, enter-up}
+use Rattle.answers_held.proofs.Entering.{enter-less, enter-most, enter-none, enter-one, enter-up}
 use Rattle.answers_held.proofs.Holding.{enter-held, held-as}
-use Rattle.answers_held.proofs.RowEntries.{own-entry, row-turned}
-use Rattle.answers_held.specs.Answers.{BestHeld, Entered, HeldQueue, rowOf, stray, turned}
+use Rattle.answers_held.proofs.LastOf.{last-full, last-room}
+use Rattle.answers_held.proofs.RowEntries.{far-less, own-entry, row-turned}
+use Rattle.answers_held.specs.Answers.{BestHeld, Entered, HeldQueue, distanceOf, lastOf, rowOf, stray, turned}
 use Rattle.best_first.specs.Search.{both}
 use Rattle.frontier.specs.Workspace.{kept}
 use Rattle.index_space.specs.Items.{leftOf, liveOf}
@@ -12,9 +14,11 @@ use Rattle.laws.proofs.Outside.{outside-same}
 use Rattle.laws.specs.Bags.{is, total}
 use Rattle.laws.specs.Outside.{Outside}
 use Rattle.limits.specs.Limits.{maxDistance}
+use Rattle.measure.specs.Distance.{capped}
 use Rattle.nearest_search.proofs.Filling.{left-zero, sum-one}
 use Rattle.nearest_search.proofs.Staying.{held-stay, stands-stay}
 use Rattle.nearest_search.specs.Standing.{GrewAlone, GrewCentres, Stands, metOf}
+use Rattle.queue.specs.Entry.{entryAt}
 use Rattle.queue.specs.Queue.{Queue, entries}
 use Rattle.words.specs.Words.{at}
 use lib.ListN.{getD, length, length-set, set}
@@ -22,8 +26,8 @@ use lib.Seq.{getD-set-other, getD-set-same}
 use mathlib.Core.Bool.{Bool, cond, false, true}
 use mathlib.Core.List.{List}
 use mathlib.Core.Logic.{_≢_}
-use mathlib.Core.Path.{_∙_, _≡_, ap, subst, sym}
-use native.Mathlib.Decide.{ℕ-discrete}
+use mathlib.Core.Path.{_∙_, _≡_, ap, refl, subst, sym}
+use native.Mathlib.Decide.{decLt, ℕ-discrete}
 use native.Mathlib.Omega.{arith}
 
 -- a byte set to 1, that was 0, is one more
@@ -33,6 +37,10 @@ byte-more how r s h z = go (ℕ-discrete s r)
     go : Dec (s ≡ r) → at (set how r 1) s ≡ at how s + is s r
     go (yes e) = subst (λ (s : ℕ). at (set how r 1) s ≡ at how s + is s r) (sym e) (omega (arith, getD-set-same how r 1 0 h))
     go (no e) = omega (arith, getD-set-other how r s 1 0 e)
+
+-- a number that is at most the ceiling is the distance
+pub exact : (ceiling v d : ℕ) → v ≡ capped ceiling d → d ≤ maxDistance → v ≤ ceiling → v ≡ d
+exact ceiling v d e h l = omega arith
 
 -- ---- what becomes of the answers as row r is measured
 -- at most it is entered, and where it remains and fewer than w are held even then, it is; where it is new, the best are held again
@@ -116,6 +124,27 @@ module _ (x : ℕ → ℕ) (gone : ℕ → Bool) (n w : ℕ) (how work : List �
               (λ s. omega (arith, grown s, left-live gone r s g)) work′ held′
               (St .wanted .0) (St .most) (subst (λ (d : ℕ). Entered work work′ (3 * n) w held (turned r d) held′) e E);
         }
+
+    -- AND ONE THAT IS FARTHER THAN THE LAST DISTANCE NEED NOT BE: it is worse than all that are held
+    pub too-far : lastOf work (3 * n) w held < d → Handled x gone n w r work work held held
+    too-far far = go (gone r) refl
+      where
+        full : w ≤ held
+        full = at (decLt held w)
+          where
+            at : Dec (held < w) → w ≤ held
+            at (yes l) = absurd (omega (arith, last-room work (3 * n) w held l))
+            at (no l) = omega arith
+
+        top : ℕ
+        top = entryAt work (3 * n)
+
+        worse : turned r d < top
+        worse = far-less r d top near (omega (arith, last-full work (3 * n) w held top (distanceOf top) full refl refl))
+
+        go : (b : Bool) → gone r ≡ b → Handled x gone n w r work work held held
+        go true g = passed-by g
+        go false g = entered g work held (turned r d) refl (enter-less work (3 * n) w held (turned r d) room-to-enter full worse)
 
     -- ---- and it is marked
     module _ (how′ work′ : List ℕ) (held′ : ℕ) (eh : how′ ≡ set how r 1) (K : Handled x gone n w r work work′ held held′) where

@@ -1,9 +1,12 @@
 // Taking what waits: a row is measured, a leaf is opened, an inner node is opened.
 ghost use Prim.Native.Nat.{_+_, _-_, _*_, _<_, _≤_, suc, ℕ};
+ghost use Rattle.answers_held.specs.Answers.{lastOf};
 ghost use Rattle.frontier.specs.Waiting.{itemOf};
 ghost use Rattle.index_space.specs.Items.{node};
 ghost use Rattle.laws.specs.Bags.{is};
 ghost use Rattle.laws.specs.Upto.{sumTo};
+ghost use Rattle.limits.specs.Limits.{maxDistance};
+ghost use Rattle.measure.specs.Distance.{capped};
 ghost use Rattle.measure.specs.Table.{from};
 ghost use Rattle.nearest_search.specs.Asked.{asks};
 ghost use Rattle.nearest_search.specs.Rounds.{CanTake, Taken};
@@ -20,7 +23,7 @@ use frontier::open_leaf;
 use frontier::queue_children;
 use frontier::workspace::ANSWERS;
 use frontier::workspace::DISTANCES;
-use measure::query_distance;
+use measure::query_distance_to;
 use queue::id_of;
 use queue::key_of;
 use rowset::is_in;
@@ -36,13 +39,17 @@ pub struct Sizes {
     pub held: usize,
 }
 
-// A row that is measured: how many answers are held then, and how far it is.
+// A row that is measured: how many answers are held then, and how far it is, or one more than the ceiling.
 pub struct Measured {
     pub held: usize,
     pub distance: u32,
 }
 
-// Measures row r, the only place that does: it is marked, and entered among the answers, unless it is withdrawn.
+// No distance is above it.
+const NO_CEILING: u32 = 4_294_967_295;
+
+// Measures row r, the only place that does: it is marked, and entered among the answers, unless it is withdrawn or farther than the ceiling. The
+// ceiling is no less than the last distance, so that such a row is no answer; at the last distance itself a lower-numbered row may tie.
 fn measure_row(
     table: &[u16],
     c: usize,
@@ -55,15 +62,23 @@ fn measure_row(
     work: &mut [u32],
     held: usize,
     r: usize,
+    ceiling: u32,
 ) -> Measured
     requires { ⌜ Ready (now table) c circles (now query) (isIn (now withdrawn)) n w (now how) (now work) held ⌝ }
-    requires { ⌜ r < n ⌝ }
+    requires { ⌜ (r < n) × (lastOf (now work) (3 * n) w held ≤ ceiling) ⌝ }
     ensures { λ m. ⌜ GrewAlone (from (now (table .entry)) c circles (now (query .entry))) (isIn (now (withdrawn .entry))) n w
         (now (how .entry)) (now (how .exit)) (now (work .entry)) (now (work .exit)) held (m .held) (λ (s : ℕ). is s r)
-        × (m .distance ≡ from (now (table .entry)) c circles (now (query .entry)) r) ⌝ }
+        × (m .distance ≡ capped ceiling (from (now (table .entry)) c circles (now (query .entry)) r))
+        × (from (now (table .entry)) c circles (now (query .entry)) r ≤ maxDistance) ⌝ }
 {
-    let d = query_distance(table, c, circles, query, r);
+    let d = query_distance_to(table, c, circles, query, r, ceiling);
     how[r] = 1;
+    if ceiling < d {
+        return Measured {
+            held: held,
+            distance: d,
+        };
+    }
     if is_in(withdrawn, r) {
         return Measured {
             held: held,
@@ -77,7 +92,7 @@ fn measure_row(
     }
 }
 
-// Measures row r, which is a centre: its distance is kept, for the bounds of its node and of what is below it.
+// Measures row r, which is a centre, in full: its distance is kept, for the bounds of its node and of what is below it.
 pub fn measure_centre(
     table: &[u16],
     c: usize,
@@ -108,6 +123,7 @@ pub fn measure_centre(
         work,
         held,
         r,
+        NO_CEILING,
     );
     work[DISTANCES * n + r] = m.distance;
     m.held
@@ -292,7 +308,8 @@ pub fn take_item(
     }
     let r = word(index, base + 2 * (id - 2 * n));
     let o = circles(index);
-    let m = measure_row(table, c, o, query, n, w, withdrawn, how, work, held, r);
+    let far = last(work, ANSWERS * n, w, held);
+    let m = measure_row(table, c, o, query, n, w, withdrawn, how, work, held, r, far);
     Sizes {
         len: len,
         held: m.held,

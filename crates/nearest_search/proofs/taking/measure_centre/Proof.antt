@@ -1,15 +1,20 @@
 -- `nearest_search::taking::measure_centre` meets its contract: the distance is kept as it was measured.
 -- Assumes nothing.
+use Rattle.answers_held.proofs.LastOf.{last-word}
 use Rattle.nearest_search.proofs.OneRow.{centred}
 use Rattle.nearest_search.proofs.taking.measure_centre.Statement.{statement}
 use Rattle.nearest_search.proofs.taking.measure_centre.Tie as tie
-use borrow.Author.Needs.{needs}
 use mathlib.Core.Path.{refl}
 use native.Mathlib.Omega.{arith}
 
 -- seen from the measuring: the start
 abbrev start : tie.After-measure-row → tie.Start
 start m = m .before .before .before .before .before .before .before .before
+
+measure-row-requires : tie.Need-measure-row-requires
+measure-row-requires c κs =
+    let pre = c .before .before .before .before .before .before .before .pre in
+    (pre .0, (pre .1, last-word _ _ _ _))
 
 mul-work : tie.Need-mul-work
 mul-work c = omega (arith, start (c .before .before .before .before) .pre .0 .stands .small)
@@ -32,7 +37,8 @@ slice-write-work c =
 returns : tie.Need-returns
 returns c =
     let m = c .before .before .before .before in
-    centred _ _ _ _ _ _ _ _ _ _ _ _ _ (start m .pre .1) (m .measure-row .ensures .0) (m .measure-row .ensures .1) refl
+    centred _ _ _ _ _ _ _ _ _ _ _ _ _ (start m .pre .1) (m .measure-row .ensures .0)
+    (omega (arith, m .measure-row .ensures .1, m .measure-row .ensures .2)) refl
 
 same-length : tie.Need-same-length
 same-length c = returns c .alone .grew .since .bytes
@@ -44,7 +50,7 @@ pub measure-centre-spec : {M : Type 1} → statement M
 measure-centre-spec =
     tie.close
     (tie.spec
-    (λ c κs. search needs)
+    measure-row-requires
     mul-work
     add-work
     mul-work-2
