@@ -28,6 +28,10 @@ unfolding saidCheck
 said-check T c w room = refl
 
 -- ---- the workspace
+-- 19 leaves it
+nineteen-keeps : clears 19 ≡ false
+nineteen-keeps = refl
+
 -- 0 and the numbers of the passes clear it
 late-clears : (l : List Said) → Every Late l → clears (said l .0) ≡ true
 late-clears [] h = refl
@@ -36,10 +40,6 @@ late-clears (s ∷ l) h = rw (h .0) (or-true (eqb (s .0) 0))
 -- the numbers of the refusals leave it
 early-keeps : (r : ℕ) → (r ≡ 0 → ⊥) → within 10 13 r ≡ false → clears r ≡ false
 early-keeps r h q = rw (ne-eqb r 0 h, q)
-
--- so does 19, which is one of them
-nineteen-keeps : clears 19 ≡ false
-nineteen-keeps = refl
 
 -- a number that is at least 10 only where it is above 13 is none of 10 to 13
 pub unfound : (k : ℕ) → (10 ≤ k → 13 < k) → within 10 13 k ≡ false
