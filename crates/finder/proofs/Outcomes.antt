@@ -4,7 +4,7 @@ use Rattle.buffers.specs.Wiped.{wiped}
 use Rattle.build.proofs.Theorems.{build-headed}
 use Rattle.build.specs.Calls.{Builds}
 use Rattle.finder.proofs.Why.{asked-well}
-use Rattle.finder.specs.Calls.{Finds, Near, centres, leafRows}
+use Rattle.finder.specs.Calls.{Finds, Near, centres, leafRows, nobody}
 use Rattle.finder.specs.Near.{Asked, Fit, firstOf, markOf, saidNear}
 use Rattle.limits.proofs.Numbers.{Sized}
 use Rattle.measure.specs.Table.{rowsOf}
@@ -33,17 +33,17 @@ wiped-long n xs h = length-append (replicate n 0) (drop n xs) ∙ omega (arith, 
 
 -- a table that was built over is right
 pub built-sized : {t : List ℕ} {c : ℕ} {room work room′ work′ : List ℕ} {made words nodes : ℕ}
-    → Builds t c 2 centres leafRows room work room′ work′ made words nodes → made ≡ 0 → Sized (length t) c
-built-sized {t} {c} {room} {work} b z = build-headed t c 2 centres leafRows room work b z .0
+    → Builds t c 0 2 centres leafRows room work room′ work′ made words nodes → made ≡ 0 → Sized (length t) c
+built-sized {t} {c} {room} {work} b z = build-headed t c 0 2 centres leafRows room work b z .0
 
 -- ---- marking
 -- what the searches are lent
 pub near-fit : {t : List ℕ} {c : ℕ} {qs room work how : List ℕ} (marks : List ℕ) {room′ work′ marks₁ : List ℕ} {made words nodes why : ℕ}
-    → Builds t c 2 centres leafRows room work room′ work′ made words nodes → made ≡ 0
+    → Builds t c 0 2 centres leafRows room work room′ work′ made words nodes → made ≡ 0
     → why ≡ saidNear (rowsOf t c) c (length qs) (length how) (length marks) → why ≡ 0 → marks₁ ≡ wiped (rowsOf t c) marks
     → Fit (take words room′) t c qs how marks₁
 near-fit {t} {c} {qs} {room} {work} {how} marks {room′} {work′} {marks₁} {made} {words} b z s y e =
-    let h = build-headed t c 2 centres leafRows room work b z in
+    let h = build-headed t c 0 2 centres leafRows room work b z in
     let a = asked-well (rowsOf t c) c (length qs) (length how) (length marks) (sym s ∙ y) in
     let w : n# (take words room′) ≡ rowsOf t c = h .1 in
     record {
@@ -62,7 +62,7 @@ near-fit {t} {c} {qs} {room} {work} {how} marks {room′} {work′} {marks₁} {
     }
 
 module _ {t : List ℕ} {c : ℕ} {qs : List ℕ} {r : ℕ} {room work how marks room′ work′ : List ℕ} {made words nodes : ℕ}
-    (b : Builds t c 2 centres leafRows room work room′ work′ made words nodes) where
+    (b : Builds t c 0 2 centres leafRows room work room′ work′ made words nodes) where
   -- the build was refused
   pub near-unbuilt : {number in# met : ℕ} → (made ≡ 0 → ⊥) → (number ≡ made) × (in# ≡ 0) × (met ≡ 0)
       → Near t c qs r room room′ work work′ how how marks marks number in# met
@@ -101,7 +101,7 @@ module _ {t : List ℕ} {c : ℕ} {qs : List ℕ} {r : ℕ} {room work how marks
             → (number ≡ 0) × Asked t c (take words room′) qs r (rowsOf qs c) how how′ marks₁ marks′ in# met
             → Near t c qs r room room′ work work′ how how′ marks marks′ number in# met
         near-asked {marks₁ = marks₁} e f =
-            let w : n# (take words room′) ≡ rowsOf t c = build-headed t c 2 centres leafRows room work b z .1 in
+            let w : n# (take words room′) ≡ rowsOf t c = build-headed t c 0 2 centres leafRows room work b z .1 in
             let d : drop (n# (take words room′)) marks₁ ≡ drop (n# (take words room′)) marks
             = ap (drop (n# (take words room′))) (e ∙ ap (λ (n : ℕ). wiped n marks) (sym w)) ∙ wiped-behind (n# (take words room′)) marks in
             record {
@@ -123,7 +123,7 @@ module _ {t : List ℕ} {c : ℕ} {qs : List ℕ} {r : ℕ} {room work how marks
 
 -- ---- finding
 module _ {t : List ℕ} {c : ℕ} {q : List ℕ} {w : ℕ} {room work how rs ds room′ cleared : List ℕ} {made words nodes : ℕ}
-    (b : Builds t c 2 centres leafRows room work room′ cleared made words nodes) {number given met : ℕ} where
+    (b : Builds t c 0 2 centres leafRows room work room′ cleared made words nodes) {number given met : ℕ} where
   -- the build was refused
   pub finds-unbuilt : (made ≡ 0 → ⊥) → (number ≡ made) × (given ≡ 0) × (met ≡ 0)
       → Finds t c q w room room′ work cleared how how rs rs ds ds number given met
@@ -140,7 +140,7 @@ module _ {t : List ℕ} {c : ℕ} {q : List ℕ} {w : ℕ} {room work how rs ds 
 
   -- what it wrote was searched
   pub finds-answered : {work′ how′ rs′ ds′ : List ℕ} → made ≡ 0
-      → Answered (asks t c (take words room′) q w) (min (length rs) (length ds)) (lends rs ds how cleared) (lends rs′ ds′ how′ work′) number given met
+      → Answered (asks t c (take words room′) q w (nobody t c)) (min (length rs) (length ds)) (lends rs ds how cleared) (lends rs′ ds′ how′ work′) number given met
       → Finds t c q w room room′ work work′ how how′ rs rs′ ds ds′ number given met
   finds-answered z s =
       record {

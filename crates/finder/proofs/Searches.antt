@@ -14,9 +14,10 @@ use Rattle.marking.specs.Lent.{Lent}
 use Rattle.marking.specs.Written.{write}
 use Rattle.tree.specs.Grove.{treeOf}
 use Rattle.tree.specs.Nearest.{isMeasured, measured}
-use Rattle.tree.specs.Radius.{marks as marksOf}
+use Rattle.tree.proofs.Veiled.{veiled-none}
+use Rattle.tree.specs.Radius.{marks as marksOf, veiled}
 use Rattle.words.specs.InShape.{InShape}
-use Rattle.words.specs.Words.{n#}
+use Rattle.words.specs.Words.{circles#, n#}
 use lib.Dec.{eqb, leb}
 use lib.ListN.{List·getD-append, drop, getD, length, length-append, length-drop, replicate, take}
 use lib.Seq.{drop-at, take-at}
@@ -47,7 +48,7 @@ module _ (t : List ℕ) (c : ℕ) (w qs : List ℕ) (r : ℕ) where
   -- those of a search are n
   pub how-long : (k : ℕ) → length (howOf t c w qs r k) ≡ n# w
   unfolding howOf
-  how-long k = written-length (marksOf (from t c (row qs c k)) r (treeOf w)) (n# w)
+  how-long k = written-length (marksOf (from t c (circles# w) (row qs c k)) r (treeOf w)) (n# w)
 
   -- beyond n they stay
   how-behind : (k : ℕ) (how : List ℕ) → drop (n# w) (howAfter t c w qs r k how) ≡ drop (n# w) how
@@ -69,11 +70,15 @@ module _ (t : List ℕ) (c : ℕ) (w qs : List ℕ) (r : ℕ) where
 
   -- one search more, of a query known by an equation
   pub how-next : InShape w → {q how₁ how₂ : List ℕ} (how : List ℕ) (k : ℕ) → q ≡ row qs c k → how₁ ≡ howAfter t c w qs r k how
-      → how₂ ≡ write (marksOf (from t c q) r (treeOf w)) (wiped (n# w) how₁) → how₂ ≡ howAfter t c w qs r (k + 1) how
+      → how₂ ≡ write (marksOf (from t c (circles# w) q) r (treeOf w)) (wiped (n# w) how₁) → how₂ ≡ howAfter t c w qs r (k + 1) how
   unfolding howOf
   how-next S {q} {how₁} how k eq e f =
-      f ∙ written-is (from t c q) r w S how₁
-      ∙ ap₂ (λ (x y : List ℕ). write (marksOf (from t c x) r (treeOf w)) (replicate (n# w) 0) ++ y) eq (ap (drop (n# w)) e ∙ how-behind k how)
+      let x : ℕ → ℕ = from t c (circles# w) q in
+      let all : ℕ → Bool = λ i. false in
+      let same : veiled all (marksOf x r (treeOf w)) ≡ marksOf x r (treeOf w) = veiled-none all (λ i. refl) (marksOf x r (treeOf w)) in
+      f ∙ ap (λ (ms : List (ℕ × ℕ)). write ms (wiped (n# w) how₁)) (sym same) ∙ written-is x r all w S how₁
+      ∙ ap (λ (ms : List (ℕ × ℕ)). write ms (replicate (n# w) 0) ++ drop (n# w) how₁) same
+      ∙ ap₂ (λ (x y : List ℕ). write (marksOf (from t c (circles# w) x) r (treeOf w)) (replicate (n# w) 0) ++ y) eq (ap (drop (n# w)) e ∙ how-behind k how)
       ∙ sym (after-next k how)
 
   -- ---- the marks
@@ -131,7 +136,7 @@ module _ (t : List ℕ) (c : ℕ) (w qs : List ℕ) (r : ℕ) where
 
       -- one more
       pub asked-next : InShape w → {q how₂ marks₂ : List ℕ} {new more : ℕ} → q ≡ row qs c k
-          → how₂ ≡ write (marksOf (from t c q) r (treeOf w)) (wiped (n# w) how₁) → more ≡ measured (take (n# w) how₂)
+          → how₂ ≡ write (marksOf (from t c (circles# w) q) r (treeOf w)) (wiped (n# w) how₁) → more ≡ measured (take (n# w) how₂)
           → marks₂ ≡ united how₂ marks₁ (n# w) → new ≡ sumFresh how₂ marks₁ (n# w)
           → Asked t c w qs r (k + 1) how how₂ marks marks₂ (in# + new) (met + more)
       unfolding united sumFresh
@@ -209,7 +214,7 @@ module _ {w t : List ℕ} {c : ℕ} {qs : List ℕ} {r : ℕ} {how₀ marks₀ :
 
     -- one more
     pub going-next : {q how₂ marks₂ : List ℕ} {new more : ℕ} → k < asked → q ≡ row qs c k
-        → how₂ ≡ write (marksOf (from t c q) r (treeOf w)) (wiped (n# w) how) → more ≡ measured (take n how₂) → marks₂ ≡ united how₂ marks n
+        → how₂ ≡ write (marksOf (from t c (circles# w) q) r (treeOf w)) (wiped (n# w) how) → more ≡ measured (take n how₂) → marks₂ ≡ united how₂ marks n
         → new ≡ sumFresh how₂ marks n → new ≤ n → Going w t c qs r how₀ marks₀ n asked how₂ marks₂ (in# + new) (met + more) (k + 1)
     going-next {q} {how₂} {marks₂} {new} {more} l eq e m u f s =
         let one = asked-next t c w qs r how₀ marks₀ (G .done) (G .fit .tested .shape) eq e (m ∙ ap (λ (x : ℕ). measured (take x how₂)) (G .rows))

@@ -2,14 +2,14 @@
 use Prim.Native.Nat.{_<_, _≤_, min, suc, zero, ℕ}
 use Rattle.build.proofs.Theorems.{build-headed, build-only}
 use Rattle.finder.proofs.Firsts.{first-at}
-use Rattle.finder.proofs.Indexed.{nearest-given}
+use Rattle.finder.proofs.Indexed.{nearest-given, plain-row, plain-rows}
 use Rattle.finder.specs.Answers.{Alike, Closest, Within}
-use Rattle.finder.specs.Calls.{Finds, Near, centres, leafRows}
+use Rattle.finder.specs.Calls.{Finds, Near, centres, leafRows, nobody}
 use Rattle.finder.specs.Near.{Asked, firstOf, hasIn, howAfter, howOf, markOf, measuredBy, someTo}
 use Rattle.laws.proofs.Tests.{or-l, or-r}
 use Rattle.laws.specs.Upto.{sumTo}
 use Rattle.measure.proofs.Metric.{query-point}
-use Rattle.measure.specs.Table.{between, from, row, rowsOf}
+use Rattle.measure.specs.Table.{Rounded, between, from, row, rowsOf}
 use Rattle.nearest.proofs.Promises.{nearest-only}
 use Rattle.nearest.proofs.Refusals.{not-refused}
 use Rattle.nearest.specs.Calls.{Answered}
@@ -17,12 +17,16 @@ use Rattle.nearest_search.specs.Asked.{NearestLent, asks, lends}
 use Rattle.radius.proofs.How.{bytes-are}
 use Rattle.tree.proofs.Accepted.{once-of}
 use Rattle.tree.proofs.Theorems.{radius-exact}
+use Rattle.marking.specs.Written.{write}
+use Rattle.tree.proofs.Veiled.{veiled-none}
 use Rattle.tree.specs.Check.{Accepted}
+use Rattle.tree.specs.Grove.{treeOf}
+use Rattle.tree.specs.Radius.{marks, radiusHow}
 use Rattle.words.proofs.InShape.{in-shape}
-use Rattle.words.specs.Words.{n#}
+use Rattle.words.specs.Words.{circles#, n#}
 use borrow.Author.Tests.{le-leb, leb-true}
 use lib.Dec.{T}
-use lib.ListN.{drop, getD, length, take}
+use lib.ListN.{drop, getD, length, replicate, take}
 use mathlib.Core.Bool.{Bool, _||_, cond, false, true}
 use mathlib.Core.List.{List, _++_}
 use mathlib.Core.Logic.{_↔_}
@@ -61,14 +65,19 @@ some-of f (suc k) j h e = go (ℕ-discrete j k) (some-of f k j)
 
 -- ---- marking
 -- over an accepted index w a mark says that a query is within r
-module _ (t : List ℕ) (c : ℕ) (w qs : List ℕ) (r : ℕ) (A : Accepted (between t c) w) where
+module _ (t : List ℕ) (c : ℕ) (w qs : List ℕ) (r : ℕ) (A : Accepted (between t c 0) w) (none : circles# w ≡ 0) where
   -- the search for query j has row i in exactly if it is within r
-  in-exact : (j i : ℕ) → i < n# w → (2 ≤ getD (howOf t c w qs r j) i 0) ↔ (from t c (row qs c j) i ≤ r)
+  in-exact : (j i : ℕ) → i < n# w → (2 ≤ getD (howOf t c w qs r j) i 0) ↔ (from t c 0 (row qs c j) i ≤ r)
   unfolding howOf
   in-exact j i h =
-      subst (λ (l : List ℕ). (2 ≤ getD l i 0) ↔ (from t c (row qs c j) i ≤ r))
-      (sym (bytes-are (from t c (row qs c j)) r w (in-shape w (A .words) (A .shape)) (once-of (between t c) w A)))
-      (radius-exact (between t c) w A (from t c (row qs c j)) (query-point t c (row qs c j)) r i h)
+      let x : ℕ → ℕ = from t c 0 (row qs c j) in
+      let all : ℕ → Bool = λ i. false in
+      let e = radius-exact (between t c 0) w A x (query-point t c 0 (row qs c j) (plain-rows t c) (plain-row c (row qs c j))) r all i h in
+      let bytes : write (marks (from t c (circles# w) (row qs c j)) r (treeOf w)) (replicate (n# w) 0) ≡ radiusHow x r all (n# w) (treeOf w) =
+      ap (λ (o : ℕ). write (marks (from t c o (row qs c j)) r (treeOf w)) (replicate (n# w) 0)) none
+      ∙ ap (λ (ms : List (ℕ × ℕ)). write ms (replicate (n# w) 0)) (sym (veiled-none all (λ i. refl) (marks x r (treeOf w))))
+      ∙ bytes-are x r all w (in-shape w (A .words) (A .shape)) (once-of (between t c 0) w A) in
+      subst (λ (l : List ℕ). (2 ≤ getD l i 0) ↔ (x i ≤ r)) (sym bytes) ((λ m. e .0 m .1), (λ m. e .1 (refl, m)))
 
   -- so has the mark of k searches
   mark-exact : (k i : ℕ) → i < n# w → (markOf t c w qs r k i ≡ 1) ↔ Within t c qs r k i
@@ -110,15 +119,17 @@ module _ {t : List ℕ} {c : ℕ} {qs : List ℕ} {r : ℕ} {room room′ work w
   near-exact z =
       let w : List ℕ = take (x .words) room′ in
       let A = x .built .accepted (near-made z) in
-      let n : n# w ≡ rowsOf t c = build-headed t c 2 centres leafRows room work (x .built) (near-made z) .1 in
+      let headed = build-headed t c 0 2 centres leafRows room work (x .built) (near-made z) in
+      let n : n# w ≡ rowsOf t c = headed .1 in
+      let none : circles# w ≡ 0 = headed .5 in
       let at : (i : ℕ) → i < rowsOf t c → getD marks′ i 0 ≡ markOf t c w qs r (rowsOf qs c) i
       = λ i h. ap (λ (l : List ℕ). getD l i 0) (x .asked z .marked)
       ∙ first-at (markOf t c w qs r (rowsOf qs c)) (n# w) i (drop (n# w) marks) (subst (λ (k : ℕ). i < k) (sym n) h) in
       record {
         near = λ i h.
             subst (λ (v : ℕ). (v ≡ 1) ↔ Within t c qs r (rowsOf qs c) i) (sym (at i h))
-            (mark-exact t c w qs r A (rowsOf qs c) i (subst (λ (k : ℕ). i < k) (sym n) h));
-        far = λ i h. omega (arith, at i h, mark-small t c w qs r A (rowsOf qs c) i);
+            (mark-exact t c w qs r A none (rowsOf qs c) i (subst (λ (k : ℕ). i < k) (sym n) h));
+        far = λ i h. omega (arith, at i h, mark-small t c w qs r A none (rowsOf qs c) i);
       }
 
 -- two outcomes of one call
@@ -143,7 +154,7 @@ module _ {t : List ℕ} {c : ℕ} {qs : List ℕ} {r : ℕ} {room work how marks
   -- NO SECOND OUTCOME FITS: the build leaves no choice, and over what it built the searches leave none
   pub near-only : SameNear
   near-only =
-      let o = build-only t c 2 centres leafRows room work room₁ work₁ room₂ work₂ (a .made) (a .words) (a .nodes) (b .made) (b .words) (b .nodes)
+      let o = build-only t c 0 2 centres leafRows room work room₁ work₁ room₂ work₂ (a .made) (a .words) (a .nodes) (b .made) (b .words) (b .nodes)
       (a .built) (b .built) in
       let n = one (ℕ-discrete (a .made) 0) (o .0) in
       let s = rest (ℕ-discrete number₁ 0) n (ap₂ take (o .1) (o .3)) in (n, s .0, s .1, o .3, o .4, s .2, s .3)
@@ -173,7 +184,7 @@ module _ {t : List ℕ} {c : ℕ} {q : List ℕ} {w : ℕ} {room room′ work wo
 
   -- ON 0 THE ANSWERS ARE THE NEAREST TO THE QUERY
   pub finds-exact : number ≡ 0 → Closest t c q w rs′ ds′ given
-  finds-exact z = let y = finds-made z in nearest-given q (b .built .accepted y) (b .answered y) z
+  finds-exact z = let y = finds-made z in nearest-given q (b .built .accepted y) (build-headed t c 0 2 centres leafRows room work (b .built) y .5) (b .answered y) z
 
 -- two outcomes of one call
 module _ {t : List ℕ} {c : ℕ} {q : List ℕ} {w : ℕ} {room work how rs ds room₁ work₁ how₁ rs₁ ds₁ room₂ work₂ how₂ rs₂ ds₂ : List ℕ}
@@ -184,10 +195,14 @@ module _ {t : List ℕ} {c : ℕ} {q : List ℕ} {w : ℕ} {room work how rs ds 
   SameFinds =
       (number₁ ≡ number₂) × (given₁ ≡ given₂) × (met₁ ≡ met₂) × (room₁ ≡ room₂) × (work₁ ≡ work₂) × (how₁ ≡ how₂) × (rs₁ ≡ rs₂) × (ds₁ ≡ ds₂)
 
+  -- what was built has no circle
+  a-circles : a .made ≡ 0 → circles# (take (a .words) room₁) ≡ 0
+  a-circles z = build-headed t c 0 2 centres leafRows room work (a .built) z .5
+
   -- NO SECOND OUTCOME FITS: the build leaves no choice, and over what it built the search leaves none
   pub finds-only : SameFinds
   finds-only =
-      let o = build-only t c 2 centres leafRows room work room₁ (a .cleared) room₂ (b .cleared) (a .made) (a .words) (a .nodes)
+      let o = build-only t c 0 2 centres leafRows room work room₁ (a .cleared) room₂ (b .cleared) (a .made) (a .words) (a .nodes)
       (b .made) (b .words) (b .nodes) (a .built) (b .built) in
       go (ℕ-discrete (a .made) 0) (o .0) (ap₂ take (o .1) (o .3)) (o .3) (o .4)
     where
@@ -207,21 +222,22 @@ module _ {t : List ℕ} {c : ℕ} {q : List ℕ} {w : ℕ} {room work how rs ds 
           )
       go (yes z) e v p d =
           let s₀ = subst
-          (λ (u : List ℕ). Answered (asks t c u q w) (min (length rs) (length ds)) (lends rs ds how (b .cleared)) (lends rs₂ ds₂ how₂ work₂) number₂ given₂ met₂)
+          (λ (u : List ℕ). Answered (asks t c u q w (nobody t c)) (min (length rs) (length ds)) (lends rs ds how (b .cleared)) (lends rs₂ ds₂ how₂ work₂) number₂ given₂ met₂)
           (sym v) (b .answered (sym e ∙ z)) in
           let s = subst
           (λ (u : List ℕ).
-          Answered (asks t c (take (a .words) room₁) q w) (min (length rs) (length ds)) (lends rs ds how u) (lends rs₂ ds₂ how₂ work₂) number₂ given₂ met₂)
+          Answered (asks t c (take (a .words) room₁) q w (nobody t c)) (min (length rs) (length ds)) (lends rs ds how u) (lends rs₂ ds₂ how₂ work₂) number₂ given₂ met₂)
           (sym d) s₀ in
           let n = nearest-only (a .answered z) s t
           (λ k.
           record {
             rows =
                 sym
-                (not-refused t c (take (a .words) room₁) q w (min (length rs) (length ds)) (length how) (length (a .cleared))
+                (not-refused t c (take (a .words) room₁) q w (nobody t c) (min (length rs) (length ds)) (length how) (length (a .cleared))
                 (sym (a .answered z .said) ∙ k)
                 .rows);
-            accepted = a .built .accepted z;
+            round = subst (Rounded t c) (sym (a-circles z)) (plain-rows t c);
+            accepted = subst (λ (o : ℕ). Accepted (between t c o) (take (a .words) room₁)) (sym (a-circles z)) (a .built .accepted z);
             agree = λ j h m. refl;
           }) in
           let l = n .1 .2 in (

@@ -5,7 +5,8 @@ use Rattle.finder.specs.Near.{Asked, saidNear}
 use Rattle.measure.specs.Table.{rowsOf}
 use Rattle.nearest.specs.Calls.{Answered}
 use Rattle.nearest_search.specs.Asked.{asks, lends}
-use lib.ListN.{length, take}
+use Rattle.rowset.specs.Sets.{wordsFor}
+use lib.ListN.{length, replicate, take}
 use mathlib.Core.List.{List}
 use mathlib.Core.Path.{_≡_}
 
@@ -17,6 +18,10 @@ centres = 4
 abbrev pub leafRows : ℕ
 leafRows = 1_024
 
+-- of the rows of a table none is withdrawn
+abbrev pub nobody : List ℕ → ℕ → List ℕ
+nobody t c = replicate (wordsFor (rowsOf t c)) 0
+
 -- ---- marking
 -- the queries qs and r that are asked about; room, workspace, how-bytes and marks before and after; the number and the two counts. The index of the
 -- table is built into the room; the number of the build is `made`
@@ -24,7 +29,7 @@ pub record Near (t : List ℕ) (c : ℕ) (qs : List ℕ) (r : ℕ) (room room′
   pub made : ℕ
   pub words : ℕ
   pub nodes : ℕ
-  pub built : Builds t c 2 centres leafRows room work room′ work′ made words nodes
+  pub built : Builds t c 0 2 centres leafRows room work room′ work′ made words nodes
   -- a build that is refused is the answer
   pub unbuilt : (made ≡ 0 → ⊥) → number ≡ made
   -- else rooms that are too short, or queries that are not right
@@ -42,9 +47,9 @@ pub record Finds (t : List ℕ) (c : ℕ) (q : List ℕ) (w : ℕ) (room room′
   pub words : ℕ
   pub nodes : ℕ
   pub cleared : List ℕ
-  pub built : Builds t c 2 centres leafRows room work room′ cleared made words nodes
+  pub built : Builds t c 0 2 centres leafRows room work room′ cleared made words nodes
   -- a build that is refused is the answer
   pub refused : (made ≡ 0 → ⊥) → (number ≡ made) × (given ≡ 0) × (met ≡ 0) × (work′ ≡ cleared) × (how′ ≡ how) × (rs′ ≡ rs) × (ds′ ≡ ds)
   -- else the built words are searched for the w nearest to the query
   pub answered : made ≡ 0
-      → Answered (asks t c (take words room′) q w) (min (length rs) (length ds)) (lends rs ds how cleared) (lends rs′ ds′ how′ work′) number given met
+      → Answered (asks t c (take words room′) q w (nobody t c)) (min (length rs) (length ds)) (lends rs ds how cleared) (lends rs′ ds′ how′ work′) number given met

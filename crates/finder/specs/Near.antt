@@ -8,7 +8,7 @@ use Rattle.tree.specs.Grove.{treeOf}
 use Rattle.tree.specs.Nearest.{measured}
 use Rattle.tree.specs.Radius.{marks}
 use Rattle.tree.specs.Tested.{Tested}
-use Rattle.words.specs.Words.{n#}
+use Rattle.words.specs.Words.{circles#, n#}
 use lib.Dec.{eqb, leb, ltb}
 use lib.ListN.{drop, getD, length, replicate}
 use mathlib.Core.Bool.{Bool, _&&_, _||_, cond, false}
@@ -38,7 +38,7 @@ firstOf f (suc n) = firstOf f n ++ (f n ∷ [])
 module _ (t : List ℕ) (c : ℕ) (w qs : List ℕ) (r : ℕ) where
   -- the how-bytes of the search for query k, within r: 01, Radius r
   unfoldable pub howOf : ℕ → List ℕ
-  howOf k = write (marks (from t c (row qs c k)) r (treeOf w)) (replicate (n# w) 0)
+  howOf k = write (marks (from t c (circles# w) (row qs c k)) r (treeOf w)) (replicate (n# w) 0)
 
   -- how many rows it measures
   unfoldable pub measuredBy : ℕ → ℕ

@@ -1,6 +1,7 @@
 // Questions about a table, answered exactly: which rows are near, and which are the nearest. The index is built over the table, and searched.
 ghost use Rattle.finder.specs.Calls.{Finds, Near};
 ghost use mathlib.Core.Path.{_≡_};
+use crate::all::nearest_of_all;
 use crate::rounds::mark_each;
 use crate::rounds::why_not;
 use buffers::clear_bytes;
@@ -8,6 +9,7 @@ use limits::Params;
 use nearest::Given;
 use radius::Found;
 
+mod all;
 mod rounds;
 
 // Centres of an inner node, and rows of a leaf: what measures best for one build and one search.
@@ -51,7 +53,7 @@ pub fn mark_near(
     ensures { λ f. ⌜ Near (now (table .entry)) c (now (queries .entry)) r (now (room .entry)) (now (room .exit)) (now (work .entry))
         (now (work .exit)) (now (how .entry)) (now (how .exit)) (now (marks .entry)) (now (marks .exit)) (f .number) (f .inside) (f .measured) ⌝ }
 {
-    let built = build::build(table, c, CENTRES, LEAF, Params::LAST_EDITION, room, work);
+    let built = build::build(table, c, CENTRES, LEAF, 0, Params::LAST_EDITION, room, work);
     let number = built.number;
     if number != 0 {
         return none_marked(number);
@@ -82,13 +84,13 @@ pub fn find_nearest(
         (now (work .exit)) (now (how .entry)) (now (how .exit)) (now (rows .entry)) (now (rows .exit)) (now (distances .entry))
         (now (distances .exit)) (g .number) (g .given) (g .measured) ⌝ }
 {
-    let built = build::build(table, c, CENTRES, LEAF, Params::LAST_EDITION, room, work);
+    let built = build::build(table, c, CENTRES, LEAF, 0, Params::LAST_EDITION, room, work);
     let number = built.number;
     if number != 0 {
         return none_given(number);
     }
     let words = built.words;
-    nearest::nearest(
+    nearest_of_all(
         table,
         c,
         &room[..words],

@@ -5,7 +5,7 @@ ghost use Rattle.measure.specs.Table.{rowsOf};
 ghost use Rattle.tree.specs.Nearest.{measured};
 ghost use lib.ListN.{length, take};
 ghost use mathlib.Core.Path.{_≡_};
-use descent::search;
+use crate::all::search_all;
 use limits::Params;
 use measure::row_of;
 use radius::Found;
@@ -102,7 +102,7 @@ pub fn mark_each(
     let mut measured = 0;
     let mut k = 0;
     while k < asked {
-        search(table, c, index, row_of(queries, c, k), r, how);
+        search_all(table, c, index, row_of(queries, c, k), r, how);
         measured += measured_rows(how, n);
         inside += join(how, marks, n);
         k += 1;
