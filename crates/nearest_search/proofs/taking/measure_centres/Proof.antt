@@ -18,6 +18,10 @@ Inv-loop table c query index n w withdrawn how₀ work₀ held a e o k₀ j₀ h
 abbrev μ-loop : tie.MeasureT-loop
 μ-loop table c query index n w withdrawn how₀ work₀ held a e o k₀ j₀ how work k j = e - j
 
+-- seen from the reading of the circles: the start
+abbrev start : tie.After-circles Inv-loop μ-loop → tie.Start Inv-loop μ-loop
+start o = o .before .before .before .before .before .before .before
+
 circles-requires : tie.Need-circles-requires Inv-loop μ-loop
 circles-requires c κs = omega (arith, c .before .before .before .before .before .before .pre .1 .0 .whole .words)
 
@@ -33,14 +37,13 @@ node-first-requires c κs =
 
 measure-centre-requires : tie.Need-measure-centre-requires Inv-loop μ-loop
 measure-centre-requires c κs =
-    let pre = c .before .before .before .before .before .before .before .before .before .before .before .before .pre in
+    let o = c .before .before .before .before .before in
+    let pre = start o .pre in
     let loop = c .before .before .before .before .loop in
-    let node-first = c .before .before .node-first in
-    let circles = c .before .before .before .before .before .circles in
-    let index = c .before .before .before .before .before .before .before .before .before .before .before .before .args .index .now in (
-      ready-by _ _ _ index _ _ _ _ _ _ _ (circles .ensures) (ready-on _ _ _ _ _ _ _ _ _ _ _ _ _ (pre .0) (loop .inv .took .alone .grew .stands)),
-      omega
-          (arith, node-first .ensures .1, pre .1 .1),
+    let node-first = c .before .before .node-first in (
+      ready-by _ _ _ (start o .args .index .now) _ _ _ _ _ _ _ (o .circles .ensures)
+          (ready-on _ _ _ _ _ _ _ _ _ _ _ _ _ (pre .0) (loop .inv .took .alone .grew .stands)),
+      omega (arith, node-first .ensures .1, pre .1 .1),
     )
 
 loop-again : tie.Need-loop-again Inv-loop μ-loop
@@ -48,10 +51,9 @@ loop-again c =
     let loop = c .before .before .before .before .before .before .before .before .before .loop in
     let node-first = c .before .before .before .before .before .before .before .node-first in
     let measure-centre = c .before .before .before .before .measure-centre in
-    let circles = c .before .before .before .before .before .before .before .before .before .before .circles in
-    let index = c .before .before .before .before .before .before .before .before .before .before .before .before .before .before .before .before .before .args .index .now in
+    let o = c .before .before .before .before .before .before .before .before .before .before in
     centres-step _ _ _ _ _ _ _ _ _ _ _ _ _ _ _ _ _ _ (loop .inv) (omega arith) (node-first .ensures .0)
-    (centres-by _ _ _ index _ _ _ _ _ _ _ _ _ _ _ (circles .ensures) (measure-centre .ensures))
+    (centres-by _ _ _ (start o .args .index .now) _ _ _ _ _ _ _ _ _ _ _ (o .circles .ensures) (measure-centre .ensures))
 
 same-length : tie.Need-same-length Inv-loop μ-loop
 same-length c = c .before .loop .inv .took .alone .grew .since .bytes
