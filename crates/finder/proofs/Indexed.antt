@@ -63,10 +63,11 @@ take-zeros (suc k) zero h = absurd (omega arith)
 take-zeros (suc k) (suc m) h = ap (λ (l : List ℕ). 0 ∷ l) (take-zeros k m (omega arith))
 
 -- the words of a set of n rows, as the code cuts them out
-pub zeros-part : (k n m : ℕ) → k ≡ wordsFor n → k ≤ m → take (k - 0) (drop 0 (replicate m 0)) ≡ replicate (wordsFor n) 0
+pub zeros-part : (k n m : ℕ) → k ≡ wordsFor n → k ≤ m
+    → _≡_ {A = List ℕ} (take (k - 0) (drop 0 (replicate m 0))) (replicate (wordsFor n) 0)
 zeros-part k n m e h =
     let whole : k - 0 ≡ k = omega arith in
-    ap (λ (j : ℕ). take j (replicate m 0)) whole ∙ take-zeros k m h ∙ ap (λ (j : ℕ). replicate j 0) e
+    ap {B = List ℕ} (λ (j : ℕ). take j (replicate m 0)) whole ∙ take-zeros k m h ∙ ap {B = List ℕ} (λ (j : ℕ). replicate j 0) e
 
 -- so many rows take so many words at most
 pub few-words : (n k : ℕ) → n ≤ maxRows → k ≡ wordsFor n → k ≤ 32768

@@ -1,7 +1,7 @@
 -- `finder::find_nearest` meets its contract: a build that is refused, and a search over what was built.
 -- Assumes nothing.
 use Rattle.finder.proofs.Indexed.{words-there}
-use Rattle.finder.proofs.Outcomes.{finds-answered, finds-unbuilt}
+use Rattle.finder.proofs.Outcomes.{built-sized, finds-answered, finds-unbuilt}
 use Rattle.finder.proofs.find_nearest.Statement.{statement}
 use Rattle.finder.proofs.find_nearest.Tie as tie
 use borrow.Author.Needs.{needs}
@@ -18,7 +18,9 @@ slice-aggregate-nearest-of-all : tie.Need-slice-aggregate-nearest-of-all
 slice-aggregate-nearest-of-all c = sym (length-take-le _ _ (words-there (c .before .before .before .before .before .before .build .ensures) (c .before .if1 .left)))
 
 nearest-of-all-requires : tie.Need-nearest-of-all-requires
-nearest-of-all-requires c κs = ?
+nearest-of-all-requires c κs =
+    built-sized (c .before .before .before .before .before .before .before .before .before .before .build .ensures)
+    (c .before .before .before .before .before .if1 .left) .rows
 
 returns-2 : tie.Need-returns-2
 returns-2 c =
