@@ -1,9 +1,10 @@
 -- Odd texts, and what they say. Assumes nothing.
 use Prim.Native.Nat.{ℕ}
-use Rattle.sheet.specs.Fields.{asName, asNumber, asRow, cut, fields, grownBy, value, worths}
-use Rattle.sheet.specs.Kinds.{kindOf, parting, signing}
+use Rattle.sheet_fields.specs.Fields.{asName, asNumber, asRow, cut, fields, grownBy, value, worths}
+use Rattle.sheet_fields.specs.Kinds.{kindOf, parting, signing}
 use Rattle.sheet.specs.Lines.{body, kept, lines, named, unmarked}
-use Rattle.sheet.specs.Says.{Told, differs, lineTrouble, orRow, rowTrouble, says, stopped, told, toldAll, toldBy, toldNames, trouble}
+use Rattle.sheet_line.specs.Troubles.{trouble}
+use Rattle.sheet.specs.Says.{Told, differs, lineTrouble, orRow, rowTrouble, says, stopped, told, toldAll, toldBy, toldNames}
 use mathlib.Core.List.{[], _∷_}
 use mathlib.Core.Path.{_≡_, refl}
 

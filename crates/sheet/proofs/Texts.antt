@@ -1,17 +1,17 @@
 -- A text, line by line: the mark at its start, the carriage returns, and the newlines. Assumes nothing.
 use Prim.Native.Nat.{_≤_, ℕ}
 use Rattle.sheet.proofs.Closings.{closed-cases, decided-cases}
-use Rattle.sheet.proofs.LineRuns.{through}
+use Rattle.sheet_line.proofs.LineRuns.{through}
 use Rattle.sheet.proofs.Runs.{next-read, next-stays, read-newline, read-other, read-return}
 use Rattle.sheet.specs.Closing.{accepted, closed, decided, endTrouble, failed, judged, onward, titles}
-use Rattle.sheet.specs.Fields.{cut, cutAt, cutUp}
-use Rattle.sheet.specs.InLine.{along, emptied, moved, settled}
-use Rattle.sheet.specs.Kinds.{kindOf, parting, signing}
+use Rattle.sheet_fields.specs.Fields.{cut, cutAt, cutUp}
+use Rattle.sheet_line.specs.InLine.{along, emptied, moved, settled}
+use Rattle.sheet_fields.specs.Kinds.{kindOf, parting, signing}
 use Rattle.sheet.specs.Lines.{body, isNewline, kinds, unmarked}
 use Rattle.sheet.specs.Reading.{begun, inside, markByte, marking, next, read, released, run, unmarking}
 use Rattle.sheet.specs.declared.Reader.{Reader}
-use Rattle.sheet.specs.declared.bytes.Kind.the-variants.{Other}
-use Rattle.sheet.specs.declared.line.Line.{Line}
+use Rattle.sheet_fields.specs.declared.Kind.the-variants.{Other}
+use Rattle.sheet_line.specs.declared.Line.{Line}
 use borrow.Author.Tests.{eq-eqb, eqb-false, eqb-true, ne-eqb}
 use lib.Dec.{eqb}
 use lib.ListN.{length}
