@@ -1,5 +1,5 @@
 -- The pieces of a text that one byte parts: the items of a list, the words of the arguments. Assumes nothing.
-use Prim.Native.Nat.{_+_, _-_, _≤_, suc, zero, ℕ}
+use Prim.Native.Nat.{_+_, _-_, _≤_, min, suc, zero, ℕ}
 use lib.Dec.{eqb, leb}
 use lib.ListN.{drop, length, take}
 use mathlib.Core.Bool.{Bool, cond, true}
@@ -27,6 +27,10 @@ hasPiece b t i = leb (beginOf b t i) (length t)
 -- the bytes from `start` up to `end`
 abbrev pub cut : List ℕ → ℕ → ℕ → List ℕ
 cut t start end = take (end - start) (drop start t)
+
+-- the bytes from `start` up to `end`, as far as the text has them
+unfoldable pub partOf : List ℕ → ℕ → ℕ → List ℕ
+partOf t start end = cut t (min start (min end (length t))) (min end (length t))
 
 -- the bytes of piece i
 unfoldable pub pieceOf : ℕ → List ℕ → ℕ → List ℕ

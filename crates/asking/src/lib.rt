@@ -2,6 +2,9 @@
 pub mod numbers;
 pub mod pieces;
 
+ghost use Prim.Native.Nat.{_≤_};
+ghost use Rattle.asking.specs.Words.{Answerable, hasWord, wayOf, wordIs};
+ghost use mathlib.Core.Path.{_≡_};
 use numbers::NO_NUMBER;
 use numbers::number;
 use pieces::Piece;
@@ -88,7 +91,9 @@ fn nothing_asked() -> Question {
 }
 
 // The question, found wrong at a word.
-fn wrong_at(q: Question, wrong: u32, place: Piece) -> Question {
+fn wrong_at(q: Question, wrong: u32, place: Piece) -> Question
+    ensures { λ r. ⌜ r .wrong ≡ wrong ⌝ }
+{
     let mut n = q;
     n.wrong = wrong;
     n.place = place;
@@ -246,7 +251,9 @@ fn with_words(words: &[u8]) -> Question {
 }
 
 // What is asked for by the second word: 0 where it is neither.
-fn way_of(word: &[u8]) -> u32 {
+fn way_of(word: &[u8]) -> u32
+    ensures { λ r. ⌜ r ≡ wayOf (now (word .entry)) ⌝ }
+{
     if check::same(word, b"like") {
         return LIKE;
     }
@@ -256,8 +263,18 @@ fn way_of(word: &[u8]) -> u32 {
     0
 }
 
+// The least number that can be asked for: a distance may be 0.
+fn least_amount(asks: u32) -> u32
+    ensures { λ r. ⌜ (asks ≡ 2 → r ≡ 1) ⌝ }
+{
+    if asks == NEAREST { 1 } else { 0 }
+}
+
 // The way and the amount.
-fn with_amount(words: &[u8], q: Question) -> Question {
+fn with_amount(words: &[u8], q: Question) -> Question
+    requires { ⌜ (4 ≤ q .plain) × (q .awaits ≡ 0) ⌝ }
+    ensures { λ r. ⌜ (r .wrong ≡ 0 → Answerable (now (words .entry)) r) ⌝ }
+{
     let asks = way_of(bytes_of(words, q.way));
     if asks == 0 {
         let way = q.way;
@@ -268,10 +285,8 @@ fn with_amount(words: &[u8], q: Question) -> Question {
     if NO_NUMBER <= number {
         return wrong_at(q, NO_AMOUNT, amount);
     }
-    if asks == NEAREST {
-        if number == 0 {
-            return wrong_at(q, NO_AMOUNT, amount);
-        }
+    if number < least_amount(asks) {
+        return wrong_at(q, NO_AMOUNT, amount);
     }
     let mut n = q;
     n.asks = asks;
@@ -280,7 +295,9 @@ fn with_amount(words: &[u8], q: Question) -> Question {
 }
 
 // The question that the words ask. Where `wrong` is 0, all four words and the values of the options are there.
-pub fn ask(words: &[u8]) -> Question {
+pub fn ask(words: &[u8]) -> Question
+    ensures { λ r. ⌜ (r .wrong ≡ 0 → Answerable (now (words .entry)) r) ⌝ }
+{
     let q = with_words(words);
     if q.wrong != 0 {
         return q;
@@ -306,17 +323,25 @@ pub fn ask(words: &[u8]) -> Question {
     with_amount(words, q)
 }
 
+// Whether word i is this one.
+fn is_word(words: &[u8], word: &[u8], i: usize) -> bool
+    ensures { λ r. ⌜ r ≡ wordIs (now (words .entry)) (now (word .entry)) i ⌝ }
+{
+    let w = piece_at(words, 0, i);
+    if !w.there {
+        return false;
+    }
+    check::same(bytes_of(words, w), word)
+}
+
 // Whether one of the words is this one.
-pub fn has_word(words: &[u8], word: &[u8]) -> bool {
+pub fn has_word(words: &[u8], word: &[u8]) -> bool
+    ensures { λ r. ⌜ r ≡ hasWord (now (words .entry)) (now (word .entry)) 32 ⌝ }
+{
     let mut found = false;
     let mut i = 0;
     while i < MOST_WORDS {
-        let w = piece_at(words, 0, i);
-        if w.there {
-            if check::same(bytes_of(words, w), word) {
-                found = true;
-            }
-        }
+        found = is_word(words, word, i) | found;
         i += 1;
     }
     found
