@@ -6,14 +6,18 @@ use mathlib.Core.Bool.{Bool, cond, true}
 use mathlib.Core.List.{List, [], _∷_}
 use mathlib.Core.Path.{_≡_}
 
--- where the byte b stands first in t; t's length where it does not
-unfoldable pub firstOf : ℕ → List ℕ → ℕ
-firstOf b [] = 0
-firstOf b (x ∷ t) = cond (eqb x b) 0 (suc (firstOf b t))
+-- how many bytes stand before the first that passes a test
+unfoldable pub before : (ℕ → Bool) → List ℕ → ℕ
+before f [] = 0
+before f (x ∷ t) = cond (f x) 0 (suc (before f t))
 
--- where the byte b stands first in t from place `at` on; t's end where it does not
-unfoldable pub endAt : ℕ → List ℕ → ℕ → ℕ
-endAt b t at = at + firstOf b (drop at t)
+-- where the first byte of t stands, from place `at` on, that passes a test; t's end where none does
+unfoldable pub placeFrom : (ℕ → Bool) → List ℕ → ℕ → ℕ
+placeFrom f t at = at + before f (drop at t)
+
+-- the same for the byte b
+abbrev pub endAt : ℕ → List ℕ → ℕ → ℕ
+endAt b t at = placeFrom (λ (x : ℕ). eqb x b) t at
 
 -- where piece i begins: behind the end of the piece before it
 unfoldable pub beginOf : ℕ → List ℕ → ℕ → ℕ
