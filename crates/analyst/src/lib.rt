@@ -47,8 +47,8 @@ pub const TEXT_FAULTY: u32 = 3;
 
 pub const NO_ROOM: u32 = 4;
 
-// Where the launcher listens for the status: a program of the kit has no exit status.
-const STATUS_FILE: i32 = 3;
+// The descriptor at which the launcher listens for the status, since a program of the kit has no exit status; where nobody does, nothing is written.
+pub const STATUS_FILE: i32 = 3;
 
 // Where answers go, and where all else.
 pub struct Ends {
@@ -870,9 +870,4 @@ pub fn refuse_words(err: i32) -> u32
 {
     say(err, b"the arguments are too long\n");
     ASKED_WRONGLY
-}
-
-// Hands the status to the launcher, which listens at descriptor 3; where nobody does, nothing is written.
-pub fn hand_status(status: u32) {
-    io::print_decimal(STATUS_FILE, status as u64);
 }

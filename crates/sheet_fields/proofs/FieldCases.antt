@@ -1,6 +1,6 @@
 -- Odd lines, and their fields. Assumes nothing.
 use Rattle.sheet_fields.specs.Fields.{cut, fields}
-use Rattle.sheet_fields.specs.Kinds.{kindOf, parting, signing}
+use Rattle.sheet_fields.specs.Kinds.{kindOf, parting, quoting, signing}
 use Rattle.sheet_fields.specs.declared.Kind.the-variants.{Digit, Other}
 use mathlib.Core.List.{[], _∷_, map}
 use mathlib.Core.Path.{_≡_, refl}
@@ -9,5 +9,5 @@ use mathlib.Core.Path.{_≡_, refl}
 parted : (fields (map kindOf (49 ∷ 59 ∷ 50 ∷ [])) ≡ (Digit 1 ∷ []) ∷ (Digit 2 ∷ []) ∷ [])
     × (fields (map kindOf (49 ∷ 58 ∷ 50 ∷ [])) ≡ (Digit 1 ∷ Other ∷ Digit 2 ∷ []) ∷ [])
     × (fields (map kindOf (49 ∷ 44 ∷ 44 ∷ 51 ∷ [])) ≡ (Digit 1 ∷ []) ∷ [] ∷ (Digit 3 ∷ []) ∷ [])
-unfolding cut fields kindOf parting signing
+unfolding cut fields kindOf parting quoting signing
 parted = (refl, refl, refl)

@@ -1,7 +1,7 @@
 -- A line's fields, gathered from left to right: what the reader of a line does at each byte. Assumes nothing.
 use Rattle.laws.specs.Lists.{all, each, keep}
 use Rattle.sheet_fields.specs.Fields.{cut, fields, isBlank, isParting, orEmpty, something, words}
-use Rattle.sheet_fields.specs.declared.Kind.the-variants.{Blank, Digit, Other, Parting, Sign}
+use Rattle.sheet_fields.specs.declared.Kind.the-variants.{Blank, Digit, Other, Parting, Quote, Sign}
 use Rattle.sheet_fields.specs.declared.Kind.{Kind}
 use Rattle.laws.proofs.Never.{never}
 use mathlib.Core.Bool.{true}
@@ -39,6 +39,7 @@ move s Blank = blankSpot s
 move s Parting = at-open
 move s Sign = wordSpot s Sign
 move s Other = wordSpot s Other
+move s Quote = wordSpot s Quote
 
 -- the field that a blank ends
 abbrev pub blankEnds : Spot → List (List Kind)
@@ -53,6 +54,7 @@ emit s Blank = blankEnds s
 emit s Parting = ending s
 emit s Sign = []
 emit s Other = []
+emit s Quote = []
 
 -- the fields that end in the bytes t, or at their end
 unfoldable pub rest : Spot → List Kind → List (List Kind)
@@ -99,6 +101,9 @@ rest-left (Sign ∷ t) at-behind = rest-left t (at-word Sign [])
 rest-left (Other ∷ t) at-open = rest-left t (at-word Other [])
 rest-left (Other ∷ t) (at-word c u) = rest-left t (at-word c (u ++ Other ∷ [])) ∙ longer c Other u _ _
 rest-left (Other ∷ t) at-behind = rest-left t (at-word Other [])
+rest-left (Quote ∷ t) at-open = rest-left t (at-word Quote [])
+rest-left (Quote ∷ t) (at-word c u) = rest-left t (at-word c (u ++ Quote ∷ [])) ∙ longer c Quote u _ _
+rest-left (Quote ∷ t) at-behind = rest-left t (at-word Quote [])
 
 -- A LINE'S FIELDS ARE THOSE THAT END IN IT, FROM LEFT TO RIGHT
 pub fields-rest : (t : List Kind) → fields t ≡ rest at-open t
@@ -114,3 +119,4 @@ blank-rest (Blank ∷ t) e = blank-rest t e
 blank-rest (Parting ∷ t) e = never e
 blank-rest (Sign ∷ t) e = never e
 blank-rest (Other ∷ t) e = never e
+blank-rest (Quote ∷ t) e = never e

@@ -1,7 +1,7 @@
 -- What stands in each column of a line, and what is wrong with it. Assumes nothing.
 use Prim.Native.Nat.{_*_, _+_, ℕ}
 use Rattle.laws.specs.Lists.{all, each, keep}
-use Rattle.sheet_fields.specs.declared.Kind.the-variants.{Blank, Digit, Other, Parting, Sign}
+use Rattle.sheet_fields.specs.declared.Kind.the-variants.{Blank, Digit, Other, Parting, Quote, Sign}
 use Rattle.sheet_fields.specs.declared.Kind.{Kind}
 use lib.Dec.{eqb, leb}
 use mathlib.Core.Bool.{Bool, cond, false, true}
@@ -31,6 +31,7 @@ isParting Blank = false
 isParting Parting = true
 isParting Sign = false
 isParting Other = false
+isParting Quote = false
 
 -- a blank
 abbrev pub isBlank : Kind → Bool
@@ -39,6 +40,7 @@ isBlank Blank = true
 isBlank Parting = false
 isBlank Sign = false
 isBlank Other = false
+isBlank Quote = false
 
 -- a digit
 abbrev pub isDigit : Kind → Bool
@@ -47,6 +49,7 @@ isDigit Blank = false
 isDigit Parting = false
 isDigit Sign = false
 isDigit Other = false
+isDigit Quote = false
 
 -- there is something in it
 abbrev pub something : List Kind → Bool
@@ -75,6 +78,7 @@ behind v Blank = v
 behind v Parting = v
 behind v Sign = v
 behind v Other = v
+behind v Quote = v
 
 -- the number v with these digits behind it
 unfoldable pub grownBy : ℕ → List Kind → ℕ
@@ -108,15 +112,25 @@ unfoldable pub worths : ℕ → ℕ → List (List Kind) → List ℕ
 worths label j [] = []
 worths label j (f ∷ fs) = cond (eqb label (j + 1)) 0 (value f) ∷ worths label (j + 1) fs
 
--- a digit, a sign or a point
-abbrev pub isFigure : Kind → Bool
-isFigure (Digit d) = true
-isFigure Blank = false
-isFigure Parting = false
-isFigure Sign = true
-isFigure Other = false
+-- a quote
+abbrev pub isQuote : Kind → Bool
+isQuote (Digit d) = false
+isQuote Blank = false
+isQuote Parting = false
+isQuote Sign = false
+isQuote Other = false
+isQuote Quote = true
 
--- the field begins with a digit, a sign or a point
+-- a field with this byte in front begins with a digit, a sign or a point: behind a quote, if the rest does
+abbrev pub leads : Kind → Bool → Bool
+leads (Digit d) behind = true
+leads Blank behind = false
+leads Parting behind = false
+leads Sign behind = true
+leads Other behind = false
+leads Quote behind = behind
+
+-- the field begins with a digit, a sign or a point, behind quotes if it has such
 abbrev pub figured : List Kind → Bool
 figured [] = false
-figured (k ∷ f) = isFigure k
+figured (k ∷ f) = leads k (figured f)

@@ -1,9 +1,9 @@
 // What one byte of a text of rows is.
-ghost use Rattle.sheet_fields.specs.Kinds.{kindOf, parting, signing};
+ghost use Rattle.sheet_fields.specs.Kinds.{kindOf, parting, quoting, signing};
 ghost use mathlib.Core.Path.{_≡_};
 use limits::is_within;
 
-// A digit with its value, a blank, a byte that parts two fields, a sign or a point, or any other. A newline ends the line, and a carriage return
+// A digit with its value, a blank, a byte that parts two fields, a sign or a point, any other, or a quote. A newline ends the line, and a carriage return
 // before it is passed over.
 pub enum Kind {
     Digit(u8),
@@ -11,6 +11,7 @@ pub enum Kind {
     Parting,
     Sign,
     Other,
+    Quote,
 }
 
 pub const NEWLINE: u8 = 10;
@@ -30,6 +31,10 @@ const PLUS: u8 = 43;
 const MINUS: u8 = 45;
 
 const POINT: u8 = 46;
+
+const DOUBLE_QUOTE: u8 = 34;
+
+const SINGLE_QUOTE: u8 = 39;
 
 // A comma, a semicolon or a tab parts two fields.
 fn parts(b: u8) -> bool
@@ -57,6 +62,13 @@ fn signs(b: u8) -> bool
     b == POINT
 }
 
+// A double or a single quote.
+fn quotes(b: u8) -> bool
+    ensures { λ r. ⌜ r ≡ quoting b ⌝ }
+{
+    (b == DOUBLE_QUOTE) | (b == SINGLE_QUOTE)
+}
+
 // What a byte is.
 pub fn kind_of(b: u8) -> Kind
     ensures { λ r. ⌜ r ≡ kindOf b ⌝ }
@@ -72,6 +84,9 @@ pub fn kind_of(b: u8) -> Kind
     }
     if signs(b) {
         return Kind::Sign;
+    }
+    if quotes(b) {
+        return Kind::Quote;
     }
     Kind::Other
 }

@@ -1,8 +1,8 @@
 -- One byte more of a line, told in steps. Assumes nothing.
 use Prim.Native.Nat.{_+_, _-_, _<_, _≤_, ℕ}
-use Rattle.sheet_fields.specs.declared.Kind.the-variants.{Digit, Other, Sign}
+use Rattle.sheet_fields.specs.declared.Kind.the-variants.{Blank, Digit, Other, Parting, Quote, Sign}
 use Rattle.sheet_fields.specs.declared.Kind.{Kind}
-use Rattle.sheet_line.specs.InLine.{addedAs, along, blankAt, digitAt, marked, moved, opens, settled, settledAt}
+use Rattle.sheet_line.specs.InLine.{addedAs, along, begins, blankAt, digitAt, marked, moved, opened, quoteAt, settled, settledAt}
 use Rattle.sheet_line.specs.declared.Line.{Line}
 use Rattle.sheet_line.specs.declared.Place.the-variants.{Behind, Strange}
 use Rattle.sheet_line.specs.declared.Place.{Place}
@@ -26,6 +26,18 @@ along-sign l k l′ e h = rw e h
 -- any other byte
 pub along-other : (l : Line) (k : Kind) (l′ : Line) → k ≡ Other → l′ ≡ moved l Strange false → l′ ≡ along l k
 along-other l k l′ e h = rw e h
+
+-- a blank
+pub along-blank : (l : Line) (k : Kind) (l′ : Line) → k ≡ Blank → l′ ≡ blankAt (l .place) l → l′ ≡ along l k
+along-blank l k l′ e h = rw e h
+
+-- a byte that parts
+pub along-parting : (l : Line) (k : Kind) (m l′ : Line) → k ≡ Parting → m ≡ settled l → l′ ≡ opened m → l′ ≡ along l k
+along-parting l k m l′ e s h = rw e (h ∙ ap opened s)
+
+-- a quote
+pub along-quote : (l : Line) (k : Kind) (p : Place) (l′ : Line) → k ≡ Quote → p ≡ quoteAt (l .place) → l′ ≡ moved l p false → l′ ≡ along l k
+along-quote l k p l′ e q h = rw e (h ∙ ap (λ (x : Place). moved l x false) q)
 
 -- ---- a label's column
 -- there is none
@@ -77,7 +89,7 @@ module _ (l : Line) (kind named v : ℕ) (a b : Trouble) where
   added-behind h e f = rw (lt-leb 16 (l .count) h, e, f)
 
 -- a byte of a field
-pub moved-to : (l : Line) (p : Place) (figure begins f : Bool) → begins ≡ opens (l .place) → f ≡ (l .figure || (figure && begins))
+pub moved-to : (l : Line) (p : Place) (figure begins·now f : Bool) → begins·now ≡ begins (l .place) → f ≡ (l .figure || (figure && begins·now))
     → record { place = p; figure = f; count = l .count; row = l .row; numbers = l .numbers; names = l .names; label = l .label } ≡ moved l p figure
 unfolding moved
-moved-to l p figure begins f e h = rw (h, e)
+moved-to l p figure begins·now f e h = rw (h, e)

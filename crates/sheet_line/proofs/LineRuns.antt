@@ -1,13 +1,14 @@
 -- One line read whole: its fields are judged one after the other. Assumes nothing.
 use Prim.Native.Nat.{_*_, _+_, ℕ}
+use Rattle.laws.proofs.Never.{never}
 use Rattle.laws.specs.Lists.{all}
 use Rattle.sheet_fields.proofs.FieldRuns.{Spot, at-behind, at-open, at-word, emit, ending, fields-rest, move, rest}
-use Rattle.sheet_line.specs.InLine.{added, addedAs, along, bare, blankAt, digitAt, emptied, grown, moved, opened, opens, settled, settledAt}
-use Rattle.sheet_fields.specs.Fields.{asNumber, behind, fields, grownBy, isBlank, isDigit, isFigure, value}
-use Rattle.sheet_fields.specs.declared.Kind.the-variants.{Blank, Digit, Other, Parting, Sign}
+use Rattle.sheet_line.specs.InLine.{added, addedAs, along, bare, begins, blankAt, digitAt, emptied, grown, moved, opened, opens, quoteAt, settled, settledAt}
+use Rattle.sheet_fields.specs.Fields.{asNumber, behind, fields, figured, grownBy, isBlank, isDigit, isQuote, leads, value}
+use Rattle.sheet_fields.specs.declared.Kind.the-variants.{Blank, Digit, Other, Parting, Quote, Sign}
 use Rattle.sheet_fields.specs.declared.Kind.{Kind}
 use Rattle.sheet_line.specs.declared.Line.{Line}
-use Rattle.sheet_line.specs.declared.Place.the-variants.{Behind, Great, Inside, Open, Strange}
+use Rattle.sheet_line.specs.declared.Place.the-variants.{Behind, Great, Inside, Open, Quoted, Strange}
 use Rattle.sheet_line.specs.declared.Place.{Place}
 use borrow.Author.Tests.{leb-false, lt-leb, ne-eqb}
 use lib.Dec.{eqb, leb}
@@ -24,7 +25,7 @@ through l (k ∷ t) = through (along l k) t
 -- ---- a field so far
 -- the place in a field with these bytes
 unfoldable pub wordPlace : List Kind → Place
-wordPlace f = cond (all isDigit f) (cond (leb (value f) 65_535) (Inside (value f)) Great) Strange
+wordPlace f = cond (all isQuote f) Quoted (cond (all isDigit f) (cond (leb (value f) 65_535) (Inside (value f)) Great) Strange)
 
 -- the number of a field that is one
 unfoldable pub heldIn : List Kind → ℕ
@@ -36,72 +37,121 @@ unfolding grownBy
 grown-more v [] d = refl
 grown-more v (k ∷ f) d = grown-more (behind v k) f d
 
--- and they stay digits
-digits-more : (f : List Kind) (k : Kind) → all isDigit (f ++ k ∷ []) ≡ (all isDigit f && isDigit k)
-digits-more [] k = go (isDigit k)
-  where
-    go : (b : Bool) → (b && true) ≡ b
-    go true = refl
-    go false = refl
-digits-more (j ∷ f) k = go (isDigit j) (digits-more f k)
-  where
-    go : (b : Bool) → all isDigit (f ++ k ∷ []) ≡ (all isDigit f && isDigit k) → (b && all isDigit (f ++ k ∷ [])) ≡ ((b && all isDigit f) && isDigit k)
-    go true e = e
-    go false e = refl
+module _ (test : Kind → Bool) where
+  -- a test of all bytes is one of the last besides
+  all-more : (f : List Kind) (k : Kind) → all test (f ++ k ∷ []) ≡ (all test f && test k)
+  all-more [] k = go (test k)
+    where
+      go : (b : Bool) → (b && true) ≡ b
+      go true = refl
+      go false = refl
+  all-more (j ∷ f) k = go (test j) (all-more f k)
+    where
+      go : (b : Bool) → all test (f ++ k ∷ []) ≡ (all test f && test k) → (b && all test (f ++ k ∷ [])) ≡ ((b && all test f) && test k)
+      go true e = e
+      go false e = refl
+
+-- quotes are no digits
+quotes-digits : (c : Kind) (u : List Kind) → all isQuote (c ∷ u) ≡ true → all isDigit (c ∷ u) ≡ false
+quotes-digits (Digit d) u e = never e
+quotes-digits Blank u e = refl
+quotes-digits Parting u e = refl
+quotes-digits Sign u e = refl
+quotes-digits Other u e = refl
+quotes-digits Quote u e = refl
 
 -- a digit behind a field
-word-digit : (f : List Kind) (d : ℕ) → digitAt (wordPlace f) d ≡ wordPlace (f ++ Digit d ∷ [])
+word-digit : (c : Kind) (u : List Kind) (d : ℕ) → digitAt (wordPlace (c ∷ u)) d ≡ wordPlace ((c ∷ u) ++ Digit d ∷ [])
 unfolding wordPlace value grown
-word-digit f d = rw (digits-more f (Digit d), grown-more 0 f d) (go (all isDigit f) (leb (grownBy 0 f) 65_535) refl)
+word-digit c u d =
+    rw (all-more isDigit (c ∷ u) (Digit d), all-more isQuote (c ∷ u) (Digit d), grown-more 0 (c ∷ u) d)
+    (go (all isQuote (c ∷ u)) (all isDigit (c ∷ u)) (leb (grownBy 0 (c ∷ u)) 65_535) refl (quotes-digits c u) refl)
   where
-    go : (a b : Bool) → leb (grownBy 0 f) 65_535 ≡ b
-        → digitAt (cond a (cond b (Inside (grownBy 0 f)) Great) Strange) d
-        ≡ cond (a && true) (cond (leb (10 * grownBy 0 f + d) 65_535) (Inside (10 * grownBy 0 f + d)) Great) Strange
-    go true true e = refl
-    go true false e = rw (lt-leb (10 * grownBy 0 f + d) 65_535 (omega (arith, leb-false (grownBy 0 f) 65_535 e)))
-    go false b e = refl
+    go : (q a b : Bool) → all isDigit (c ∷ u) ≡ a → (q ≡ true → all isDigit (c ∷ u) ≡ false) → leb (grownBy 0 (c ∷ u)) 65_535 ≡ b
+        → digitAt (cond q Quoted (cond a (cond b (Inside (grownBy 0 (c ∷ u))) Great) Strange)) d
+        ≡ cond (q && false) Quoted
+        (cond (a && true) (cond (leb (10 * grownBy 0 (c ∷ u) + d) 65_535) (Inside (10 * grownBy 0 (c ∷ u) + d)) Great) Strange)
+    go true true b p n e = never (sym (n refl) ∙ p)
+    go true false b p n e = refl
+    go false true true p n e = refl
+    go false true false p n e = rw (lt-leb (10 * grownBy 0 (c ∷ u) + d) 65_535 (omega (arith, leb-false (grownBy 0 (c ∷ u)) 65_535 e)))
+    go false false b p n e = refl
+
+-- a quote behind a field
+word-quote : (c : Kind) (u : List Kind) → quoteAt (wordPlace (c ∷ u)) ≡ wordPlace ((c ∷ u) ++ Quote ∷ [])
+unfolding wordPlace
+word-quote c u =
+    rw (all-more isDigit (c ∷ u) Quote, all-more isQuote (c ∷ u) Quote) (go (all isQuote (c ∷ u)) (all isDigit (c ∷ u)) (leb (value (c ∷ u)) 65_535))
+  where
+    go : (q a b : Bool) → quoteAt (cond q Quoted (cond a (cond b (Inside (value (c ∷ u))) Great) Strange))
+        ≡ cond (q && true) Quoted (cond (a && false) (cond (leb (value ((c ∷ u) ++ Quote ∷ [])) 65_535) (Inside (value ((c ∷ u) ++ Quote ∷ []))) Great) Strange)
+    go true a b = refl
+    go false true true = refl
+    go false true false = refl
+    go false false b = refl
 
 -- any other byte of a field makes it no number
-word-other : (f : List Kind) (k : Kind) → isDigit k ≡ false → Strange ≡ wordPlace (f ++ k ∷ [])
+word-other : (f : List Kind) (k : Kind) → isDigit k ≡ false → isQuote k ≡ false → Strange ≡ wordPlace (f ++ k ∷ [])
 unfolding wordPlace
-word-other f k e = rw (digits-more f k, e) (go (all isDigit f))
+word-other f k e n = rw (all-more isDigit f k, all-more isQuote f k, e, n) (go (all isQuote f) (all isDigit f))
   where
-    go : (a : Bool) → Strange ≡ cond (a && false) (cond (leb (value (f ++ k ∷ [])) 65_535) (Inside (value (f ++ k ∷ []))) Great) Strange
-    go true = refl
-    go false = refl
+    go : (q a : Bool) → Strange
+        ≡ cond (q && false) Quoted (cond (a && false) (cond (leb (value (f ++ k ∷ [])) 65_535) (Inside (value (f ++ k ∷ []))) Great) Strange)
+    go true true = refl
+    go true false = refl
+    go false true = refl
+    go false false = refl
 
 -- inside a field none begins
 word-shut : (f : List Kind) → opens (wordPlace f) ≡ false
 unfolding wordPlace
-word-shut f = go (all isDigit f) (leb (value f) 65_535)
+word-shut f = go (all isQuote f) (all isDigit f) (leb (value f) 65_535)
   where
-    go : (a b : Bool) → opens (cond a (cond b (Inside (value f)) Great) Strange) ≡ false
-    go true true = refl
-    go true false = refl
-    go false b = refl
+    go : (q a b : Bool) → opens (cond q Quoted (cond a (cond b (Inside (value f)) Great) Strange)) ≡ false
+    go true a b = refl
+    go false true true = refl
+    go false true false = refl
+    go false false b = refl
+
+-- and none may be a figure yet, unless it has quotes alone
+word-begins : (f : List Kind) → begins (wordPlace f) ≡ all isQuote f
+unfolding wordPlace
+word-begins f = go (all isQuote f) (all isDigit f) (leb (value f) 65_535)
+  where
+    go : (q a b : Bool) → begins (cond q Quoted (cond a (cond b (Inside (value f)) Great) Strange)) ≡ q
+    go true a b = refl
+    go false true true = refl
+    go false true false = refl
+    go false false b = refl
 
 -- ---- a field that ends is judged
 -- at the end of a line, or at a byte that parts
 settle-word : (c : Kind) (u : List Kind) (l : Line) → settledAt (wordPlace (c ∷ u)) l ≡ added l (asNumber (c ∷ u)) (heldIn (c ∷ u))
 unfolding wordPlace heldIn asNumber
-settle-word c u l = go (all isDigit (c ∷ u)) (leb (value (c ∷ u)) 65_535)
+settle-word c u l = go (all isQuote (c ∷ u)) (all isDigit (c ∷ u)) (leb (value (c ∷ u)) 65_535) refl (quotes-digits c u)
   where
-    go : (a b : Bool) → settledAt (cond a (cond b (Inside (value (c ∷ u))) Great) Strange) l
+    go : (q a b : Bool) → all isDigit (c ∷ u) ≡ a → (q ≡ true → all isDigit (c ∷ u) ≡ false)
+        → settledAt (cond q Quoted (cond a (cond b (Inside (value (c ∷ u))) Great) Strange)) l
         ≡ added l (cond a (cond b 0 2) 1) (cond (eqb (cond a (cond b 0 2) 1) 0) (value (c ∷ u)) 0)
-    go true true = refl
-    go true false = refl
-    go false b = refl
+    go true true b p n = never (sym (n refl) ∙ p)
+    go true false b p n = refl
+    go false true true p n = refl
+    go false true false p n = refl
+    go false false b p n = refl
 
 -- or at a blank
 blank-word : (c : Kind) (u : List Kind) (l : Line) → blankAt (wordPlace (c ∷ u)) l ≡ added l (asNumber (c ∷ u)) (heldIn (c ∷ u))
 unfolding wordPlace heldIn asNumber
-blank-word c u l = go (all isDigit (c ∷ u)) (leb (value (c ∷ u)) 65_535)
+blank-word c u l = go (all isQuote (c ∷ u)) (all isDigit (c ∷ u)) (leb (value (c ∷ u)) 65_535) refl (quotes-digits c u)
   where
-    go : (a b : Bool) → blankAt (cond a (cond b (Inside (value (c ∷ u))) Great) Strange) l
+    go : (q a b : Bool) → all isDigit (c ∷ u) ≡ a → (q ≡ true → all isDigit (c ∷ u) ≡ false)
+        → blankAt (cond q Quoted (cond a (cond b (Inside (value (c ∷ u))) Great) Strange)) l
         ≡ added l (cond a (cond b 0 2) 1) (cond (eqb (cond a (cond b 0 2) 1) 0) (value (c ∷ u)) 0)
-    go true true = refl
-    go true false = refl
-    go false b = refl
+    go true true b p n = never (sym (n refl) ∙ p)
+    go true false b p n = refl
+    go false true true p n = refl
+    go false true false p n = refl
+    go false false b p n = refl
 
 -- ---- the line at a spot
 -- the line l with another place and figure
@@ -112,13 +162,13 @@ placed l p figure =
 -- the line l, with a field so far
 abbrev pub at : Spot → Line → Line
 at at-open l = placed l Open (l .figure)
-at (at-word c u) l = placed l (wordPlace (c ∷ u)) (l .figure || isFigure c)
+at (at-word c u) l = placed l (wordPlace (c ∷ u)) (l .figure || figured (c ∷ u))
 at at-behind l = placed l Behind (l .figure)
 
 -- a figure came before, or the field begins as one
 abbrev pub figureWith : Bool → List Kind → Bool
 figureWith b [] = b
-figureWith b (c ∷ u) = b || isFigure c
+figureWith b (c ∷ u) = b || figured (c ∷ u)
 
 -- one field more
 unfoldable pub addF : Line → List Kind → Line
@@ -136,17 +186,43 @@ gather-more [] b l = refl
 gather-more (f ∷ a) b l = gather-more a b (addF l f)
 
 -- ---- one byte more
--- a figure that begins nowhere changes nothing
-figure-kept : (x b : Bool) → (x || (b && false)) ≡ x
-figure-kept true b = refl
-figure-kept false true = refl
-figure-kept false false = refl
+-- a field with one byte more is a figure if it was one, or if there were quotes alone and the byte makes it one
+figured-more : (f : List Kind) (k : Kind) → figured (f ++ k ∷ []) ≡ (figured f || (leads k false && all isQuote f))
+figured-more [] k = go (leads k false)
+  where
+    go : (b : Bool) → b ≡ (b && true)
+    go true = refl
+    go false = refl
+figured-more (Digit d ∷ f) k = refl
+figured-more (Blank ∷ f) k = go (leads k false)
+  where
+    go : (b : Bool) → false ≡ (b && false)
+    go true = refl
+    go false = refl
+figured-more (Parting ∷ f) k = go (leads k false)
+  where
+    go : (b : Bool) → false ≡ (b && false)
+    go true = refl
+    go false = refl
+figured-more (Sign ∷ f) k = refl
+figured-more (Other ∷ f) k = go (leads k false)
+  where
+    go : (b : Bool) → false ≡ (b && false)
+    go true = refl
+    go false = refl
+figured-more (Quote ∷ f) k = figured-more f k
+
+-- one more in front
+or-assoc : (x y z : Bool) → ((x || y) || z) ≡ (x || (y || z))
+or-assoc true y z = refl
+or-assoc false y z = refl
 
 -- a byte behind a field's first
-word-moved : (l : Line) (c : Kind) (u u′ : List Kind) (p : Place) (b : Bool) → p ≡ wordPlace (c ∷ u′)
-    → moved (at (at-word c u) l) p b ≡ at (at-word c u′) l
+word-moved : (l : Line) (c : Kind) (u : List Kind) (k : Kind) (p : Place) (b : Bool) → b ≡ leads k false → p ≡ wordPlace (c ∷ (u ++ k ∷ []))
+    → moved (at (at-word c u) l) p b ≡ at (at-word c (u ++ k ∷ [])) l
 unfolding moved
-word-moved l c u u′ p b e = rw (e, word-shut (c ∷ u), figure-kept (l .figure || isFigure c) b)
+word-moved l c u k p b h e =
+    rw (e, word-begins (c ∷ u), or-assoc (l .figure) (figured (c ∷ u)) (b && all isQuote (c ∷ u)), h, sym (figured-more (c ∷ u) k))
 
 -- any byte
 step : (s : Spot) (l : Line) (k : Kind) → along (at s l) k ≡ at (move s k) (gather l (emit s k))
@@ -156,16 +232,19 @@ step at-open l Blank = refl
 step at-open l Parting = refl
 step at-open l Sign = refl
 step at-open l Other = refl
+step at-open l Quote = refl
 step at-behind l (Digit d) = refl
 step at-behind l Blank = refl
 step at-behind l Parting = refl
 step at-behind l Sign = refl
 step at-behind l Other = refl
-step (at-word c u) l (Digit d) = word-moved l c u (u ++ Digit d ∷ []) (digitAt (wordPlace (c ∷ u)) d) true (word-digit (c ∷ u) d)
+step at-behind l Quote = refl
+step (at-word c u) l (Digit d) = word-moved l c u (Digit d) (digitAt (wordPlace (c ∷ u)) d) true refl (word-digit c u d)
 step (at-word c u) l Blank = blank-word c u (at (at-word c u) l)
 step (at-word c u) l Parting = ap opened (settle-word c u (at (at-word c u) l))
-step (at-word c u) l Sign = word-moved l c u (u ++ Sign ∷ []) Strange true (word-other (c ∷ u) Sign refl)
-step (at-word c u) l Other = word-moved l c u (u ++ Other ∷ []) Strange false (word-other (c ∷ u) Other refl)
+step (at-word c u) l Sign = word-moved l c u Sign Strange true refl (word-other (c ∷ u) Sign refl refl)
+step (at-word c u) l Other = word-moved l c u Other Strange false refl (word-other (c ∷ u) Other refl refl)
+step (at-word c u) l Quote = word-moved l c u Quote (quoteAt (wordPlace (c ∷ u))) false refl (word-quote c u)
 
 -- the end
 finish : (s : Spot) (l : Line) → settled (at s l) ≡ at at-behind (gather l (ending s))
@@ -210,6 +289,7 @@ emitted-counts l (at-word c u) Parting n = counts l (c ∷ u)
 emitted-counts l at-behind Parting n = n
 emitted-counts l s Sign n = n
 emitted-counts l s Other n = n
+emitted-counts l s Quote n = n
 
 -- the count of a line at a spot is that of the line
 at-count : (s : Spot) (l : Line) → at s l .count ≡ l .count
@@ -239,6 +319,7 @@ word-line (Parting ∷ t) c u l =
     ap (λ (x : Line). bare (through x t)) (step (at-word c u) l Parting) ∙ full-line t at-open (addF l (c ∷ u)) (counts l (c ∷ u))
 word-line (Sign ∷ t) c u l = ap (λ (x : Line). bare (through x t)) (step (at-word c u) l Sign) ∙ word-line t c (u ++ Sign ∷ []) l
 word-line (Other ∷ t) c u l = ap (λ (x : Line). bare (through x t)) (step (at-word c u) l Other) ∙ word-line t c (u ++ Other ∷ []) l
+word-line (Quote ∷ t) c u l = ap (λ (x : Line). bare (through x t)) (step (at-word c u) l Quote) ∙ word-line t c (u ++ Quote ∷ []) l
 
 -- from an open field on
 open-line : (t : List Kind) (l : Line) → l .count ≡ 0 → bare (through (at at-open l) t) ≡ all isBlank t
@@ -249,6 +330,7 @@ open-line (Blank ∷ t) l z = open-line t l z
 open-line (Parting ∷ t) l z = ap (λ (x : Line). bare (through x t)) (step at-open l Parting) ∙ full-line t at-open (addF l []) (counts l [])
 open-line (Sign ∷ t) l z = ap (λ (x : Line). bare (through x t)) (step at-open l Sign) ∙ word-line t Sign [] l
 open-line (Other ∷ t) l z = ap (λ (x : Line). bare (through x t)) (step at-open l Other) ∙ word-line t Other [] l
+open-line (Quote ∷ t) l z = ap (λ (x : Line). bare (through x t)) (step at-open l Quote) ∙ word-line t Quote [] l
 
 -- A LINE IS BARE IF IT HAS BLANKS ALONE
 pub line-bare : (label : ℕ) (t : List Kind) → bare (through (emptied label) t) ≡ all isBlank t

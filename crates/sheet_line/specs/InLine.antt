@@ -1,10 +1,10 @@
 -- One line, byte by byte: where its reader stands, and what is known of the fields that have ended. Assumes nothing.
 use Prim.Native.Nat.{_*_, _+_, ℕ}
 use Rattle.sheet_line.specs.Troubles.{none}
-use Rattle.sheet_fields.specs.declared.Kind.the-variants.{Blank, Digit, Other, Parting, Sign}
+use Rattle.sheet_fields.specs.declared.Kind.the-variants.{Blank, Digit, Other, Parting, Quote, Sign}
 use Rattle.sheet_fields.specs.declared.Kind.{Kind}
 use Rattle.sheet_line.specs.declared.Line.{Line}
-use Rattle.sheet_line.specs.declared.Place.the-variants.{Behind, Great, Inside, Open, Strange}
+use Rattle.sheet_line.specs.declared.Place.the-variants.{Behind, Great, Inside, Open, Quoted, Strange}
 use Rattle.sheet_line.specs.declared.Place.{Place}
 use Rattle.sheet_line.specs.declared.Trouble.{Trouble}
 use lib.Dec.{eqb, leb}
@@ -46,6 +46,7 @@ settledAt (Inside v) l = added l 0 v
 settledAt Great l = added l 2 0
 settledAt Strange l = added l 1 0
 settledAt Behind l = l
+settledAt Quoted l = added l 1 0
 
 -- the same, of the place that the line has
 abbrev pub settled : Line → Line
@@ -59,6 +60,16 @@ opens (Inside v) = false
 opens Great = false
 opens Strange = false
 opens Behind = true
+opens Quoted = false
+
+-- a field that begins here, or behind the quotes here, may be a figure
+abbrev pub begins : Place → Bool
+begins Open = true
+begins (Inside v) = false
+begins Great = false
+begins Strange = false
+begins Behind = true
+begins Quoted = true
 
 -- a digit behind the number v, which may then be too great
 unfoldable pub grown : ℕ → ℕ → Place
@@ -71,13 +82,23 @@ digitAt (Inside v) d = grown v d
 digitAt Great d = Great
 digitAt Strange d = Strange
 digitAt Behind d = grown 0 d
+digitAt Quoted d = Strange
+
+-- a quote: in front of a field it is passed, and elsewhere it makes the field no number
+abbrev pub quoteAt : Place → Place
+quoteAt Open = Quoted
+quoteAt (Inside v) = Strange
+quoteAt Great = Strange
+quoteAt Strange = Strange
+quoteAt Behind = Quoted
+quoteAt Quoted = Quoted
 
 -- a byte of a field; one that begins a field may make a figure of it
 unfoldable pub moved : Line → Place → Bool → Line
 moved l p figure =
     record {
       place = p;
-      figure = l .figure || (figure && opens (l .place));
+      figure = l .figure || (figure && begins (l .place));
       count = l .count;
       row = l .row;
       numbers = l .numbers;
@@ -92,6 +113,7 @@ blankAt (Inside v) l = added l 0 v
 blankAt Great l = added l 2 0
 blankAt Strange l = added l 1 0
 blankAt Behind l = l
+blankAt Quoted l = added l 1 0
 
 -- behind a byte that parts a field is open
 unfoldable pub opened : Line → Line
@@ -105,6 +127,7 @@ along l Blank = blankAt (l .place) l
 along l Parting = opened (settled l)
 along l Sign = moved l Strange true
 along l Other = moved l Strange false
+along l Quote = moved l (quoteAt (l .place)) false
 
 -- before the first byte of a line
 unfoldable pub emptied : ℕ → Line

@@ -1,5 +1,6 @@
 // One line of a text of rows, byte by byte: what is known of its fields so far, and where its reader stands.
-ghost use Rattle.sheet_line.specs.InLine.{added, addedAs, along as along·, bare, blankAt, digitAt, emptied, grown, marked, moved, onlyEmpty, opened, opens, settled};
+ghost use Rattle.sheet_line.specs.InLine.{added, addedAs, along as along·, bare, begins, blankAt, digitAt, emptied, grown, marked};
+ghost use Rattle.sheet_line.specs.InLine.{moved, onlyEmpty, opened, opens, quoteAt, settled};
 ghost use Rattle.sheet_line.specs.Troubles.{none};
 ghost use Prim.Native.Nat.{_+_};
 ghost use lib.Dec.{eqb};
@@ -7,13 +8,15 @@ ghost use mathlib.Core.Bool.{_&&_, _||_};
 ghost use mathlib.Core.Path.{_≡_};
 use sheet_fields::Kind;
 
-// In a field in which nothing stands yet, in a number, in one that is too great, in a field that is no number, or behind a field.
+// In a field in which nothing stands yet, in a number, in one that is too great, in a field that is no number, behind a field, or in one in which
+// only quotes stand yet.
 pub enum Place {
     Open,
     Inside(u16),
     Great,
     Strange,
     Behind,
+    Quoted,
 }
 
 // What is wrong (0: nothing), and in which column.
@@ -150,6 +153,7 @@ pub fn settle(line: Line) -> Line
         Place::Great => add(line, TOO_GREAT, 0),
         Place::Strange => add(line, NOT_A_NUMBER, 0),
         Place::Behind => line,
+        Place::Quoted => add(line, NOT_A_NUMBER, 0),
     }
 }
 
@@ -163,6 +167,21 @@ pub fn may_begin(place: Place) -> bool
         Place::Great => false,
         Place::Strange => false,
         Place::Behind => true,
+        Place::Quoted => false,
+    }
+}
+
+// A field that begins here, or behind the quotes here, may be a figure.
+fn may_lead(place: Place) -> bool
+    ensures { λ r. ⌜ r ≡ begins place ⌝ }
+{
+    match place {
+        Place::Open => true,
+        Place::Inside(_) => false,
+        Place::Great => false,
+        Place::Strange => false,
+        Place::Behind => true,
+        Place::Quoted => true,
     }
 }
 
@@ -187,18 +206,33 @@ fn at_digit(place: Place, d: u8) -> Place
         Place::Great => Place::Great,
         Place::Strange => Place::Strange,
         Place::Behind => grow(0, d),
+        Place::Quoted => Place::Strange,
+    }
+}
+
+// A quote begins a field, or goes behind quotes; in any other field it makes it no number.
+fn at_quote(place: Place) -> Place
+    ensures { λ r. ⌜ r ≡ quoteAt place ⌝ }
+{
+    match place {
+        Place::Open => Place::Quoted,
+        Place::Inside(_) => Place::Strange,
+        Place::Great => Place::Strange,
+        Place::Strange => Place::Strange,
+        Place::Behind => Place::Quoted,
+        Place::Quoted => Place::Quoted,
     }
 }
 
 // A figure came before, or one begins here.
-fn has_figure(before: bool, figure: bool, begins: bool) -> bool
-    ensures { λ r. ⌜ r ≡ (before || (figure && begins)) ⌝ }
+fn has_figure(before: bool, figure: bool, leads: bool) -> bool
+    ensures { λ r. ⌜ r ≡ (before || (figure && leads)) ⌝ }
 {
     if before {
         return true;
     }
     if figure {
-        return begins;
+        return leads;
     }
     false
 }
@@ -213,7 +247,7 @@ fn go_on(line: Line, place: Place, figure: bool) -> Line
     let names = line.names;
     Line {
         place,
-        figure: has_figure(line.figure, figure, may_begin(stood)),
+        figure: has_figure(line.figure, figure, may_lead(stood)),
         count: line.count,
         row,
         numbers,
@@ -233,6 +267,7 @@ fn at_blank(line: Line) -> Line
         Place::Great => add(line, TOO_GREAT, 0),
         Place::Strange => add(line, NOT_A_NUMBER, 0),
         Place::Behind => line,
+        Place::Quoted => add(line, NOT_A_NUMBER, 0),
     }
 }
 
@@ -265,6 +300,7 @@ pub fn along(line: Line, kind: Kind) -> Line
         Kind::Parting => open(settle(line)),
         Kind::Sign => go_on(line, Place::Strange, true),
         Kind::Other => go_on(line, Place::Strange, false),
+        Kind::Quote => go_on(line, at_quote(place), false),
     }
 }
 

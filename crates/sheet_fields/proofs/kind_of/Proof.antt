@@ -29,7 +29,11 @@ returns-4 c = rw (sym (c .before .before .before .before .before .before .is-wit
 
 returns-5 : tie.Need-returns-5
 unfolding kindOf
-returns-5 c = rw (sym (c .before .before .before .before .before .before .is-within .ensures) ∙ c .before .before .before .before .before .if1 .left, ne-eqb _ _ (c .before .before .before .before .if2 .left), sym (c .before .before .before .parts .ensures) ∙ c .before .before .if3 .left, sym (c .before .signs .ensures) ∙ c .if4 .left)
+returns-5 c = rw (sym (c .before .before .before .before .before .before .before .before .is-within .ensures) ∙ c .before .before .before .before .before .before .before .if1 .left, ne-eqb _ _ (c .before .before .before .before .before .before .if2 .left), sym (c .before .before .before .before .before .parts .ensures) ∙ c .before .before .before .before .if3 .left, sym (c .before .before .before .signs .ensures) ∙ c .before .before .if4 .left, sym (c .before .quotes .ensures) ∙ c .if5 .taken)
+
+returns-6 : tie.Need-returns-6
+unfolding kindOf
+returns-6 c = rw (sym (c .before .before .before .before .before .before .before .before .is-within .ensures) ∙ c .before .before .before .before .before .before .before .if1 .left, ne-eqb _ _ (c .before .before .before .before .before .before .if2 .left), sym (c .before .before .before .before .before .parts .ensures) ∙ c .before .before .before .before .if3 .left, sym (c .before .before .before .signs .ensures) ∙ c .before .before .if4 .left, sym (c .before .quotes .ensures) ∙ c .if5 .left)
 
 pub kind-of-spec : {M : Type 1} → statement M
 kind-of-spec =
@@ -43,4 +47,6 @@ kind-of-spec =
     returns-3
     (λ c κs. search needs)
     returns-4
-    returns-5)
+    (λ c κs. search needs)
+    returns-5
+    returns-6)

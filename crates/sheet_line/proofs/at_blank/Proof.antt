@@ -1,9 +1,9 @@
 -- `sheet_line::at_blank` meets its contract: one return for each case of the place.
 -- Assumes nothing.
+use Rattle.sheet_line.proofs.Alongs.{blank-in}
 use Rattle.sheet_line.proofs.at_blank.Statement.{statement}
 use Rattle.sheet_line.proofs.at_blank.Tie as tie
-use Rattle.sheet_line.proofs.Alongs.{blank-in}
-use Rattle.sheet_line.specs.declared.Place.the-variants.{Great, Strange}
+use Rattle.sheet_line.specs.declared.Place.the-variants.{Great, Quoted, Strange}
 use borrow.Author.Needs.{needs}
 
 returns : tie.Need-returns
@@ -21,6 +21,9 @@ returns-4 c = blank-in _ Strange _ (search needs) (c .add3 .ensures)
 returns-5 : tie.Need-returns-5
 returns-5 c = cc
 
+returns-6 : tie.Need-returns-6
+returns-6 c = blank-in _ Quoted _ (search needs) (c .add4 .ensures)
+
 pub at-blank-spec : {M : Type 1} → statement M
 at-blank-spec =
     tie.close
@@ -33,8 +36,11 @@ at-blank-spec =
     (λ c. search needs)
     (λ c κs. search needs)
     (λ c. search needs)
+    (λ c. search needs)
+    (λ c κs. search needs)
     returns
     returns-2
     returns-3
     returns-4
-    returns-5)
+    returns-5
+    returns-6)

@@ -19,6 +19,9 @@ returns-4 c = cc
 returns-5 : tie.Need-returns-5
 returns-5 c = cc
 
+returns-6 : tie.Need-returns-6
+returns-6 c = cc
+
 pub at-digit-spec : {M : Type 1} → statement M
 at-digit-spec =
     tie.close
@@ -31,8 +34,10 @@ at-digit-spec =
     (λ c. search needs)
     (λ c. search needs)
     (λ c κs. search needs)
+    (λ c. search needs)
     returns
     returns-2
     returns-3
     returns-4
-    returns-5)
+    returns-5
+    returns-6)
