@@ -41,11 +41,13 @@ const COLUMNS: u32 = 1;
 
 const BY: u32 = 2;
 
-const COUNT: u32 = 3;
+const LABEL: u32 = 3;
 
-const CSV: u32 = 4;
+const COUNT: u32 = 4;
 
-const LINES: u32 = 5;
+const CSV: u32 = 5;
+
+const LINES: u32 = 6;
 
 // More words than this are too many.
 const MOST_WORDS: usize = 32;
@@ -59,6 +61,7 @@ pub struct Question {
     pub what: Piece,
     pub amount: Piece,
     pub columns: Piece,
+    pub label: Piece,
     pub by_distance: bool,
     pub count: bool,
     pub csv: bool,
@@ -78,6 +81,7 @@ fn nothing_asked() -> Question {
         what: no_piece(),
         amount: no_piece(),
         columns: no_piece(),
+        label: no_piece(),
         by_distance: false,
         count: false,
         csv: false,
@@ -119,6 +123,9 @@ fn option_of(word: &[u8]) -> u32 {
     if check::same(word, b"--by") {
         return BY;
     }
+    if check::same(word, b"--label") {
+        return LABEL;
+    }
     if check::same(word, b"--count") {
         return COUNT;
     }
@@ -149,6 +156,9 @@ fn has_value(q: Question, option: u32) -> bool {
     if option == COLUMNS {
         return q.columns.there;
     }
+    if option == LABEL {
+        return q.label.there;
+    }
     q.by_distance
 }
 
@@ -168,7 +178,7 @@ fn with_option(words: &[u8], q: Question, w: Piece) -> Question {
     if option == 0 {
         return wrong_at(q, NO_OPTION, w);
     }
-    if option <= BY {
+    if option <= LABEL {
         return with_awaited(q, option, w);
     }
     with_flag(q, option)
@@ -190,9 +200,14 @@ fn with_value(words: &[u8], q: Question, w: Piece) -> Question {
     if q.awaits == BY {
         return with_order(words, q, w);
     }
+    let label = q.awaits == LABEL;
     let mut n = q;
     n.awaits = 0;
-    n.columns = w;
+    if label {
+        n.label = w;
+    } else {
+        n.columns = w;
+    }
     n
 }
 

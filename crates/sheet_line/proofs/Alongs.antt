@@ -1,10 +1,9 @@
 -- One byte more of a line, told in steps. Assumes nothing.
 use Prim.Native.Nat.{_+_, _-_, _<_, _≤_, ℕ}
-use Rattle.sheet_fields.specs.declared.Kind.the-variants.{Blank, Digit, Other, Parting, Quote, Sign}
 use Rattle.sheet_fields.specs.declared.Kind.{Kind}
-use Rattle.sheet_line.specs.InLine.{addedAs, along, begins, blankAt, digitAt, marked, moved, opened, quoteAt, settled, settledAt}
+use Rattle.sheet_line.specs.InLine.{addedAs, along, begins, blankAt, marked, moved, settled, settledAt}
 use Rattle.sheet_line.specs.declared.Line.{Line}
-use Rattle.sheet_line.specs.declared.Place.the-variants.{Behind, Strange}
+use Rattle.sheet_line.specs.declared.Place.the-variants.{Behind}
 use Rattle.sheet_line.specs.declared.Place.{Place}
 use Rattle.sheet_line.specs.declared.Trouble.{Trouble}
 use borrow.Author.Tests.{eq-eqb, eqb-false, eqb-true, le-leb, lt-leb, ne-eqb}
@@ -14,30 +13,10 @@ use mathlib.Core.Bool.{Bool, _&&_, _||_, false, true}
 use mathlib.Core.Path.{_∙_, _≡_, ap, refl, sym}
 use native.Mathlib.Omega.{arith}
 
--- ---- a digit
--- the line after it, told in two steps
-pub along-digit : (l : Line) (k : Kind) (d : ℕ) (p : Place) (l′ : Line) → k ≡ Digit d → p ≡ digitAt (l .place) d → l′ ≡ moved l p true → l′ ≡ along l k
-along-digit l k d p l′ e q h = rw e (h ∙ ap (λ (x : Place). moved l x true) q)
-
--- a sign
-pub along-sign : (l : Line) (k : Kind) (l′ : Line) → k ≡ Sign → l′ ≡ moved l Strange true → l′ ≡ along l k
-along-sign l k l′ e h = rw e h
-
--- any other byte
-pub along-other : (l : Line) (k : Kind) (l′ : Line) → k ≡ Other → l′ ≡ moved l Strange false → l′ ≡ along l k
-along-other l k l′ e h = rw e h
-
--- a blank
-pub along-blank : (l : Line) (k : Kind) (l′ : Line) → k ≡ Blank → l′ ≡ blankAt (l .place) l → l′ ≡ along l k
-along-blank l k l′ e h = rw e h
-
--- a byte that parts
-pub along-parting : (l : Line) (k : Kind) (m l′ : Line) → k ≡ Parting → m ≡ settled l → l′ ≡ opened m → l′ ≡ along l k
-along-parting l k m l′ e s h = rw e (h ∙ ap opened s)
-
--- a quote
-pub along-quote : (l : Line) (k : Kind) (p : Place) (l′ : Line) → k ≡ Quote → p ≡ quoteAt (l .place) → l′ ≡ moved l p false → l′ ≡ along l k
-along-quote l k p l′ e q h = rw e (h ∙ ap (λ (x : Place). moved l x false) q)
+-- ---- a byte
+-- the line after a byte that is known
+pub along-at : (l : Line) (k k′ : Kind) (l′ : Line) → k ≡ k′ → l′ ≡ along l k′ → l′ ≡ along l k
+along-at l k k′ l′ e h = h ∙ ap (along l) (sym e)
 
 -- ---- a label's column
 -- there is none
