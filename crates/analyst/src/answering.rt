@@ -3,6 +3,7 @@ ghost use Prim.Native.Nat.{_≤_};
 ghost use lib.ListN.{length};
 use crate::plan::Plan;
 use crate::plan::parting;
+use crate::plan::shows_text;
 use crate::saying::say;
 use asking::pieces::least;
 use lines::make_room;
@@ -10,6 +11,7 @@ use lines::put_bytes;
 use lines::put_number;
 use measure::distance;
 use picking::naming::numbers_part;
+use picking::places::label_in;
 use picking::places::line_from;
 
 // No distance is as great.
@@ -36,11 +38,57 @@ fn put_answer(
 {
     let from = make_room(plan.out, out, at, NUMBERS);
     let middle = put_number(out, from, row as u64, parting(plan));
-    if !plan.lines {
+    if !shows_text(plan) {
         return put_number(out, middle, distance as u64, b'\n');
     }
     let end = put_number(out, middle, distance as u64, parting(plan));
-    put_bytes(plan.out, out, end, line_from(text, start), b'\n')
+    put_text(plan, line_from(text, start), out, end)
+}
+
+// What stands behind a label: the line, or the end.
+fn behind_label(plan: Plan) -> u8 {
+    if plan.lines { parting(plan) } else { b'\n' }
+}
+
+// Puts the label of a line, if answers show it. Gives where that ends.
+fn put_label(plan: Plan, line: &[u8], out: &mut [u8], at: usize) -> usize
+    requires { ⌜ (at ≤ length (now out)) × (42 ≤ length (now out)) ⌝ }
+    ensures { λ r. ⌜ r ≤ length (now (out .entry)) ⌝ }
+{
+    if plan.label == 0 {
+        return at;
+    }
+    put_bytes(
+        plan.out,
+        out,
+        at,
+        label_in(line, plan.label),
+        behind_label(plan),
+    )
+}
+
+// Puts what is shown of a line: its label, and the line itself. Gives where that ends.
+fn put_text(plan: Plan, line: &[u8], out: &mut [u8], at: usize) -> usize
+    requires { ⌜ (at ≤ length (now out)) × (42 ≤ length (now out)) ⌝ }
+    ensures { λ r. ⌜ r ≤ length (now (out .entry)) ⌝ }
+{
+    let end = put_label(plan, line, out, at);
+    if !plan.lines {
+        return end;
+    }
+    put_bytes(plan.out, out, end, line, b'\n')
+}
+
+// The name of the labels, behind a comma, if answers show them.
+fn say_label_name(plan: Plan, names: &[u8]) {
+    if plan.label == 0 {
+        return;
+    }
+    say(plan.out, b",");
+    if names.len() == 0 {
+        say(plan.out, b"label");
+    }
+    say(plan.out, label_in(names, plan.label));
 }
 
 // Where the line of a row starts, if it was kept.
@@ -55,6 +103,7 @@ pub fn say_head(plan: Plan, names: &[u8]) {
         return;
     }
     say(plan.out, b"row,distance");
+    say_label_name(plan, names);
     if plan.lines {
         say(plan.out, b",");
         say(plan.out, names);

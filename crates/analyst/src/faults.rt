@@ -33,13 +33,13 @@ fn say_row_fault(file: i32, r: Reader) {
 
 // What is wrong with the column that the reader stopped at.
 fn say_line_fault(file: i32, r: Reader) {
-    if r.fault == sheet::line::NOT_A_NUMBER {
+    if r.fault == sheet_line::NOT_A_NUMBER {
         say(file, b"not a number\n");
-    } else if r.fault == sheet::line::TOO_GREAT {
+    } else if r.fault == sheet_line::TOO_GREAT {
         say(file, b"a number above 65,535\n");
-    } else if r.fault == sheet::line::TOO_WIDE {
+    } else if r.fault == sheet_line::TOO_WIDE {
         say(file, b"more than 16 columns\n");
-    } else if r.fault == sheet::line::EMPTY {
+    } else if r.fault == sheet_line::EMPTY {
         say(file, b"empty\n");
     } else {
         say_row_fault(file, r);

@@ -31,6 +31,7 @@ use picking::naming::product;
 use picking::ordering::put_in_order;
 use picking::places;
 use plan::Plan;
+use plan::shows_text;
 use reading::Sheet;
 use saying::say;
 use saying::say_number;
@@ -47,8 +48,8 @@ pub const TEXT_FAULTY: u32 = 3;
 
 pub const NO_ROOM: u32 = 4;
 
-// Where the launcher listens for the status: a program of the kit has no exit status.
-const STATUS_FILE: i32 = 3;
+// The descriptor at which the launcher listens for the status, since a program of the kit has no exit status; where nobody does, nothing is written.
+pub const STATUS_FILE: i32 = 3;
 
 // Where answers go, and where all else.
 pub struct Ends {
@@ -65,13 +66,13 @@ fn opened(name: &[u8]) -> i32 {
 }
 
 // The columns that count: those of the list, or all.
-fn choice_of(words: &[u8], q: Question, names: &[u8], c: usize) -> Choice
+fn choice_of(words: &[u8], q: Question, names: &[u8], c: usize, label: usize) -> Choice
     ensures { λ r. ⌜ r .k ≤ 16 ⌝ }
 {
     if q.columns.there {
-        return choosing::choose_list(names, bytes_of(words, q.columns), c);
+        return choosing::choose_list(names, bytes_of(words, q.columns), c, label);
     }
-    choosing::choose_all(c)
+    choosing::choose_all(c, label)
 }
 
 // The names of a text, or nothing.
@@ -118,7 +119,8 @@ fn put_labelled(
 {
     let n = sheet.reader.rows;
     let sign = end_from(what, b'=', 0);
-    let column = column_said(names_of(text, sheet.names), part(what, 0, sign), 0);
+    let c = sheet.reader.columns;
+    let column = column_said(names_of(text, sheet.names), part(what, 0, sign), c);
     if column == 0 {
         return naming::named_wrong(naming::NO_LABEL, 0);
     }
@@ -181,7 +183,7 @@ fn refuse(file: i32, number: u32) -> u32
 
 // Keeps where the rows' lines start, if these are to be shown.
 fn keep_starts(plan: Plan, text: &[u8], starts: &mut [u32]) {
-    if !plan.lines {
+    if !shows_text(plan) {
         return;
     }
     places::keep_lines(text, plan.from, starts, plan.n);
@@ -345,6 +347,7 @@ fn plan_of(q: Question, ends: Ends, sheet: Sheet) -> Plan {
         lines: q.lines,
         from: sheet.from,
         names: sheet.names,
+        label: sheet.reader.label,
         k: 0,
         n: sheet.reader.rows,
         used: 0,
@@ -633,7 +636,14 @@ fn ask_sheet(
 ) -> u32
     ensures { λ r. ⌜ r ≤ 4 ⌝ }
 {
-    let choice = choice_of(words, q, names_of(text, sheet.names), sheet.reader.columns);
+    let reader = sheet.reader;
+    let choice = choice_of(
+        words,
+        q,
+        names_of(text, sheet.names),
+        reader.columns,
+        reader.label,
+    );
     let wrong = say_choice(ends.err, choice, bytes_of(words, q.columns), text);
     if wrong != 0 {
         return wrong;
@@ -658,6 +668,46 @@ fn ask_sheet(
     )
 }
 
+// The column of labels, if one is asked for.
+fn label_of(words: &[u8], q: Question, text: &[u8], table: &mut [u16]) -> usize
+    ensures { λ r. ⌜ r ≤ 17 ⌝ }
+{
+    if !q.label.there {
+        return 0;
+    }
+    reading::label_said(text, bytes_of(words, q.label), table)
+}
+
+// What is wrong with the column of labels, or 0.
+fn label_trouble(there: bool, label: usize) -> u32 {
+    if !there {
+        return 0;
+    }
+    if label == 0 {
+        return choosing::NO_COLUMN;
+    }
+    if choosing::MOST_COLUMNS < label {
+        return choosing::TWO_COLUMNS;
+    }
+    0
+}
+
+// Says what is wrong with the column of labels. Gives the status, 0 where nothing is.
+fn say_label(file: i32, wrong: u32, words: &[u8], q: Question, text: &[u8]) -> u32
+    ensures { λ r. ⌜ r ≤ 4 ⌝ }
+{
+    if wrong == 0 {
+        return ANSWERED;
+    }
+    telling::say_columns_wrong(
+        file,
+        wrong,
+        bytes_of(words, q.label),
+        places::first_line(text),
+    );
+    ASKED_WRONGLY
+}
+
 // Answers a question about a text.
 fn ask_text(
     words: &[u8],
@@ -674,12 +724,26 @@ fn ask_text(
 ) -> u32
     ensures { λ r. ⌜ r ≤ 4 ⌝ }
 {
-    let sheet = reading::read_rows(text, table);
+    let label = label_of(words, q, text, table);
+    let wrong = say_label(
+        ends.err,
+        label_trouble(q.label.there, label),
+        words,
+        q,
+        text,
+    );
+    if wrong != 0 {
+        return wrong;
+    }
+    let sheet = reading::read_rows(text, label, table);
     let reader = sheet.reader;
     let fault = reader.fault;
     if fault != 0 {
         faults::say_fault(ends.err, reader);
         return faults::status_of(fault);
+    }
+    if reader.columns < label {
+        return say_label(ends.err, choosing::NO_COLUMN, words, q, text);
     }
     ask_sheet(
         words,
@@ -870,9 +934,4 @@ pub fn refuse_words(err: i32) -> u32
 {
     say(err, b"the arguments are too long\n");
     ASKED_WRONGLY
-}
-
-// Hands the status to the launcher, which listens at descriptor 3; where nobody does, nothing is written.
-pub fn hand_status(status: u32) {
-    io::print_decimal(STATUS_FILE, status as u64);
 }

@@ -1,7 +1,7 @@
 // What is to be done once the text is read and the question is understood.
 
 // Where answers go and where all else; what is asked for and its number; how answers are shown; where the first
-// row's line starts, and whether names stand before it; the chosen columns, the rows, how many numbers of the table
+// row's line starts, and whether names stand before it; the column of labels (0: none); the chosen columns, the rows, how many numbers of the table
 // these are, and how many queries there are.
 pub struct Plan {
     pub out: i32,
@@ -14,10 +14,19 @@ pub struct Plan {
     pub lines: bool,
     pub from: usize,
     pub names: bool,
+    pub label: usize,
     pub k: usize,
     pub n: usize,
     pub used: usize,
     pub queries: usize,
+}
+
+// Answers show something of the text: their lines, or their labels.
+pub(crate) fn shows_text(plan: Plan) -> bool {
+    if plan.lines {
+        return true;
+    }
+    plan.label != 0
 }
 
 // What stands between two fields of an answer.

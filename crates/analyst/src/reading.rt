@@ -2,6 +2,9 @@
 ghost use Prim.Native.Nat.{_≤_};
 ghost use lib.ListN.{length};
 use asking::pieces::part;
+use picking::choosing::MOST_COLUMNS;
+use picking::choosing::column_said;
+use picking::places::first_line;
 use picking::places::next_line;
 use picking::places::text_start;
 use sheet::Reader;
@@ -47,11 +50,31 @@ fn first_row(names: bool, second: usize, top: usize) -> usize {
     if names { second } else { top }
 }
 
-// Reads the whole text. The first line is fed alone: if it ends and gives no row, it is names.
-pub(crate) fn read_rows(t: &[u8], table: &mut [u16]) -> Sheet {
-    let top = text_start(t);
+// The names of a text whose first line was read so, or nothing.
+fn names_in(t: &[u8], first: Reader) -> &[u8] {
+    if first.fault != 0 {
+        return part(t, 0, 0);
+    }
+    if first.rows != 0 {
+        return part(t, 0, 0);
+    }
+    first_line(t)
+}
+
+// The column that a word says, before the rows are read: by its number from 1 or by its name; 0 if there is none, 17 if there are two of this name.
+pub(crate) fn label_said(t: &[u8], word: &[u8], table: &mut [u16]) -> usize
+    ensures { λ r. ⌜ r ≤ 17 ⌝ }
+{
     let second = next_line(t, 0);
     let first = sheet::feed(sheet::start(0), part(t, 0, second), table);
+    column_said(names_in(t, first), word, MOST_COLUMNS)
+}
+
+// Reads the whole text, whose column `label` holds labels (0: none does). The first line is fed alone: if it ends and gives no row, it is names.
+pub(crate) fn read_rows(t: &[u8], label: usize, table: &mut [u16]) -> Sheet {
+    let top = text_start(t);
+    let second = next_line(t, 0);
+    let first = sheet::feed(sheet::start(label), part(t, 0, second), table);
     let all = sheet::feed(first, part(t, second, t.len()), table);
     let reader = sheet::finish(all, table);
     let names = is_names(first.rows, second, t.len());

@@ -47,6 +47,10 @@ pub(crate) fn say_help(file: i32) {
     );
     say(
         file,
+        b"  --label NAME                a column that is no number and does not count: it is shown, and asked by: time=2026-04-12T07:31\n",
+    );
+    say(
+        file,
         b"  --count  --csv  --lines     the count alone; commas and a line of names; the recorder's own line behind each answer\n",
     );
     say(file, b"  --by distance               like: nearest first\n");
@@ -64,14 +68,14 @@ pub(crate) fn say_asked_wrong(file: i32, words: &[u8], q: Question) {
             file,
             b"there is no option ",
             word,
-            b"; there are --columns, --count, --csv, --lines, --by, --help and --version",
+            b"; there are --columns, --label, --count, --csv, --lines, --by, --help and --version",
         );
     } else if q.wrong == asking::NO_VALUE {
         say_quoted(
             file,
             b"",
             word,
-            b" needs a value: --columns speed,fan_pressure*2, --by distance",
+            b" needs a value: --columns speed,fan_pressure*2, --label time, --by distance",
         );
     } else if q.wrong == asking::TWICE {
         say_quoted(file, b"", word, b" is given twice");
@@ -131,6 +135,13 @@ pub(crate) fn say_columns_wrong(file: i32, wrong: u32, item: &[u8], names: &[u8]
             b"two columns have the name of ",
             item,
             b": ask by number",
+        );
+    } else if wrong == choosing::LABEL_COUNTS {
+        say_quoted(
+            file,
+            b"labels do not count, and ",
+            item,
+            b" is their column",
         );
     } else if wrong == choosing::TOO_MANY {
         say(

@@ -1,58 +1,58 @@
 -- Where the pieces of a text begin and end. Assumes nothing.
 use Prim.Native.Nat.{_+_, _-_, _<_, _≤_, suc, zero, ℕ}
-use Rattle.asking.specs.Pieces.{beginOf, endAt, firstOf, hasPiece}
-use borrow.Author.Tests.{eq-eqb, le-leb, lt-leb, ne-eqb}
+use Rattle.asking.specs.Pieces.{before, beginOf, endAt, hasPiece, placeFrom}
+use borrow.Author.Tests.{le-leb, lt-leb}
 use lib.ListN.{drop, drop-of-length-le, getD, length}
 use lib.Seq.{drop-cons}
-use mathlib.Core.Bool.{false, true}
+use mathlib.Core.Bool.{Bool, false, true}
 use mathlib.Core.List.{List}
 use mathlib.Core.Path.{_∙_, _≡_, ap, refl, subst, sym}
 use native.Mathlib.Numerals.{add-one}
 use native.Mathlib.Omega.{arith}
 
--- from place i on the byte is looked for as from place `at` on
-pub record Looking (b : ℕ) (t : List ℕ) (at i : ℕ) : Type 0 where
-  pub same : endAt b t at ≡ endAt b t i
+-- from place i on a byte is looked for as from place `at` on
+pub record Looking (f : ℕ → Bool) (t : List ℕ) (at i : ℕ) : Type 0 where
+  pub same : placeFrom f t at ≡ placeFrom f t i
   pub low : at ≤ i
   pub high : i ≤ length t
 
-module _ (b : ℕ) (t : List ℕ) where
+module _ (f : ℕ → Bool) (t : List ℕ) where
   -- another byte is passed
-  further : (i : ℕ) → i < length t → (getD t i 0 ≡ b → ⊥) → endAt b t i ≡ endAt b t (i + 1)
-  unfolding endAt firstOf
-  further i h n = rw (drop-cons t i 0 h, ne-eqb (getD t i 0) b n, add-one) (omega arith)
+  further : (i : ℕ) → i < length t → f (getD t i 0) ≡ false → placeFrom f t i ≡ placeFrom f t (i + 1)
+  unfolding placeFrom before
+  further i h n = rw (drop-cons t i 0 h, n, add-one) (omega arith)
 
   -- the byte is there
-  here : (i : ℕ) → i < length t → getD t i 0 ≡ b → i ≡ endAt b t i
-  unfolding endAt firstOf
-  here i h e = rw (drop-cons t i 0 h, eq-eqb (getD t i 0) b e) (omega arith)
+  here : (i : ℕ) → i < length t → f (getD t i 0) ≡ true → i ≡ placeFrom f t i
+  unfolding placeFrom before
+  here i h e = rw (drop-cons t i 0 h, e) (omega arith)
 
   -- nothing is left
-  past : (i : ℕ) → length t ≤ i → i ≡ endAt b t i
-  unfolding endAt firstOf
+  past : (i : ℕ) → length t ≤ i → i ≡ placeFrom f t i
+  unfolding placeFrom before
   past i h = rw (drop-of-length-le t h) (omega arith)
 
   -- at the start
-  pub looking-start : (at : ℕ) → at ≤ length t → Looking b t at at
+  pub looking-start : (at : ℕ) → at ≤ length t → Looking f t at at
   looking-start at h = record { same = refl; low = omega arith; high = h }
 
   -- at another byte
-  pub looking-next : (at i : ℕ) → Looking b t at i → i < length t → (getD t i 0 ≡ b → ⊥) → Looking b t at (i + 1)
+  pub looking-next : (at i : ℕ) → Looking f t at i → i < length t → f (getD t i 0) ≡ false → Looking f t at (i + 1)
   looking-next at i l h n = record { same = l .same ∙ further i h n; low = omega (arith, l .low); high = omega arith }
 
   -- at the byte
-  pub looking-found : (at i : ℕ) → Looking b t at i → i < length t → getD t i 0 ≡ b → i ≡ endAt b t at
+  pub looking-found : (at i : ℕ) → Looking f t at i → i < length t → f (getD t i 0) ≡ true → i ≡ placeFrom f t at
   looking-found at i l h e = here i h e ∙ sym (l .same)
 
   -- at the end
-  pub looking-end : (at i : ℕ) → Looking b t at i → length t ≤ i → i ≡ endAt b t at
+  pub looking-end : (at i : ℕ) → Looking f t at i → length t ≤ i → i ≡ placeFrom f t at
   looking-end at i l h = past i h ∙ sym (l .same)
 
 -- where a piece ends
 module _ (b : ℕ) (t : List ℕ) where
   -- not before it begins
   pub end-behind : (at : ℕ) → at ≤ endAt b t at
-  unfolding endAt
+  unfolding placeFrom
   end-behind at = omega arith
 
   -- piece 0 begins with the text

@@ -1,19 +1,23 @@
 -- The pieces of a text that one byte parts: the items of a list, the words of the arguments. Assumes nothing.
-use Prim.Native.Nat.{_+_, _-_, _≤_, suc, zero, ℕ}
+use Prim.Native.Nat.{_+_, _-_, _≤_, min, suc, zero, ℕ}
 use lib.Dec.{eqb, leb}
 use lib.ListN.{drop, length, take}
 use mathlib.Core.Bool.{Bool, cond, true}
 use mathlib.Core.List.{List, [], _∷_}
 use mathlib.Core.Path.{_≡_}
 
--- where the byte b stands first in t; t's length where it does not
-unfoldable pub firstOf : ℕ → List ℕ → ℕ
-firstOf b [] = 0
-firstOf b (x ∷ t) = cond (eqb x b) 0 (suc (firstOf b t))
+-- how many bytes stand before the first that passes a test
+unfoldable pub before : (ℕ → Bool) → List ℕ → ℕ
+before f [] = 0
+before f (x ∷ t) = cond (f x) 0 (suc (before f t))
 
--- where the byte b stands first in t from place `at` on; t's end where it does not
-unfoldable pub endAt : ℕ → List ℕ → ℕ → ℕ
-endAt b t at = at + firstOf b (drop at t)
+-- where the first byte of t stands, from place `at` on, that passes a test; t's end where none does
+unfoldable pub placeFrom : (ℕ → Bool) → List ℕ → ℕ → ℕ
+placeFrom f t at = at + before f (drop at t)
+
+-- the same for the byte b
+abbrev pub endAt : ℕ → List ℕ → ℕ → ℕ
+endAt b t at = placeFrom (λ (x : ℕ). eqb x b) t at
 
 -- where piece i begins: behind the end of the piece before it
 unfoldable pub beginOf : ℕ → List ℕ → ℕ → ℕ
@@ -27,6 +31,10 @@ hasPiece b t i = leb (beginOf b t i) (length t)
 -- the bytes from `start` up to `end`
 abbrev pub cut : List ℕ → ℕ → ℕ → List ℕ
 cut t start end = take (end - start) (drop start t)
+
+-- the bytes from `start` up to `end`, as far as the text has them
+unfoldable pub partOf : List ℕ → ℕ → ℕ → List ℕ
+partOf t start end = cut t (min start (min end (length t))) (min end (length t))
 
 -- the bytes of piece i
 unfoldable pub pieceOf : ℕ → List ℕ → ℕ → List ℕ

@@ -2,6 +2,9 @@
 pub mod numbers;
 pub mod pieces;
 
+ghost use Prim.Native.Nat.{_≤_};
+ghost use Rattle.asking.specs.Words.{Answerable, hasWord, wayOf, wordIs};
+ghost use mathlib.Core.Path.{_≡_};
 use numbers::NO_NUMBER;
 use numbers::number;
 use pieces::Piece;
@@ -38,11 +41,13 @@ const COLUMNS: u32 = 1;
 
 const BY: u32 = 2;
 
-const COUNT: u32 = 3;
+const LABEL: u32 = 3;
 
-const CSV: u32 = 4;
+const COUNT: u32 = 4;
 
-const LINES: u32 = 5;
+const CSV: u32 = 5;
+
+const LINES: u32 = 6;
 
 // More words than this are too many.
 const MOST_WORDS: usize = 32;
@@ -56,6 +61,7 @@ pub struct Question {
     pub what: Piece,
     pub amount: Piece,
     pub columns: Piece,
+    pub label: Piece,
     pub by_distance: bool,
     pub count: bool,
     pub csv: bool,
@@ -75,6 +81,7 @@ fn nothing_asked() -> Question {
         what: no_piece(),
         amount: no_piece(),
         columns: no_piece(),
+        label: no_piece(),
         by_distance: false,
         count: false,
         csv: false,
@@ -88,7 +95,9 @@ fn nothing_asked() -> Question {
 }
 
 // The question, found wrong at a word.
-fn wrong_at(q: Question, wrong: u32, place: Piece) -> Question {
+fn wrong_at(q: Question, wrong: u32, place: Piece) -> Question
+    ensures { λ r. ⌜ r .wrong ≡ wrong ⌝ }
+{
     let mut n = q;
     n.wrong = wrong;
     n.place = place;
@@ -113,6 +122,9 @@ fn option_of(word: &[u8]) -> u32 {
     }
     if check::same(word, b"--by") {
         return BY;
+    }
+    if check::same(word, b"--label") {
+        return LABEL;
     }
     if check::same(word, b"--count") {
         return COUNT;
@@ -144,6 +156,9 @@ fn has_value(q: Question, option: u32) -> bool {
     if option == COLUMNS {
         return q.columns.there;
     }
+    if option == LABEL {
+        return q.label.there;
+    }
     q.by_distance
 }
 
@@ -163,7 +178,7 @@ fn with_option(words: &[u8], q: Question, w: Piece) -> Question {
     if option == 0 {
         return wrong_at(q, NO_OPTION, w);
     }
-    if option <= BY {
+    if option <= LABEL {
         return with_awaited(q, option, w);
     }
     with_flag(q, option)
@@ -185,9 +200,14 @@ fn with_value(words: &[u8], q: Question, w: Piece) -> Question {
     if q.awaits == BY {
         return with_order(words, q, w);
     }
+    let label = q.awaits == LABEL;
     let mut n = q;
     n.awaits = 0;
-    n.columns = w;
+    if label {
+        n.label = w;
+    } else {
+        n.columns = w;
+    }
     n
 }
 
@@ -246,7 +266,9 @@ fn with_words(words: &[u8]) -> Question {
 }
 
 // What is asked for by the second word: 0 where it is neither.
-fn way_of(word: &[u8]) -> u32 {
+fn way_of(word: &[u8]) -> u32
+    ensures { λ r. ⌜ r ≡ wayOf (now (word .entry)) ⌝ }
+{
     if check::same(word, b"like") {
         return LIKE;
     }
@@ -256,8 +278,18 @@ fn way_of(word: &[u8]) -> u32 {
     0
 }
 
+// The least number that can be asked for: a distance may be 0.
+fn least_amount(asks: u32) -> u32
+    ensures { λ r. ⌜ (asks ≡ 2 → r ≡ 1) ⌝ }
+{
+    if asks == NEAREST { 1 } else { 0 }
+}
+
 // The way and the amount.
-fn with_amount(words: &[u8], q: Question) -> Question {
+fn with_amount(words: &[u8], q: Question) -> Question
+    requires { ⌜ (4 ≤ q .plain) × (q .awaits ≡ 0) ⌝ }
+    ensures { λ r. ⌜ (r .wrong ≡ 0 → Answerable (now (words .entry)) r) ⌝ }
+{
     let asks = way_of(bytes_of(words, q.way));
     if asks == 0 {
         let way = q.way;
@@ -268,10 +300,8 @@ fn with_amount(words: &[u8], q: Question) -> Question {
     if NO_NUMBER <= number {
         return wrong_at(q, NO_AMOUNT, amount);
     }
-    if asks == NEAREST {
-        if number == 0 {
-            return wrong_at(q, NO_AMOUNT, amount);
-        }
+    if number < least_amount(asks) {
+        return wrong_at(q, NO_AMOUNT, amount);
     }
     let mut n = q;
     n.asks = asks;
@@ -280,7 +310,9 @@ fn with_amount(words: &[u8], q: Question) -> Question {
 }
 
 // The question that the words ask. Where `wrong` is 0, all four words and the values of the options are there.
-pub fn ask(words: &[u8]) -> Question {
+pub fn ask(words: &[u8]) -> Question
+    ensures { λ r. ⌜ (r .wrong ≡ 0 → Answerable (now (words .entry)) r) ⌝ }
+{
     let q = with_words(words);
     if q.wrong != 0 {
         return q;
@@ -306,17 +338,25 @@ pub fn ask(words: &[u8]) -> Question {
     with_amount(words, q)
 }
 
+// Whether word i is this one.
+fn is_word(words: &[u8], word: &[u8], i: usize) -> bool
+    ensures { λ r. ⌜ r ≡ wordIs (now (words .entry)) (now (word .entry)) i ⌝ }
+{
+    let w = piece_at(words, 0, i);
+    if !w.there {
+        return false;
+    }
+    check::same(bytes_of(words, w), word)
+}
+
 // Whether one of the words is this one.
-pub fn has_word(words: &[u8], word: &[u8]) -> bool {
+pub fn has_word(words: &[u8], word: &[u8]) -> bool
+    ensures { λ r. ⌜ r ≡ hasWord (now (words .entry)) (now (word .entry)) 32 ⌝ }
+{
     let mut found = false;
     let mut i = 0;
     while i < MOST_WORDS {
-        let w = piece_at(words, 0, i);
-        if w.there {
-            if check::same(bytes_of(words, w), word) {
-                found = true;
-            }
-        }
+        found = is_word(words, word, i) | found;
         i += 1;
     }
     found

@@ -1,6 +1,6 @@
 // The pieces of a text that one byte parts: the items of a list, the words of the arguments.
 ghost use Prim.Native.Nat.{_≤_, min};
-ghost use Rattle.asking.specs.Pieces.{Found, cut, endAt};
+ghost use Rattle.asking.specs.Pieces.{Found, endAt, partOf};
 ghost use lib.ListN.{length};
 ghost use mathlib.Core.Bool.{false};
 ghost use mathlib.Core.Path.{_≡_};
@@ -67,7 +67,7 @@ pub fn piece_at(t: &[u8], b: u8, i: usize) -> Piece
 
 // The bytes from `start` up to `end`, as far as the text has them.
 pub fn part(t: &[u8], start: usize, end: usize) -> &[u8]
-    ensures { λ r. ⌜ now r ≡ cut (now (t .entry)) (min start (min end (length (now (t .entry))))) (min end (length (now (t .entry)))) ⌝ }
+    ensures { λ r. ⌜ now r ≡ partOf (now (t .entry)) start end ⌝ }
 {
     let to = least(end, t.len());
     let from = least(start, to);
@@ -75,6 +75,8 @@ pub fn part(t: &[u8], start: usize, end: usize) -> &[u8]
 }
 
 // The bytes of a piece.
-pub fn bytes_of(t: &[u8], p: Piece) -> &[u8] {
+pub fn bytes_of(t: &[u8], p: Piece) -> &[u8]
+    ensures { λ r. ⌜ now r ≡ partOf (now (t .entry)) (p .start) (p .end) ⌝ }
+{
     part(t, p.start, p.end)
 }

@@ -53,5 +53,6 @@ fn main() {
     let mut room = io::large_buffer();
     let words = analyst::arguments(&mut room);
     let length = words.length;
-    analyst::hand_status(status_of(&room[..length], words.whole));
+    let status = status_of(&room[..length], words.whole);
+    io::print_decimal(analyst::STATUS_FILE, status as u64);
 }

@@ -103,6 +103,29 @@ fn by_what_stands() {
     ask(b"twice.csv\x00like\x000\x0012\x00--columns\x001,3,1\x00");
 }
 
+fn labelled() {
+    ask(b"hours.csv\x00like\x00time=2026-04-12T07:31\x0012\x00--label\x00time\x00");
+    ask(b"hours.csv\x00nearest\x002\x003\x00--label\x001\x00--csv\x00");
+    ask(b"hours.csv\x00like\x001\x0012\x00--lines\x00--label\x00time\x00--by\x00distance\x00");
+    ask(
+        b"hours.csv\x00like\x00=0,88\x004\x00--columns\x00speed,fan_pressure\x00--label\x00time\x00--csv\x00--lines\x00",
+    );
+    ask(b"hours.csv\x00like\x001=2026-04-12T07:33\x0020\x00--label\x001\x00--count\x00");
+    ask(b"tags\x00like\x003=b8\x003\x00--label\x003\x00");
+}
+
+fn labels_wrong() {
+    ask(b"hours.csv\x00like\x000\x0012\x00");
+    ask(b"hours.csv\x00like\x000\x0012\x00--label\x00speed\x00");
+    ask(b"hours.csv\x00like\x000\x0012\x00--label\x00when\x00");
+    ask(b"hours.csv\x00like\x000\x0012\x00--label\x005\x00");
+    ask(b"hours.csv\x00like\x000\x0012\x00--label\x00time\x00--columns\x00time,speed\x00");
+    ask(b"hours.csv\x00like\x00time=2026-04-12T07:34\x0012\x00--label\x00time\x00");
+    ask(b"hours.csv\x00like\x000\x0012\x00--label\x00");
+    ask(b"hours.csv\x00like\x000\x0012\x00--label\x00time\x00--label\x001\x00");
+    ask(b"tags\x00like\x000\x0012\x00--label\x00a7\x00");
+}
+
 fn asked_wrongly() {
     ask(b"");
     ask(b"season.csv\x00");
@@ -219,6 +242,8 @@ fn main() {
     the_season();
     more_of_the_season();
     by_what_stands();
+    labelled();
+    labels_wrong();
     asked_wrongly();
     options_wrong();
     rows_wrong();

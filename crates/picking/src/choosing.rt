@@ -23,6 +23,8 @@ pub const NO_FACTOR: u32 = 13;
 
 pub const TOO_MANY: u32 = 14;
 
+pub const LABEL_COUNTS: u32 = 15;
+
 // How many columns are chosen, which (from 0), and their factors; or what is wrong, and where that stands in the list.
 pub struct Choice {
     pub wrong: u32,
@@ -101,8 +103,8 @@ fn with_column(choice: Choice, column: usize, factor: u32) -> Choice
     n
 }
 
-// What is wrong with a column that a word said, or 0.
-fn column_trouble(column: usize, factor: u32) -> u32
+// What is wrong with a column that a word said, or 0. The column of labels does not count.
+fn column_trouble(column: usize, factor: u32, label: usize) -> u32
     ensures { λ r. ⌜ r ≤ 15 ⌝ }
 {
     if column == 0 {
@@ -110,6 +112,9 @@ fn column_trouble(column: usize, factor: u32) -> u32
     }
     if MOST_COLUMNS < column {
         return TWO_COLUMNS;
+    }
+    if column == label {
+        return LABEL_COUNTS;
     }
     if factor == 0 {
         return NO_FACTOR;
@@ -128,6 +133,7 @@ fn with_item(
     start: usize,
     end: usize,
     c: usize,
+    label: usize,
 ) -> Choice
     requires { ⌜ (choice .k ≤ 16) × (start ≤ end) × (end ≤ length (now list)) ⌝ }
     ensures { λ r. ⌜ r .k ≤ 16 ⌝ }
@@ -139,7 +145,7 @@ fn with_item(
     let star = end_from(item, b'*', 0);
     let column = column_said(names, part(item, 0, star), c);
     let factor = factor_said(item, star);
-    let wrong = column_trouble(column, factor);
+    let wrong = column_trouble(column, factor, label);
     if wrong != 0 {
         return wrong_item(choice, wrong, start, end);
     }
@@ -150,38 +156,58 @@ fn with_item(
 }
 
 // The choice with an item that is there; one that is not changes nothing.
-fn with_piece(choice: Choice, names: &[u8], list: &[u8], item: Piece, c: usize) -> Choice
+fn with_piece(
+    choice: Choice,
+    names: &[u8],
+    list: &[u8],
+    item: Piece,
+    c: usize,
+    label: usize,
+) -> Choice
     requires { ⌜ (choice .k ≤ 16) × (item .start ≤ item .end) × (item .end ≤ length (now list)) ⌝ }
     ensures { λ r. ⌜ r .k ≤ 16 ⌝ }
 {
     if !item.there {
         return choice;
     }
-    with_item(choice, names, list, item.start, item.end, c)
+    with_item(choice, names, list, item.start, item.end, c, label)
 }
 
 // The columns of a list: names or numbers from 1, parted by commas, each with a factor behind a star if it has one.
-pub fn choose_list(names: &[u8], list: &[u8], c: usize) -> Choice
+pub fn choose_list(names: &[u8], list: &[u8], c: usize, label: usize) -> Choice
     ensures { λ r. ⌜ r .k ≤ 16 ⌝ }
 {
     let mut choice = none_chosen();
     let mut i = 0;
     while i <= MOST_COLUMNS {
         let item = piece_at(list, b',', i);
-        choice = with_piece(choice, names, list, item, c);
+        choice = with_piece(choice, names, list, item, c, label);
         i += 1;
     }
     choice
 }
 
-// All columns.
-pub fn choose_all(c: usize) -> Choice
+// One column more, unless it is the label's.
+fn with_other(choice: Choice, column: usize, label: usize) -> Choice
+    requires { ⌜ choice .k ≤ 16 ⌝ }
+    ensures { λ r. ⌜ r .k ≤ 16 ⌝ }
+{
+    if 0 < label {
+        if label - 1 == column {
+            return choice;
+        }
+    }
+    with_column(choice, column, 1)
+}
+
+// All columns but the label's (from 1; 0: there is none).
+pub fn choose_all(c: usize, label: usize) -> Choice
     ensures { λ r. ⌜ r .k ≤ 16 ⌝ }
 {
     let mut choice = none_chosen();
     let mut i = 0;
     while i < c {
-        choice = with_column(choice, i, 1);
+        choice = with_other(choice, i, label);
         i += 1;
     }
     choice

@@ -1,15 +1,12 @@
 -- A line that ends: what is known of it where nothing is wrong, and what becomes of the reader and the table. Assumes nothing.
 use Prim.Native.Nat.{_+_, _-_, _<_, _≤_, min, ℕ}
-use Rattle.sheet.specs.Closing.{accepted, bare, closed, decided, endTrouble, failed, firstBlank, judged, onward, orWide, titles}
-use Rattle.sheet.specs.InLine.{along, digitAt, moved, settled}
-use Rattle.sheet.specs.Says.{differs, none, orRow, rowTrouble}
+use Rattle.sheet_line.specs.InLine.{bare, emptied, settled}
+use Rattle.sheet.specs.Closing.{accepted, closed, counted, decided, endTrouble, failed, firstBlank, judged, onward, orWide, titles}
+use Rattle.sheet_line.specs.Troubles.{none}
+use Rattle.sheet.specs.Says.{differs, orRow, rowTrouble}
 use Rattle.sheet.specs.declared.Reader.{Reader}
-use Rattle.sheet.specs.declared.bytes.Kind.the-variants.{Digit, Other, Sign}
-use Rattle.sheet.specs.declared.bytes.Kind.{Kind}
-use Rattle.sheet.specs.declared.line.Line.{Line}
-use Rattle.sheet.specs.declared.line.Place.the-variants.{Strange}
-use Rattle.sheet.specs.declared.line.Place.{Place}
-use Rattle.sheet.specs.declared.line.Trouble.{Trouble}
+use Rattle.sheet_line.specs.declared.Line.{Line}
+use Rattle.sheet_line.specs.declared.Trouble.{Trouble}
 use borrow.Author.Tests.{eq-eqb, eqb-false, eqb-true, le-ltb, leb-false, lt-ltb, ltb-false, ltb-true, ne-eqb}
 use lib.Dec.{eqb, leb, ltb}
 use lib.ListN.{length}
@@ -19,36 +16,24 @@ use mathlib.Core.List.{List}
 use mathlib.Core.Path.{_∙_, _≡_, ap, refl, sym}
 use native.Mathlib.Omega.{arith}
 
--- ---- a digit
--- the line after it, told in two steps
-pub along-digit : (l : Line) (k : Kind) (d : ℕ) (p : Place) (l′ : Line) → k ≡ Digit d → p ≡ digitAt (l .place) d → l′ ≡ moved l p true → l′ ≡ along l k
-along-digit l k d p l′ e q h = rw e (h ∙ ap (λ (x : Place). moved l x true) q)
-
--- a sign
-pub along-sign : (l : Line) (k : Kind) (l′ : Line) → k ≡ Sign → l′ ≡ moved l Strange true → l′ ≡ along l k
-along-sign l k l′ e h = rw e h
-
--- any other byte
-pub along-other : (l : Line) (k : Kind) (l′ : Line) → k ≡ Other → l′ ≡ moved l Strange false → l′ ≡ along l k
-along-other l k l′ e h = rw e h
-
--- ---- a label's column
--- there is none
-pub label-none : (label count : ℕ) → label ≡ 0 → false ≡ eqb label (count + 1)
-label-none label count e = sym (ne-eqb label (count + 1) (λ (q : label ≡ count + 1). omega arith))
-
--- there is one: it is compared
-pub label-some : (label count : ℕ) → (label ≡ 0 → ⊥) → eqb (label - 1) count ≡ eqb label (count + 1)
-label-some label count k = go (eqb (label - 1) count) refl
-  where
-    go : (b : Bool) → eqb (label - 1) count ≡ b → b ≡ eqb label (count + 1)
-    go true e = sym (eq-eqb label (count + 1) (omega (arith, eqb-true (label - 1) count e, k)))
-    go false e =
-        sym
-        (ne-eqb label (count + 1)
-        (λ (q : label ≡ count + 1).
-        let z : label - 1 ≡ count = omega arith in
-        eqb-false (label - 1) count e z))
+-- ---- behind a line
+-- its number is counted, and the next line is empty
+pub onward-with : (r : Reader) (blank columns rows put n : ℕ) (l : Line) → n ≡ counted (r .line) → l ≡ emptied (r .label)
+    → record {
+      mark = r .mark;
+      held = false;
+      line = n;
+      blank = blank;
+      columns = columns;
+      rows = rows;
+      put = put;
+      fault = r .fault;
+      column = r .column;
+      here = l;
+      label = r .label;
+    } ≡ onward r blank columns rows put
+unfolding onward
+onward-with r blank columns rows put n l e f = rw (e, f)
 
 -- ---- nothing is wrong with the row
 -- it is as wide as it may be and as the lines above, it is not one too many, and there is room

@@ -1,11 +1,8 @@
 pub mod Cases
 pub mod Closings
 pub mod Faults
-pub mod FieldRuns
-pub mod Gathered
 pub mod Laying
 pub mod LineEnds
-pub mod LineRuns
 pub mod Runs
 pub mod Sheets
 pub mod Texts

@@ -2,20 +2,21 @@
 use Prim.Native.Nat.{_+_, _≤_, ℕ}
 use Rattle.laws.specs.Lists.{any}
 use Rattle.sheet.proofs.Closings.{closed-bare, closed-full, decided-failed, decided-taken, decided-titled, judged-blank, judged-none}
-use Rattle.sheet.proofs.FieldRuns.{blank-rest, fields-rest}
-use Rattle.sheet.proofs.Gathered.{line-figure, line-names, line-numbers, line-row, line-titles, worths-length}
+use Rattle.sheet_fields.proofs.FieldRuns.{blank-rest, fields-rest}
+use Rattle.sheet_line.proofs.Gathered.{line-figure, line-names, line-numbers, line-row, line-titles, worths-length}
 use Rattle.sheet.proofs.Laying.{laid}
-use Rattle.sheet.proofs.LineRuns.{gather, line-bare, line-fields, through}
+use Rattle.sheet_line.proofs.LineRuns.{gather, line-bare, line-fields, through}
 use Rattle.sheet.proofs.Texts.{hold-through, whole, whole-fine}
 use Rattle.sheet.specs.Closing.{closed, decided, endTrouble, failed, firstBlank, judged, onward, orWide, titles}
-use Rattle.sheet.specs.Fields.{asName, asNames, asNumber, asRow, figured}
-use Rattle.sheet.specs.InLine.{emptied, settled}
+use Rattle.sheet_fields.specs.Fields.{asName, asNames, asNumber, asRow, figured}
+use Rattle.sheet_line.specs.InLine.{emptied, settled}
 use Rattle.sheet.specs.Lines.{blankLine, fieldsOf, kinds, named, numbers}
 use Rattle.sheet.specs.Reading.{inside}
-use Rattle.sheet.specs.Says.{lineTrouble, none, orRow, rowTrouble, trouble}
+use Rattle.sheet_line.specs.Troubles.{none, trouble}
+use Rattle.sheet.specs.Says.{lineTrouble, orRow, rowTrouble}
 use Rattle.sheet.specs.declared.Reader.{Reader}
-use Rattle.sheet.specs.declared.line.Line.{Line}
-use Rattle.sheet.specs.declared.line.Trouble.{Trouble}
+use Rattle.sheet_line.specs.declared.Line.{Line}
+use Rattle.sheet_line.specs.declared.Trouble.{Trouble}
 use borrow.Author.Tests.{eqb-true, le-ltb}
 use lib.Dec.{eqb, ltb}
 use lib.ListN.{drop, length, take}

@@ -1,20 +1,27 @@
 -- A text read one byte at a time, and in pieces. Assumes nothing.
 use Prim.Native.Nat.{_+_, _<_, _≤_, ℕ}
 use Rattle.sheet.specs.Closing.{closed, failed, firstBlank}
-use Rattle.sheet.specs.InLine.{along}
-use Rattle.sheet.specs.Kinds.{kindOf}
+use Rattle.sheet_line.specs.InLine.{along}
+use Rattle.sheet_fields.specs.Kinds.{kindOf}
 use Rattle.sheet.specs.Reading.{ended, finished, inside, markByte, marking, next, read, released, run, unmarking}
 use Rattle.sheet.specs.declared.Reader.{Reader}
-use Rattle.sheet.specs.declared.bytes.Kind.{Kind}
-use Rattle.sheet.specs.declared.line.Line.{Line}
+use Rattle.sheet_fields.specs.declared.Kind.the-variants.{Other}
+use Rattle.sheet_fields.specs.declared.Kind.{Kind}
+use Rattle.sheet_line.specs.declared.Line.{Line}
 use borrow.Author.Tests.{eq-eqb, le-leb, lt-leb, ne-eqb}
 use lib.ListN.{drop, drop-of-length-le, getD, length}
 use lib.Seq.{drop-cons}
 use mathlib.Core.Bool.{false, true}
 use mathlib.Core.List.{List, [], _++_, _∷_}
-use mathlib.Core.Path.{_∙_, _≡_, refl, sym}
+use mathlib.Core.Path.{_∙_, _≡_, ap, refl, sym}
 use native.Mathlib.Numerals.{add-one}
 use native.Mathlib.Omega.{arith}
+
+-- ---- the start was not the mark
+-- one byte of it came, or two
+pub unmarking-some : (r : Reader) (l : Line) (r′ : Reader) → (r .mark ≡ 0 → ⊥) → l ≡ along (r .here) Other → r′ ≡ inside r 3 (r .held) l → r′ ≡ unmarking r
+unfolding unmarking
+unmarking-some r l r′ z e h = rw (ne-eqb (r .mark) 0 z) (h ∙ ap (λ (x : Line). inside r 3 (r .held) x) e)
 
 -- ---- one byte more
 module _ (r : Reader) (table : List ℕ) (b : ℕ) where

@@ -7,14 +7,15 @@ use Rattle.sheet.proofs.Laying.{laid, laid-long, laid-more, laid-none}
 use Rattle.sheet.proofs.Runs.{pieces}
 use Rattle.sheet.proofs.Texts.{behindMark, lines-run, mark-run, whole, wholes, wholes-stay}
 use Rattle.sheet.specs.Closing.{counted, failed, firstBlank, onward}
-use Rattle.sheet.specs.Fields.{asNames, asRow, cut, cutAt, cutUp}
+use Rattle.sheet_fields.specs.Fields.{asNames, asRow, cut, cutAt, cutUp}
 use Rattle.sheet.specs.Lines.{blankLine, fieldsOf, isNewline, kept, lines, named, numbers, onto, unmarked}
 use Rattle.sheet.specs.Reading.{begun, ended, finished, inside, next, run}
 use Rattle.sheet.specs.Reads.{Reads}
-use Rattle.sheet.specs.Says.{Told, lineTrouble, none, says, stopped, told, toldAll, toldBy, toldNames, trouble}
+use Rattle.sheet_line.specs.Troubles.{none, trouble}
+use Rattle.sheet.specs.Says.{Told, lineTrouble, says, stopped, told, toldAll, toldBy, toldNames}
 use Rattle.sheet.specs.declared.Reader.{Reader}
-use Rattle.sheet.specs.declared.line.Line.{Line}
-use Rattle.sheet.specs.declared.line.Trouble.{Trouble}
+use Rattle.sheet_line.specs.declared.Line.{Line}
+use Rattle.sheet_line.specs.declared.Trouble.{Trouble}
 use borrow.Author.Tests.{eq-eqb, eqb-false, eqb-true, lt-ltb, ne-eqb}
 use lib.Dec.{eqb}
 use lib.ListN.{drop, length, length-append}

@@ -1,17 +1,17 @@
 -- A text, line by line: the mark at its start, the carriage returns, and the newlines. Assumes nothing.
 use Prim.Native.Nat.{_≤_, ℕ}
 use Rattle.sheet.proofs.Closings.{closed-cases, decided-cases}
-use Rattle.sheet.proofs.LineRuns.{through}
+use Rattle.sheet_line.proofs.LineRuns.{through}
 use Rattle.sheet.proofs.Runs.{next-read, next-stays, read-newline, read-other, read-return}
 use Rattle.sheet.specs.Closing.{accepted, closed, decided, endTrouble, failed, judged, onward, titles}
-use Rattle.sheet.specs.Fields.{cut, cutAt, cutUp}
-use Rattle.sheet.specs.InLine.{along, emptied, moved, settled}
-use Rattle.sheet.specs.Kinds.{kindOf, parting, signing}
+use Rattle.sheet_fields.specs.Fields.{cut, cutAt, cutUp}
+use Rattle.sheet_line.specs.InLine.{along, emptied, moved, settled}
+use Rattle.sheet_fields.specs.Kinds.{kindOf, parting, quoting, signing}
 use Rattle.sheet.specs.Lines.{body, isNewline, kinds, unmarked}
 use Rattle.sheet.specs.Reading.{begun, inside, markByte, marking, next, read, released, run, unmarking}
 use Rattle.sheet.specs.declared.Reader.{Reader}
-use Rattle.sheet.specs.declared.bytes.Kind.the-variants.{Other}
-use Rattle.sheet.specs.declared.line.Line.{Line}
+use Rattle.sheet_fields.specs.declared.Kind.the-variants.{Other}
+use Rattle.sheet_line.specs.declared.Line.{Line}
 use borrow.Author.Tests.{eq-eqb, eqb-false, eqb-true, ne-eqb}
 use lib.Dec.{eqb}
 use lib.ListN.{length}
@@ -37,7 +37,7 @@ body-other b (c ∷ t) e = refl
 
 -- one that is the last of a line is passed over, and any other is a byte as any other
 pub hold-through : (t : List ℕ) (l : Line) → (hold false l t ≡ through l (kinds t)) × (hold true l t ≡ through l (kinds (13 ∷ t)))
-unfolding hold through body kindOf parting signing
+unfolding hold through body kindOf parting quoting signing
 hold-through [] l = (refl, refl)
 hold-through (b ∷ t) l = (go l (eqb b 13) refl (hold-through t), go (along l Other) (eqb b 13) refl (hold-through t))
   where
@@ -206,12 +206,12 @@ module _ (label : ℕ) (table : List ℕ) where
 
   -- the first byte of the mark is a byte of a field
   first-plain : (a : ℕ) → eqb a 239 ≡ true → next (behindMark label, table) a ≡ (almost label, table)
-  unfolding next read begun inside released kindOf parting signing
+  unfolding next read begun inside released kindOf parting quoting signing
   first-plain a e = subst (λ (x : ℕ). next (behindMark label, table) x ≡ (almost label, table)) (sym (eqb-true a 239 e)) refl
 
   -- so is the second
   second-plain : (b : ℕ) → eqb b 187 ≡ true → next (almost label, table) b ≡ (almost label, table)
-  unfolding next read begun inside released kindOf parting signing moved emptied
+  unfolding next read begun inside released kindOf parting quoting signing moved emptied
   second-plain b e = subst (λ (x : ℕ). next (almost label, table) x ≡ (almost label, table)) (sym (eqb-true b 187 e)) refl
 
   -- a text whose first byte is not the mark's is read from there

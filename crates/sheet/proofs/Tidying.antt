@@ -1,19 +1,19 @@
 -- From the first byte on a reader's numbers are in order, whatever the text. Assumes nothing.
 use Prim.Native.Nat.{_*_, _+_, _≤_, ℕ}
 use Rattle.sheet.proofs.Closings.{Fits, closed-cases, decided-cases, line-fits, names-fit}
-use Rattle.sheet.specs.Closing.{bare, closed, decided, endTrouble, failed, firstBlank, onward, titles}
-use Rattle.sheet.specs.InLine.{added, addedAs, along, blankAt, emptied, moved, opened, opens, settled, settledAt}
-use Rattle.sheet.specs.Kinds.{kindOf}
+use Rattle.sheet_line.specs.InLine.{added, addedAs, along, bare, blankAt, emptied, moved, opened, opens, settled, settledAt}
+use Rattle.sheet.specs.Closing.{closed, decided, endTrouble, failed, firstBlank, onward, titles}
+use Rattle.sheet_fields.specs.Kinds.{kindOf}
 use Rattle.sheet.specs.Reading.{begun, ended, finished, inside, markByte, marking, next, read, released, run, unmarking}
 use Rattle.sheet.specs.Says.{differs}
 use Rattle.sheet.specs.Tidy.{Tidy}
 use Rattle.sheet.specs.declared.Reader.{Reader}
-use Rattle.sheet.specs.declared.bytes.Kind.the-variants.{Blank, Digit, Other, Parting, Sign}
-use Rattle.sheet.specs.declared.bytes.Kind.{Kind}
-use Rattle.sheet.specs.declared.line.Line.{Line}
-use Rattle.sheet.specs.declared.line.Place.the-variants.{Behind, Great, Inside, Open, Strange}
-use Rattle.sheet.specs.declared.line.Place.{Place}
-use Rattle.sheet.specs.declared.line.Trouble.{Trouble}
+use Rattle.sheet_fields.specs.declared.Kind.the-variants.{Blank, Digit, Other, Parting, Quote, Sign}
+use Rattle.sheet_fields.specs.declared.Kind.{Kind}
+use Rattle.sheet_line.specs.declared.Line.{Line}
+use Rattle.sheet_line.specs.declared.Place.the-variants.{Behind, Great, Inside, Open, Quoted, Strange}
+use Rattle.sheet_line.specs.declared.Place.{Place}
+use Rattle.sheet_line.specs.declared.Trouble.{Trouble}
 use Rattle.laws.proofs.Never.{never}
 use borrow.Author.Tests.{eq-eqb, eqb-true}
 use lib.Dec.{eqb, leb}
@@ -51,6 +51,7 @@ module _ (l : Line) (h : length (l .row) ≡ 16) where
       go Great = added-slots 2 0
       go Strange = added-slots 1 0
       go Behind = h
+      go Quoted = added-slots 1 0
 
   -- behind a blank
   blank-slots : (p : Place) → length (blankAt p l .row) ≡ 16
@@ -59,6 +60,7 @@ module _ (l : Line) (h : length (l .row) ≡ 16) where
   blank-slots Great = added-slots 2 0
   blank-slots Strange = added-slots 1 0
   blank-slots Behind = h
+  blank-slots Quoted = added-slots 1 0
 
   -- behind any byte
   along-slots : (k : Kind) → length (along l k .row) ≡ 16
@@ -68,6 +70,7 @@ module _ (l : Line) (h : length (l .row) ≡ 16) where
   along-slots Parting = settled-slots
   along-slots Sign = h
   along-slots Other = h
+  along-slots Quote = h
 
 -- a line that is not bare has a field when it has ended
 full-counts : (l : Line) → bare l ≡ false → (settled l .count ≡ 0 → ⊥)
@@ -84,6 +87,7 @@ full-counts l e = go (l .place) e
     go Great e = some (leb 16 (l .count))
     go Strange e = some (leb 16 (l .count))
     go Behind e = λ (z : l .count ≡ 0). never (sym e ∙ rw (eq-eqb (l .count) 0 z))
+    go Quoted e = some (leb 16 (l .count))
 
 -- ---- before the first byte
 pub begun-tidy : (label room : ℕ) → Tidy room (begun label)

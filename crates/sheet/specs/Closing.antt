@@ -1,10 +1,11 @@
 -- What a newline does: the line is blank, or names, or a row, or can't be taken. Assumes nothing.
 use Prim.Native.Nat.{_+_, ℕ}
-use Rattle.sheet.specs.InLine.{emptied, opens, settled}
-use Rattle.sheet.specs.Says.{none, orRow}
+use Rattle.sheet_line.specs.InLine.{bare, emptied, settled}
+use Rattle.sheet_line.specs.Troubles.{none}
+use Rattle.sheet.specs.Says.{orRow}
 use Rattle.sheet.specs.declared.Reader.{Reader}
-use Rattle.sheet.specs.declared.line.Line.{Line}
-use Rattle.sheet.specs.declared.line.Trouble.{Trouble}
+use Rattle.sheet_line.specs.declared.Line.{Line}
+use Rattle.sheet_line.specs.declared.Trouble.{Trouble}
 use lib.Dec.{eqb, ltb}
 use lib.ListN.{length}
 use lib.Seq.{paste}
@@ -12,10 +13,6 @@ use mathlib.Core.Bool.{Bool, _&&_, cond, false, not}
 use mathlib.Core.List.{List}
 
 -- ---- what the line is
--- no field has begun
-unfoldable pub bare : Line → Bool
-bare l = eqb (l .count) 0 && opens (l .place)
-
 -- it is the first, and no field began with a digit, a sign or a point
 unfoldable pub titles : Reader → Line → Bool
 titles r l = eqb (r .line) 1 && not (l .figure)

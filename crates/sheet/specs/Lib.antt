@@ -1,8 +1,5 @@
-pub mod Kinds
-pub mod Fields
 pub mod Lines
 pub mod Says
-pub mod InLine
 pub mod Closing
 pub mod Reading
 pub mod Reads

@@ -1,9 +1,9 @@
 -- The lines of a text. A text is a list of bytes. Assumes nothing.
 use Prim.Native.Nat.{ℕ}
 use Rattle.laws.specs.Lists.{all, any}
-use Rattle.sheet.specs.Fields.{cutUp, fields, figured, isBlank, worths}
-use Rattle.sheet.specs.Kinds.{kindOf}
-use Rattle.sheet.specs.declared.bytes.Kind.{Kind}
+use Rattle.sheet_fields.specs.Fields.{cutUp, fields, figured, isBlank, worths}
+use Rattle.sheet_fields.specs.Kinds.{kindOf}
+use Rattle.sheet_fields.specs.declared.Kind.{Kind}
 use lib.Dec.{eqb}
 use mathlib.Core.Bool.{Bool, _&&_, cond, false, not, true}
 use mathlib.Core.List.{List, [], _∷_, map}

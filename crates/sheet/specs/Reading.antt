@@ -1,11 +1,11 @@
 -- A text of rows read byte by byte: the reader, and the table that it fills. Assumes nothing.
 use Prim.Native.Nat.{_+_, ℕ}
 use Rattle.sheet.specs.Closing.{closed, failed, firstBlank}
-use Rattle.sheet.specs.InLine.{along, emptied}
-use Rattle.sheet.specs.Kinds.{kindOf}
+use Rattle.sheet_line.specs.InLine.{along, emptied}
+use Rattle.sheet_fields.specs.Kinds.{kindOf}
 use Rattle.sheet.specs.declared.Reader.{Reader}
-use Rattle.sheet.specs.declared.bytes.Kind.the-variants.{Other}
-use Rattle.sheet.specs.declared.line.Line.{Line}
+use Rattle.sheet_fields.specs.declared.Kind.the-variants.{Other}
+use Rattle.sheet_line.specs.declared.Line.{Line}
 use lib.Dec.{eqb, leb}
 use mathlib.Core.Bool.{Bool, _&&_, cond, false, true}
 use mathlib.Core.List.{List, [], _∷_}

@@ -1,26 +1,15 @@
 -- What a text says: its rows, or the first thing that is wrong with it, with line and column. Assumes nothing.
 use Prim.Native.Nat.{_+_, min, ℕ}
-use Rattle.sheet.specs.Fields.{asNames, asRow}
+use Rattle.sheet_fields.specs.Fields.{asNames, asRow}
 use Rattle.sheet.specs.Lines.{fieldsOf, lines, named, numbers}
-use Rattle.sheet.specs.declared.bytes.Kind.{Kind}
-use Rattle.sheet.specs.declared.line.Trouble.{Trouble}
+use Rattle.sheet_line.specs.Troubles.{none, trouble}
+use Rattle.sheet_line.specs.declared.Trouble.{Trouble}
 use lib.Dec.{eqb, leb, ltb}
 use lib.ListN.{length}
 use mathlib.Core.Bool.{Bool, _&&_, cond, not}
 use mathlib.Core.List.{List, [], _∷_}
 
 -- ---- what is wrong with a line
--- nothing
-abbrev pub none : Trouble
-none = record { kind = 0; column = 0 }
-
--- the leftmost field in which something is wrong, the first of these being column j + 1: one too many is wrong in itself (3)
-unfoldable pub trouble : (ℕ → List Kind → ℕ) → ℕ → List (List Kind) → Trouble
-trouble wrong j [] = none
-trouble wrong j (f ∷ fs) =
-    cond (leb 16 j) (record { kind = 3; column = 17 })
-    (cond (eqb (wrong j f) 0) (trouble wrong (j + 1) fs) (record { kind = wrong j f; column = j + 1 }))
-
 -- there are rows or names above, and they have another count
 unfoldable pub differs : ℕ → ℕ → Bool
 differs columns count = not (eqb columns 0) && not (eqb columns count)

@@ -1,10 +1,11 @@
 -- Which line of a text stops the reading, and why. A working notion, on which no promise rests. Assumes nothing.
 use Prim.Native.Nat.{_+_, _<_, _≤_, ℕ}
 use Rattle.laws.specs.Lists.{all, joined}
-use Rattle.sheet.specs.Fields.{asNames, isDigit, value}
+use Rattle.sheet_fields.specs.Fields.{asNames, isDigit, value}
 use Rattle.sheet.specs.Lines.{fieldsOf, named, numbers}
-use Rattle.sheet.specs.Says.{Told, lineTrouble, trouble}
-use Rattle.sheet.specs.declared.bytes.Kind.{Kind}
+use Rattle.sheet_line.specs.Troubles.{trouble}
+use Rattle.sheet.specs.Says.{Told, lineTrouble}
+use Rattle.sheet_fields.specs.declared.Kind.{Kind}
 use lib.ListN.{length}
 use mathlib.Core.Bool.{false, true}
 use mathlib.Core.List.{List, [], _++_, _∷_, map}

@@ -1,19 +1,16 @@
 // The reader of a text of rows: fed piece by piece, it puts each whole row behind the last into a lent table, and names the first line and column
 // with a fault.
-pub mod bytes;
-pub mod line;
-
 ghost use Prim.Native.Nat.{_+_, _≤_, min};
-ghost use Rattle.sheet.specs.Closing.{bare, closed, counted, endTrouble, failed, firstBlank, judged, onward, orWide, titles, weighed};
+ghost use Rattle.sheet.specs.Closing.{closed, counted, endTrouble, failed, firstBlank, judged, onward, orWide, titles, weighed};
 ghost use Rattle.sheet.specs.Reading.{begun, finished, inside, markByte, marking, next, read, released, run, unmarking};
 ghost use Rattle.sheet.specs.Says.{differs, orRow, rowTrouble};
 ghost use lib.Dec.{ltb};
 ghost use lib.ListN.{length};
 ghost use lib.Seq.{paste};
 ghost use mathlib.Core.Path.{_≡_};
-use bytes::Kind;
-use line::Line;
-use line::Trouble;
+use sheet_fields::Kind;
+use sheet_line::Line;
+use sheet_line::Trouble;
 
 // Where the reading stands: how much of the mark EF BB BF has come (3 behind it), whether a carriage return is held back, the number of the line
 // that is being read or has the fault, the first of the blank lines right above it (0 for none), the columns (0 before the first line), how many rows
@@ -61,7 +58,7 @@ pub fn start(label: usize) -> Reader
         put: 0,
         fault: 0,
         column: 0,
-        here: line::fresh(label),
+        here: sheet_line::fresh(label),
         label,
     }
 }
@@ -101,10 +98,10 @@ fn uneven_column(columns: usize, count: usize) -> usize
 fn row_trouble(columns: usize, rows: usize, put: usize, count: usize, room: usize) -> Trouble
     ensures { λ r. ⌜ r ≡ rowTrouble columns rows put count room ⌝ }
 {
-    if line::WIDEST < count {
+    if sheet_line::WIDEST < count {
         return Trouble {
-            kind: line::TOO_WIDE,
-            column: line::WIDEST + 1,
+            kind: sheet_line::TOO_WIDE,
+            column: sheet_line::WIDEST + 1,
         };
     }
     if uneven(columns, count) {
@@ -125,7 +122,7 @@ fn row_trouble(columns: usize, rows: usize, put: usize, count: usize, room: usiz
             column: 1,
         };
     }
-    line::no_trouble()
+    sheet_line::no_trouble()
 }
 
 // What is wrong in a field comes before what is wrong with the row.
@@ -152,24 +149,13 @@ fn name_or_wide(t: Trouble, count: usize) -> Trouble
     if t.kind != 0 {
         return t;
     }
-    if line::WIDEST < count {
+    if sheet_line::WIDEST < count {
         return Trouble {
-            kind: line::TOO_WIDE,
-            column: line::WIDEST + 1,
+            kind: sheet_line::TOO_WIDE,
+            column: sheet_line::WIDEST + 1,
         };
     }
-    line::no_trouble()
-}
-
-// No field of the line has begun.
-fn is_bare(here: Line) -> bool
-    ensures { λ r. ⌜ r ≡ bare here ⌝ }
-{
-    if here.count != 0 {
-        return false;
-    }
-    let place = here.place;
-    line::may_begin(place)
+    sheet_line::no_trouble()
 }
 
 // The line is the first, and names.
@@ -240,7 +226,7 @@ fn go_onward(r: Reader, blank: u64, columns: usize, rows: usize, put: usize) -> 
         put,
         fault: r.fault,
         column: r.column,
-        here: line::fresh(r.label),
+        here: sheet_line::fresh(r.label),
         label: r.label,
     }
 }
@@ -301,7 +287,7 @@ fn judge(r: Reader, ended: Line, table: &mut [u16]) -> Reader
             ended,
             r.blank,
             Trouble {
-                kind: line::EMPTY,
+                kind: sheet_line::EMPTY,
                 column: 1,
             },
         );
@@ -313,10 +299,10 @@ fn judge(r: Reader, ended: Line, table: &mut [u16]) -> Reader
 fn close(r: Reader, table: &mut [u16]) -> Reader
     ensures { λ s. ⌜ (s ≡ closed r (now (table .entry)) .0) × (now (table .exit) ≡ closed r (now (table .entry)) .1) ⌝ }
 {
-    if is_bare(r.here) {
+    if sheet_line::is_bare(r.here) {
         return go_onward(r, first_blank(r.blank, r.line), r.columns, r.rows, r.put);
     }
-    judge(r, line::settle(r.here), table)
+    judge(r, sheet_line::settle(r.here), table)
 }
 
 // Inside a line.
@@ -343,7 +329,7 @@ fn release(r: Reader) -> Line
     ensures { λ l. ⌜ l ≡ released r ⌝ }
 {
     if r.held {
-        return line::along(r.here, Kind::Other);
+        return sheet_line::along(r.here, Kind::Other);
     }
     r.here
 }
@@ -352,14 +338,19 @@ fn release(r: Reader) -> Line
 fn read_byte(r: Reader, b: u8, table: &mut [u16]) -> Reader
     ensures { λ s. ⌜ (s ≡ read (r, now (table .entry)) b .0) × (now (table .exit) ≡ read (r, now (table .entry)) b .1) ⌝ }
 {
-    if b == bytes::NEWLINE {
+    if b == sheet_fields::NEWLINE {
         return close(r, table);
     }
     let here = release(r);
-    if b == bytes::RETURN {
+    if b == sheet_fields::RETURN {
         return stay(r, r.mark, true, here);
     }
-    stay(r, r.mark, false, line::along(here, bytes::kind_of(b)))
+    stay(
+        r,
+        r.mark,
+        false,
+        sheet_line::along(here, sheet_fields::kind_of(b)),
+    )
 }
 
 // The bytes of the mark.
@@ -382,7 +373,7 @@ fn unmark(r: Reader) -> Reader
     if r.mark == 0 {
         return stay(r, PAST, r.held, r.here);
     }
-    stay(r, PAST, r.held, line::along(r.here, Kind::Other))
+    stay(r, PAST, r.held, sheet_line::along(r.here, Kind::Other))
 }
 
 // One byte more of the text's start.
@@ -427,7 +418,7 @@ pub fn feed(reader: Reader, text: &[u8], table: &mut [u16]) -> Reader
 pub fn finish(reader: Reader, table: &mut [u16]) -> Reader
     ensures { λ s. ⌜ (s ≡ finished (reader, now (table .entry)) .0) × (now (table .exit) ≡ finished (reader, now (table .entry)) .1) ⌝ }
 {
-    let r = step(reader, bytes::NEWLINE, table);
+    let r = step(reader, sheet_fields::NEWLINE, table);
     if r.fault != 0 {
         return r;
     }

@@ -2,9 +2,11 @@
 -- Assumes nothing.
 use Rattle.asking.proofs.pieces.part.Statement.{statement}
 use Rattle.asking.proofs.pieces.part.Tie as tie
+use Rattle.asking.specs.Pieces.{partOf}
 use borrow.Author.Needs.{needs}
 
 returns : tie.Need-returns
+unfolding partOf
 returns c = cc
 
 pub part-spec : {M : Type 1} → statement M

@@ -6,10 +6,10 @@ use Rattle.picking.proofs.choosing.choose_all.Tie as tie
 use borrow.Author.Needs.{needs}
 
 abbrev Inv-loop : tie.InvT-loop
-Inv-loop c choice₀ i₀ choice i = (choice .k ≤ 16) × (i ≤ c)
+Inv-loop c label choice₀ i₀ choice i = (choice .k ≤ 16) × (i ≤ c)
 
 abbrev μ-loop : tie.MeasureT-loop
-μ-loop c choice₀ i₀ choice i = c - i
+μ-loop c label choice₀ i₀ choice i = c - i
 
 pub choose-all-spec : {M : Type 1} → statement M
 choose-all-spec =

@@ -6,10 +6,10 @@ use Rattle.picking.proofs.choosing.choose_list.Tie as tie
 use borrow.Author.Needs.{needs}
 
 abbrev Inv-loop : tie.InvT-loop
-Inv-loop names list c choice₀ i₀ choice i = (choice .k ≤ 16) × (i ≤ 17)
+Inv-loop names list c label choice₀ i₀ choice i = (choice .k ≤ 16) × (i ≤ 17)
 
 abbrev μ-loop : tie.MeasureT-loop
-μ-loop names list c choice₀ i₀ choice i = 17 - i
+μ-loop names list c label choice₀ i₀ choice i = 17 - i
 
 with-piece-requires : tie.Need-with-piece-requires Inv-loop μ-loop
 with-piece-requires c κs = (c .before .before .loop .inv .0, c .piece-at .ensures .inside .0, c .piece-at .ensures .inside .1)

@@ -1,49 +1,32 @@
-use Prim.Native.Nat.{_*_, _+_, _-_, _≤_}
-use lib.ListN.{length}
-use borrow.Author.Needs.{needs}
+-- `picking::fields::pass` meets its contract: each turn passes one byte that does not stop.
+-- Assumes nothing.
+use Prim.Native.Nat.{_-_}
+use Rattle.asking.proofs.Parting.{Looking, looking-end, looking-found, looking-next, looking-start}
 use Rattle.picking.proofs.fields.pass.Statement.{statement}
 use Rattle.picking.proofs.fields.pass.Tie as tie
-use Rattle.picking.proofs.fields.pass.Reads as reads
-use Rattle.picking.proofs.fields.pass.Lts as lts
-use Rattle.picking.proofs.fields.parts.Reads as parts-reads
+use Rattle.picking.specs.Lines.{stopping}
+use borrow.Author.Needs.{needs}
+use lib.ListN.{length}
+use mathlib.Core.Path.{_∙_, sym}
+use native.Mathlib.Omega.{arith}
 
 abbrev Inv-loop : tie.InvT-loop
-Inv-loop line at parting i₀ i = (at ≤ i) × (i ≤ length line)
+Inv-loop line at parting i₀ i = Looking (stopping parting) line at i
 
 abbrev μ-loop : tie.MeasureT-loop
 μ-loop line at parting i₀ i = length line - i
 
--- src/fields.rt:35:5
 loop-holds : tie.Need-loop-holds Inv-loop μ-loop
-loop-holds c = search needs
+loop-holds c = looking-start _ _ _ (c .before .pre)
 
--- src/fields.rt:36:18
-shared-slice-read-parts : tie.Need-shared-slice-read-parts Inv-loop μ-loop
-shared-slice-read-parts c = search needs
-
--- src/fields.rt:36:12
-parts-requires : tie.Need-parts-requires Inv-loop μ-loop
-parts-requires c κs = search needs
-
--- src/fields.rt:37:13
 returns : tie.Need-returns Inv-loop μ-loop
-returns c = search needs
+returns c = (looking-found _ _ _ _ (c .before .before .before .before .loop .inv) (c .before .before .before .loop-test .taken) (sym (c .before .stops .ensures) ∙ c .if1 .taken), c .before .before .before .before .loop .inv .low, c .before .before .before .before .loop .inv .high)
 
--- src/fields.rt:39:9
-add-i : tie.Need-add-i Inv-loop μ-loop
-add-i c = search needs
-
--- src/fields.rt:35:5
-loop-less : tie.Need-loop-less Inv-loop μ-loop
-loop-less c = search needs
-
--- src/fields.rt:35:5
 loop-again : tie.Need-loop-again Inv-loop μ-loop
-loop-again c = search needs
+loop-again c = looking-next _ _ _ _ (c .before .before .before .before .loop .inv) (c .before .before .before .loop-test .taken) (sym (c .before .stops .ensures) ∙ c .if1 .left)
 
--- src/fields.rt:30:1
 returns-2 : tie.Need-returns-2 Inv-loop μ-loop
-returns-2 c = search needs
+returns-2 c = (looking-end _ _ _ _ (c .before .loop .inv) (c .loop-test .left), c .before .loop .inv .low, c .before .loop .inv .high)
 
 pub pass-spec : {M : Type 1} → statement M
 pass-spec =
@@ -52,10 +35,10 @@ pass-spec =
     Inv-loop
     μ-loop
     loop-holds
-    shared-slice-read-parts
-    parts-requires
+    (λ c. search needs)
+    (λ c κs. search needs)
     returns
-    add-i
-    loop-less
+    (λ c. search needs)
+    (λ c. search needs)
     loop-again
     returns-2)

@@ -1,59 +1,38 @@
-use Prim.Native.Nat.{_*_, _+_, _-_, _≤_}
-use lib.ListN.{length}
-use mathlib.Core.Path.{_≡_, sym}
-use native.Mathlib.Omega.{arith}
-use borrow.Author.Needs.{needs}
+-- `picking::places::find_lines` meets its contract: each turn puts one place.
+-- Assumes nothing.
+use Prim.Native.Nat.{_-_, _≤_}
+use Rattle.picking.proofs.Lines.{Listing, listing-end, listing-next, listing-start}
 use Rattle.picking.proofs.places.find_lines.Statement.{statement}
 use Rattle.picking.proofs.places.find_lines.Tie as tie
-use Rattle.picking.proofs.places.find_lines.Reads as reads
-use Rattle.picking.proofs.places.find_lines.Lts as lts
-use Rattle.picking.proofs.places.next_line.Reads as next-line-reads
+use borrow.Author.Needs.{needs}
+use native.Mathlib.Omega.{arith}
 
 abbrev Inv-loop : tie.InvT-loop
-Inv-loop t from starts₀ n at₀ i₀ starts at i = (at ≤ length t) × (i ≤ n) × (length starts ≡ length starts₀)
+Inv-loop t from starts₀ n at₀ i₀ starts at i = Listing t from starts₀ starts i at × (i ≤ n)
 
 abbrev μ-loop : tie.MeasureT-loop
 μ-loop t from starts₀ n at₀ i₀ starts at i = n - i
 
--- src/places.rt:66:5
 loop-holds : tie.Need-loop-holds Inv-loop μ-loop
-loop-holds c = search needs
+loop-holds c = (listing-start _ _ _ (c .before .before .pre .0), omega arith)
 
--- src/places.rt:67:21
 cast-starts : tie.Need-cast-starts Inv-loop μ-loop
-cast-starts c = search needs
+cast-starts c = omega (arith, c .before .loop .inv .0 .inside, c .before .before .before .before .pre .1)
 
--- src/places.rt:67:9
-mul-starts : tie.Need-mul-starts Inv-loop μ-loop
-mul-starts c = search needs
-
--- src/places.rt:67:9
 slice-write-starts : tie.Need-slice-write-starts Inv-loop μ-loop
-slice-write-starts c = search needs
+slice-write-starts c = omega (arith, c .before .loop .inv .0 .long, c .before .before .before .before .pre .2, c .loop-test .taken)
 
--- src/places.rt:68:9
 next-line-requires : tie.Need-next-line-requires Inv-loop μ-loop
-next-line-requires c κs = search needs
+next-line-requires c κs = c .before .loop .inv .0 .inside
 
--- src/places.rt:69:9
-add-i : tie.Need-add-i Inv-loop μ-loop
-add-i c = search needs
-
--- src/places.rt:66:5
-loop-less : tie.Need-loop-less Inv-loop μ-loop
-loop-less c = search needs
-
--- src/places.rt:66:5
 loop-again : tie.Need-loop-again Inv-loop μ-loop
-loop-again c = search needs
+loop-again c = (listing-next _ _ _ _ _ _ _ (c .before .before .loop .inv .0) (omega (arith, c .before .loop-test .taken, c .before .before .before .before .before .pre .2)) (c .next-line .ensures .0) (c .next-line .ensures .2), omega (arith, c .before .loop-test .taken))
 
--- src/places.rt:61:1
 same-length : tie.Need-same-length Inv-loop μ-loop
-same-length c = search needs
+same-length c = c .before .loop .inv .0 .long
 
--- src/places.rt:61:1
 returns : tie.Need-returns Inv-loop μ-loop
-returns c = search needs
+returns c = listing-end _ _ _ _ _ _ _ (c .before .loop .inv .0) (omega (arith, c .before .loop .inv .1, c .loop-test .left))
 
 pub find-lines-spec : {M : Type 1} → statement M
 find-lines-spec =
@@ -63,11 +42,11 @@ find-lines-spec =
     μ-loop
     loop-holds
     cast-starts
-    mul-starts
+    (λ c. search needs)
     slice-write-starts
     next-line-requires
-    add-i
-    loop-less
+    (λ c. search needs)
+    (λ c. search needs)
     loop-again
     same-length
     returns)

@@ -1,0 +1,20 @@
+-- `picking::places::with_row` meets its contract: a hit is counted.
+-- Assumes nothing.
+use Rattle.picking.proofs.Lines.{hit-none, hit-some}
+use Rattle.picking.proofs.places.with_row.Statement.{statement}
+use Rattle.picking.proofs.places.with_row.Tie as tie
+use borrow.Author.Needs.{needs}
+
+returns : tie.Need-returns
+returns c = hit-some _ _ _ _ (c .before .if1 .taken)
+
+returns-2 : tie.Need-returns-2
+returns-2 c = hit-none _ _ _ _ (c .if1 .left)
+
+pub with-row-spec : {M : Type 1} → statement M
+with-row-spec =
+    tie.close
+    (tie.spec
+    (λ c. search needs)
+    returns
+    returns-2)
