@@ -1,14 +1,13 @@
 -- A run's words through the rounds, the sharing out and the copy back. Assumes nothing.
 use Prim.Native.Nat.{_*_, _+_, _-_, _<_, _≤_, ℕ}
 use Rattle.laws.specs.Lists.{each, head}
-use Rattle.measure.proofs.Metric.{metric}
 use Rattle.measure.proofs.Rows.{row-ends}
 use Rattle.measure.specs.Table.{between}
 use Rattle.rounds.proofs.Parts.{stretch-front}
 use Rattle.rounds.specs.Entries.{Entries, InTable, roundsOf}
 use Rattle.rounds.specs.Stretch.{stretch}
 use Rattle.split.proofs.Held.{chosen-words, chosenWords}
-use Rattle.split.proofs.Laid.{laid-long, split-long, under-entries}
+use Rattle.split.proofs.Laid.{laid-long, row-self, split-long, under-entries}
 use Rattle.split.proofs.SplitWords.{group-nodes, group-words}
 use Rattle.split.specs.Places.{nodeAt}
 use Rattle.split.specs.Runs.{Splittable, Splitted, laid, runAt, runNodes}
@@ -29,10 +28,10 @@ runPart work s count = midOf (3 * s) (3 * s + 3 * count - 3 * s) work
 abbrev pub withPart : List ℕ → ℕ → ℕ → List ℕ → List ℕ
 withPart work s count ys = putMid (3 * s) (3 * s + 3 * count - 3 * s) work ys
 
-module _ {t : List ℕ} {c m n : ℕ} {room work : List ℕ} {s count made : ℕ} (asked : Splittable t c m n room work s count made) where
+module _ {t : List ℕ} {c o m n : ℕ} {room work : List ℕ} {s count made : ℕ} (asked : Splittable t c o m n room work s count made) where
   -- how far two rows are apart
   abbrev d : ℕ → ℕ → ℕ
-  d = between t c
+  d = between t c o
 
   -- the word where the run starts
   abbrev lo : ℕ
@@ -69,7 +68,7 @@ module _ {t : List ℕ} {c m n : ℕ} {room work : List ℕ} {s count made : ℕ
 
   -- ---- after the rounds
   module _ {ys : List ℕ} (long : length ys ≡ length (runPart work s count))
-      (rounds : ys ≡ take 3 (runPart work s count) ++ roundsOf (between t c) (m - 1) (drop 3 (runPart work s count))) where
+      (rounds : ys ≡ take 3 (runPart work s count) ++ roundsOf (between t c o) (m - 1) (drop 3 (runPart work s count))) where
     -- the workspace then
     abbrev after : List ℕ
     after = withPart work s count ys
@@ -78,7 +77,7 @@ module _ {t : List ℕ} {c m n : ℕ} {room work : List ℕ} {s count made : ℕ
     ys-are : ys ≡ chosenWords d m run
     ys-are =
         rounds ∙ ap (λ (l : List ℕ). take 3 l ++ roundsOf d (m - 1) (drop 3 l)) (asked .known)
-        ∙ chosen-words d m run (asked .share) (omega (arith, run-long, asked .centred)) (metric t c .self (head run))
+        ∙ chosen-words d m run (asked .share) (omega (arith, run-long, asked .centred)) (row-self t c o (head run))
 
     -- the words before the run
     fore : length (take lo work) ≡ lo
@@ -123,12 +122,12 @@ module _ {t : List ℕ} {c m n : ℕ} {room work : List ℕ} {s count made : ℕ
     -- the groups are the children's runs
     groups-are : groupWords after m s count ≡ each (laid d) (split d m run)
     groups-are =
-        group-words d (metric t c .self) after m s count run (drop hi work) (asked .share) (asked .centred) after-here words-long
+        group-words d (row-self t c o) after m s count run (drop hi work) (asked .share) (asked .centred) after-here words-long
 
     -- and their nodes those of the runs
     nodes-are : groupNodes after m s count ≡ runNodes d s (split d m run)
     nodes-are =
-        group-nodes d (metric t c .self) after m s count run (drop hi work) (asked .share) (asked .centred) after-here words-long
+        group-nodes d (row-self t c o) after m s count run (drop hi work) (asked .share) (asked .centred) after-here words-long
 
     -- and take as many words as the run
     groups-long : length (groupWords after m s count) ≡ 3 * count
@@ -200,7 +199,7 @@ module _ {t : List ℕ} {c m n : ℕ} {room work : List ℕ} {s count made : ℕ
           ∙ append-assoc (take lo work) G (stretch work₂ hi (3 * n)) ∙ ap (λ (x : List ℕ). take lo work ++ (G ++ x)) second-back
 
       -- THE SPLIT OF ONE RUN
-      pub split-done : Splitted t c m n room work s count made room′ work₃
+      pub split-done : Splitted t c o m n room work s count made room′ work₃
       split-done =
           record {
             words = third-half ∙ ap (λ (x : List ℕ). take lo work ++ (x ++ stretch work hi (3 * n))) groups-are;

@@ -63,6 +63,7 @@ fn share(
 pub fn split_run(
     table: &[u16],
     c: usize,
+    circles: u32,
     m: usize,
     n: usize,
     room: &mut [u32],
@@ -71,13 +72,13 @@ pub fn split_run(
     count: usize,
     made: usize,
 )
-    requires { ⌜ Splittable (now table) c m n (now room) (now work) s count made ⌝ }
-    ensures { λ _. ⌜ Splitted (now (table .entry)) c m n (now (room .entry)) (now (work .entry)) s count made
+    requires { ⌜ Splittable (now table) c circles m n (now room) (now work) s count made ⌝ }
+    ensures { λ _. ⌜ Splitted (now (table .entry)) c circles m n (now (room .entry)) (now (work .entry)) s count made
         (now (room .exit)) (now (work .exit)) ⌝ }
 {
     let lo = 3 * s;
     let hi = lo + 3 * count;
-    choose(table, c, m, &mut work[lo..hi]);
+    choose(table, c, circles, m, &mut work[lo..hi]);
     share(room, work, n, m, s, count, made);
     copy_back(work, lo, hi, 3 * n);
 }

@@ -30,4 +30,3 @@ pub mod Alike
 pub mod Widened
 pub mod WidenedBuild
 pub mod Theorems
-pub mod Tested

@@ -133,6 +133,6 @@ module _ (d : ℕ → ℕ → ℕ) (w : List ℕ) (A : Accepted d w) where
 
 -- ---- in words of tables
 -- rows that are equal are equally far from a query
-pub same-row : (T T′ : List ℕ) (c : ℕ) (q : List ℕ) (i : ℕ) → row T c i ≡ row T′ c i → from T c q i ≡ from T′ c q i
+pub same-row : (T T′ : List ℕ) (c o : ℕ) (q : List ℕ) (i : ℕ) → row T c i ≡ row T′ c i → from T c o q i ≡ from T′ c o q i
 unfolding from
-same-row T T′ c q i e = ap (l1 c q) e
+same-row T T′ c o q i e = ap (l1 c o q) e

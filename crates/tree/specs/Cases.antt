@@ -78,17 +78,17 @@ pub data Case : Type 0 where
 unfoldable pub right : Case → Bool
 unfolding sumTo l1 between from again wrongDist wrongRadius wrongInner widen strays faults treeAt treeOf family broods levelNodes nodes
     numbered encode choose split grow build homesIn homes answers passes nearHow marksIn marks radiusHow
-right (words T w) = same (build T 1 2 2 2) w && eqb (said (faults (between T 1) w) .0) 0
-right (order T is N) = let w = build T 1 2 2 2 in same (map (row# w) (range 0 (n# w))) is && eqb (N# w) N
+right (words T w) = same (build T 1 0 2 2 2) w && eqb (said (faults (between T 1 0) w) .0) 0
+right (order T is N) = let w = build T 1 0 2 2 2 in same (map (row# w) (range 0 (n# w))) is && eqb (N# w) N
 right (radius T q r how i k) =
-    let h = radiusHow (from T 1 (q ∷ [])) r (length T) (treeOf (build T 1 2 2 2)) in
+    let h = radiusHow (from T 1 0 (q ∷ [])) r (length T) (treeOf (build T 1 0 2 2 2)) in
     same h how && eqb (inside h) i && eqb (measured h) k
 right (nearest T q w as′ k) =
-    let x = from T 1 (q ∷ []) in
-    same (each pairWords (answers x (length T) w)) (each pairWords as′) && eqb (measured (nearHow x (length T) (treeOf (build T 1 2 2 2)) w)) k
-right (near T q w how) = same (nearHow (from T 1 (q ∷ [])) (length T) (treeOf (build T 1 2 2 2)) w) how
-right (old T v w) = same (widen (between T 1) v) w && eqb (said (faults (between T 1) w) .0) 0
-right (found w k p p′) = let s = said (faults (between five 1) w) in eqb (s .0) k && eqb (s .1) p && eqb (s .2) p′
+    let x = from T 1 0 (q ∷ []) in
+    same (each pairWords (answers x (length T) w)) (each pairWords as′) && eqb (measured (nearHow x (length T) (treeOf (build T 1 0 2 2 2)) w)) k
+right (near T q w how) = same (nearHow (from T 1 0 (q ∷ [])) (length T) (treeOf (build T 1 0 2 2 2)) w) how
+right (old T v w) = same (widen (between T 1 0) v) w && eqb (said (faults (between T 1 0) w) .0) 0
+right (found w k p p′) = let s = said (faults (between five 1 0) w) in eqb (s .0) k && eqb (s .1) p && eqb (s .2) p′
 
 -- what is built and widened: rows as far and as close as each other, and an old card of five rows and of none
 abbrev pub grown : List Case
