@@ -3,6 +3,7 @@ pub mod Full
 pub mod Homes
 pub mod Sound
 pub mod Exact
+pub mod Veiled
 pub mod Marks
 pub mod TwoRadius
 pub mod Sorted

@@ -10,7 +10,7 @@ use Rattle.measure.specs.Space.{Point}
 use Rattle.measure.specs.Table.{from, row}
 use Rattle.tree.proofs.Accepted.{each-once, once-of, shape-of, sound-tree}
 use Rattle.tree.proofs.Answers.{answers-length, answers-same, near-at, passes-all, passes-near}
-use Rattle.tree.proofs.Exact.{Exact, marks-exact}
+use Rattle.tree.proofs.Exact.{Exact, marks-exact, shown-exact}
 use Rattle.tree.proofs.Homes.{homes-rows}
 use Rattle.tree.proofs.Marks.{how-at, marks-rows}
 use Rattle.tree.proofs.Rows.{full-tree, rows-low, rows-once}
@@ -18,11 +18,12 @@ use Rattle.tree.proofs.Sorted.{best-of}
 use Rattle.tree.proofs.Sound.{homes-below}
 use Rattle.tree.proofs.TwoNearest.{AgreeUpTo, in-upTo, same-best, same-homes, same-own}
 use Rattle.tree.proofs.TwoRadius.{Agree, same-marks}
+use Rattle.tree.proofs.Veiled.{shown-measured}
 use Rattle.tree.specs.Check.{Accepted}
 use Rattle.tree.specs.Grove.{Grove, rowsIn, treeOf}
 use Rattle.tree.specs.Homes.{homes}
 use Rattle.tree.specs.Nearest.{Own, answers, best, candidates, isMeasured, lastDistance, nearHow, passes, rowsUpTo, sort}
-use Rattle.tree.specs.Radius.{marks, radiusHow}
+use Rattle.tree.specs.Radius.{marks, radiusHow, veiled}
 use Rattle.words.specs.Words.{n#}
 use lib.Dec.{T}
 use lib.ListN.{getD, length, take}
@@ -57,13 +58,15 @@ module _ (d : ℕ → ℕ → ℕ) (w : List ℕ) (A : Accepted d w) where
         look-fact (λ h. h .1 ≤ x (h .0)) i (homes x (treeOf w)) (homes-below d x P (treeOf w) (full-tree w (shape-of d w A)) (sound-tree d w A))
         (omega (arith, one-home x i h))
 
-    -- A RADIUS SEARCH MARKS A ROW IN EXACTLY IF ITS DISTANCE IS AT MOST r
-    pub radius-exact : (r i : ℕ) → i < n# w → (2 ≤ getD (radiusHow x r (n# w) (treeOf w)) i 0) ↔ (x i ≤ r)
-    radius-exact r i h =
+    -- A RADIUS SEARCH MARKS A ROW IN EXACTLY IF IT IS NOT GONE AND ITS DISTANCE IS AT MOST r
+    pub radius-exact : (r : ℕ) (gone : ℕ → Bool) (i : ℕ) → i < n# w
+        → (2 ≤ getD (radiusHow x r gone (n# w) (treeOf w)) i 0) ↔ ((gone i ≡ false) × (x i ≤ r))
+    radius-exact r gone i h =
         let F = full-tree w (shape-of d w A) in
-        rw (how-at x r (n# w) (treeOf w) i h)
+        rw (how-at x r gone (n# w) (treeOf w) i h)
+        (shown-exact x r gone (i, look i (marks x r (treeOf w)))
         (look-fact (Exact x r) i (marks x r (treeOf w)) (marks-exact d x r P (treeOf w) F (sound-tree d w A))
-        (omega (arith, marks-rows x r i (treeOf w) F, each-once d w A i h)))
+        (omega (arith, marks-rows x r i (treeOf w) F, each-once d w A i h))))
 
     -- THE FIRST k OF THE ROWS WITH HOME BOUND AT MOST D ARE THE FIRST k OF ALL, D the distance of the last of these
     pub nearest-own : (k : ℕ) → k ≤ n# w → best x (n# w) (treeOf w) k (lastDistance (answers x (n# w) k)) ≡ answers x (n# w) k
@@ -82,17 +85,19 @@ module _ (d : ℕ → ℕ → ℕ) (w : List ℕ) (A : Accepted d w) where
 
   -- ---- the statement on two tables: y are the distances in another table, which need not fit the index
   module _ (x y : ℕ → ℕ) where
-    -- RADIUS: WHERE THE TABLES AGREE IN EVERY MEASURED ROW, ALL HOW-BYTES ARE THE SAME
-    pub radius-two-tables : (r : ℕ) → ((i : ℕ) → i < n# w → T (isMeasured (getD (radiusHow x r (n# w) (treeOf w)) i 0)) → x i ≡ y i)
-        → radiusHow x r (n# w) (treeOf w) ≡ radiusHow y r (n# w) (treeOf w)
+    -- RADIUS: WHERE THE TABLES AGREE IN EVERY MEASURED ROW, ALL HOW-BYTES ARE THE SAME, the same rows being gone
+    pub radius-two-tables : (r : ℕ) (gone : ℕ → Bool)
+        → ((i : ℕ) → i < n# w → T (isMeasured (getD (radiusHow x r gone (n# w) (treeOf w)) i 0)) → x i ≡ y i)
+        → radiusHow x r gone (n# w) (treeOf w) ≡ radiusHow y r gone (n# w) (treeOf w)
     unfolding radiusHow
-    radius-two-tables r agree =
-        ap (λ ms. map (λ i. look i ms) (range 0 (n# w)))
+    radius-two-tables r gone agree =
+        ap (λ ms. map (λ i. look i (veiled gone ms)) (range 0 (n# w)))
         (same-marks x y r (treeOf w)
         (look-every (Agree x y r) (marks x r (treeOf w)) (marks-once x r)
         (λ i k m.
         let h = row-low i (omega (arith, marks-rows x r i (treeOf w) (full-tree w (shape-of d w A)))) in
-        agree i h (subst (λ v. T (isMeasured v)) (sym (how-at x r (n# w) (treeOf w) i h)) m))))
+        agree i h
+        (subst (λ v. T (isMeasured v)) (sym (how-at x r gone (n# w) (treeOf w) i h)) (shown-measured gone i (look i (marks x r (treeOf w))) m)))))
 
     -- a row that passes is measured
     near-measured : (k i : ℕ) → i < n# w → passes x (n# w) k (look i (homes x (treeOf w))) ≡ true

@@ -150,11 +150,11 @@ module _ (d : ℕ → ℕ → ℕ) (w : List ℕ) where
       alike-accepted d widen-reads C (widen-words (C .words))
       (λ k h. widen-inner k h ∙ sym (ap (λ e. kept e (nearest# d w k)) widen-edition))
 
-  -- A RADIUS SEARCH ON THE WIDENED INDEX MARKS THE SAME ROWS IN. (The answers of a nearest search do not depend on the index at all.)
-  pub widen-in : (x : ℕ → ℕ) → Point d x → Accepted d w → (r i : ℕ) → i < n# w
-      → (2 ≤ getD (radiusHow x r (n# w) (treeOf (widen d w))) i 0) ↔ (2 ≤ getD (radiusHow x r (n# w) (treeOf w)) i 0)
-  widen-in x P C r i h =
-      let new : (2 ≤ getD (radiusHow x r (n# w) (treeOf (widen d w))) i 0) ↔ (x i ≤ r) =
-      rw (widen-reads .rows) at (radius-exact d (widen d w) (widen-accepted C) x P r i (omega (arith, widen-reads .rows))) in
-      let old = radius-exact d w C x P r i h in
+  -- A RADIUS SEARCH ON THE WIDENED INDEX MARKS THE SAME ROWS IN, whichever are gone. (A nearest search's answers do not depend on the index at all.)
+  pub widen-in : (x : ℕ → ℕ) → Point d x → Accepted d w → (r : ℕ) (gone : ℕ → Bool) (i : ℕ) → i < n# w
+      → (2 ≤ getD (radiusHow x r gone (n# w) (treeOf (widen d w))) i 0) ↔ (2 ≤ getD (radiusHow x r gone (n# w) (treeOf w)) i 0)
+  widen-in x P C r gone i h =
+      let new : (2 ≤ getD (radiusHow x r gone (n# w) (treeOf (widen d w))) i 0) ↔ ((gone i ≡ false) × (x i ≤ r)) =
+      rw (widen-reads .rows) at (radius-exact d (widen d w) (widen-accepted C) x P r gone i (omega (arith, widen-reads .rows))) in
+      let old = radius-exact d w C x P r gone i h in
       (λ a. old .1 (new .0 a), λ a. new .1 (old .0 a))

@@ -17,7 +17,7 @@ use Rattle.tree.specs.Widen.{widen}
 use Rattle.words.specs.Words.{N#, n#, row#}
 use lib.Dec.{eqb}
 use lib.ListN.{length, set}
-use mathlib.Core.Bool.{Bool, _&&_}
+use mathlib.Core.Bool.{Bool, _&&_, false}
 use mathlib.Core.List.{List, [], _∷_, map}
 
 -- the five rows. Every case has one column, m = 2 and l = 2
@@ -63,7 +63,7 @@ pub data Case : Type 0 where
   words : List ℕ → List ℕ → Case
   -- it is built to this order of rows and this N
   order : List ℕ → List ℕ → ℕ → Case
-  -- query and r give these how-bytes, in and measured
+  -- query and r give these how-bytes, in and measured, no row being withdrawn
   radius : List ℕ → ℕ → ℕ → List ℕ → ℕ → ℕ → Case
   -- query and w give these answers, and measured
   nearest : List ℕ → ℕ → ℕ → List (ℕ × ℕ) → ℕ → Case
@@ -81,7 +81,7 @@ unfolding sumTo l1 between from again wrongDist wrongRadius wrongInner widen str
 right (words T w) = same (build T 1 0 2 2 2) w && eqb (said (faults (between T 1 0) w) .0) 0
 right (order T is N) = let w = build T 1 0 2 2 2 in same (map (row# w) (range 0 (n# w))) is && eqb (N# w) N
 right (radius T q r how i k) =
-    let h = radiusHow (from T 1 0 (q ∷ [])) r (length T) (treeOf (build T 1 0 2 2 2)) in
+    let h = radiusHow (from T 1 0 (q ∷ [])) r (λ i. false) (length T) (treeOf (build T 1 0 2 2 2)) in
     same h how && eqb (inside h) i && eqb (measured h) k
 right (nearest T q w as′ k) =
     let x = from T 1 0 (q ∷ []) in
