@@ -9,11 +9,11 @@ use mathlib.Core.Path.{refl}
 use native.Mathlib.Omega.{arith}
 
 abbrev Inv-loop : tie.InvT-loop
-Inv-loop table c index queries r how₀ marks₀ n asked inside₀ measured₀ k₀ how marks inside measured k =
-    Going index table c queries r how₀ marks₀ n asked how marks inside measured k
+Inv-loop table c index queries r withdrawn how₀ marks₀ n asked inside₀ measured₀ k₀ how marks inside measured k =
+    Going index table c queries r withdrawn how₀ marks₀ n asked how marks inside measured k
 
 abbrev μ-loop : tie.MeasureT-loop
-μ-loop table c index queries r how₀ marks₀ n asked inside₀ measured₀ k₀ how marks inside measured k = asked - k
+μ-loop table c index queries r withdrawn how₀ marks₀ n asked inside₀ measured₀ k₀ how marks inside measured k = asked - k
 
 rows-requires : tie.Need-rows-requires Inv-loop μ-loop
 rows-requires c κs =
