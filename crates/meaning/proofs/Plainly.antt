@@ -95,7 +95,8 @@ module _ (w : List ℕ) where
   unfolding tile
   plain-tile j zero s e t = eq-test s e t
   plain-tile j (suc k) s e t =
-      and-of (eqb (start# w j) s) (tile w (suc j) k (s + count# w j) e) (eq-test (start# w j) s (t .0)) (plain-tile (suc j) k (s + count# w j) e (t .1))
+      and-of (eqb (start# w j) s) (tile w (suc j) k (s + count# w j) e) (eq-test (start# w j) s (t .0))
+      (plain-tile (suc j) k (s + count# w j) e (t .1))
 
   -- node k's children's runs tile its own
   abbrev tiles : ℕ → Bool
@@ -137,7 +138,8 @@ module _ (w : List ℕ) where
         other = λ q r.
             let a : few ≡ false = lt-leb (count# w k) (l# w) q in
             let b : deep ≡ false = lt-leb (level w maxDepth) k (omega (arith, D .1, level-le w (suc (S .depth)) maxDepth r)) in
-            let u : T (eqb (child# w k) (born w k) && tiles k) = subst (λ (z : Bool). T (byCase k false z)) b (subst (λ (z : Bool). T (byCase k z deep)) a c) in
+            let u : T (eqb (child# w k) (born w k) && tiles k) =
+            subst (λ (z : Bool). T (byCase k false z)) b (subst (λ (z : Bool). T (byCase k z deep)) a c) in
             let e = eqb→eq (child# w k) (born w k) (and-l (eqb (child# w k) (born w k)) (tiles k) u) in (
               omega (arith, e, born-some w k),
               tile-plain (child# w k) (m# w) (start# w k) (start# w k + count# w k) (and-r (eqb (child# w k) (born w k)) (tiles k) u),
@@ -155,12 +157,13 @@ module _ (w : List ℕ) where
       (and-of (leb 1 (count# w k)) (leb (radius# w k) maxDistance) (le→leb 1 (count# w k) (R .some)) (le→leb (radius# w k) maxDistance (R .far)))
       (le→leb (inner# w k) maxDistance (R .near))) (go D few deep refl refl))
     where
-      go : (level w (R .depth) ≤ k) × (k < level w (suc (R .depth))) → (few deep : Bool) → leb (count# w k) (l# w) ≡ few → leb (level w maxDepth) k ≡ deep
-          → T (byCase k few deep)
+      go : (level w (R .depth) ≤ k) × (k < level w (suc (R .depth))) → (few deep : Bool) → leb (count# w k) (l# w) ≡ few
+          → leb (level w maxDepth) k ≡ deep → T (byCase k few deep)
       go D true deep p q = eq-test (child# w k) 0 (R .few (leb-true (count# w k) (l# w) p))
       go D false true p q =
           eq-test (child# w k) 0 (by-cases (decLt (R .depth) maxDepth)
-          (λ l. absurd (omega (arith, D .1, level-le w (suc (R .depth)) maxDepth l, leb-true (level w maxDepth) k q))) (λ l. R .deepest (omega arith)))
+          (λ l. absurd (omega (arith, D .1, level-le w (suc (R .depth)) maxDepth l, leb-true (level w maxDepth) k q)))
+          (λ l. R .deepest (omega arith)))
       go D false false p q =
           by-cases (decLt (R .depth) maxDepth)
           (λ l.

@@ -73,6 +73,8 @@ pub data Case : Type 0 where
   without : List ℕ → List ℕ → ℕ → ℕ → List (ℕ × ℕ) → List ℕ → Case
   -- the edition 1 words of an old card are widened to these, in which no fault is found
   old : List ℕ → List ℕ → List ℕ → Case
+  -- where the one column is a circle: query and r give these how-bytes, and query and w these answers
+  round : List ℕ → ℕ → ℕ → List ℕ → ℕ → List (ℕ × ℕ) → Case
   -- for the five rows: the first fault in these words is this one, at these places
   found : List ℕ → ℕ → ℕ → ℕ → Case
 
@@ -87,7 +89,7 @@ unfolding sumTo l1 between from again wrongDist wrongRadius wrongInner widen str
 right (words T w) = same (build T 1 0 2 2 2) w && eqb (said (faults (between T 1 0) w) .0) 0
 right (order T is N) = let w = build T 1 0 2 2 2 in same (map (row# w) (range 0 (n# w))) is && eqb (N# w) N
 right (radius T q r how i k) =
-    let h = radiusHow (from T 1 0 (q ∷ [])) r (λ i. false) (length T) (treeOf (build T 1 0 2 2 2)) in
+    let h = radiusHow (from T 1 0 (q ∷ [])) r none (length T) (treeOf (build T 1 0 2 2 2)) in
     same h how && eqb (inside h) i && eqb (measured h) k
 right (nearest T q w as′ k) =
     let x = from T 1 0 (q ∷ []) in
@@ -98,6 +100,9 @@ right (without T out q w as′ how) =
     let x = from T 1 0 (q ∷ []) in
     same (each pairWords (answers x (λ i. has i out) (length T) w)) (each pairWords as′)
     && same (nearHow x (λ i. has i out) (length T) (treeOf (build T 1 0 2 2 2)) w) how
+right (round T q r how w as′) =
+    let x = from T 1 1 (q ∷ []) in
+    same (radiusHow x r none (length T) (treeOf (build T 1 1 2 2 2))) how && same (each pairWords (answers x none (length T) w)) (each pairWords as′)
 right (old T v w) = same (widen (between T 1 0) v) w && eqb (said (faults (between T 1 0) w) .0) 0
 right (found w k p p′) = let s = said (faults (between five 1 0) w) in eqb (s .0) k && eqb (s .1) p && eqb (s .2) p′
 
@@ -125,6 +130,13 @@ sought =
     ∷ near five 6 2 (1 ∷ 3 ∷ 3 ∷ 1 ∷ 1 ∷ [])
     ∷ near (0 ∷ 10 ∷ 20 ∷ []) 0 1 (3 ∷ 0 ∷ 1 ∷ [])
     ∷ near (7 ∷ 4 ∷ 4 ∷ 1 ∷ []) 7 1 (3 ∷ 0 ∷ 0 ∷ 1 ∷ [])
+    ∷ []
+
+-- across the seam: two passes at 359.5 and 0.5 degrees are near to each other, and one at 359 is near to both
+abbrev pub seam : List Case
+seam =
+    round (3_595 ∷ 5 ∷ 1_800 ∷ 3_590 ∷ []) 0 5 (3 ∷ 3 ∷ 1 ∷ 1 ∷ []) 2 ((0, 5) ∷ (1, 5) ∷ [])
+    ∷ round (3_595 ∷ 5 ∷ 1_800 ∷ 3_590 ∷ []) 3_595 10 (3 ∷ 2 ∷ 1 ∷ 2 ∷ []) 3 ((0, 0) ∷ (3, 5) ∷ (1, 10) ∷ [])
     ∷ []
 
 -- nearest, with rows withdrawn: the next best is given; all are measured where fewer remain than are wanted, also where none does
