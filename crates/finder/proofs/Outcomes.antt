@@ -39,11 +39,11 @@ built-sized {t} {c} {o} {room} {work} b z = build-headed t c o 2 centres leafRow
 
 -- ---- marking
 -- what the searches are lent
-pub near-fit : {t : List ℕ} {c o : ℕ} {qs s room work how : List ℕ} (marks : List ℕ) {room′ work′ marks₁ : List ℕ} {made words nodes why : ℕ}
+pub near-fit : {t : List ℕ} {c o : ℕ} {qs room work how : List ℕ} (s marks : List ℕ) {room′ work′ marks₁ : List ℕ} {made words nodes why : ℕ}
     → Builds t c o 2 centres leafRows room work room′ work′ made words nodes → made ≡ 0
     → why ≡ saidOf t c o qs s (length how) (length marks) → why ≡ 0 → marks₁ ≡ wiped (rowsOf t c) marks
     → Fit (take words room′) t c qs how marks₁
-near-fit {t} {c} {o} {qs} {s} {room} {work} {how} marks {room′} {work′} {marks₁} {made} {words} b z said y e =
+near-fit {t} {c} {o} {qs} {room} {work} {how} s marks {room′} {work′} {marks₁} {made} {words} b z said y e =
     let h = build-headed t c o 2 centres leafRows room work b z in
     let a = asked-well (rowsOf t c) c (length qs) (length how) (length marks) (offCircle c o qs) (setBad s (rowsOf t c)) (sym said ∙ y) in
     let w : n# (take words room′) ≡ rowsOf t c = h .1 in

@@ -5,7 +5,7 @@ use Rattle.limits.specs.Limits.{maxRows}
 use borrow.Author.Tests.{eq-eqb, eqb-true, le-leb, le-ltb, leb-true, lt-leb, lt-ltb, ltb-false, ne-eqb}
 use lib.Dec.{eqb, leb, ltb}
 use mathlib.Core.Bool.{Bool, _&&_, _||_, cond, false, true}
-use mathlib.Core.Path.{_≡_, refl}
+use mathlib.Core.Path.{_∙_, _≡_, ap₂, refl}
 use native.Mathlib.Omega.{arith}
 
 -- ---- the returns
@@ -54,6 +54,11 @@ module _ (n c asked how marks : ℕ) (off bad : Bool) where
         → cond a 19 (cond b 20 0) ≡ saidNear n c asked how marks off bad
     unfolding asks
     decided a b d x y e f = rw (← past, eq-eqb (asked % c) 0 a, le-leb 1 (asked / c) b, le-leb (asked / c) maxRows d, e, f) refl
+
+-- of tests that are known
+pub told-of : (n c asked how marks why : ℕ) (off bad off′ bad′ : Bool) → why ≡ saidNear n c asked how marks off bad → off ≡ off′ → bad ≡ bad′
+    → why ≡ saidNear n c asked how marks off′ bad′
+told-of n c asked how marks why off bad off′ bad′ e f g = e ∙ ap₂ (λ (x y : Bool). saidNear n c asked how marks x y) f g
 
 -- ---- what 0 says
 -- the rooms are long enough, and there are queries, not more than an index has rows, each whole and on its circles

@@ -17,15 +17,15 @@ abbrev μ-loop : tie.MeasureT-loop
 
 rows-requires : tie.Need-rows-requires Inv-loop μ-loop
 rows-requires c κs =
-    omega (arith, c .before .before .before .before .before .pre .tested .shape .whole .words)
+    omega (arith, c .before .before .before .before .before .before .pre .tested .shape .whole .words)
 
 div-asked : tie.Need-div-asked Inv-loop μ-loop
 div-asked c =
-    omega (arith, c .before .before .before .before .before .before .pre .some)
+    omega (arith, c .before .before .before .before .before .before .before .pre .some)
 
 loop-holds : tie.Need-loop-holds Inv-loop μ-loop
 loop-holds c =
-    going-start (c .before .before .before .before .before .before .pre) (c .rows .ensures .0) refl
+    going-start (c .before .before .before .before .before .before .before .pre) (c .rows .ensures .0) refl
 
 row-of-requires : tie.Need-row-of-requires Inv-loop μ-loop
 row-of-requires c κs =
@@ -38,7 +38,7 @@ search-requires c κs =
 measured-rows-requires : tie.Need-measured-rows-requires Inv-loop μ-loop
 measured-rows-requires c κs =
     let l = c .before .before .before .before .before .before .before .loop in
-    omega (arith, l .inv .fit .bytes, l .inv .bytes, l .inv .rows, c .before .before .before .search .kept .1 .1 .1 .1 .1 .0)
+    omega (arith, l .inv .fit .bytes, l .inv .bytes, l .inv .rows, c .before .before .before .search .kept .1 .1 .1 .1 .1 .1 .0)
 
 add-measured : tie.Need-add-measured Inv-loop μ-loop
 add-measured c =
@@ -49,7 +49,7 @@ add-measured c =
 join-requires : tie.Need-join-requires Inv-loop μ-loop
 join-requires c κs =
     let l = c .before .before .before .before .before .before .before .before .before .before .loop in (
-      omega (arith, l .inv .fit .bytes, l .inv .bytes, l .inv .rows, c .before .before .before .before .before .before .search .kept .1 .1 .1 .1 .1 .0),
+      omega (arith, l .inv .fit .bytes, l .inv .bytes, l .inv .rows, c .before .before .before .before .before .before .search .kept .1 .1 .1 .1 .1 .1 .0),
       omega (arith, l .inv .fit .room, l .inv .room, l .inv .rows),
     )
 
