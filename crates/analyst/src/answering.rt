@@ -123,7 +123,7 @@ fn apart(a: &[u16], b: &[u16]) -> u32 {
     if 16 < a.len() {
         return FAR;
     }
-    distance(a, b)
+    distance(a, b, 0)
 }
 
 // Where the row of c columns behind place `at` ends; the end where there is none.

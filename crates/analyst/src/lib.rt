@@ -266,6 +266,29 @@ fn write_marked(
     write_given(plan, text, starts, rows, distances, kept, measured)
 }
 
+// No column of the text is a circle.
+const NO_CIRCLES: u32 = 0;
+
+// As many words as the set of the most rows has.
+const SET_WORDS: usize = 32_768;
+
+// A set in which no row is withdrawn, with its length alone.
+fn none_struck() -> [u32; SET_WORDS]
+    ensures { λ r. ⌜ 32768 ≡ length r ⌝ }
+{
+    [0; SET_WORDS]
+}
+
+// How many words the set of n rows has, at most as many as there are.
+fn struck_words(n: usize) -> usize
+    ensures { λ r. ⌜ r ≤ 32768 ⌝ }
+{
+    if MOST_ROWS < n {
+        return SET_WORDS;
+    }
+    (n + 31) / 32
+}
+
 // Every row within a distance of one of the queries.
 fn answer_like(
     plan: Plan,
@@ -281,7 +304,20 @@ fn answer_like(
 ) -> u32
     ensures { λ r. ⌜ r ≤ 4 ⌝ }
 {
-    let found = mark_near(table, plan.k, queries, plan.number, room, work, how, marks);
+    let struck = none_struck();
+    let end = struck_words(plan.n);
+    let found = mark_near(
+        table,
+        plan.k,
+        NO_CIRCLES,
+        queries,
+        plan.number,
+        &struck[0..end],
+        room,
+        work,
+        how,
+        marks,
+    );
     let number = found.number;
     if number != 0 {
         return refuse(plan.err, number);
@@ -315,11 +351,15 @@ fn answer_nearest(
     ensures { λ r. ⌜ r ≤ 4 ⌝ }
 {
     let wanted = plan.number as usize;
+    let struck = none_struck();
+    let end = struck_words(plan.n);
     let found = find_nearest(
         table,
         plan.k,
+        NO_CIRCLES,
         query,
         wanted,
+        &struck[0..end],
         room,
         work,
         how,
@@ -708,6 +748,49 @@ fn say_label(file: i32, wrong: u32, words: &[u8], q: Question, text: &[u8]) -> u
     ASKED_WRONGLY
 }
 
+// Answers a question about a text whose column of labels is known (0: there is none).
+fn ask_labelled(
+    words: &[u8],
+    q: Question,
+    ends: Ends,
+    label: usize,
+    text: &[u8],
+    table: &mut [u16],
+    room: &mut [u32],
+    work: &mut [u32],
+    how: &mut [u8],
+    marks: &mut [u8],
+    rows: &mut [u32],
+    distances: &mut [u32],
+) -> u32
+    ensures { λ r. ⌜ r ≤ 4 ⌝ }
+{
+    let sheet = reading::read_rows(text, label, table);
+    let reader = sheet.reader;
+    let fault = reader.fault;
+    if fault != 0 {
+        faults::say_fault(ends.err, reader);
+        return faults::status_of(fault);
+    }
+    if reader.columns < label {
+        return say_label(ends.err, choosing::NO_COLUMN, words, q, text);
+    }
+    ask_sheet(
+        words,
+        q,
+        ends,
+        sheet,
+        text,
+        table,
+        room,
+        work,
+        how,
+        marks,
+        rows,
+        distances,
+    )
+}
+
 // Answers a question about a text.
 fn ask_text(
     words: &[u8],
@@ -735,21 +818,11 @@ fn ask_text(
     if wrong != 0 {
         return wrong;
     }
-    let sheet = reading::read_rows(text, label, table);
-    let reader = sheet.reader;
-    let fault = reader.fault;
-    if fault != 0 {
-        faults::say_fault(ends.err, reader);
-        return faults::status_of(fault);
-    }
-    if reader.columns < label {
-        return say_label(ends.err, choosing::NO_COLUMN, words, q, text);
-    }
-    ask_sheet(
+    ask_labelled(
         words,
         q,
         ends,
-        sheet,
+        label,
         text,
         table,
         room,

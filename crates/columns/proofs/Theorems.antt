@@ -6,10 +6,11 @@ use Rattle.columns.specs.Chosen.{Chooses, chosenRow, chosenTable, itemsO
 use Rattle.laws.proofs.Sums.{sum-below-same}
 use Rattle.laws.specs.Lists.{gap}
 use Rattle.laws.specs.Upto.{sumTo}
-use Rattle.measure.specs.Distance.{apart, l1}
+use Rattle.measure.specs.Distance.{apart, around, isCircle, l1}
 use Rattle.measure.specs.Table.{between, row}
 use lib.ListN.{drop, getD, length, take}
 use lib.Seq.{drop-at, take-at}
+use mathlib.Core.Bool.{Bool, false, true}
 use mathlib.Core.List.{List, [], _++_, append-assoc, append-nil}
 use mathlib.Core.Logic.{by-cases}
 use mathlib.Core.Path.{_∙_, _≡_, ap, ap₂, refl, subst, sym}
@@ -55,20 +56,30 @@ gap-times a b f = by-cases (decLe a b) (λ h. less a b h) (λ h. turn (a * f) (b
         let r : f * gap a b ≡ (b - a) * f = ap (λ (x : ℕ). f * x) g ∙ mul-comm f (b - a) in
         omega (arith, q, r)
 
--- THE DISTANCE OF TWO ROWS OVER THE CHOSEN COLUMNS IS THE SUM OF WHAT THEY DIFFER IN EACH, TIMES ITS FACTOR
-pub chosen-between : (t : List ℕ) (c : ℕ) (chosen factors : List ℕ) (k n i j : ℕ) → i < n → j < n
-    → between (chosenTable t c chosen factors k n) k i j
-    ≡ sumTo (λ x. getD factors x 0 * apart (getD (row t c i) (getD chosen x 0) 0) (getD (row t c j) (getD chosen x 0) 0)) k
+-- what two products with one factor are apart in a column, which on a circle is 1
+apart-times : (round : Bool) (a b f : ℕ) → (round ≡ true → f ≡ 1) → apart round (a * f) (b * f) ≡ f * apart round a b
+apart-times false a b f h = gap-times a b f
+apart-times true a b f h =
+    let p : a * 1 ≡ a = omega arith in
+    let q : b * 1 ≡ b = omega arith in
+    let one : around a b ≡ 1 * around a b = omega arith in
+    subst (λ (g : ℕ). around (a * g) (b * g) ≡ g * around a b) (sym (h refl)) (ap₂ around p q ∙ one)
+
+-- THE DISTANCE OF TWO ROWS OVER THE CHOSEN COLUMNS IS THE SUM OF WHAT THEY ARE APART IN EACH, TIMES ITS FACTOR, which is 1 where the column is a circle
+pub chosen-between : (t : List ℕ) (c o : ℕ) (chosen factors : List ℕ) (k n i j : ℕ) → ((x : ℕ) → x < k → isCircle o x ≡ true → getD factors x 0 ≡ 1)
+    → i < n → j < n
+    → between (chosenTable t c chosen factors k n) k o i j
+    ≡ sumTo (λ x. getD factors x 0 * apart (isCircle o x) (getD (row t c i) (getD chosen x 0) 0) (getD (row t c j) (getD chosen x 0) 0)) k
 unfolding between l1 chosenRow
-chosen-between t c chosen factors k n i j h g =
+chosen-between t c o chosen factors k n i j ones h g =
     let at : (i : ℕ) → i < n → (x : ℕ) → x < k → getD (row (chosenTable t c chosen factors k n) k i) x 0 ≡ timesFactor (row t c i) chosen factors x
     = λ i h x l. ap (λ (r : List ℕ). getD r x 0) (chosen-rows t c chosen factors k n i h ∙ sym (append-nil (chosenRow (row t c i) chosen factors k)))
     ∙ items-at (timesFactor (row t c i) chosen factors) k x [] l in
-    sum-below-same (λ x. apart (getD (row (chosenTable t c chosen factors k n) k i) x 0) (getD (row (chosenTable t c chosen factors k n) k j) x 0))
-    (λ x. getD factors x 0 * apart (getD (row t c i) (getD chosen x 0) 0) (getD (row t c j) (getD chosen x 0) 0)) k
+    sum-below-same (λ x. apart (isCircle o x) (getD (row (chosenTable t c chosen factors k n) k i) x 0) (getD (row (chosenTable t c chosen factors k n) k j) x 0))
+    (λ x. getD factors x 0 * apart (isCircle o x) (getD (row t c i) (getD chosen x 0) 0) (getD (row t c j) (getD chosen x 0) 0)) k
     (λ x l.
-    ap₂ apart (at i h x l) (at j g x l)
-    ∙ gap-times (getD (row t c i) (getD chosen x 0) 0) (getD (row t c j) (getD chosen x 0) 0) (getD factors x 0))
+    ap₂ (apart (isCircle o x)) (at i h x l) (at j g x l)
+    ∙ apart-times (isCircle o x) (getD (row t c i) (getD chosen x 0) 0) (getD (row t c j) (getD chosen x 0) 0) (getD factors x 0) (ones x l))
 
 -- ---- the call
 module _ {t : List ℕ} {c n : ℕ} {chosen factors : List ℕ} {k : ℕ} where

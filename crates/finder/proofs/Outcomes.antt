@@ -4,12 +4,13 @@ use Rattle.buffers.specs.Wiped.{wiped}
 use Rattle.build.proofs.Theorems.{build-headed}
 use Rattle.build.specs.Calls.{Builds}
 use Rattle.finder.proofs.Why.{asked-well}
-use Rattle.finder.specs.Calls.{Finds, Near, centres, leafRows, nobody}
-use Rattle.finder.specs.Near.{Asked, Fit, firstOf, markOf, saidNear}
+use Rattle.finder.specs.Calls.{Finds, Near, centres, leafRows}
+use Rattle.finder.specs.Near.{Asked, Fit, firstOf, markOf, saidOf}
 use Rattle.limits.proofs.Numbers.{Sized}
-use Rattle.measure.specs.Table.{rowsOf}
+use Rattle.measure.specs.Table.{offCircle, rowsOf}
 use Rattle.nearest.specs.Calls.{Answered}
 use Rattle.nearest_search.specs.Asked.{asks, lends}
+use Rattle.rowset.specs.Sets.{setBad}
 use Rattle.words.proofs.InShape.{in-shape}
 use Rattle.words.specs.Words.{n#}
 use lib.ListN.{drop, length, length-append, length-drop, length-replicate, replicate, take}
@@ -32,19 +33,19 @@ wiped-long : (n : ℕ) (xs : List ℕ) → n ≤ length xs → length (wiped n x
 wiped-long n xs h = length-append (replicate n 0) (drop n xs) ∙ omega (arith, length-replicate {A = ℕ} n 0, length-drop n xs)
 
 -- a table that was built over is right
-pub built-sized : {t : List ℕ} {c : ℕ} {room work room′ work′ : List ℕ} {made words nodes : ℕ}
-    → Builds t c 0 2 centres leafRows room work room′ work′ made words nodes → made ≡ 0 → Sized (length t) c
-built-sized {t} {c} {room} {work} b z = build-headed t c 0 2 centres leafRows room work b z .0
+pub built-sized : {t : List ℕ} {c o : ℕ} {room work room′ work′ : List ℕ} {made words nodes : ℕ}
+    → Builds t c o 2 centres leafRows room work room′ work′ made words nodes → made ≡ 0 → Sized (length t) c
+built-sized {t} {c} {o} {room} {work} b z = build-headed t c o 2 centres leafRows room work b z .0
 
 -- ---- marking
 -- what the searches are lent
-pub near-fit : {t : List ℕ} {c : ℕ} {qs room work how : List ℕ} (marks : List ℕ) {room′ work′ marks₁ : List ℕ} {made words nodes why : ℕ}
-    → Builds t c 0 2 centres leafRows room work room′ work′ made words nodes → made ≡ 0
-    → why ≡ saidNear (rowsOf t c) c (length qs) (length how) (length marks) → why ≡ 0 → marks₁ ≡ wiped (rowsOf t c) marks
+pub near-fit : {t : List ℕ} {c o : ℕ} {qs room work how : List ℕ} (s marks : List ℕ) {room′ work′ marks₁ : List ℕ} {made words nodes why : ℕ}
+    → Builds t c o 2 centres leafRows room work room′ work′ made words nodes → made ≡ 0
+    → why ≡ saidOf t c o qs s (length how) (length marks) → why ≡ 0 → marks₁ ≡ wiped (rowsOf t c) marks
     → Fit (take words room′) t c qs how marks₁
-near-fit {t} {c} {qs} {room} {work} {how} marks {room′} {work′} {marks₁} {made} {words} b z s y e =
-    let h = build-headed t c 0 2 centres leafRows room work b z in
-    let a = asked-well (rowsOf t c) c (length qs) (length how) (length marks) (sym s ∙ y) in
+near-fit {t} {c} {o} {qs} {room} {work} {how} s marks {room′} {work′} {marks₁} {made} {words} b z said y e =
+    let h = build-headed t c o 2 centres leafRows room work b z in
+    let a = asked-well (rowsOf t c) c (length qs) (length how) (length marks) (offCircle c o qs) (setBad s (rowsOf t c)) (sym said ∙ y) in
     let w : n# (take words room′) ≡ rowsOf t c = h .1 in
     record {
       tested =
@@ -61,11 +62,11 @@ near-fit {t} {c} {qs} {room} {work} {how} marks {room′} {work′} {marks₁} {
       zeros = subst (λ (n : ℕ). marks₁ ≡ wiped n marks₁) (sym w) (e ∙ wiped-again (rowsOf t c) marks ∙ ap (wiped (rowsOf t c)) (sym e));
     }
 
-module _ {t : List ℕ} {c : ℕ} {qs : List ℕ} {r : ℕ} {room work how marks room′ work′ : List ℕ} {made words nodes : ℕ}
-    (b : Builds t c 0 2 centres leafRows room work room′ work′ made words nodes) where
+module _ {t : List ℕ} {c o : ℕ} {qs : List ℕ} {r : ℕ} {s room work how marks room′ work′ : List ℕ} {made words nodes : ℕ}
+    (b : Builds t c o 2 centres leafRows room work room′ work′ made words nodes) where
   -- the build was refused
   pub near-unbuilt : {number in# met : ℕ} → (made ≡ 0 → ⊥) → (number ≡ made) × (in# ≡ 0) × (met ≡ 0)
-      → Near t c qs r room room′ work work′ how how marks marks number in# met
+      → Near t c o qs r s room room′ work work′ how how marks marks number in# met
   near-unbuilt k e =
       record {
         made = made;
@@ -79,10 +80,10 @@ module _ {t : List ℕ} {c : ℕ} {qs : List ℕ} {r : ℕ} {room work how marks
       }
 
   module _ (z : made ≡ 0) where
-    module _ {why : ℕ} (s : why ≡ saidNear (rowsOf t c) c (length qs) (length how) (length marks)) where
+    module _ {why : ℕ} (told : why ≡ saidOf t c o qs s (length how) (length marks)) where
       -- rooms too short, or queries that are not right
       pub near-refused : {number in# met : ℕ} → (why ≡ 0 → ⊥) → (number ≡ why) × (in# ≡ 0) × (met ≡ 0)
-          → Near t c qs r room room′ work work′ how how marks marks number in# met
+          → Near t c o qs r s room room′ work work′ how how marks marks number in# met
       near-refused k e =
           record {
             made = made;
@@ -90,7 +91,7 @@ module _ {t : List ℕ} {c : ℕ} {qs : List ℕ} {r : ℕ} {room work how marks
             nodes = nodes;
             built = b;
             unbuilt = λ n. absurd (n z);
-            said = λ y. e .0 ∙ s;
+            said = λ y. e .0 ∙ told;
             refused = λ n. (e .1, e .2, refl, refl);
             asked = λ y. absurd (k (sym (e .0) ∙ y));
           }
@@ -98,10 +99,10 @@ module _ {t : List ℕ} {c : ℕ} {qs : List ℕ} {r : ℕ} {room work how marks
       module _ (y : why ≡ 0) where
         -- every query was searched for
         pub near-asked : {how′ marks₁ marks′ : List ℕ} {number in# met : ℕ} → marks₁ ≡ wiped (rowsOf t c) marks
-            → (number ≡ 0) × Asked t c (take words room′) qs r (rowsOf qs c) how how′ marks₁ marks′ in# met
-            → Near t c qs r room room′ work work′ how how′ marks marks′ number in# met
+            → (number ≡ 0) × Asked t c (take words room′) qs r s (rowsOf qs c) how how′ marks₁ marks′ in# met
+            → Near t c o qs r s room room′ work work′ how how′ marks marks′ number in# met
         near-asked {marks₁ = marks₁} e f =
-            let w : n# (take words room′) ≡ rowsOf t c = build-headed t c 0 2 centres leafRows room work b z .1 in
+            let w : n# (take words room′) ≡ rowsOf t c = build-headed t c o 2 centres leafRows room work b z .1 in
             let d : drop (n# (take words room′)) marks₁ ≡ drop (n# (take words room′)) marks
             = ap (drop (n# (take words room′))) (e ∙ ap (λ (n : ℕ). wiped n marks) (sym w)) ∙ wiped-behind (n# (take words room′)) marks in
             record {
@@ -110,23 +111,23 @@ module _ {t : List ℕ} {c : ℕ} {qs : List ℕ} {r : ℕ} {room work how marks
               nodes = nodes;
               built = b;
               unbuilt = λ n. absurd (n z);
-              said = λ x. f .0 ∙ sym y ∙ s;
+              said = λ x. f .0 ∙ sym y ∙ told;
               refused = λ n. absurd (n (f .0));
               asked = λ x.
                   record {
                     bytes = f .1 .bytes;
-                    marked = f .1 .marked ∙ ap (λ (x : List ℕ). firstOf (markOf t c (take words room′) qs r (rowsOf qs c)) (n# (take words room′)) ++ x) d;
+                    marked = f .1 .marked ∙ ap (λ (x : List ℕ). firstOf (markOf t c (take words room′) qs r s (rowsOf qs c)) (n# (take words room′)) ++ x) d;
                     inside = f .1 .inside;
                     measures = f .1 .measures;
                   };
             }
 
 -- ---- finding
-module _ {t : List ℕ} {c : ℕ} {q : List ℕ} {w : ℕ} {room work how rs ds room′ cleared : List ℕ} {made words nodes : ℕ}
-    (b : Builds t c 0 2 centres leafRows room work room′ cleared made words nodes) {number given met : ℕ} where
+module _ {t : List ℕ} {c o : ℕ} {q : List ℕ} {w : ℕ} {s room work how rs ds room′ cleared : List ℕ} {made words nodes : ℕ}
+    (b : Builds t c o 2 centres leafRows room work room′ cleared made words nodes) {number given met : ℕ} where
   -- the build was refused
   pub finds-unbuilt : (made ≡ 0 → ⊥) → (number ≡ made) × (given ≡ 0) × (met ≡ 0)
-      → Finds t c q w room room′ work cleared how how rs rs ds ds number given met
+      → Finds t c o q w s room room′ work cleared how how rs rs ds ds number given met
   finds-unbuilt k e =
       record {
         made = made;
@@ -140,9 +141,9 @@ module _ {t : List ℕ} {c : ℕ} {q : List ℕ} {w : ℕ} {room work how rs ds 
 
   -- what it wrote was searched
   pub finds-answered : {work′ how′ rs′ ds′ : List ℕ} → made ≡ 0
-      → Answered (asks t c (take words room′) q w (nobody t c)) (min (length rs) (length ds)) (lends rs ds how cleared) (lends rs′ ds′ how′ work′) number given met
-      → Finds t c q w room room′ work work′ how how′ rs rs′ ds ds′ number given met
-  finds-answered z s =
+      → Answered (asks t c (take words room′) q w s) (min (length rs) (length ds)) (lends rs ds how cleared) (lends rs′ ds′ how′ work′) number given met
+      → Finds t c o q w s room room′ work work′ how how′ rs rs′ ds ds′ number given met
+  finds-answered z told =
       record {
         made = made;
         words = words;
@@ -150,5 +151,5 @@ module _ {t : List ℕ} {c : ℕ} {q : List ℕ} {w : ℕ} {room work how rs ds 
         cleared = cleared;
         built = b;
         refused = λ n. absurd (n z);
-        answered = λ y. s;
+        answered = λ y. told;
       }

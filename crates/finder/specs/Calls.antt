@@ -1,12 +1,11 @@
 -- What the two calls leave, for every input. Assumes nothing.
 use Prim.Native.Nat.{min, ℕ}
 use Rattle.build.specs.Calls.{Builds}
-use Rattle.finder.specs.Near.{Asked, saidNear}
+use Rattle.finder.specs.Near.{Asked, saidOf}
 use Rattle.measure.specs.Table.{rowsOf}
 use Rattle.nearest.specs.Calls.{Answered}
 use Rattle.nearest_search.specs.Asked.{asks, lends}
-use Rattle.rowset.specs.Sets.{wordsFor}
-use lib.ListN.{length, replicate, take}
+use lib.ListN.{length, take}
 use mathlib.Core.List.{List}
 use mathlib.Core.Path.{_≡_}
 
@@ -18,38 +17,34 @@ centres = 4
 abbrev pub leafRows : ℕ
 leafRows = 1_024
 
--- of the rows of a table none is withdrawn
-abbrev pub nobody : List ℕ → ℕ → List ℕ
-nobody t c = replicate (wordsFor (rowsOf t c)) 0
-
 -- ---- marking
--- the queries qs and r that are asked about; room, workspace, how-bytes and marks before and after; the number and the two counts. The index of the
+-- the set o of circles; the queries qs and r that are asked about, and the set s of rows withdrawn; room, workspace, how-bytes and marks before and after; the number and the two counts. The index of the
 -- table is built into the room; the number of the build is `made`
-pub record Near (t : List ℕ) (c : ℕ) (qs : List ℕ) (r : ℕ) (room room′ work work′ how how′ marks marks′ : List ℕ) (number in# met : ℕ) : Type 0 where
+pub record Near (t : List ℕ) (c o : ℕ) (qs : List ℕ) (r : ℕ) (s room room′ work work′ how how′ marks marks′ : List ℕ) (number in# met : ℕ) : Type 0 where
   pub made : ℕ
   pub words : ℕ
   pub nodes : ℕ
-  pub built : Builds t c 0 2 centres leafRows room work room′ work′ made words nodes
+  pub built : Builds t c o 2 centres leafRows room work room′ work′ made words nodes
   -- a build that is refused is the answer
   pub unbuilt : (made ≡ 0 → ⊥) → number ≡ made
-  -- else rooms that are too short, or queries that are not right
-  pub said : made ≡ 0 → number ≡ saidNear (rowsOf t c) c (length qs) (length how) (length marks)
+  -- else rooms that are too short, queries that are not right, or a set that is not
+  pub said : made ≡ 0 → number ≡ saidOf t c o qs s (length how) (length marks)
   -- a refusal has zero counts, and changes neither how-bytes nor marks
   pub refused : (number ≡ 0 → ⊥) → (in# ≡ 0) × (met ≡ 0) × (how′ ≡ how) × (marks′ ≡ marks)
   -- else the built words are searched for each query, within r
-  pub asked : number ≡ 0 → Asked t c (take words room′) qs r (rowsOf qs c) how how′ marks marks′ in# met
+  pub asked : number ≡ 0 → Asked t c (take words room′) qs r s (rowsOf qs c) how how′ marks marks′ in# met
 
 -- ---- finding
--- the query q and how many are wanted; room, workspace, how-bytes, rows and distances before and after; the number and the counts. The index is built
+-- the set o of circles; the query q and how many are wanted, and the set s of rows withdrawn; room, workspace, how-bytes, rows and distances before and after; the number and the counts. The index is built
 -- as for marking, and leaves the workspace `cleared`
-pub record Finds (t : List ℕ) (c : ℕ) (q : List ℕ) (w : ℕ) (room room′ work work′ how how′ rs rs′ ds ds′ : List ℕ) (number given met : ℕ) : Type 0 where
+pub record Finds (t : List ℕ) (c o : ℕ) (q : List ℕ) (w : ℕ) (s room room′ work work′ how how′ rs rs′ ds ds′ : List ℕ) (number given met : ℕ) : Type 0 where
   pub made : ℕ
   pub words : ℕ
   pub nodes : ℕ
   pub cleared : List ℕ
-  pub built : Builds t c 0 2 centres leafRows room work room′ cleared made words nodes
+  pub built : Builds t c o 2 centres leafRows room work room′ cleared made words nodes
   -- a build that is refused is the answer
   pub refused : (made ≡ 0 → ⊥) → (number ≡ made) × (given ≡ 0) × (met ≡ 0) × (work′ ≡ cleared) × (how′ ≡ how) × (rs′ ≡ rs) × (ds′ ≡ ds)
   -- else the built words are searched for the w nearest to the query
   pub answered : made ≡ 0
-      → Answered (asks t c (take words room′) q w (nobody t c)) (min (length rs) (length ds)) (lends rs ds how cleared) (lends rs′ ds′ how′ work′) number given met
+      → Answered (asks t c (take words room′) q w s) (min (length rs) (length ds)) (lends rs ds how cleared) (lends rs′ ds′ how′ work′) number given met

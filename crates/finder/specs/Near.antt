@@ -3,10 +3,11 @@ use Prim.Native.Nat.{_%_, _/_, _≤_, suc, zero, ℕ}
 use Rattle.laws.specs.Upto.{sumTo}
 use Rattle.limits.specs.Limits.{maxRows, within}
 use Rattle.marking.specs.Written.{write}
-use Rattle.measure.specs.Table.{from, row, rowsOf}
+use Rattle.measure.specs.Table.{from, offCircle, row, rowsOf}
+use Rattle.rowset.specs.Sets.{isIn, setBad}
 use Rattle.tree.specs.Grove.{treeOf}
 use Rattle.tree.specs.Nearest.{measured}
-use Rattle.tree.specs.Radius.{marks}
+use Rattle.tree.specs.Radius.{marks, veiled}
 use Rattle.tree.specs.Tested.{Tested}
 use Rattle.words.specs.Words.{circles#, n#}
 use lib.Dec.{eqb, leb, ltb}
@@ -20,9 +21,14 @@ use mathlib.Core.Path.{_≡_}
 unfoldable pub asks : ℕ → ℕ → Bool
 asks c asked = eqb (asked % c) 0 && within 1 maxRows (asked / c)
 
--- for n rows: 5 where how-bytes or marks are too few, 6 where the queries are not right
-unfoldable pub saidNear : ℕ → ℕ → ℕ → ℕ → ℕ → ℕ
-saidNear n c asked how marks = cond (ltb how n || ltb marks n) 5 (cond (asks c asked) 0 6)
+-- for n rows: 5 where how-bytes or marks are too few, 6 where the queries are not right, 19 where a circular column of a query holds 3,600 or more, 20
+-- where the set of rows withdrawn is not one of n rows
+unfoldable pub saidNear : ℕ → ℕ → ℕ → ℕ → ℕ → Bool → Bool → ℕ
+saidNear n c asked how marks off bad = cond (ltb how n || ltb marks n) 5 (cond (asks c asked) (cond off 19 (cond bad 20 0)) 6)
+
+-- the same of the queries and the set themselves
+abbrev pub saidOf : List ℕ → ℕ → ℕ → List ℕ → List ℕ → ℕ → ℕ → ℕ
+saidOf t c o qs s how marks = saidNear (rowsOf t c) c (length qs) how marks (offCircle c o qs) (setBad s (rowsOf t c))
 
 -- ---- what is marked
 -- f j for some j below k
@@ -35,10 +41,10 @@ unfoldable pub firstOf : (ℕ → ℕ) → ℕ → List ℕ
 firstOf f zero = []
 firstOf f (suc n) = firstOf f n ++ (f n ∷ [])
 
-module _ (t : List ℕ) (c : ℕ) (w qs : List ℕ) (r : ℕ) where
-  -- the how-bytes of the search for query k, within r: 01, Radius r
+module _ (t : List ℕ) (c : ℕ) (w qs : List ℕ) (r : ℕ) (s : List ℕ) where
+  -- the how-bytes of the search for query k, within r, the rows of the set s being withdrawn: 01, Radius r, and 02, R-5
   unfoldable pub howOf : ℕ → List ℕ
-  howOf k = write (marks (from t c (circles# w) (row qs c k)) r (treeOf w)) (replicate (n# w) 0)
+  howOf k = write (veiled (isIn s) (marks (from t c (circles# w) (row qs c k)) r (treeOf w))) (replicate (n# w) 0)
 
   -- how many rows it measures
   unfoldable pub measuredBy : ℕ → ℕ
@@ -58,13 +64,13 @@ module _ (t : List ℕ) (c : ℕ) (w qs : List ℕ) (r : ℕ) where
   howAfter (suc k) how = howOf k ++ drop (n# w) how
 
 -- the first k queries are searched for: how-bytes and marks before and after, how many rows are marked, and how many distances this took
-pub record Asked (t : List ℕ) (c : ℕ) (w qs : List ℕ) (r k : ℕ) (how how′ marks marks′ : List ℕ) (in# met : ℕ) : Type 0 where
-  pub bytes : how′ ≡ howAfter t c w qs r k how
+pub record Asked (t : List ℕ) (c : ℕ) (w qs : List ℕ) (r : ℕ) (s : List ℕ) (k : ℕ) (how how′ marks marks′ : List ℕ) (in# met : ℕ) : Type 0 where
+  pub bytes : how′ ≡ howAfter t c w qs r s k how
   -- each row has its mark, and what lies beyond the rows stays
-  pub marked : marks′ ≡ firstOf (markOf t c w qs r k) (n# w) ++ drop (n# w) marks
+  pub marked : marks′ ≡ firstOf (markOf t c w qs r s k) (n# w) ++ drop (n# w) marks
   -- a row is counted once, however many queries it is near to
-  pub inside : in# ≡ sumTo (markOf t c w qs r k) (n# w)
-  pub measures : met ≡ sumTo (measuredBy t c w qs r) k
+  pub inside : in# ≡ sumTo (markOf t c w qs r s k) (n# w)
+  pub measures : met ≡ sumTo (measuredBy t c w qs r s) k
 
 -- ---- one search more
 -- a row's mark, with its how-byte

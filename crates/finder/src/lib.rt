@@ -1,15 +1,15 @@
 // Questions about a table, answered exactly: which rows are near, and which are the nearest. The index is built over the table, and searched.
 ghost use Rattle.finder.specs.Calls.{Finds, Near};
 ghost use mathlib.Core.Path.{_≡_};
-use crate::all::nearest_of_all;
 use crate::rounds::mark_each;
 use crate::rounds::why_not;
 use buffers::clear_bytes;
 use limits::Params;
+use measure::circles::off_circle;
 use nearest::Given;
 use radius::Found;
+use rowset::set_bad;
 
-mod all;
 mod rounds;
 
 // Centres of an inner node, and rows of a leaf: what measures best for one build and one search.
@@ -39,63 +39,88 @@ fn none_given(number: u32) -> Given
     }
 }
 
-// Marks every row within r of one query at least. The queries stand one after the other, as the table's rows do.
+// Marks every row that is not withdrawn and is within r of one query at least. The queries stand one after the other, as the table's rows do.
 pub fn mark_near(
     table: &[u16],
     c: usize,
+    circles: u32,
     queries: &[u16],
     r: u32,
+    withdrawn: &[u32],
     room: &mut [u32],
     work: &mut [u32],
     how: &mut [u8],
     marks: &mut [u8],
 ) -> Found
-    ensures { λ f. ⌜ Near (now (table .entry)) c (now (queries .entry)) r (now (room .entry)) (now (room .exit)) (now (work .entry))
+    ensures { λ f. ⌜ Near (now (table .entry)) c circles (now (queries .entry)) r (now (withdrawn .entry)) (now (room .entry)) (now (room .exit)) (now (work .entry))
         (now (work .exit)) (now (how .entry)) (now (how .exit)) (now (marks .entry)) (now (marks .exit)) (f .number) (f .inside) (f .measured) ⌝ }
 {
-    let built = build::build(table, c, CENTRES, LEAF, 0, Params::LAST_EDITION, room, work);
+    let built = build::build(
+        table,
+        c,
+        CENTRES,
+        LEAF,
+        circles,
+        Params::LAST_EDITION,
+        room,
+        work,
+    );
     let number = built.number;
     if number != 0 {
         return none_marked(number);
     }
     let n = table.len() / c;
-    let why = why_not(n, c, queries.len(), how.len(), marks.len());
+    let off = off_circle(queries, c, circles);
+    let bad = set_bad(withdrawn, n);
+    let why = why_not(n, c, queries.len(), how.len(), marks.len(), off, bad);
     if why != 0 {
         return none_marked(why);
     }
     let words = built.words;
     clear_bytes(marks, n);
-    mark_each(table, c, &room[..words], queries, r, how, marks)
+    mark_each(table, c, &room[..words], queries, r, withdrawn, how, marks)
 }
 
-// Puts the w nearest to the query, nearest first.
+// Puts the w nearest to the query of those that are not withdrawn, nearest first.
 pub fn find_nearest(
     table: &[u16],
     c: usize,
+    circles: u32,
     query: &[u16],
     w: usize,
+    withdrawn: &[u32],
     room: &mut [u32],
     work: &mut [u32],
     how: &mut [u8],
     rows: &mut [u32],
     distances: &mut [u32],
 ) -> Given
-    ensures { λ g. ⌜ Finds (now (table .entry)) c (now (query .entry)) w (now (room .entry)) (now (room .exit)) (now (work .entry))
+    ensures { λ g. ⌜ Finds (now (table .entry)) c circles (now (query .entry)) w (now (withdrawn .entry)) (now (room .entry)) (now (room .exit)) (now (work .entry))
         (now (work .exit)) (now (how .entry)) (now (how .exit)) (now (rows .entry)) (now (rows .exit)) (now (distances .entry))
         (now (distances .exit)) (g .number) (g .given) (g .measured) ⌝ }
 {
-    let built = build::build(table, c, CENTRES, LEAF, 0, Params::LAST_EDITION, room, work);
+    let built = build::build(
+        table,
+        c,
+        CENTRES,
+        LEAF,
+        circles,
+        Params::LAST_EDITION,
+        room,
+        work,
+    );
     let number = built.number;
     if number != 0 {
         return none_given(number);
     }
     let words = built.words;
-    nearest_of_all(
+    nearest::nearest(
         table,
         c,
         &room[..words],
         query,
         w,
+        withdrawn,
         rows,
         distances,
         how,

@@ -5,7 +5,7 @@ ghost use Rattle.measure.specs.Table.{rowsOf};
 ghost use Rattle.tree.specs.Nearest.{measured};
 ghost use lib.ListN.{length, take};
 ghost use mathlib.Core.Path.{_≡_};
-use crate::all::search_all;
+use descent::search;
 use limits::Params;
 use measure::row_of;
 use radius::Found;
@@ -15,10 +15,19 @@ use words::places::rows;
 // A how-byte of 2 or 3 says that the row is in.
 const IN: u8 = 2;
 
-// Why the queries can't be searched for, or 0: rooms too short for n rows; none, a part of one, or more than an index has rows.
-pub fn why_not(n: usize, c: usize, asked: usize, how: usize, marks: usize) -> u32
+// Why the queries can't be searched for, or 0: rooms too short for n rows; none, a part of one, or more than an index has rows; numbers off their
+// circles, or a set of rows withdrawn that is none of n rows.
+pub fn why_not(
+    n: usize,
+    c: usize,
+    asked: usize,
+    how: usize,
+    marks: usize,
+    off: bool,
+    bad: bool,
+) -> u32
     requires { ⌜ 1 ≤ c ⌝ }
-    ensures { λ r. ⌜ r ≡ saidNear n c asked how marks ⌝ }
+    ensures { λ r. ⌜ r ≡ saidNear n c asked how marks off bad ⌝ }
 {
     if how < n {
         return 5;
@@ -34,6 +43,12 @@ pub fn why_not(n: usize, c: usize, asked: usize, how: usize, marks: usize) -> u3
     }
     if Params::MOST_ROWS < asked / c {
         return 6;
+    }
+    if off {
+        return 19;
+    }
+    if bad {
+        return 20;
     }
     0
 }
@@ -89,11 +104,12 @@ pub fn mark_each(
     index: &[u32],
     queries: &[u16],
     r: u32,
+    withdrawn: &[u32],
     how: &mut [u8],
     marks: &mut [u8],
 ) -> Found
     requires { ⌜ Fit (now index) (now table) c (now queries) (now how) (now marks) ⌝ }
-    ensures { λ f. ⌜ (f .number ≡ 0) × Asked (now (table .entry)) c (now (index .entry)) (now (queries .entry)) r
+    ensures { λ f. ⌜ (f .number ≡ 0) × Asked (now (table .entry)) c (now (index .entry)) (now (queries .entry)) r (now (withdrawn .entry))
         (rowsOf (now (queries .entry)) c) (now (how .entry)) (now (how .exit)) (now (marks .entry)) (now (marks .exit)) (f .inside) (f .measured) ⌝ }
 {
     let n = rows(index);
@@ -102,7 +118,7 @@ pub fn mark_each(
     let mut measured = 0;
     let mut k = 0;
     while k < asked {
-        search_all(table, c, index, row_of(queries, c, k), r, how);
+        search(table, c, index, row_of(queries, c, k), r, withdrawn, how);
         measured += measured_rows(how, n);
         inside += join(how, marks, n);
         k += 1;

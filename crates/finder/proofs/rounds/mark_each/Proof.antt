@@ -9,36 +9,36 @@ use mathlib.Core.Path.{refl}
 use native.Mathlib.Omega.{arith}
 
 abbrev Inv-loop : tie.InvT-loop
-Inv-loop table c index queries r how₀ marks₀ n asked inside₀ measured₀ k₀ how marks inside measured k =
-    Going index table c queries r how₀ marks₀ n asked how marks inside measured k
+Inv-loop table c index queries r withdrawn how₀ marks₀ n asked inside₀ measured₀ k₀ how marks inside measured k =
+    Going index table c queries r withdrawn how₀ marks₀ n asked how marks inside measured k
 
 abbrev μ-loop : tie.MeasureT-loop
-μ-loop table c index queries r how₀ marks₀ n asked inside₀ measured₀ k₀ how marks inside measured k = asked - k
+μ-loop table c index queries r withdrawn how₀ marks₀ n asked inside₀ measured₀ k₀ how marks inside measured k = asked - k
 
 rows-requires : tie.Need-rows-requires Inv-loop μ-loop
 rows-requires c κs =
-    omega (arith, c .before .before .before .before .before .pre .tested .shape .whole .words)
+    omega (arith, c .before .before .before .before .before .before .pre .tested .shape .whole .words)
 
 div-asked : tie.Need-div-asked Inv-loop μ-loop
 div-asked c =
-    omega (arith, c .before .before .before .before .before .before .pre .some)
+    omega (arith, c .before .before .before .before .before .before .before .pre .some)
 
 loop-holds : tie.Need-loop-holds Inv-loop μ-loop
 loop-holds c =
-    going-start (c .before .before .before .before .before .before .pre) (c .rows .ensures .0) refl
+    going-start (c .before .before .before .before .before .before .before .pre) (c .rows .ensures .0) refl
 
 row-of-requires : tie.Need-row-of-requires Inv-loop μ-loop
 row-of-requires c κs =
     query-there _ _ _ (c .before .loop .inv .fit .some) (omega arith)
 
-search-all-requires : tie.Need-search-all-requires Inv-loop μ-loop
-search-all-requires c κs =
+search-requires : tie.Need-search-requires Inv-loop μ-loop
+search-requires c κs =
     fit-lent (c .before .before .before .loop .inv .fit) (c .before .row-of .ensures .1) (c .before .before .before .loop .inv .bytes)
 
 measured-rows-requires : tie.Need-measured-rows-requires Inv-loop μ-loop
 measured-rows-requires c κs =
     let l = c .before .before .before .before .before .before .before .loop in
-    omega (arith, l .inv .fit .bytes, l .inv .bytes, l .inv .rows, c .before .before .before .search-all .kept .1 .1 .1 .1 .1 .0)
+    omega (arith, l .inv .fit .bytes, l .inv .bytes, l .inv .rows, c .before .before .before .search .kept .1 .1 .1 .1 .1 .1 .0)
 
 add-measured : tie.Need-add-measured Inv-loop μ-loop
 add-measured c =
@@ -49,7 +49,7 @@ add-measured c =
 join-requires : tie.Need-join-requires Inv-loop μ-loop
 join-requires c κs =
     let l = c .before .before .before .before .before .before .before .before .before .before .loop in (
-      omega (arith, l .inv .fit .bytes, l .inv .bytes, l .inv .rows, c .before .before .before .before .before .before .search-all .kept .1 .1 .1 .1 .1 .0),
+      omega (arith, l .inv .fit .bytes, l .inv .bytes, l .inv .rows, c .before .before .before .before .before .before .search .kept .1 .1 .1 .1 .1 .1 .0),
       omega (arith, l .inv .fit .room, l .inv .room, l .inv .rows),
     )
 
@@ -63,7 +63,7 @@ loop-again : tie.Need-loop-again Inv-loop μ-loop
 loop-again c =
     let l = c .before .before .before .before .before .before .before .before .before .before .before .before .before .loop in
     let found = c .before .before .join .ensures in
-    going-next (l .inv) (omega arith) (c .before .before .before .before .before .before .before .before .before .before .before .row-of .ensures .0) (c .before .before .before .before .before .before .before .before .before .search-all .ensures) (c .before .before .before .before .before .measured-rows .ensures .0) (found .0) (found .1)
+    going-next (l .inv) (omega arith) (c .before .before .before .before .before .before .before .before .before .before .before .row-of .ensures .0) (c .before .before .before .before .before .before .before .before .before .search .ensures) (c .before .before .before .before .before .measured-rows .ensures .0) (found .0) (found .1)
     (found .2)
 
 same-length : tie.Need-same-length Inv-loop μ-loop
@@ -88,7 +88,7 @@ mark-each-spec =
     div-asked
     loop-holds
     row-of-requires
-    search-all-requires
+    search-requires
     measured-rows-requires
     add-measured
     join-requires
