@@ -1,4 +1,5 @@
 pub mod Written
+pub mod Listed
 pub mod Fitted
 pub mod Distances
 pub mod Sweeps
