@@ -37,7 +37,8 @@ pub fn descend(
     list: &mut [u32],
 )
     requires { ⌜ Lent (now index) (now table) c (now query) (now how) ⌝ }
-    requires { ⌜ Left (now index) levels k × (k < N# (now index)) × (x ≤ maxDistance) × (x ≡ firstAt (from (now table) c (circles# (now index)) (now query)) (now index) k)
+    requires { ⌜ Left (now index) levels k × (k < N# (now index)) × (x ≤ maxDistance)
+        × (x ≡ firstAt (from (now table) c (circles# (now index)) (now query)) (now index) k)
         × (Opened ≡ fateOf x (radius# (now index) k) bound r) ⌝ }
     ensures { λ _. ⌜ Leaves (isIn (now (withdrawn .entry))) (from (now (table .entry)) c (circles# (now (index .entry))) (now (query .entry)))
         (nodeMarks (from (now (table .entry)) c (circles# (now (index .entry))) (now (query .entry))) r (now (index .entry)) levels k bound)

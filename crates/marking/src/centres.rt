@@ -33,7 +33,8 @@ pub fn open_inner(
     list: &mut [u32],
 ) -> [u32; Params::MOST_CENTRES]
     requires { ⌜ Lent (now index) (now table) c (now query) (now how) ⌝ }
-    requires { ⌜ (ch + m# (now index) ≤ N# (now index)) × (x ≤ maxDistance) × (x ≡ firstAt (from (now table) c (circles# (now index)) (now query)) (now index) ch) ⌝ }
+    requires { ⌜ (ch + m# (now index) ≤ N# (now index)) × (x ≤ maxDistance)
+        × (x ≡ firstAt (from (now table) c (circles# (now index)) (now query)) (now index) ch) ⌝ }
     ensures marks { λ _. ⌜ Leaves (isIn (now (withdrawn .entry))) (from (now (table .entry)) c (circles# (now (index .entry))) (now (query .entry)))
         (span (λ (j : ℕ). centreAt (from (now (table .entry)) c (circles# (now (index .entry))) (now (query .entry))) r (now (index .entry)) (ch + j))
         1 (m# (now (index .entry)))) (now (how .entry)) (now (how .exit)) (now (list .entry)) (now (list .exit)) ⌝ }

@@ -82,8 +82,8 @@ fn sweep_list(index: &[u32], base: usize, lo: usize, hi: usize, withdrawn: &[u32
     }
 }
 
-// A swept node: all its rows but the first are in, unmeasured, save those that are withdrawn. Without a set no row is asked for, and without a list none
-// is read again.
+// A swept node: all its rows but the first are in, unmeasured, save those that are withdrawn. Without a set no row is asked for, and without a
+// list none is read again.
 pub fn sweep(index: &[u32], k: usize, withdrawn: &[u32], how: &mut [u8], list: &mut [u32])
     requires { ⌜ InShape (now index) ⌝ }
     requires { ⌜ (k < N# (now index)) × Bytes (now index) (now how) ⌝ }
