@@ -4,11 +4,10 @@ ghost use Rattle.descent.specs.Descent.{fateOf, nodeMarks};
 ghost use Rattle.descent.specs.declared.fate.Fate.the-variants.{Opened};
 ghost use Rattle.limits.specs.Limits.{maxDistance};
 ghost use Rattle.marking.specs.Lent.{Lent};
+ghost use Rattle.marking.specs.Listed.{Leaves};
 ghost use Rattle.marking.specs.Marks.{firstAt};
-ghost use Rattle.marking.specs.Written.{write};
 ghost use Rattle.measure.specs.Table.{from};
 ghost use Rattle.rowset.specs.Sets.{isIn};
-ghost use Rattle.tree.specs.Radius.{veiled};
 ghost use Rattle.words.specs.InShape.{Left};
 ghost use Rattle.words.specs.Words.{N#, circles#, radius#};
 ghost use mathlib.Core.Path.{_≡_};
@@ -35,27 +34,30 @@ pub fn descend(
     levels: usize,
     withdrawn: &[u32],
     how: &mut [u8],
+    list: &mut [u32],
 )
     requires { ⌜ Lent (now index) (now table) c (now query) (now how) ⌝ }
-    requires { ⌜ Left (now index) levels k × (k < N# (now index)) × (x ≤ maxDistance) × (x ≡ firstAt (from (now table) c (circles# (now index)) (now query)) (now index) k)
+    requires { ⌜ Left (now index) levels k × (k < N# (now index)) × (x ≤ maxDistance)
+        × (x ≡ firstAt (from (now table) c (circles# (now index)) (now query)) (now index) k)
         × (Opened ≡ fateOf x (radius# (now index) k) bound r) ⌝ }
-    ensures { λ _. ⌜ now (how .exit) ≡ write (veiled (isIn (now (withdrawn .entry)))
-        (nodeMarks (from (now (table .entry)) c (circles# (now (index .entry))) (now (query .entry))) r (now (index .entry)) levels k bound)) (now (how .entry)) ⌝ }
+    ensures { λ _. ⌜ Leaves (isIn (now (withdrawn .entry))) (from (now (table .entry)) c (circles# (now (index .entry))) (now (query .entry)))
+        (nodeMarks (from (now (table .entry)) c (circles# (now (index .entry))) (now (query .entry))) r (now (index .entry)) levels k bound)
+        (now (how .entry)) (now (how .exit)) (now (list .entry)) (now (list .exit)) ⌝ }
 {
     let ch = node_child(index, k);
     if ch == 0 {
-        open_leaf(table, c, index, query, k, x, r, withdrawn, how);
+        open_leaf(table, c, index, query, k, x, r, withdrawn, how, list);
         return;
     }
     let m = centres(index);
-    let ds = open_inner(table, c, index, query, ch, x, r, withdrawn, how);
+    let ds = open_inner(table, c, index, query, ch, x, r, withdrawn, how, list);
     let y = least_of(ds, m);
     let mut j = 0;
     while j < m {
         let d = ds[j];
         let kid = ch + j;
         let b = kid_bound(index, kid, bound, y, d);
-        let fate = settle(index, kid, d, b, r, withdrawn, how);
+        let fate = settle(index, kid, d, b, r, withdrawn, how, list);
         j += 1;
         if let Fate::Opened = fate {
             descend(
@@ -70,6 +72,7 @@ pub fn descend(
                 levels - 1,
                 withdrawn,
                 how,
+                list,
             );
         }
     }

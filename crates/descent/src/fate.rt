@@ -1,11 +1,11 @@
 // What becomes of a node. The rule stands here once: the root and every child go through it.
 ghost use Prim.Native.Nat.{_<_, _≤_};
-ghost use Rattle.descent.specs.Descent.{fateOf, settled};
+ghost use Rattle.descent.specs.Descent.{Settled, fateOf};
 ghost use Rattle.limits.specs.Limits.{maxDistance};
+ghost use Rattle.marking.specs.Lent.{Bytes};
 ghost use Rattle.rowset.specs.Sets.{isIn};
 ghost use Rattle.words.specs.InShape.{InShape};
-ghost use Rattle.words.specs.Words.{N#, n#, radius#};
-ghost use lib.ListN.{length};
+ghost use Rattle.words.specs.Words.{N#, radius#};
 ghost use mathlib.Core.Path.{_≡_};
 use marking::swept::sweep;
 use words::places::node_radius;
@@ -41,16 +41,18 @@ pub fn settle(
     r: u32,
     withdrawn: &[u32],
     how: &mut [u8],
+    list: &mut [u32],
 ) -> Fate
     requires { ⌜ InShape (now index) ⌝ }
-    requires { ⌜ (k < N# (now index)) × (n# (now index) ≤ length (now how)) × (x ≤ maxDistance) ⌝ }
+    requires { ⌜ (k < N# (now index)) × Bytes (now index) (now how) × (x ≤ maxDistance) ⌝ }
     ensures fate { λ v. ⌜ v ≡ fateOf x (radius# (now (index .entry)) k) bound r ⌝ }
-    ensures marks { λ v. ⌜ now (how .exit) ≡ settled (isIn (now (withdrawn .entry))) (now (index .entry)) k v (now (how .entry)) ⌝ }
+    ensures marks { λ v. ⌜ Settled (isIn (now (withdrawn .entry))) (now (index .entry)) k v (now (how .entry)) (now (how .exit)) (now (list .entry))
+        (now (list .exit)) ⌝ }
 {
     let fate = fate_of(x, node_radius(index, k), bound, r);
     let Fate::Swept = fate else {
         return fate;
     };
-    sweep(index, k, withdrawn, how);
+    sweep(index, k, withdrawn, how, list);
     fate
 }

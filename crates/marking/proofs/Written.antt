@@ -1,80 +1,28 @@
 -- Laws of marks that are written one after the other. Assumes nothing.
-use Prim.Native.Nat.{_%_, _+_, _-_, _<_, _≤_, suc, zero, ℕ}
+use Prim.Native.Nat.{_+_, _-_, _≤_, suc, zero, ℕ}
 use Rattle.laws.proofs.Joins.{each-append}
 use Rattle.laws.proofs.Ranges.{range-append}
 use Rattle.laws.specs.Lists.{each, range}
-use Rattle.limits.specs.Limits.{maxDistance}
 use Rattle.marking.specs.Written.{byte, mark, marked, write}
-use Rattle.measure.proofs.Capped.{capped-within}
-use Rattle.measure.specs.Distance.{capped}
 use Rattle.tree.proofs.Veiled.{veiled-append, veiled-same}
-use Rattle.tree.specs.Radius.{byDistance, veiled}
-use borrow.Author.Tests.{le-leb, leb-false, leb-true, lt-leb}
-use lib.Dec.{leb}
+use Rattle.tree.specs.Radius.{veiled}
 use lib.ListN.{length, length-set, set}
-use mathlib.Core.Bool.{Bool, cond, false, true}
+use mathlib.Core.Bool.{Bool, false, true}
 use mathlib.Core.List.{List, [], _++_, _∷_, append-nil}
 use mathlib.Core.Path.{_∙_, _≡_, ap, refl, sym}
 use native.Mathlib.Omega.{arith}
 
 -- ---- one byte: what the code stores for row i, by what the set says of it
-module _ (gone : ℕ → Bool) (i : ℕ) (h : List ℕ) where
-  -- a row that is out unmeasured: nothing
-  pub mark-out : h ≡ mark gone i 0 h
+module _ (gone : ℕ → Bool) (i : ℕ) (h : List ℕ) {b : Bool} (told : b ≡ gone i) where
+  -- a row in unmeasured
+  pub mark-in : b ≡ false → set h i 2 ≡ mark gone i 2 h
   unfolding mark byte
-  mark-out = go (gone i)
-    where
-      go : (b : Bool) → h ≡ byte i (cond b (0 % 2) 0) h
-      go true = refl
-      go false = refl
+  mark-in e = rw (sym told ∙ e)
 
-  module _ {b : Bool} (told : b ≡ gone i) where
-    -- a row in unmeasured
-    pub mark-in : b ≡ false → set h i 2 ≡ mark gone i 2 h
-    unfolding mark byte
-    mark-in e = rw (sym told ∙ e)
-
-    -- one that is withdrawn is as one that is out unmeasured: nothing is stored
-    pub mark-gone : b ≡ true → h ≡ mark gone i 2 h
-    unfolding mark byte
-    mark-gone e = rw (sym told ∙ e)
-
-  -- a measured row, of which measuring gave the number d
-  module _ {d r : ℕ} where
-    -- it is in
-    pub mark-near : {b : Bool} → b ≡ gone i → b ≡ false → d ≤ r → set h i 3 ≡ mark gone i (cond (leb d r) 3 1) h
-    unfolding mark byte
-    mark-near t f l = rw (le-leb d r l, sym t ∙ f)
-
-    -- it would be in, but is withdrawn
-    pub mark-hidden : {b : Bool} → b ≡ gone i → b ≡ true → d ≤ r → set h i 1 ≡ mark gone i (cond (leb d r) 3 1) h
-    unfolding mark byte
-    mark-hidden t f l = rw (le-leb d r l, sym t ∙ f)
-
-    -- it is out
-    pub mark-far : r < d → set h i 1 ≡ mark gone i (cond (leb d r) 3 1) h
-    unfolding mark byte
-    mark-far l = rw (lt-leb d r l) (go (gone i))
-      where
-        go : (b : Bool) → set h i 1 ≡ byte i (cond b (1 % 2) 1) h
-        go true = refl
-        go false = refl
-
-  module _ (x : ℕ → ℕ) (r : ℕ) {d : ℕ} where
-    -- what measuring gave is the distance from the query
-    pub mark-full : d ≡ x i → mark gone i (cond (leb d r) 3 1) h ≡ mark gone i (byDistance x r i) h
-    mark-full e = ap (λ (d : ℕ). mark gone i (cond (leb d r) 3 1) h) e
-
-    -- or that under the ceiling r
-    pub mark-to : d ≡ capped r (x i) → x i ≤ maxDistance → mark gone i (cond (leb d r) 3 1) h ≡ mark gone i (byDistance x r i) h
-    mark-to e l = ap (λ b. mark gone i (cond b 3 1) h) (ap (λ (d : ℕ). leb d r) e ∙ within (x i) l)
-      where
-        within : (z : ℕ) → z ≤ maxDistance → leb (capped r z) r ≡ leb z r
-        within z l = go (leb z r) refl
-          where
-            go : (b : Bool) → leb z r ≡ b → leb (capped r z) r ≡ b
-            go true q = le-leb (capped r z) r (capped-within r z l .1 (leb-true z r q))
-            go false q = lt-leb (capped r z) r (omega (arith, leb-false z r q))
+  -- one that is withdrawn is as one that is out unmeasured: nothing is stored
+  pub mark-gone : b ≡ true → h ≡ mark gone i 2 h
+  unfolding mark byte
+  mark-gone e = rw (sym told ∙ e)
 
 -- a mark keeps the length
 pub byte-length : (i v : ℕ) (h : List ℕ) → length (byte i v h) ≡ length h
@@ -133,3 +81,15 @@ pub marked-same : (gone gone′ : ℕ → Bool) → ((i : ℕ) → gone i ≡ go
     → marked gone f lo hi h ≡ marked gone′ f lo hi h
 unfolding marked
 marked-same gone gone′ e f lo hi h = ap (λ ms. write ms h) (veiled-same gone gone′ e (each f (range lo (hi - lo))))
+
+-- where no how-byte is lent none is written
+write-bare : (ms : List (ℕ × ℕ)) → [] ≡ write ms []
+unfolding write byte
+write-bare [] = refl
+write-bare ((i, zero) ∷ ms) = write-bare ms
+write-bare ((i, suc v) ∷ ms) = write-bare ms
+
+pub marked-bare : (gone : ℕ → Bool) (f : ℕ → List (ℕ × ℕ)) (lo hi : ℕ) (h : List ℕ) → length h ≡ 0 → h ≡ marked gone f lo hi h
+unfolding marked
+marked-bare gone f lo hi [] e = write-bare (veiled gone (each f (range lo (hi - lo))))
+marked-bare gone f lo hi (x ∷ h) e = absurd (omega arith)

@@ -1,3 +1,4 @@
 pub mod Written
 pub mod Lent
+pub mod Listed
 pub mod Marks

@@ -4,7 +4,7 @@ ghost use Rattle.laws.specs.Lists.{least};
 ghost use Rattle.limits.specs.Limits.{maxCentres, maxDistance};
 ghost use Rattle.marking.specs.Lent.{Lent};
 ghost use Rattle.marking.specs.Marks.{Distances, centreAt, firstAt};
-ghost use Rattle.marking.specs.Written.{marked};
+ghost use Rattle.marking.specs.Listed.{Leaves, span};
 ghost use Rattle.measure.specs.Table.{from};
 ghost use Rattle.rowset.specs.Sets.{isIn};
 ghost use Rattle.words.specs.Words.{N#, circles#, m#};
@@ -30,11 +30,14 @@ pub fn open_inner(
     r: u32,
     withdrawn: &[u32],
     how: &mut [u8],
+    list: &mut [u32],
 ) -> [u32; Params::MOST_CENTRES]
     requires { ⌜ Lent (now index) (now table) c (now query) (now how) ⌝ }
-    requires { ⌜ (ch + m# (now index) ≤ N# (now index)) × (x ≤ maxDistance) × (x ≡ firstAt (from (now table) c (circles# (now index)) (now query)) (now index) ch) ⌝ }
-    ensures marks { λ _. ⌜ now (how .exit) ≡ marked (isIn (now (withdrawn .entry)))
-        (λ (j : ℕ). centreAt (from (now (table .entry)) c (circles# (now (index .entry))) (now (query .entry))) r (now (index .entry)) (ch + j)) 1 (m# (now (index .entry))) (now (how .entry)) ⌝ }
+    requires { ⌜ (ch + m# (now index) ≤ N# (now index)) × (x ≤ maxDistance)
+        × (x ≡ firstAt (from (now table) c (circles# (now index)) (now query)) (now index) ch) ⌝ }
+    ensures marks { λ _. ⌜ Leaves (isIn (now (withdrawn .entry))) (from (now (table .entry)) c (circles# (now (index .entry))) (now (query .entry)))
+        (span (λ (j : ℕ). centreAt (from (now (table .entry)) c (circles# (now (index .entry))) (now (query .entry))) r (now (index .entry)) (ch + j))
+        1 (m# (now (index .entry)))) (now (how .entry)) (now (how .exit)) (now (list .entry)) (now (list .exit)) ⌝ }
     ensures distances { λ ds. ⌜ Distances (from (now (table .entry)) c (circles# (now (index .entry))) (now (query .entry))) (now (index .entry)) ch ds ⌝ }
 {
     let m = centres(index);
@@ -44,7 +47,7 @@ pub fn open_inner(
     let mut j = 1;
     while j < m {
         let row = word(index, base + 2 * node_start(index, ch + j));
-        let d = measure_row(table, c, round, query, row, r, withdrawn, how);
+        let d = measure_row(table, c, round, query, row, r, withdrawn, how, list);
         ds[j] = d;
         j += 1;
     }

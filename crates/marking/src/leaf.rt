@@ -2,13 +2,16 @@
 ghost use Prim.Native.Nat.{_+_, _<_, _≤_};
 ghost use Rattle.limits.specs.Limits.{maxDistance};
 ghost use Rattle.measure.specs.Table.{from};
-ghost use Rattle.marking.specs.Marks.{decision, leafAt, leafMark};
+ghost use Rattle.marking.specs.Marks.{decision, leafAt};
 ghost use Rattle.marking.specs.Lent.{Lent};
-ghost use Rattle.marking.specs.Written.{mark, marked};
+ghost use Rattle.marking.specs.Listed.{Leaves, span};
 ghost use Rattle.rowset.specs.Sets.{isIn};
 ghost use Rattle.words.specs.Words.{N#, circles#, count#, n#, pairAt, row#, start#};
 ghost use mathlib.Core.Path.{_≡_};
+use crate::row::UNMEASURED;
+use crate::row::enter;
 use crate::row::measure_to;
+use crate::row::put;
 use numbers::apart;
 use rowset::is_in;
 use words::places::circles;
@@ -52,23 +55,26 @@ fn leaf_row(
     r: u32,
     withdrawn: &[u32],
     how: &mut [u8],
+    list: &mut [u32],
 )
     requires { ⌜ Lent (now index) (now table) c (now query) (now how) ⌝ }
     requires { ⌜ (p < n# (now index)) × (x ≤ maxDistance) × (base ≡ pairAt (now index) 0) ⌝ }
-    ensures { λ _. ⌜ now (how .exit) ≡ mark (isIn (now (withdrawn .entry))) (row# (now (index .entry)) p)
-        (leafMark (from (now (table .entry)) c circles (now (query .entry))) r (now (index .entry)) x p) (now (how .entry)) ⌝ }
+    ensures { λ _. ⌜ Leaves (isIn (now (withdrawn .entry))) (from (now (table .entry)) c circles (now (query .entry)))
+        (leafAt (from (now (table .entry)) c circles (now (query .entry))) r (now (index .entry)) x p) (now (how .entry)) (now (how .exit))
+        (now (list .entry)) (now (list .exit)) ⌝ }
 {
     let row = word(index, base + 2 * p);
     let verdict = decide(x, index[base + 2 * p + 1], r);
     let Verdict::Measure = verdict else {
         if let Verdict::In = verdict {
             if !is_in(withdrawn, row) {
-                how[row] = 2;
+                put(how, row, 2);
+                enter(list, UNMEASURED, row);
             }
         }
         return;
     };
-    measure_to(table, c, circles, query, row, r, withdrawn, how);
+    measure_to(table, c, circles, query, row, r, withdrawn, how, list);
 }
 
 // An opened leaf, node k, whose first is at x: each row but its first.
@@ -82,12 +88,14 @@ pub fn open_leaf(
     r: u32,
     withdrawn: &[u32],
     how: &mut [u8],
+    list: &mut [u32],
 )
     requires { ⌜ Lent (now index) (now table) c (now query) (now how) ⌝ }
     requires { ⌜ (k < N# (now index)) × (x ≤ maxDistance) ⌝ }
-    ensures { λ _. ⌜ now (how .exit) ≡ marked (isIn (now (withdrawn .entry)))
-        (leafAt (from (now (table .entry)) c (circles# (now (index .entry))) (now (query .entry))) r (now (index .entry)) x)
-        (start# (now (index .entry)) k + 1) (start# (now (index .entry)) k + count# (now (index .entry)) k) (now (how .entry)) ⌝ }
+    ensures { λ _. ⌜ Leaves (isIn (now (withdrawn .entry))) (from (now (table .entry)) c (circles# (now (index .entry))) (now (query .entry)))
+        (span (leafAt (from (now (table .entry)) c (circles# (now (index .entry))) (now (query .entry))) r (now (index .entry)) x)
+        (start# (now (index .entry)) k + 1) (start# (now (index .entry)) k + count# (now (index .entry)) k))
+        (now (how .entry)) (now (how .exit)) (now (list .entry)) (now (list .exit)) ⌝ }
 {
     let start = node_start(index, k);
     let end = start + node_count(index, k);
@@ -95,7 +103,20 @@ pub fn open_leaf(
     let round = circles(index);
     let mut p = start + 1;
     while p < end {
-        leaf_row(table, c, round, index, query, base, p, x, r, withdrawn, how);
+        leaf_row(
+            table,
+            c,
+            round,
+            index,
+            query,
+            base,
+            p,
+            x,
+            r,
+            withdrawn,
+            how,
+            list,
+        );
         p += 1;
     }
 }

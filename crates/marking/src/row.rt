@@ -1,29 +1,63 @@
-// How-bytes, written where their rows are measured.
-ghost use Prim.Native.Nat.{_*_, _+_, _<_, _≤_};
-ghost use Rattle.limits.specs.Limits.{maxColumns, maxDistance};
+// What is left of a row where it is measured: its how-byte, and where it is in its place in the list. Nothing but this file stores one.
+ghost use Prim.Native.Nat.{_*_, _+_, _<_, _≤_, ℕ};
+ghost use Rattle.limits.specs.Limits.{maxColumns, maxDistance, maxRows};
+ghost use Rattle.marking.specs.Listed.{Leaves, entered};
 ghost use Rattle.measure.specs.Table.{from};
-ghost use Rattle.marking.specs.Written.{mark};
 ghost use Rattle.rowset.specs.Sets.{isIn};
 ghost use Rattle.tree.specs.Radius.{byDistance};
 ghost use lib.Dec.{leb};
-ghost use lib.ListN.{length};
+ghost use lib.ListN.{length, set};
 ghost use mathlib.Core.Bool.{cond};
+ghost use mathlib.Core.List.{[], _∷_};
 ghost use mathlib.Core.Path.{_≡_};
+use limits::Params;
 use rowset::is_in;
 
-// A row that was measured is marked: in where the number x that measuring gave is at most r, and only if it is not withdrawn.
-fn mark_measured(x: u32, row: usize, r: u32, withdrawn: &[u32], how: &mut [u8])
-    requires { ⌜ row < length (now how) ⌝ }
-    ensures { λ _. ⌜ now (how .exit) ≡ mark (isIn (now (withdrawn .entry))) row (cond (leb x r) 3 1) (now (how .entry)) ⌝ }
+// What stands in the list for the distance of a row that was not measured.
+pub const UNMEASURED: u32 = 4294967295;
+
+// A row's how-byte, where how-bytes are lent.
+pub fn put(how: &mut [u8], row: usize, byte: u8)
+    ensures { λ _. ⌜ now (how .exit) ≡ set (now (how .entry)) row byte ⌝ }
+{
+    if row < how.len() {
+        how[row] = byte;
+    }
+}
+
+// A row that is in at the distance d, behind those that are listed, where a list with room for it is lent.
+pub fn enter(list: &mut [u32], d: u32, row: usize)
+    requires { ⌜ row < maxRows ⌝ }
+    ensures { λ _. ⌜ now (list .exit) ≡ entered d row (now (list .entry)) ⌝ }
+{
+    if list.len() == 0 {
+        return;
+    }
+    let k = list[0] as usize;
+    if k < (list.len() - 1) / 2 {
+        if k < Params::MOST_ROWS {
+            list[2 * k + 1] = d;
+            list[2 * k + 2] = row as u32;
+            list[0] = (k + 1) as u32;
+        }
+    }
+}
+
+// A row that was measured, where x is the number that measuring gave: in where that is at most r, and only if it is not withdrawn.
+fn mark_measured(x: u32, row: usize, r: u32, withdrawn: &[u32], how: &mut [u8], list: &mut [u32])
+    requires { ⌜ row < maxRows ⌝ }
+    ensures { λ _. ⌜ Leaves (isIn (now (withdrawn .entry))) (λ (i : ℕ). x) ((row, cond (leb x r) 3 1) ∷ []) (now (how .entry)) (now (how .exit))
+        (now (list .entry)) (now (list .exit)) ⌝ }
 {
     if x <= r {
         if is_in(withdrawn, row) {
-            how[row] = 1;
+            put(how, row, 1);
         } else {
-            how[row] = 3;
+            put(how, row, 3);
+            enter(list, x, row);
         }
     } else {
-        how[row] = 1;
+        put(how, row, 1);
     }
 }
 
@@ -37,14 +71,16 @@ pub fn measure_row(
     r: u32,
     withdrawn: &[u32],
     how: &mut [u8],
+    list: &mut [u32],
 ) -> u32
-    requires { ⌜ (c ≤ maxColumns) × (c * row + c ≤ length (now table)) × (length (now query) ≡ c) × (row < length (now how)) ⌝ }
+    requires { ⌜ (c ≤ maxColumns) × (c * row + c ≤ length (now table)) × (length (now query) ≡ c) × (row < maxRows) ⌝ }
     ensures distance { λ x. ⌜ (x ≡ from (now (table .entry)) c circles (now (query .entry)) row) × (x ≤ maxDistance) ⌝ }
-    ensures marks { λ _. ⌜ now (how .exit) ≡ mark (isIn (now (withdrawn .entry))) row
-        (byDistance (from (now (table .entry)) c circles (now (query .entry))) r row) (now (how .entry)) ⌝ }
+    ensures marks { λ _. ⌜ Leaves (isIn (now (withdrawn .entry))) (from (now (table .entry)) c circles (now (query .entry)))
+        ((row, byDistance (from (now (table .entry)) c circles (now (query .entry))) r row) ∷ []) (now (how .entry)) (now (how .exit))
+        (now (list .entry)) (now (list .exit)) ⌝ }
 {
     let x = measure::query_distance(table, c, circles, query, row);
-    mark_measured(x, row, r, withdrawn, how);
+    mark_measured(x, row, r, withdrawn, how, list);
     x
 }
 
@@ -58,11 +94,13 @@ pub fn measure_to(
     r: u32,
     withdrawn: &[u32],
     how: &mut [u8],
+    list: &mut [u32],
 )
-    requires { ⌜ (c ≤ maxColumns) × (c * row + c ≤ length (now table)) × (length (now query) ≡ c) × (row < length (now how)) ⌝ }
-    ensures { λ _. ⌜ now (how .exit) ≡ mark (isIn (now (withdrawn .entry))) row
-        (byDistance (from (now (table .entry)) c circles (now (query .entry))) r row) (now (how .entry)) ⌝ }
+    requires { ⌜ (c ≤ maxColumns) × (c * row + c ≤ length (now table)) × (length (now query) ≡ c) × (row < maxRows) ⌝ }
+    ensures { λ _. ⌜ Leaves (isIn (now (withdrawn .entry))) (from (now (table .entry)) c circles (now (query .entry)))
+        ((row, byDistance (from (now (table .entry)) c circles (now (query .entry))) r row) ∷ []) (now (how .entry)) (now (how .exit))
+        (now (list .entry)) (now (list .exit)) ⌝ }
 {
     let x = measure::query_distance_to(table, c, circles, query, row, r);
-    mark_measured(x, row, r, withdrawn, how);
+    mark_measured(x, row, r, withdrawn, how, list);
 }

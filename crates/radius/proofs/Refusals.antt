@@ -62,7 +62,13 @@ module _ (T : List ℕ) (c : ℕ) (w q s : List ℕ) (how : ℕ) where
       let p = says-none early last numbered z in
       (clear asks T w q (p .0), fault-not 20 (setBad s (rowsOf T c)) (omega arith) (p .1))
 
--- what is lent then fits the index
+-- there is then a how-byte for each row
+pub room : (T : List ℕ) (c : ℕ) (w q s h : List ℕ) → saidRadius T c w q s (length h) .0 ≡ 0 → n# w ≤ length h
+room T c w q s h z =
+    let C = not-refused T c w q s (length h) z .0 in
+    omega (arith, C .rows, ltb-false (length h) (rowsOf T c) (C .numbers .room))
+
+-- and what is lent fits the index
 pub fits : (T : List ℕ) (c : ℕ) (w q s h : List ℕ) → saidRadius T c w q s (length h) .0 ≡ 0 → Lent w T c q h
 fits T c w q s h z =
     let a = radiusAsks T c q (length h) in
@@ -70,7 +76,7 @@ fits T c w q s h z =
     record {
       tested = tested T c a w q refl refl C;
       query = eqb-true (length q) c (not-false (eqb (length q) c) (C .numbers .like));
-      how = omega (arith, C .rows, ltb-false (length h) (rowsOf T c) (C .numbers .room));
+      how = λ k. room T c w q s h z;
     }
 
 -- and the set is one of its rows

@@ -2,6 +2,7 @@
 ghost use Rattle.radius.specs.Calls.{Searched};
 ghost use Rattle.radius.specs.Numbers.{saidRadius};
 ghost use mathlib.Core.Path.{_≡_};
+use buffers::clear_bytes;
 use descent::search;
 use limits::Asked;
 use limits::rows_in;
@@ -68,8 +69,20 @@ pub fn radius(
             measured: 0,
         };
     }
-    search(table, c, index, query, r, withdrawn, how);
-    let counts = tally(how, rows(index));
+    let n = rows(index);
+    clear_bytes(how, n);
+    let mut unlisted = [0; 1];
+    search(
+        table,
+        c,
+        index,
+        query,
+        r,
+        withdrawn,
+        how,
+        &mut unlisted[..0],
+    );
+    let counts = tally(how, n);
     Found {
         number: 0,
         inside: counts.inside,

@@ -1,34 +1,71 @@
--- `radius::radius` meets its contract: a refusal leaves the how-bytes alone; else the search writes them and the counts are taken from them.
--- Assumes nothing.
+-- `radius::radius` meets its contract: a refusal leaves the how-bytes alone; else they are cleared, the search writes them and the counts are taken
+-- from them. Assumes nothing.
+use Prim.Native.Nat.{ℕ}
+use Rattle.buffers.specs.Wiped.{wiped}
+use Rattle.marking.proofs.Fitted.{lent-same}
+use Rattle.marking.specs.Lent.{Lent}
+use Rattle.marking.specs.Written.{write}
+use Rattle.measure.specs.Table.{from}
 use Rattle.radius.proofs.Answered.{done-is, refused-is}
-use Rattle.radius.proofs.Refusals.{fits}
+use Rattle.radius.proofs.Refusals.{fits, room}
 use Rattle.radius.proofs.radius.Statement.{statement}
 use Rattle.radius.proofs.radius.Tie as tie
+use Rattle.radius.specs.Numbers.{saidRadius}
+use Rattle.rowset.specs.Sets.{isIn}
+use Rattle.tree.specs.Grove.{treeOf}
+use Rattle.tree.specs.Radius.{marks, veiled}
+use Rattle.words.specs.Words.{circles#, n#}
 use borrow.Author.Needs.{needs}
-use mathlib.Core.Path.{_∙_, sym}
+use lib.ListN.{length}
+use mathlib.Core.Path.{_∙_, _≡_, ap, sym}
 use native.Mathlib.Omega.{arith}
+
+-- the start, seen from past the refusals, and that there is none
+abbrev start : tie.Else1 → tie.Start
+start c = c .before .before .before .before .before .before .before
+
+none : (c : tie.Else1)
+    → saidRadius (start c .args .table .now) (start c .args .c) (start c .args .index .now) (start c .args .query .now) (start c .args .withdrawn .now) (length (start c .args .how .now)) .0 ≡ 0
+none c = sym (c .before .refusal .ensures) ∙ c .if1 .left
+
+-- what is lent fits
+lent : (c : tie.Else1) → Lent (start c .args .index .now) (start c .args .table .now) (start c .args .c) (start c .args .query .now) (start c .args .how .now)
+lent c = fits _ _ _ _ _ (start c .args .how .now) (none c)
 
 returns : tie.Need-returns
 returns c = refused-is _ _ _ _ _ _ _ (c .before .refusal .ensures) (c .if1 .taken)
 
-search-requires : tie.Need-search-requires
-search-requires c κs = fits _ _ _ _ _ (c .before .before .before .before .before .before .before .before .args .how .now) (sym (c .before .before .refusal .ensures) ∙ c .before .if1 .left)
-
 rows-requires : tie.Need-rows-requires
-rows-requires c κs =
-    omega (arith, fits _ _ _ _ _ (c .before .before .before .before .before .before .before .before .before .before .before .before .args .how .now) (sym (c .before .before .before .before .before .before .refusal .ensures) ∙ c .before .before .before .before .before .if1 .left) .tested .shape .whole .words)
+rows-requires c κs = omega (arith, lent c .tested .shape .whole .words)
+
+clear-bytes-requires : tie.Need-clear-bytes-requires
+clear-bytes-requires c κs =
+    let e = c .before .before in
+    omega (arith, room _ _ _ _ _ (start e .args .how .now) (none e), c .before .rows .ensures .0)
+
+search-requires : tie.Need-search-requires
+search-requires c κs = lent-same (lent (c .before .before .before .before .before .before .before)) (c .before .before .before .before .clear-bytes .last .0) (c .before .before .before .before .clear-bytes .kept .0)
 
 tally-requires : tie.Need-tally-requires
 tally-requires c κs =
-    let how = c .before .before .before .before .before .before .before .before .before .before .before .before .before .args .how .now in
-    omega (arith, fits _ _ _ _ _ how (sym (c .before .before .before .before .before .before .before .refusal .ensures) ∙ c .before .before .before .before .before .before .if1 .left) .how, c .rows .ensures .0, c .before .before .before .before .search .kept .1 .1 .1 .1 .1 .1 .0)
+    let e = c .before .before .before .before .before .before .before .before .before .before .before .before in
+    omega (
+      arith,
+      room _ _ _ _ _ (start e .args .how .now) (none e),
+      c .before .before .before .before .before .before .before .before .before .before .before .rows .ensures .0,
+      c .before .before .before .before .search .kept .1 .1 .1 .1 .1 .1 .0,
+      c .before .before .before .before .before .before .before .before .before .clear-bytes .kept .0,
+    )
 
 returns-2 : tie.Need-returns-2
 returns-2 c =
-    let how = c .before .before .before .before .before .before .before .before .before .before .before .before .before .before .args .how .now in
-    let said = c .before .before .before .before .before .before .before .before .refusal .ensures in
-    let none = c .before .before .before .before .before .before .before .if1 .left in
-    done-is _ _ _ _ _ _ how said _ none (fits _ _ _ _ _ how (sym said ∙ none) .tested .shape) (c .before .rows .ensures .0) (c .before .before .before .before .before .search .ensures) (c .tally .ensures .0) (c .tally .ensures .1)
+    let e = c .before .before .before .before .before .before .before .before .before .before .before .before .before in
+    let a = start e .args in
+    let n = c .before .before .before .before .before .before .before .before .before .before .before .before .rows .ensures .0 in
+    let ms = veiled (isIn (a .withdrawn .now)) (marks (from (a .table .now) (a .c) (circles# (a .index .now)) (a .query .now)) (a .r) (treeOf (a .index .now))) in
+    done-is _ _ _ _ _ _ (a .how .now) (e .before .refusal .ensures) _ (e .if1 .left) (lent e .tested .shape) n
+    (c .before .before .before .before .before .search .ensures .bytes ∙ ap (write ms) (c .before .before .before .before .before .before .before .before .before .before .clear-bytes .ensures ∙ ap (λ (n : ℕ). wiped n (a .how .now)) n))
+    (c .tally .ensures .0) (c .tally .ensures .1)
 
 pub radius-spec : {M : Type 1} → statement M
 radius-spec =
@@ -36,8 +73,11 @@ radius-spec =
     (tie.spec
     (λ c κs. search needs)
     returns
-    search-requires
     rows-requires
+    clear-bytes-requires
+    (λ c. search needs)
+    (λ c. search needs)
+    search-requires
     tally-requires
     (λ c. search needs)
     returns-2)

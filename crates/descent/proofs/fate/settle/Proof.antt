@@ -1,20 +1,19 @@
 -- `descent::fate::settle` meets its contract: only a swept node's rows are stored.
 -- Assumes nothing.
-use Rattle.descent.proofs.Ways.{unswept}
+use Rattle.descent.proofs.Ways.{swept-did, unswept}
 use Rattle.descent.proofs.fate.settle.Statement.{statement}
 use Rattle.descent.proofs.fate.settle.Tie as tie
-use Rattle.descent.specs.Descent.{fateOf, settled}
-use Rattle.descent.specs.declared.fate.Fate.{Fate}
+use Rattle.descent.specs.Descent.{fateOf}
 use Prim.Native.Nat.{ℕ}
 use Rattle.rowset.specs.Sets.{isIn}
 use Rattle.words.specs.Words.{radius#}
 use borrow.Author.Needs.{needs}
-use mathlib.Core.Path.{_∙_, _≡_, ap, sym}
+use mathlib.Core.Path.{_∙_, _≡_, ap}
 use native.Mathlib.Omega.{arith}
 
 -- the start, seen from the reading of the radius
 abbrev start : tie.After-node-radius → tie.Start
-start c = c .before .before .before .before
+start c = c .before .before .before .before .before
 
 -- the fate is the definition's
 fate : (c : tie.After-fate-of)
@@ -32,16 +31,15 @@ returns : tie.Need-returns
 returns c =
     let s = start (c .before .before) in (
       fate (c .before),
-      unswept (isIn (s .args .withdrawn .now)) (s .args .index .now) (s .args .k) (s .args .how .now) (c .before .fate-of .result) (c .match .keys2),
+      unswept (isIn (s .args .withdrawn .now)) (s .args .index .now) (s .args .k) (s .args .how .now) (s .args .list .now) (c .before .fate-of .result) (c .match .keys2),
     )
 
 returns-2 : tie.Need-returns-2
 returns-2 c =
-    let f = c .before .before .before .before .before .before in
+    let f = c .before .before .before .before .before .before .before .before .before in
     let s = start (f .before) in (
       fate f,
-      c .before .before .sweep .ensures
-          ∙ ap (λ (v : Fate). settled (isIn (s .args .withdrawn .now)) (s .args .index .now) (s .args .k) v (s .args .how .now)) (sym (c .before .before .before .before .enum-told .given .1)),
+      swept-did (isIn (s .args .withdrawn .now)) (s .args .index .now) (s .args .k) (f .fate-of .result) (c .before .before .before .before .before .before .before .enum-told .given .1) (c .before .before .before .before .sweep .ensures),
     )
 
 pub settle-spec : {M : Type 1} → statement M
@@ -53,5 +51,6 @@ settle-spec =
     (λ c. search needs)
     returns
     (λ c κs. search needs)
+    (λ c. search needs)
     (λ c. search needs)
     returns-2)

@@ -6,35 +6,37 @@ use Rattle.limits.specs.Limits.{maxDistance}
 use Rattle.measure.specs.Table.{from}
 use Rattle.marking.proofs.Fitted.{lent-same, measurable}
 use Rattle.marking.proofs.Did.{centre-did}
-use Rattle.marking.proofs.Written.{marked-end, marked-next, marked-none}
+use Rattle.marking.proofs.Listed.{leaves-as, leaves-by, span-end, span-next, span-none}
 use Rattle.marking.proofs.centres.open_inner.Statement.{statement}
 use Rattle.marking.proofs.centres.open_inner.Tie as tie
 use Rattle.marking.specs.Marks.{centreAt, firstAt}
 use Rattle.marking.specs.Lent.{Lent}
-use Rattle.marking.specs.Written.{mark, marked}
+use Rattle.marking.specs.Listed.{Leaves, span}
 use Rattle.rowset.specs.Sets.{isIn}
 use Rattle.tree.specs.Radius.{byDistance}
 use Rattle.words.proofs.Positions.{row-word}
 use Rattle.words.specs.Words.{N#, circles#, first#, m#, n#, row#, start#}
 use borrow.Author.Needs.{needs}
 use lib.ListN.{length, length-set, replicate}
+use mathlib.Core.List.{[], _∷_}
 use mathlib.Core.Path.{_∙_, _≡_, ap, refl, sym}
 use native.Mathlib.Nat.{add-zero}
 use native.Mathlib.Omega.{arith}
 
 abbrev Inv-loop : tie.InvT-loop
-Inv-loop table c index query ch x r withdrawn how₀ m base round ds₀ j₀ how ds j =
-    Lent index table c query how × (length how ≡ length how₀)
+Inv-loop table c index query ch x r withdrawn how₀ list₀ m base round ds₀ j₀ how list ds j =
+    Lent index table c query how × (length how ≡ length how₀) × (length list ≡ length list₀)
     × (1 ≤ j) × (j ≤ m) × (m ≡ m# index) × (ch + m# index ≤ N# index) × (length ds ≡ 64)
     × Holds (λ (i : ℕ). firstAt (from table c (circles# index) query) index (ch + i)) maxDistance ds j
-    × (how ≡ marked (isIn withdrawn) (λ (i : ℕ). centreAt (from table c (circles# index) query) r index (ch + i)) 1 j how₀)
+    × Leaves (isIn withdrawn) (from table c (circles# index) query) (span (λ (i : ℕ). centreAt (from table c (circles# index) query) r index (ch + i)) 1 j)
+    how₀ how list₀ list
 
 abbrev μ-loop : tie.MeasureT-loop
-μ-loop table c index query ch x r withdrawn how₀ m base round ds₀ j₀ how ds j = m - j
+μ-loop table c index query ch x r withdrawn how₀ list₀ m base round ds₀ j₀ how list ds j = m - j
 
 -- the start, and the node whose first is read, seen from the reading of its start
 abbrev start : tie.After-node-start Inv-loop μ-loop → tie.Start Inv-loop μ-loop
-start c = c .before .before .before .before .before .before .before .before .before .before .before
+start c = c .before .before .before .before .before .before .before .before .before .before .before .before
 
 abbrev kid : tie.After-node-start Inv-loop μ-loop → ℕ
 kid c = start c .args .ch + c .before .before .loop .j
@@ -43,7 +45,7 @@ kid c = start c .args .ch + c .before .before .loop .j
 there : (c : tie.After-node-start Inv-loop μ-loop) → c .node-start .result < n# (start c .args .index .now)
 there c =
     let l = c .before .before .loop in
-    let v = l .inv .0 .tested .shape .node (kid c) (omega (arith, l .inv .4, l .inv .5, c .before .loop-test .taken)) in
+    let v = l .inv .0 .tested .shape .node (kid c) (omega (arith, l .inv .5, l .inv .6, c .before .loop-test .taken)) in
     omega (arith, v .run, v .some, c .node-start .ensures .0)
 
 -- where it is read
@@ -62,11 +64,12 @@ low c =
 
 loop-holds : tie.Need-loop-holds Inv-loop μ-loop
 loop-holds c =
-    let s = c .before .before .before .before .before .before .before .before in
+    let s = c .before .before .before .before .before .before .before .before .before in
     let at : firstAt (from (s .args .table .now) (s .args .c) (circles# (s .args .index .now)) (s .args .query .now)) (s .args .index .now) (s .args .ch)
     ≡ firstAt (from (s .args .table .now) (s .args .c) (circles# (s .args .index .now)) (s .args .query .now)) (s .args .index .now) (s .args .ch + 0) =
     ap (firstAt (from (s .args .table .now) (s .args .c) (circles# (s .args .index .now)) (s .args .query .now)) (s .args .index .now)) (sym (add-zero (s .args .ch))) in (
       s .pre .0,
+      refl,
       refl,
       omega arith,
       omega (arith, s .pre .0 .tested .shape .whole .fan),
@@ -74,7 +77,7 @@ loop-holds c =
       s .pre .1 .0,
       refl,
       holds-one _ _ (replicate 64 (s .args .x)) (s .pre .1 .2 ∙ at) (s .pre .1 .1),
-      marked-none _ _ _ _ _ refl,
+      span-none _ _ _ _ _ refl,
     )
 
 node-start-requires : tie.Need-node-start-requires Inv-loop μ-loop
@@ -91,35 +94,38 @@ word-requires c κs =
     omega (arith, there c, W .words, c .before .before .before .before .pair-at .ensures)
 
 measure-row-requires : tie.Need-measure-row-requires Inv-loop μ-loop
-measure-row-requires c κs = measurable (c .before .before .before .before .loop .inv .0) _ (low (c .before))
+measure-row-requires c κs = measurable (c .before .before .before .before .before .loop .inv .0) _ (low (c .before .before))
 
 loop-again : tie.Need-loop-again Inv-loop μ-loop
 loop-again c =
-    let read = c .before .before .before .before in
+    let read = c .before .before .before .before .before .before .before in
     let s = start (read .before) in
-    let x = from (s .args .table .now) (s .args .c) (circles# (s .args .index .now)) (s .args .query .now) in
+    let w = s .args .index .now in
+    let full : ℕ → ℕ → ℕ = λ o i. from (s .args .table .now) (s .args .c) o (s .args .query .now) i in
+    let x = full (circles# w) in
     let l = read .before .before .before .loop in
-    let row = c .before .before .measure-row in
+    let row = c .before .before .before .before .measure-row in
     let i = read .word .result in
     let round = read .before .before .before .before .circles .ensures in
-    let full : ℕ → ℕ → ℕ = λ o i. from (s .args .table .now) (s .args .c) o (s .args .query .now) i in
     let k = row .kept .1 .1 .1 .1 .1 .1 .1 .0 in (
       lent-same (l .inv .0) _ k,
       k ∙ l .inv .1,
+      row .kept .1 .1 .1 .1 .1 .1 .1 .1 .0 ∙ l .inv .2,
       omega arith,
       omega arith,
-      l .inv .4,
       l .inv .5,
-      simp length-set (l .inv .6),
-      holds-more _ maxDistance (l .ds) (l .j) (omega arith) (row .ensures .0 .0 ∙ ap (λ (o : ℕ). full o i) round ∙ ap x (first read)) (row .ensures .0 .1) (l .inv .7),
-      marked-next _ _ 1 (l .j) _ (l .inv .2) (l .inv .8) (centre-did _ x _ (s .args .index .now) _ _ (first read)
-          (row .ensures .1 ∙ ap (λ (o : ℕ). mark (isIn (s .args .withdrawn .now)) i (byDistance (full o) (s .args .r) i) (l .how)) round)),
+      l .inv .6,
+      simp length-set (l .inv .7),
+      holds-more _ maxDistance (l .ds) (l .j) (omega arith) (row .ensures .0 .0 ∙ ap (λ (o : ℕ). full o i) round ∙ ap x (first read)) (row .ensures .0 .1) (l .inv .8),
+      span-next _ x _ 1 (l .j) (l .inv .3) (l .inv .9)
+          (leaves-as _ x (centre-did x (s .args .r) w _ (first read))
+          (leaves-by (isIn (s .args .withdrawn .now)) full (λ x. (i, byDistance x (s .args .r) i) ∷ []) round (row .ensures .1))),
     )
 
 returns : tie.Need-returns Inv-loop μ-loop
 returns c =
     let l = c .before .loop in
-    (marked-end _ _ 1 (l .j) _ (omega arith) (l .inv .8), record { at = λ i h. l .inv .7 i (omega arith) .0; near = λ i h. l .inv .7 i (omega arith) .1 })
+    (span-end _ _ _ 1 (l .j) (omega arith) (l .inv .9), record { at = λ i h. l .inv .8 i (omega arith) .0; near = λ i h. l .inv .8 i (omega arith) .1 })
 
 pub open-inner-spec : {M : Type 1} → statement M
 open-inner-spec =
@@ -142,5 +148,6 @@ open-inner-spec =
     (λ c. search needs)
     (λ c. search needs)
     loop-again
+    (λ c. search needs)
     (λ c. search needs)
     returns)

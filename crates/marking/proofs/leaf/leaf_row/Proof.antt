@@ -4,13 +4,14 @@ use Prim.Native.Nat.{_*_, _+_, _<_, ℕ}
 use Rattle.measure.specs.Table.{from}
 use Rattle.marking.proofs.Fitted.{measurable}
 use Rattle.marking.proofs.Did.{leaf-did}
-use Rattle.marking.proofs.Written.{mark-gone, mark-in, mark-out}
+use Rattle.marking.proofs.Listed.{leaves-as, leaves-gone, leaves-in, leaves-out}
 use Rattle.marking.proofs.leaf.Verdict as verdict-type
 use Rattle.marking.proofs.leaf.leaf_row.Statement.{statement}
 use Rattle.marking.proofs.leaf.leaf_row.Tie as tie
 use Rattle.marking.specs.declared.leaf.Verdict.the-variants.{In, Measure, Out}
 use Rattle.marking.specs.declared.leaf.Verdict.{Verdict}
-use Rattle.rowset.specs.Sets.{isIn}
+use Rattle.marking.specs.Marks.{leafAt, verdictByte}
+use Rattle.tree.specs.Radius.{byDistance}
 use Rattle.words.proofs.Positions.{dist-word, row-word}
 use Rattle.words.specs.Words.{at, dist#, n#, row#}
 use borrow.Author.Needs.{needs}
@@ -30,7 +31,7 @@ out-only Measure p q = ⊎-elim (λ e. absurd (omega arith)) (λ e. absurd (omeg
 
 -- the start, seen from the reading of the row, and the distances
 abbrev start : tie.After-word → tie.Start
-start c = c .before .before .before .before .before .before
+start c = c .before .before .before .before .before .before .before
 
 abbrev x : tie.Start → ℕ → ℕ
 x s = from (s .args .table .now) (s .args .c) (s .args .circles) (s .args .query .now)
@@ -56,52 +57,46 @@ decide-requires c κs =
     let s = start (c .before) in
     (s .pre .1 .1, omega (arith, s .pre .0 .tested .shape .place (s .args .p) (s .pre .1 .0) .near, stored s))
 
-slice-write-how : tie.Need-slice-write-how
-slice-write-how c =
-    let w = c .before .before .before .before .before .before .before in
-    omega (arith, row-low w, start w .pre .0 .how)
+-- what is left for the row in the case v of the verdict is right
+did : (c : tie.After-decide) (v : Verdict) → c .decide .result ≡ v
+    → (c .before .before .word .result, verdictByte (byDistance (x (start (c .before .before))) (start (c .before .before) .args .r) (c .before .before .word .result)) v) ∷ []
+    ≡ leafAt (x (start (c .before .before))) (start (c .before .before) .args .r) (start (c .before .before) .args .index .now) (start (c .before .before) .args .x)
+    (start (c .before .before) .args .p)
+did c v e =
+    let w = c .before .before in
+    let s = start w in
+    leaf-did (x s) (s .args .r) (s .args .index .now) v (s .args .x) (s .args .p) (row w) (stored s) (c .decide .ensures) e
+
+enter-requires : tie.Need-enter-requires
+enter-requires c κs =
+    let w = c .before .before .before .before .before .before .before .before .before .before .before .before in
+    measurable (start w .pre .0) _ (row-low w) .3
 
 returns : tie.Need-returns
 returns c =
-    let d = c .before .before .before .before .before in
-    let w = d .before .before in
-    let s = start w in
-    let gone = isIn (s .args .withdrawn .now) in
-    mark-in gone (w .word .result) (s .args .how .now) (c .before .is-in .ensures) (not-true _ (c .if1 .taken))
-    ∙ leaf-did gone (x s) (s .args .r) (s .args .index .now) In _ _ _ (row w) (stored s) (d .decide .ensures) (c .before .before .enum-told2 .given .1)
+    let d = c .before .before .before .before .before .before .before .before .before .before .before .before .before in
+    leaves-as _ _ (did d In (c .before .before .before .before .before .before .before .before .before .before .enum-told2 .given .1))
+    (leaves-in _ _ _ (c .before .before .before .before .before .before .before .before .before .is-in .ensures) (not-true _ (c .before .before .before .before .before .before .before .before .if1 .taken)) (c .before .before .before .before .before .before .put .ensures) (c .before .before .enter .ensures))
 
 returns-2 : tie.Need-returns-2
 returns-2 c =
     let d = c .before .before .before .before .before in
-    let w = d .before .before in
-    let s = start w in
-    let gone = isIn (s .args .withdrawn .now) in
-    mark-gone gone (w .word .result) (s .args .how .now) (c .before .is-in .ensures) (not-false _ (c .if1 .left))
-    ∙ leaf-did gone (x s) (s .args .r) (s .args .index .now) In _ _ _ (row w) (stored s) (d .decide .ensures) (c .before .before .enum-told2 .given .1)
+    leaves-as _ _ (did d In (c .before .before .enum-told2 .given .1)) (leaves-gone _ _ _ (c .before .is-in .ensures) (not-false _ (c .if1 .left)))
 
 returns-3 : tie.Need-returns-3
 returns-3 c =
     let d = c .before .before in
-    let w = d .before .before in
-    let s = start w in
-    let gone = isIn (s .args .withdrawn .now) in
-    mark-out gone (w .word .result) (s .args .how .now)
-    ∙ leaf-did gone (x s) (s .args .r) (s .args .index .now) Out _ _ _ (row w) (stored s) (d .decide .ensures)
-    (out-only _ (c .before .match .keys2) (c .match2 .keys2))
+    leaves-as _ _ (did d Out (out-only _ (c .before .match .keys2) (c .match2 .keys2))) (leaves-out _ _ _)
 
 measure-to-requires : tie.Need-measure-to-requires
 measure-to-requires c κs =
-    let w = c .before .before .before .before .before in
+    let w = c .before .before .before .before .before .before in
     measurable (start w .pre .0) _ (row-low w)
 
 returns-4 : tie.Need-returns-4
 returns-4 c =
-    let d = c .before .before .before .before .before .before in
-    let w = d .before .before in
-    let s = start w in
-    c .before .before .measure-to .ensures
-    ∙ leaf-did (isIn (s .args .withdrawn .now)) (x s) (s .args .r) (s .args .index .now) Measure _ _ _ (row w) (stored s) (d .decide .ensures)
-    (c .before .before .before .before .enum-told .given .1)
+    let d = c .before .before .before .before .before .before .before .before .before in
+    leaves-as _ _ (did d Measure (c .before .before .before .before .before .before .before .enum-told .given .1)) (c .before .before .before .before .measure-to .ensures)
 
 pub leaf-row-spec : {M : Type 1} → statement M
 leaf-row-spec =
@@ -119,11 +114,14 @@ leaf-row-spec =
     (λ c. search needs)
     (λ c. search needs)
     (λ c κs. search needs)
-    slice-write-how
+    (λ c κs. search needs)
+    enter-requires
+    (λ c. search needs)
     (λ c. search needs)
     returns
     returns-2
     returns-3
     measure-to-requires
+    (λ c. search needs)
     (λ c. search needs)
     returns-4)

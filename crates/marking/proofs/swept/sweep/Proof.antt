@@ -1,23 +1,20 @@
--- `marking::swept::sweep` meets its contract: the run is that of the node, and a set of no words has no row in it.
+-- `marking::swept::sweep` meets its contract: the run is that of the node, written and listed.
 -- Assumes nothing.
 use Prim.Native.Nat.{_+_, _≤_, ℕ}
-use Rattle.marking.proofs.Written.{marked-same}
+use Rattle.marking.proofs.Listed.{leaves-as, marked-is, told-bare}
 use Rattle.marking.proofs.swept.sweep.Statement.{statement}
 use Rattle.marking.proofs.swept.sweep.Tie as tie
+use Rattle.marking.specs.Listed.{Leaves, span, told}
 use Rattle.marking.specs.Marks.{sweptAt}
-use Rattle.marking.specs.Written.{marked}
-use Rattle.rowset.proofs.Rows.{beyond}
 use Rattle.rowset.specs.Sets.{isIn}
 use Rattle.words.specs.Words.{count#, n#, start#}
 use borrow.Author.Needs.{needs}
-use mathlib.Core.Bool.{Bool, false}
-use mathlib.Core.List.{List}
-use mathlib.Core.Path.{_∙_, _≡_, ap₂, sym}
+use mathlib.Core.Path.{_∙_, _≡_, ap₂}
 use native.Mathlib.Omega.{arith}
 
 -- the start, seen from the reading of the run
 abbrev start : tie.After-pair-at → tie.Start
-start c = c .before .before .before .before .before .before
+start c = c .before .before .before .before .before .before .before
 
 -- its run is inside the positions
 run : (c : tie.After-pair-at) → (c .before .before .node-start .result + 1 ≤ c .before .before .node-start .result + c .before .node-count .result)
@@ -27,34 +24,35 @@ run c =
     let nd = s .pre .0 .node (s .args .k) (s .pre .1 .0) in
     (omega (arith, nd .some, c .before .node-count .ensures), omega (arith, nd .run, c .before .before .node-start .ensures, c .before .node-count .ensures))
 
-sweep-all-requires : tie.Need-sweep-all-requires
-sweep-all-requires c κs =
-    let p = c .before .before in
-    ((start p .pre .0, p .pair-at .ensures), (run p .0, run p .1, start p .pre .1 .1))
-
-sweep-shown-requires : tie.Need-sweep-shown-requires
-sweep-shown-requires c κs =
-    let p = c .before .before in
-    ((start p .pre .0, p .pair-at .ensures), (run p .0, run p .1, start p .pre .1 .1))
-
 -- and is the node's
-node-run : (c : tie.After-pair-at) (gone : ℕ → Bool) (h : List ℕ)
-    → marked gone (sweptAt (start c .args .index .now)) (c .before .before .node-start .result + 1) (c .before .before .node-start .result + c .before .node-count .result) h
-    ≡ marked gone (sweptAt (start c .args .index .now)) (start# (start c .args .index .now) (start c .args .k) + 1)
-    (start# (start c .args .index .now) (start c .args .k) + count# (start c .args .index .now) (start c .args .k)) h
-node-run c gone h =
-    ap₂ (λ (s n : ℕ). marked gone (sweptAt (start c .args .index .now)) (s + 1) (s + n) h) (c .before .before .node-start .ensures .0) (c .before .node-count .ensures .0)
+node-run : (c : tie.After-pair-at)
+    → span (sweptAt (start c .args .index .now)) (c .before .before .node-start .result + 1) (c .before .before .node-start .result + c .before .node-count .result)
+    ≡ span (sweptAt (start c .args .index .now)) (start# (start c .args .index .now) (start c .args .k) + 1)
+    (start# (start c .args .index .now) (start c .args .k) + count# (start c .args .index .now) (start c .args .k))
+node-run c =
+    ap₂ (λ (s n : ℕ). span (sweptAt (start c .args .index .now)) (s + 1) (s + n)) (c .before .before .node-start .ensures .0) (c .before .node-count .ensures .0)
+
+sweep-bytes-requires : tie.Need-sweep-bytes-requires
+sweep-bytes-requires c κs =
+    let p = c .before in
+    ((start p .pre .0, p .pair-at .ensures), (run p .0, run p .1, start p .pre .1 .1))
+
+sweep-list-requires : tie.Need-sweep-list-requires
+sweep-list-requires c κs =
+    let p = c .before .before .before .before .before .before in
+    ((start p .pre .0, p .pair-at .ensures), (run p .0, run p .1))
 
 returns : tie.Need-returns
 returns c =
-    let p = c .before .before .before .before .before in
-    let set = start p .args .withdrawn .now in
-    c .before .before .sweep-all .ensures
-    ∙ marked-same (λ (i : ℕ). false) (isIn set) (λ i. sym (beyond set i (omega (arith, c .before .before .before .before .if1 .taken)))) _ _ _ _
-    ∙ node-run p (isIn set) _
+    let p = c .before .before .before .before .before .before .before .before .before in
+    leaves-as (isIn (start p .args .withdrawn .now)) (λ (i : ℕ). 0) (node-run p)
+    (record { bytes = c .before .before .before .before .before .before .before .sweep-bytes .ensures ∙ marked-is _ _ _ _ _; rows = c .before .before .sweep-list .ensures })
 
 returns-2 : tie.Need-returns-2
-returns-2 c = c .before .before .sweep-shown .ensures ∙ node-run (c .before .before .before .before .before) _ _
+returns-2 c =
+    let p = c .before .before .before .before .before in
+    leaves-as (isIn (start p .args .withdrawn .now)) (λ (i : ℕ). 0) (node-run p)
+    (record { bytes = c .before .before .before .sweep-bytes .ensures ∙ marked-is _ _ _ _ _; rows = told-bare (λ (i : ℕ). 0) _ (start p .args .list .now) (c .if1 .left) })
 
 pub sweep-spec : {M : Type 1} → statement M
 sweep-spec =
@@ -65,9 +63,10 @@ sweep-spec =
     (λ c. search needs)
     (λ c κs. search needs)
     (λ c. search needs)
-    sweep-all-requires
+    sweep-bytes-requires
     (λ c. search needs)
-    sweep-shown-requires
+    sweep-list-requires
+    (λ c. search needs)
     (λ c. search needs)
     returns
     (λ c. search needs)
