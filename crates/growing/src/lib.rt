@@ -88,7 +88,7 @@ pub fn open_node(
         return made;
     }
     room[HEADER + WIDTH * k + 2] = made as u32;
-    split_run(table, c, m, n, room, work, s, count, made);
+    split_run(table, c, m, count, n, room, work, s, count, made);
     made + m
 }
 

@@ -22,7 +22,8 @@ returns c =
 split-run-requires : tie.Need-split-run-requires
 split-run-requires c κs =
     let k = c .before .before .before in
-    open-ready (start k .pre) (k .before .before .word .ensures .0) (k .word2 .ensures .0) (search needs)
+    let r = open-ready (start k .pre) (k .before .before .word .ensures .0) (k .word2 .ensures .0) (search needs) in
+    (r, (r .centred, omega arith))
 
 same-length-2 : tie.Need-same-length-2
 same-length-2 c =
