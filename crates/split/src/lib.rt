@@ -35,7 +35,7 @@ fn inform(table: &[u16], c: usize, m: usize, early: usize, run: &mut [u32])
 }
 
 // Copies the words from `lo + over` on back to lo, as far as hi.
-fn copy_back(work: &mut [u32], lo: usize, hi: usize, over: usize)
+pub fn copy_back(work: &mut [u32], lo: usize, hi: usize, over: usize)
     requires { ⌜ (lo ≤ hi) × (hi + over ≤ length (now work)) ⌝ }
     ensures { λ _. ⌜ now (work .exit) ≡ take lo (now (work .entry))
         ++ (stretch (now (work .entry)) (lo + over) (hi + over) ++ drop hi (now (work .entry))) ⌝ }
