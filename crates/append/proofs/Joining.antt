@@ -17,7 +17,7 @@ use Rattle.rounds.specs.Stretch.{stretch}
 use Rattle.split.specs.Runs.{laid}
 use Rattle.tree.specs.Encode.{encode, numbered}
 use Rattle.tree.specs.Grove.{Grove}
-use Rattle.words.specs.Words.{N#, c#, count#, l#, m#, n#, start#}
+use Rattle.words.specs.Words.{N#, c#, circles#, count#, l#, m#, n#, start#}
 use lib.ListN.{drop, length, replicate}
 use mathlib.Core.Bool.{Bool, cond}
 use mathlib.Core.List.{List, _++_}
@@ -26,9 +26,9 @@ use native.Mathlib.Nat.{mul-add}
 use native.Mathlib.Omega.{arith}
 
 -- the nodes of an index are those of its tree
-nodes-are : (c m l : ℕ) (g : Grove) → length (numbered g) ≡ N# (encode 2 c m l g)
+nodes-are : (c o m l : ℕ) (g : Grove) → length (numbered g) ≡ N# (encode 2 c o m l g)
 unfolding encode
-nodes-are c m l g = refl
+nodes-are c o m l g = refl
 
 -- z is the new row
 module _ {t : List ℕ} {c : ℕ} {w room work : List ℕ} (J : Joinable t c w room work) {z : ℕ} (new : z ≡ n# w) where
@@ -60,7 +60,7 @@ module _ {t : List ℕ} {c : ℕ} {w room work : List ℕ} (J : Joinable t c w r
       }
 
   -- the leaf is found
-  module _ {v left : ℕ} (F : Found (between t c) w z v left) where
+  module _ {v left : ℕ} (F : Found (between t c (circles# w)) w z v left) where
     -- the run that is laid
     abbrev pub run : List ℕ
     run = ready w v left (n# w)
@@ -76,10 +76,11 @@ module _ {t : List ℕ} {c : ℕ} {w room work : List ℕ} (J : Joinable t c w r
       limit-is = q ∙ ap (λ (b : Bool). cond b maxRows (l# w)) (L .said) ∙ ap (λ (i : ℕ). limitOf w v left i) new
 
       -- the run stands
-      pub stands-there : stretch work₁ (3 * start# w v) (3 * start# w v + 3 * length run) ≡ laid (between t (c# w)) run
+      pub stands-there : stretch work₁ (3 * start# w v) (3 * start# w v + 3 * length run) ≡ laid (between t (c# w) (circles# w)) run
       stands-there =
           ap (λ (i : ℕ). stretch work₁ (3 * start# w v) (3 * start# w v + 3 * i)) run-long ∙ L .run
-          ∙ ap (λ (i : ℕ). laid (between t c) (ready w v left i)) new ∙ ap (λ (i : ℕ). laid (between t i) run) (sym (J .columns))
+          ∙ ap (λ (i : ℕ). laid (between t c (circles# w)) (ready w v left i)) new
+          ∙ ap (λ (i : ℕ). laid (between t i (circles# w)) run) (sym (J .columns))
 
       unfoldable pub regrowable : Regrowable t w v 1 limit room work₁
       regrowable =
@@ -107,7 +108,8 @@ module _ {t : List ℕ} {c : ℕ} {w room work : List ℕ} (J : Joinable t c w r
       words-are =
           ap (λ (i : ℕ). regrownWords t w v 1 i run) limit-is
           ∙ regrown-appended t w (J .shape) v left (F .there) (J .few) (J .some)
-          (subst (λ (i : ℕ). Found (between t i) w (n# w) v left) (sym (J .columns)) (subst (λ (i : ℕ). Found (between t c) w i v left) new F))
+          (subst (λ (i : ℕ). Found (between t i (circles# w)) w (n# w) v left) (sym (J .columns))
+          (subst (λ (i : ℕ). Found (between t c (circles# w)) w i v left) new F))
           ∙ ap (λ (i : ℕ). appended t i w) (J .columns)
 
       -- THE ROW HAS JOINED
@@ -117,7 +119,7 @@ module _ {t : List ℕ} {c : ℕ} {w room work : List ℕ} (J : Joinable t c w r
       joins {made} {work₂ = work₂} R zeros =
           record {
             index = R .index ∙ ap (λ (x : List ℕ). x ++ drop (length x) room) words-are;
-            count = R .count ∙ nodes-are (c# w) (m# w) (l# w) (regrownOf t w v 1 limit run) ∙ ap N# words-are;
+            count = R .count ∙ nodes-are (c# w) (circles# w) (m# w) (l# w) (regrownOf t w v 1 limit run) ∙ ap N# words-are;
             few = omega (arith, R .few);
             long = ap length (sym words-are) ∙ R .words;
             cleared = zeros ∙ wiped-whole work₂ ∙ ap (λ (i : ℕ). replicate i 0) (R .long ∙ L .long);

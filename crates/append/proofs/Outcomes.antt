@@ -5,25 +5,25 @@ use Rattle.append.specs.Calls.{Appends}
 use Rattle.append.specs.Joining.{Joinable, Joins}
 use Rattle.append.specs.Numbers.{saidAppend}
 use Rattle.appending.proofs.Appending.{append-one, share-ok}
-use Rattle.appending.proofs.Back.{tree-fits}
+use Rattle.appending.proofs.Back.{header-last, tree-fits}
 use Rattle.appending.specs.Append.{appended}
 use Rattle.build.proofs.Outcomes.{small as sixteen}
 use Rattle.build.proofs.Refusals.{clear-none}
 use Rattle.build.proofs.Small.{build-small}
 use Rattle.build.specs.Calls.{Builds}
-use Rattle.limits.specs.Limits.{maxRows}
+use Rattle.limits.specs.Limits.{circlesOk, maxRows}
 use Rattle.measure.specs.Table.{rowsOf}
 use Rattle.tree.specs.Build.{build}
 use Rattle.build.specs.Numbers.{roomOf, saidBuild}
 use Rattle.words.proofs.Headers.{words-whole}
 use Rattle.words.proofs.InShape.{in-shape}
 use Rattle.words.specs.InShape.{InShape}
-use Rattle.words.specs.Words.{N#, l#, m#, n#}
+use Rattle.words.specs.Words.{N#, circles#, l#, m#, n#}
 use borrow.Author.Tests.{ne-eqb}
 use lib.Dec.{eqb}
 use lib.ListN.{drop, getD, length, replicate, take}
 use lib.Seq.{length-take-le}
-use mathlib.Core.Bool.{false}
+use mathlib.Core.Bool.{false, true}
 use mathlib.Core.List.{List, _++_}
 use mathlib.Core.Logic.{_≢_}
 use mathlib.Core.Path.{_∙_, _≡_, ap, refl, subst, sym}
@@ -75,18 +75,27 @@ module _ {T : List ℕ} {c : ℕ} {w room work : List ℕ} (passed : Passed T c 
   pub part-long : {k : ℕ} → k ≡ n# w + 1 → length (take (6 * k) work) ≡ 6 * k
   part-long {k} e = length-take-le (6 * k) work (work-long e)
 
-  -- a build with the header's m and l says 0
-  builds-none : 0 ≡ saidBuild T c 2 (m# w) (l# w) (length room) (length work) .0
+  -- a build with the header's m, l and circles says 0
+  builds-none : 0 ≡ saidBuild T c (circles# w) 2 (m# w) (l# w) (length room) (length work) .0
   builds-none =
       let C = cleared in
-      clear-none T c 2 (m# w) (l# w) (length room) (length work)
-      (record { table = C .table; share = share-ok w shape-is; edition = refl; space = C .space; words = C .words })
+      clear-none T c (circles# w) 2 (m# w) (l# w) (length room) (length work) (
+      record {
+        table = C .table;
+        share = share-ok w shape-is;
+        circles = subst (λ (k : ℕ). circlesOk k (circles# w) ≡ true) (C .columns) (header-last w (words-whole w (C .whole) .1) .1);
+        edition = refl;
+        space = C .space;
+        words = C .words;
+        on = C .on;
+      }
+      )
 
   -- the build of one row: the contract is met
-  pub built-appends : {m l : ℕ} {room′ work′ : List ℕ} {number words nodes : ℕ} → n# w ≡ 0 → m ≡ m# w → l ≡ l# w
-      → Builds T c 2 m l room work room′ work′ number words nodes → Appends T c w room work room′ work′ number words nodes
-  built-appends {room′ = room′} {work′} {number} {words} {nodes} e p q b =
-      let B : Builds T c 2 (m# w) (l# w) room work room′ work′ number words nodes = rw (p, q) at b in
+  pub built-appends : {m l o : ℕ} {room′ work′ : List ℕ} {number words nodes : ℕ} → n# w ≡ 0 → m ≡ m# w → l ≡ l# w → o ≡ circles# w
+      → Builds T c o 2 m l room work room′ work′ number words nodes → Appends T c w room work room′ work′ number words nodes
+  built-appends {room′ = room′} {work′} {number} {words} {nodes} e p q r b =
+      let B : Builds T c (circles# w) 2 (m# w) (l# w) room work room′ work′ number words nodes = rw (p, q, r) at b in
       let one = append-one T c w e in
       record {
         said = B .said ∙ sym builds-none ∙ sym (passed .none);

@@ -8,12 +8,13 @@ use Rattle.appending.proofs.Order.{Order}
 use Rattle.appending.specs.Append.{appended}
 use Rattle.laws.specs.Every.{Every}
 use Rattle.limits.proofs.Numbers.{Sized}
-use Rattle.measure.specs.Table.{between, rowsOf}
+use Rattle.measure.proofs.OnCircle.{round-rows}
+use Rattle.measure.specs.Table.{Rounded, between, rowsOf}
 use Rattle.tree.specs.Build.{build}
 use Rattle.tree.specs.Check.{Accepted}
 use Rattle.tree.specs.Grove.{treeOf}
 use Rattle.words.proofs.Headers.{words-whole}
-use Rattle.words.specs.Words.{N#, c#, edition#, l#, m#, n#, wordsOf}
+use Rattle.words.specs.Words.{N#, c#, circles#, edition#, l#, m#, n#, wordsOf}
 use borrow.Author.Tests.{eq-eqb}
 use lib.Dec.{eqb}
 use lib.ListN.{drop, length, length-drop, replicate, take, take-append-drop}
@@ -21,7 +22,7 @@ use lib.Seq.{length-take-le, take-at}
 use mathlib.Core.Bool.{cond, true}
 use mathlib.Core.List.{List, _++_}
 use mathlib.Core.Path.{_∙_, _≡_, ap, ap₂, refl, subst, sym}
-use native.Mathlib.Nat.{div-add-mod, mul-add}
+use native.Mathlib.Nat.{div-add-mod, mod-add-div, mul-add}
 use native.Mathlib.Omega.{arith}
 
 module _ {T : List ℕ} {c : ℕ} {w room work room′ work′ : List ℕ} {number words nodes : ℕ}
@@ -34,6 +35,10 @@ module _ {T : List ℕ} {c : ℕ} {w room work room′ work′ : List ℕ} {numb
   pub append-sized : Sized (length T) c
   append-sized = cleared .table
 
+  -- every row stands on the circle, the new one too
+  pub append-round : Rounded T c (circles# w)
+  append-round = round-rows T c (circles# w) (omega (arith, mod-add-div (length T) c, cleared .table .whole)) (cleared .on)
+
   -- the index stands at the front of the room
   pub append-there : take words room′ ≡ appended T c w
   append-there =
@@ -41,39 +46,41 @@ module _ {T : List ℕ} {c : ℕ} {w room work room′ work′ : List ℕ} {numb
       ap₂ take (rw q at (b .counted .0)) (rw q at (b .index))
       ∙ take-at (appended T c w) (drop (length (appended T c w)) room) (length (appended T c w)) refl
 
-  -- ON AN EMPTY INDEX IT IS THE BUILD OF ONE ROW, with the m and l of its header
-  pub append-one : n# w ≡ 0 → (rowsOf T c ≡ 1) × (take words room′ ≡ build T c 2 (m# w) (l# w))
+  -- ON AN EMPTY INDEX IT IS THE BUILD OF ONE ROW, with the m, l and circles of its header
+  pub append-one : n# w ≡ 0 → (rowsOf T c ≡ 1) × (take words room′ ≡ build T c (circles# w) 2 (m# w) (l# w))
   append-one e = (omega (arith, cleared .rows), append-there ∙ words-one T c w e)
 
   -- the table before the row came
   abbrev pub older : List ℕ
   older = take (c * n# w) T
 
-  module _ (accepted : Accepted (between older c) w) where
+  module _ (accepted : Accepted (between older c (circles# w)) w) where
     -- the table has the old one's rows and one more
-    longer : Longer (between older c) T c w
+    longer : Longer (between older c (circles# w)) T c w
     longer =
         let C = cleared in
         let k : ℕ = c * n# w in
         let long : length T ≡ k + c = omega (arith, div-add-mod (length T) c, C .table .whole, ap (λ (i : ℕ). c * i) (C .rows), mul-add c (n# w) 1) in
         let parts : older ++ drop k T ≡ T = take-append-drop k T in
-        subst (λ (t : List ℕ). Longer (between older c) t c w) parts
+        subst (λ (t : List ℕ). Longer (between older c (circles# w)) t c w) parts
         (longer-of older (drop k T) c w accepted (words-whole w (C .whole) .0) (C .columns) (length-take-le k T (omega arith))
-        (omega (arith, length-drop k T)) (omega (arith, C .rows, C .table .rows)) (subst (Every (λ v. v ≤ 65535)) (sym parts) (b .narrow)))
+        (omega (arith, length-drop k T)) (omega (arith, C .rows, C .table .rows)) (subst (Every (λ v. v ≤ 65535)) (sym parts) (b .narrow))
+        (subst (λ (t : List ℕ). Rounded t c (circles# w)) (sym parts) append-round))
 
     -- WHERE THE OLD INDEX PASSED THE FULL CHECK WITH THE OLD TABLE, THE NEW ONE PASSES IT WITH THE NEW
-    pub append-accepted : Accepted (between T c) (take words room′)
-    append-accepted = subst (Accepted (between T c)) (sym append-there) (words-accepted longer)
+    pub append-accepted : Accepted (between T c (circles# w)) (take words room′)
+    append-accepted = subst (Accepted (between T c (circles# w))) (sym append-there) (words-accepted longer)
 
     -- ITS HEADER HAS ONE ROW MORE AND ELSE WHAT THE OLD ONE HAS, AND ASKS FOR JUST THESE WORDS
     pub append-headed : (n# (take words room′) ≡ rowsOf T c) × (c# (take words room′) ≡ c) × (m# (take words room′) ≡ m# w)
         × (l# (take words room′) ≡ l# w) × (edition# (take words room′) ≡ 2) × (length (take words room′) ≡ wordsOf (take words room′))
+        × (circles# (take words room′) ≡ circles# w)
     append-headed =
         let h = append-header longer in
-        rw append-there (h .1 ∙ cleared .rows, h .2, h .3, h .4, h .0, append-length longer)
+        rw append-there (h .1 ∙ cleared .rows, h .2, h .3, h .4, h .0, append-length longer, h .5)
 
     -- ONE GROUP TAKES THE ROW, AND IS SPLIT WHERE IT MUST BE; ALL OTHERS STAY AS THEY ARE, IN THEIR ORDER
-    pub append-order : 1 ≤ n# w → Order (between T c) (m# w) (l# w) (n# w) 0 (treeOf w) (treeOf (take words room′))
+    pub append-order : 1 ≤ n# w → Order (between T c (circles# w)) (m# w) (l# w) (n# w) 0 (treeOf w) (treeOf (take words room′))
     append-order h = rw append-there (words-order longer h)
 
 -- NO SECOND OUTCOME FITS

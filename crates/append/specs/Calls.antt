@@ -13,7 +13,7 @@ use mathlib.Core.Bool.{cond}
 use mathlib.Core.List.{List, _++_}
 use mathlib.Core.Path.{_≡_}
 
--- For every input: the number is the lowest that applies. On 0 the index with the table's last row in it stands at the front of the room and the
+-- For every input: the number is the first that applies. On 0 the index with the table's last row in it stands at the front of the room and the
 -- first 6n words of the workspace are zero, both as they were beyond that; on a refusal both are as they were and the counts are 0
 pub record Appends (T : List ℕ) (c : ℕ) (w room work room′ work′ : List ℕ) (number words nodes : ℕ) : Type 0 where
   pub said : number ≡ saidAppend T c w (length room) (length work) .0

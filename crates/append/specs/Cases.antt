@@ -28,9 +28,13 @@ sixth = five ++ 6 ∷ []
 abbrev beside : List ℕ → ℕ → ℕ → Case
 beside T c number = record { table = T; columns = c; index = fiveWords; room = 80; work = 36; number = number }
 
+-- a table of six rows beside other words
+abbrev turned : List ℕ → List ℕ → ℕ → Case
+turned T w number = record { table = T; columns = 1; index = w; room = 80; work = 36; number = number }
+
 -- six rows beside other words
 abbrev over : List ℕ → ℕ → Case
-over w number = record { table = sixth; columns = 1; index = w; room = 80; work = 36; number = number }
+over w number = turned sixth w number
 
 -- the tables
 abbrev pub tables : List Case
@@ -52,6 +56,17 @@ rooms =
     ∷ record { table = sixth; columns = 1; index = fiveWords; room = 80; work = 35; number = 5 }
     ∷ record { table = sixth; columns = 1; index = []; room = 79; work = 36; number = 5 }
     ∷ record { table = sixth ++ 7 ∷ []; columns = 1; index = fiveWords; room = 92; work = 42; number = 8 }
+    ∷ []
+
+-- the index's circles: the new row off them, an older row off them, all on them, the column no circle, a bit that is no column's, and 9 before 19
+abbrev pub circles : List Case
+circles =
+    turned (five ++ 3600 ∷ []) (set fiveWords 7 1) 19
+    ∷ turned (set sixth 2 3600) (set fiveWords 7 1) 19
+    ∷ turned (five ++ 3599 ∷ []) (set fiveWords 7 1) 0
+    ∷ turned (five ++ 3600 ∷ []) fiveWords 0
+    ∷ turned (five ++ 3600 ∷ []) (set fiveWords 7 2) 8
+    ∷ turned (five ++ 3600 ∷ []) (set (set fiveWords 7 1) 9 4) 9
     ∷ []
 
 -- the words: none, edition 1, a count that no node can have, and a row that the index's table has not

@@ -19,14 +19,16 @@ use leafward::leaf_for;
 use limits::Params;
 use limits::rows_in;
 use refill::refill;
+use refusals::circle_number;
 use split::WIDTH;
 use words::index::index_number;
 use words::places::HEADER;
 use words::places::centres;
+use words::places::circles;
 use words::places::leaf_size;
 use words::places::rows;
 
-// What refuses the call, or 0. `room` and `work` are the lengths of what is lent.
+// What refuses the call, or 0. `room` and `work` are the lengths of what is lent. An append has no query: an empty part stands for it.
 fn refusal_of(table: &[u16], c: usize, index: &[u32], room: usize, work: usize) -> u32
     ensures { λ r. ⌜ r ≡ saidAppend (now (table .entry)) c (now (index .entry)) room work .0 ⌝ }
 {
@@ -38,7 +40,11 @@ fn refusal_of(table: &[u16], c: usize, index: &[u32], room: usize, work: usize) 
     if n == 0 {
         return 8;
     }
-    index_number(index, n - 1, c)
+    let unfit = index_number(index, n - 1, c);
+    if unfit != 0 {
+        return unfit;
+    }
+    circle_number(table, c, circles(index), &table[..0])
 }
 
 // How many rows the leaf may have: it stays however many it has, or it is split by the index's own leaf size.
@@ -89,6 +95,7 @@ pub fn append(table: &[u16], c: usize, index: &[u32], room: &mut [u32], work: &m
             c,
             centres(index),
             leaf_size(index),
+            circles(index),
             Params::LAST_EDITION,
             room,
             work,

@@ -1,7 +1,7 @@
 -- The index with one row more: the full check accepts it, and all groups but one keep their order. Assumes nothing.
 use Prim.Native.Nat.{_*_, _+_, _/_, _<_, _≤_, suc, zero, ℕ}
 use Rattle.appending.proofs.Agree.{Agree, good-agree}
-use Rattle.appending.proofs.Back.{entries-tree, tree-fits}
+use Rattle.appending.proofs.Back.{entries-tree, header-last, tree-fits}
 use Rattle.appending.proofs.Joined.{Appended, fresh-in, join-good}
 use Rattle.appending.proofs.Nodes.{Made, Once, good-made}
 use Rattle.appending.proofs.Numbered.{numbered-is}
@@ -17,11 +17,11 @@ use Rattle.laws.proofs.Times.{lefts, tally-lefts}
 use Rattle.laws.specs.Every.{Every}
 use Rattle.laws.specs.Lists.{tally}
 use Rattle.limits.proofs.Ranges.{both-within}
-use Rattle.limits.specs.Limits.{columnsOk, maxColumns, maxDepth, maxRows, shareOk}
+use Rattle.limits.specs.Limits.{circlesOk, columnsOk, maxColumns, maxDepth, maxRows, shareOk}
 use Rattle.measure.proofs.Metric.{between-most, metric}
 use Rattle.measure.proofs.Rows.{row-ends}
 use Rattle.measure.specs.Distance.{l1}
-use Rattle.measure.specs.Table.{between, row, rowsOf}
+use Rattle.measure.specs.Table.{Rounded, between, row, rowsOf}
 use Rattle.tree.proofs.Accepted.{shape-of}
 use Rattle.tree.proofs.Built.{build-accepted, planted}
 use Rattle.tree.proofs.Good.{Good, encode-accepted, size}
@@ -31,7 +31,7 @@ use Rattle.tree.specs.Encode.{encode}
 use Rattle.tree.specs.Grove.{Grove, entries, rowsIn, treeOf}
 use Rattle.words.proofs.Strides.{words-few}
 use Rattle.words.specs.InShape.{InShape}
-use Rattle.words.specs.Words.{N#, c#, edition#, l#, m#, n#, wordsOf}
+use Rattle.words.specs.Words.{N#, c#, circles#, edition#, l#, m#, n#, wordsOf}
 use borrow.Author.Tests.{eq-eqb, ne-eqb}
 use lib.ListN.{drop, length, length-append, length-drop, length-map, take}
 use lib.Seq.{drop-append-le, take-append-le}
@@ -51,17 +51,18 @@ share-ok w S =
     rw (both-within 2 64 (m# w) (S .whole .fan .0) (S .whole .fan .1), both-within (m# w) 1_024 (l# w) (S .whole .leaf .0) (S .whole .leaf .1))
 
 -- on an empty table the outcome is the build of one row
-pub append-one : (T : List ℕ) (c : ℕ) (w : List ℕ) → n# w ≡ 0 → appended T c w ≡ build T c 2 (m# w) (l# w)
+pub append-one : (T : List ℕ) (c : ℕ) (w : List ℕ) → n# w ≡ 0 → appended T c w ≡ build T c (circles# w) 2 (m# w) (l# w)
 unfolding appended
-append-one T c w e = ap (λ (b : Bool). cond b (build T c 2 (m# w) (l# w))
-    (encode 2 c (m# w) (l# w) (join (between T c) (m# w) (l# w) (n# w) maxDepth 0 (treeOf w)))) (eq-eqb (n# w) 0 e)
+append-one T c w e = ap (λ (b : Bool). cond b (build T c (circles# w) 2 (m# w) (l# w))
+    (encode 2 c (circles# w) (m# w) (l# w) (join (between T c (circles# w)) (m# w) (l# w) (n# w) maxDepth 0 (treeOf w)))) (eq-eqb (n# w) 0 e)
 
 -- else it is the tree with the row in it, numbered and written
 pub append-some : (T : List ℕ) (c : ℕ) (w : List ℕ) → 1 ≤ n# w
-    → appended T c w ≡ encode 2 c (m# w) (l# w) (join (between T c) (m# w) (l# w) (n# w) maxDepth 0 (treeOf w))
+    → appended T c w ≡ encode 2 c (circles# w) (m# w) (l# w) (join (between T c (circles# w)) (m# w) (l# w) (n# w) maxDepth 0 (treeOf w))
 unfolding appended
-append-some T c w h = ap (λ (b : Bool). cond b (build T c 2 (m# w) (l# w))
-    (encode 2 c (m# w) (l# w) (join (between T c) (m# w) (l# w) (n# w) maxDepth 0 (treeOf w)))) (ne-eqb (n# w) 0 (λ q. omega arith))
+append-some T c w h = ap (λ (b : Bool). cond b (build T c (circles# w) 2 (m# w) (l# w))
+    (encode 2 c (circles# w) (m# w) (l# w) (join (between T c (circles# w)) (m# w) (l# w) (n# w) maxDepth 0 (treeOf w))))
+    (ne-eqb (n# w) 0 (λ q. omega arith))
 
 -- a table whose rows are those that an accepted edition 2 index is over, and one more
 pub record Longer (d : ℕ → ℕ → ℕ) (T : List ℕ) (c : ℕ) (w : List ℕ) : Type 0 where
@@ -71,12 +72,13 @@ pub record Longer (d : ℕ → ℕ → ℕ) (T : List ℕ) (c : ℕ) (w : List �
   pub rows : rowsOf T c ≡ n# w + 1
   pub few : n# w + 1 ≤ maxRows
   pub small : Every (λ v. v ≤ 65535) T
-  pub same : Agree (n# w) d (between T c)
+  pub round : Rounded T c (circles# w)
+  pub same : Agree (n# w) d (between T c (circles# w))
 
 module _ {d : ℕ → ℕ → ℕ} {T : List ℕ} {c : ℕ} {w : List ℕ} (L : Longer d T c w) where
   -- the tree with the row in it
   abbrev pub newTree : Grove
-  newTree = join (between T c) (m# w) (l# w) (n# w) maxDepth 0 (treeOf w)
+  newTree = join (between T c (circles# w)) (m# w) (l# w) (n# w) maxDepth 0 (treeOf w)
 
   -- the old index is in shape
   old-shape : InShape w
@@ -90,41 +92,49 @@ module _ {d : ℕ → ℕ → ℕ} {T : List ℕ} {c : ℕ} {w : List ℕ} (L : 
   new-columns : columnsOk c ≡ true
   new-columns = subst (λ (k : ℕ). columnsOk k ≡ true) (L .columns) (columns-ok w old-shape)
 
+  -- so are the circles
+  new-circles : circlesOk c (circles# w) ≡ true
+  new-circles = subst (λ (k : ℕ). circlesOk k (circles# w) ≡ true) (L .columns) (header-last w (L .accepted .words) .1)
+
   -- the old tree is well made by the new table's distance
-  old-good : 1 ≤ n# w → Good (between T c) (m# w) (l# w) (treeOf w)
+  old-good : 1 ≤ n# w → Good (between T c (circles# w)) (m# w) (l# w) (treeOf w)
   old-good h =
-      good-agree d (between T c) (m# w) (l# w) (treeOf w) (subst (λ (n : ℕ). Agree n d (between T c)) (sym old-count) (L .same))
+      good-agree d (between T c (circles# w)) (m# w) (l# w) (treeOf w)
+      (subst (λ (n : ℕ). Agree n d (between T c (circles# w))) (sym old-count) (L .same))
       (accepted-good d w (L .accepted) (L .edition) h)
 
   -- the new one is, and has all rows
-  pub new-good : 1 ≤ n# w → Appended (between T c) (m# w) (l# w) (treeOf w) newTree
+  pub new-good : 1 ≤ n# w → Appended (between T c (circles# w)) (m# w) (l# w) (treeOf w) newTree
   new-good h =
-      subst (λ (z : ℕ). Appended (between T c) (m# w) (l# w) (treeOf w) (join (between T c) (m# w) (l# w) z maxDepth 0 (treeOf w))) old-count
-      (join-good (between T c) (metric T c) (between-most T c (omega (arith, old-shape .whole .columns .1, L .columns)) (L .small)) (m# w) (l# w)
+      subst (λ (z : ℕ). Appended (between T c (circles# w)) (m# w) (l# w) (treeOf w)
+      (join (between T c (circles# w)) (m# w) (l# w) z maxDepth 0 (treeOf w))) old-count
+      (join-good (between T c (circles# w)) (metric T c (circles# w) (L .round))
+      (between-most T c (circles# w) (omega (arith, old-shape .whole .columns .1, L .columns)) (L .small)) (m# w) (l# w)
       (omega (arith, old-shape .whole .fan .0)) (old-shape .whole .leaf .0) (treeOf w) (old-good h))
 
   -- THE FULL CHECK ACCEPTS THE INDEX WITH ONE ROW MORE
-  pub append-accepted : Accepted (between T c) (appended T c w)
+  pub append-accepted : Accepted (between T c (circles# w)) (appended T c w)
   append-accepted = go (n# w) refl
     where
-      go : (n : ℕ) → n# w ≡ n → Accepted (between T c) (appended T c w)
+      go : (n : ℕ) → n# w ≡ n → Accepted (between T c (circles# w)) (appended T c w)
       go zero e =
-          subst (Accepted (between T c)) (sym (append-one T c w e))
-          (build-accepted T c 2 (m# w) (l# w) refl new-columns (share-ok w old-shape) (omega (arith, L .rows, L .few)) (L .small))
+          subst (Accepted (between T c (circles# w))) (sym (append-one T c w e))
+          (build-accepted T c (circles# w) 2 (m# w) (l# w) refl new-columns new-circles (share-ok w old-shape) (omega (arith, L .rows, L .few))
+          (L .small) (L .round))
       go (suc n) e =
           let N = new-good (omega arith) in
-          subst (Accepted (between T c)) (sym (append-some T c w (omega arith)))
-          (encode-accepted (between T c) 2 c (m# w) (l# w) newTree refl new-columns (share-ok w old-shape)
+          subst (Accepted (between T c (circles# w))) (sym (append-some T c w (omega arith)))
+          (encode-accepted (between T c (circles# w)) 2 c (circles# w) (m# w) (l# w) newTree refl new-columns new-circles (share-ok w old-shape)
           (omega (arith, N .count, old-count, L .few)) (N .good))
 
   -- ITS TREE IS THE OLD TREE WITH THE ROW IN IT
   pub append-tree : 1 ≤ n# w → treeOf (appended T c w) ≡ newTree
   append-tree h =
       let G = new-good h .good in
-      ap treeOf (append-some T c w h) ∙ encode-tree c (m# w) (l# w) newTree (G .one) (G .even) (G .fine)
+      ap treeOf (append-some T c w h) ∙ encode-tree c (circles# w) (m# w) (l# w) newTree (G .one) (G .even) (G .fine)
 
   -- the old tree, as nodes side by side
-  old-made : 1 ≤ n# w → Made (between T c) (m# w) (l# w) maxDepth (treeOf w)
+  old-made : 1 ≤ n# w → Made (between T c (circles# w)) (m# w) (l# w) maxDepth (treeOf w)
   old-made h = good-made (old-good h)
 
   -- no row of the old tree stands twice, the new one counted
@@ -134,10 +144,10 @@ module _ {d : ℕ → ℕ → ℕ} {T : List ℕ} {c : ℕ} {w : List ℕ} (L : 
       fresh-in (n# w) (rowsIn (treeOf w)) (subst (λ (n : ℕ). Every (λ i. i < n) (rowsIn (treeOf w))) old-count (G .rows)) (G .once)
 
   -- ALL GROUPS BUT ONE KEEP THEIR MEMBERS AND THEIR ORDER
-  pub append-order : 1 ≤ n# w → Order (between T c) (m# w) (l# w) (n# w) 0 (treeOf w) (treeOf (appended T c w))
+  pub append-order : 1 ≤ n# w → Order (between T c (circles# w)) (m# w) (l# w) (n# w) 0 (treeOf w) (treeOf (appended T c w))
   append-order h =
-      subst (Order (between T c) (m# w) (l# w) (n# w) 0 (treeOf w)) (sym (append-tree h))
-      (join-order (between T c) (m# w) (l# w) (n# w) (old-shape .whole .fan .0) (old-shape .whole .leaf .0) 0 maxDepth 0 (treeOf w)
+      subst (Order (between T c (circles# w)) (m# w) (l# w) (n# w) 0 (treeOf w)) (sym (append-tree h))
+      (join-order (between T c (circles# w)) (m# w) (l# w) (n# w) (old-shape .whole .fan .0) (old-shape .whole .leaf .0) 0 maxDepth 0 (treeOf w)
       (omega arith) (old-made h) (old-once h) (omega (arith, old-good h .one)))
 
   -- THE OTHER GROUP'S ROWS AND THE NEW ONE ARE THE ROWS OF WHAT STANDS IN ITS PLACE
@@ -166,26 +176,27 @@ module _ {d : ℕ → ℕ → ℕ} {T : List ℕ} {c : ℕ} {w : List ℕ} (L : 
         tally-lefts f ns fs,
       )
 
-  -- THE HEADER: edition 2, one row more, the same columns, m and l
+  -- THE HEADER: edition 2, one row more, the same columns, m, l and circles
   pub append-header : (edition# (appended T c w) ≡ 2) × (n# (appended T c w) ≡ n# w + 1) × (c# (appended T c w) ≡ c) × (m# (appended T c w) ≡ m# w)
-      × (l# (appended T c w) ≡ l# w)
+      × (l# (appended T c w) ≡ l# w) × (circles# (appended T c w) ≡ circles# w)
   unfolding encode build
   append-header = go (n# w) refl
     where
       Fits : List ℕ → Type 0
-      Fits v = (edition# v ≡ 2) × (n# v ≡ n# w + 1) × (c# v ≡ c) × (m# v ≡ m# w) × (l# v ≡ l# w)
+      Fits v = (edition# v ≡ 2) × (n# v ≡ n# w + 1) × (c# v ≡ c) × (m# v ≡ m# w) × (l# v ≡ l# w) × (circles# v ≡ circles# w)
 
       go : (n : ℕ) → n# w ≡ n → Fits (appended T c w)
       go zero e =
           let one : rowsOf T c ≡ 1 = omega (arith, L .rows) in
-          let p = planted (between T c) (metric T c) (between-most T c (omega (arith, old-shape .whole .columns .1, L .columns)) (L .small))
+          let p = planted (between T c (circles# w)) (metric T c (circles# w) (L .round))
+          (between-most T c (circles# w) (omega (arith, old-shape .whole .columns .1, L .columns)) (L .small))
           (m# w) (l# w) (omega (arith, old-shape .whole .fan .0)) (old-shape .whole .leaf .0) 0 in
-          let n : length (entries (plant (between T c) (m# w) (l# w) (rowsOf T c))) ≡ n# w + 1 =
-          ap (λ (k : ℕ). length (entries (plant (between T c) (m# w) (l# w) k))) one ∙ p .0 ∙ omega arith in
-          subst Fits (sym (append-one T c w e)) (refl, n, refl, refl, refl)
+          let n : length (entries (plant (between T c (circles# w)) (m# w) (l# w) (rowsOf T c))) ≡ n# w + 1 =
+          ap (λ (k : ℕ). length (entries (plant (between T c (circles# w)) (m# w) (l# w) k))) one ∙ p .0 ∙ omega arith in
+          subst Fits (sym (append-one T c w e)) (refl, n, refl, refl, refl, refl)
       go (suc n) e =
           let some : 1 ≤ n# w = omega arith in
-          subst Fits (sym (append-some T c w some)) (refl, new-good some .count ∙ ap (λ (n : ℕ). n + 1) old-count, refl, refl, refl)
+          subst Fits (sym (append-some T c w some)) (refl, new-good some .count ∙ ap (λ (n : ℕ). n + 1) old-count, refl, refl, refl, refl)
 
   -- IT HAS AS MANY WORDS AS ITS HEADER ASKS FOR
   pub append-length : length (appended T c w) ≡ wordsOf (appended T c w)
@@ -195,15 +206,15 @@ module _ {d : ℕ → ℕ → ℕ} {T : List ℕ} {c : ℕ} {w : List ℕ} (L : 
       go : (n : ℕ) → n# w ≡ n → length (appended T c w) ≡ wordsOf (appended T c w)
       go zero e =
           subst (λ (v : List ℕ). length v ≡ wordsOf v) (sym (append-one T c w e))
-          (encode-length 2 c (m# w) (l# w) (plant (between T c) (m# w) (l# w) (rowsOf T c)) (omega arith, omega arith))
+          (encode-length 2 c (circles# w) (m# w) (l# w) (plant (between T c (circles# w)) (m# w) (l# w) (rowsOf T c)) (omega arith, omega arith))
       go (suc n) e =
           subst (λ (v : List ℕ). length v ≡ wordsOf v) (sym (append-some T c w (omega arith)))
-          (encode-length 2 c (m# w) (l# w) newTree (omega arith, omega arith))
+          (encode-length 2 c (circles# w) (m# w) (l# w) newTree (omega arith, omega arith))
 
   -- AND FITS THE ROOM OF A BUILD OF ONE ROW MORE
   pub append-room : length (appended T c w) ≤ 12 * (n# w + 1) + 8
   append-room =
-      let S = shape-of (between T c) (appended T c w) append-accepted in
+      let S = shape-of (between T c (circles# w)) (appended T c w) append-accepted in
       omega (arith, append-length, append-header .1, words-few (appended T c w) (S .whole))
 
   -- m NODES MORE, WHERE A LEAF IS SPLIT, OR NONE
@@ -212,7 +223,8 @@ module _ {d : ℕ → ℕ → ℕ} {T : List ℕ} {c : ℕ} {w : List ℕ} (L : 
   append-nodes h =
       let G = old-good h in
       let N = new-good h .good in
-      let p = join-size (between T c) (m# w) (l# w) (old-shape .whole .fan .0) (old-shape .whole .leaf .0) (n# w) maxDepth 0 (treeOf w) (old-made h)
+      let p = join-size (between T c (circles# w)) (m# w) (l# w) (old-shape .whole .fan .0) (old-shape .whole .leaf .0) (n# w) maxDepth 0 (treeOf w)
+      (old-made h)
       (old-once h) (omega (arith, G .one)) in
       let was : N# w ≡ size (treeOf w) =
       sym (ap length (numbered-is w old-shape (tree-fits w (L .accepted .shape))) ∙ simp (length-map, range-length))
@@ -230,11 +242,12 @@ row-front U r c n i e h =
     ap (take c) (drop-append-le (c * i) U r (omega arith)) ∙ take-append-le c (drop (c * i) U) r (simp length-drop (omega arith))
 
 -- an index accepted with a table, and that table with a row appended
-pub longer-of : (U r : List ℕ) (c : ℕ) (w : List ℕ) → Accepted (between U c) w → edition# w ≡ 2 → c# w ≡ c → length U ≡ c * n# w → length r ≡ c
-    → n# w + 1 ≤ maxRows → Every (λ v. v ≤ 65535) (U ++ r) → Longer (between U c) (U ++ r) c w
+pub longer-of : (U r : List ℕ) (c : ℕ) (w : List ℕ) → Accepted (between U c (circles# w)) w → edition# w ≡ 2 → c# w ≡ c → length U ≡ c * n# w
+    → length r ≡ c → n# w + 1 ≤ maxRows → Every (λ v. v ≤ 65535) (U ++ r) → Rounded (U ++ r) c (circles# w)
+    → Longer (between U c (circles# w)) (U ++ r) c w
 unfolding between
-longer-of U r c w A two hc hU hr few small =
-    let S = shape-of (between U c) w A in
+longer-of U r c w A two hc hU hr few small round =
+    let S = shape-of (between U c (circles# w)) w A in
     let some : 0 < c = omega (arith, S .whole .columns .0) in
     let len : length (U ++ r) ≡ c * n# w + c = omega (arith, length-append U r) in
     record {
@@ -244,10 +257,12 @@ longer-of U r c w A two hc hU hr few small =
       rows = ap (λ (k : ℕ). k / c) len ∙ mul-add-div some (n# w) c ∙ ap (λ (k : ℕ). n# w + k) (div-self some);
       few = few;
       small = small;
-      same = λ i j p q. ap₂ (λ (x y : List ℕ). l1 c x y) (sym (row-front U r c (n# w) i hU p)) (sym (row-front U r c (n# w) j hU q));
+      round = round;
+      same = λ i j p q. ap₂ (λ (x y : List ℕ). l1 c (circles# w) x y) (sym (row-front U r c (n# w) i hU p)) (sym (row-front U r c (n# w) j hU q));
     }
 
 -- IF THE OLD INDEX PASSED THE FULL CHECK WITH THE OLD TABLE, SO DOES THE NEW WITH THE TABLE THAT HAS ONE ROW MORE
-pub append-row : (U r : List ℕ) (c : ℕ) (w : List ℕ) → Accepted (between U c) w → edition# w ≡ 2 → c# w ≡ c → length U ≡ c * n# w → length r ≡ c
-    → n# w + 1 ≤ maxRows → Every (λ v. v ≤ 65535) (U ++ r) → Accepted (between (U ++ r) c) (appended (U ++ r) c w)
-append-row U r c w A two hc hU hr few small = append-accepted (longer-of U r c w A two hc hU hr few small)
+pub append-row : (U r : List ℕ) (c : ℕ) (w : List ℕ) → Accepted (between U c (circles# w)) w → edition# w ≡ 2 → c# w ≡ c → length U ≡ c * n# w
+    → length r ≡ c → n# w + 1 ≤ maxRows → Every (λ v. v ≤ 65535) (U ++ r) → Rounded (U ++ r) c (circles# w)
+    → Accepted (between (U ++ r) c (circles# w)) (appended (U ++ r) c w)
+append-row U r c w A two hc hU hr few small round = append-accepted (longer-of U r c w A two hc hU hr few small round)

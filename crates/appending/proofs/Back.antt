@@ -3,9 +3,9 @@ use Prim.Native.Nat.{_*_, _+_, _-_, _≤_, suc, zero, ℕ}
 use Rattle.appending.proofs.Numbered.{node#, numbered-is}
 use Rattle.laws.proofs.Lists.{map-append}
 use Rattle.laws.proofs.Ranges.{range-append, range-length}
-use Rattle.laws.proofs.Tests.{and-l, and-r, holds}
+use Rattle.laws.proofs.Tests.{and-l, and-r, holds, is-true}
 use Rattle.laws.specs.Lists.{all, each, range}
-use Rattle.limits.specs.Limits.{columnsOk, editionOk, maxDepth, maxRows, shareOk}
+use Rattle.limits.specs.Limits.{circlesOk, columnsOk, editionOk, maxDepth, maxRows, shareOk}
 use Rattle.tree.proofs.Members.{entries-at, held}
 use Rattle.tree.proofs.Rows.{by-root}
 use Rattle.tree.proofs.Written.{Edition}
@@ -14,7 +14,7 @@ use Rattle.tree.specs.Grove.{Grove, bare, entries, members#, treeOf}
 use Rattle.words.proofs.InShape.{in-shape}
 use Rattle.words.specs.InShape.{InShape}
 use Rattle.words.specs.Shape.{positionOk, shapeOk, treeFits}
-use Rattle.words.specs.Words.{N#, at, c#, edition#, cardOk, kept, kind#, l#, last#, m#, n#, nodeAt, nodesOk, pairAt, width, wordsOf, wholeOk}
+use Rattle.words.specs.Words.{N#, at, c#, edition#, cardOk, circles#, kept, kind#, l#, m#, n#, nodeAt, nodesOk, pairAt, width, wordsOf, wholeOk}
 use borrow.Author.Tests.{eqb-false, eqb-true}
 use lib.Dec.{T, eqb, eqb→eq, leb}
 use lib.ListN.{drop, length, length-map, take}
@@ -89,23 +89,23 @@ module _ (w : List ℕ) where
       ap₂ (λ (x y : List ℕ). x ++ y) (two-words (pairAt w p)) (pair-words (suc p) n ∙ ap (λ (i : ℕ). wordsFrom i (2 * n)) q)
       ∙ sym (words-append (pairAt w p) 2 (2 * n)) ∙ ap (wordsFrom (pairAt w p)) (sym e)
 
--- the two fixed words of a possible header
-header-fixed : (w : List ℕ) → wholeOk w ≡ true → (kind# w ≡ 1) × (last# w ≡ 0)
+-- what a possible header says of its last two words: the distance kind is 1, and the circles are columns
+pub header-last : (w : List ℕ) → wholeOk w ≡ true → (kind# w ≡ 1) × (circlesOk (c# w) (circles# w) ≡ true)
 unfolding wholeOk cardOk
-header-fixed w e =
+header-last w e =
     let a = editionOk (edition# w) in
     let b = leb (n# w) maxRows in
     let d = columnsOk (c# w) in
     let s = shareOk (m# w) (l# w) in
     let k = nodesOk (n# w) (N# w) in
     let x = eqb (kind# w) 1 in
-    let y = eqb (last# w) 0 in
+    let y = circlesOk (c# w) (circles# w) in
     let h = a && b && d && s && k && x && y in
     let g : T h = and-r (leb 8 (length w)) h (and-l (leb 8 (length w) && h) (leb (wordsOf w) (length w))
     (holds (leb 8 (length w) && h && leb (wordsOf w) (length w)) e)) in
     let g1 = and-l (a && b && d && s && k && x) y g in (
       eqb→eq (kind# w) 1 (and-r (a && b && d && s && k) x g1),
-      eqb→eq (last# w) 0 (and-r (a && b && d && s && k && x) y g),
+      is-true y (and-r (a && b && d && s && k && x) y g),
     )
 
 -- the nodes' part of the shape
@@ -127,11 +127,12 @@ entries-tree w S =
     empty (suc n) f = absurd (f (omega arith))
 
 -- AN INDEX IN SHAPE IS ITS TREE, NUMBERED AND WRITTEN IN ITS EDITION
-pub tree-encode : (w : List ℕ) → wholeOk w ≡ true → shapeOk w ≡ true → encode (edition# w) (c# w) (m# w) (l# w) (treeOf w) ≡ take (wordsOf w) w
+pub tree-encode : (w : List ℕ) → wholeOk w ≡ true → shapeOk w ≡ true → encode (edition# w) (c# w) (circles# w) (m# w) (l# w) (treeOf w)
+    ≡ take (wordsOf w) w
 unfolding encode
 tree-encode w ok sh =
     let S = in-shape w ok sh in
-    let f = header-fixed w ok in
+    let f = header-last w ok in
     let N : ℕ = N# w in
     let n : ℕ = n# w in
     let ns = numbered-is w S (tree-fits w sh) in
@@ -140,7 +141,7 @@ tree-encode w ok sh =
     let le : length (entries (treeOf w)) ≡ n = ap length es ∙ simp (length-map, range-length) in
     let e : ℕ = edition# w in
     let b : ℕ = width e * N in
-    let H : List ℕ = e ∷ length (entries (treeOf w)) ∷ c# w ∷ m# w ∷ l# w ∷ length (numbered (treeOf w)) ∷ 1 ∷ 0 ∷ [] in
+    let H : List ℕ = e ∷ length (entries (treeOf w)) ∷ c# w ∷ m# w ∷ l# w ∷ length (numbered (treeOf w)) ∷ 1 ∷ circles# w ∷ [] in
     let head : H ≡ wordsFrom w 0 8 = cc in
     let base : nodeAt w 0 ≡ 8 = omega (arith, mul-zero (width e)) in
     let one : each (nodeWords e) (numbered (treeOf w)) ≡ wordsFrom w 8 b =
@@ -153,10 +154,10 @@ tree-encode w ok sh =
     ∙ sym (words-append w 0 8 (b + 2 * n)) ∙ sym (part-words w 0 (8 + (b + 2 * n)) (omega (arith, S .whole .words)))
     ∙ ap (λ (k : ℕ). take k w) sum
 
--- TWO INDEXES IN SHAPE OF ONE EDITION WITH THE SAME COLUMNS, m AND l AND THE SAME TREE HAVE THE SAME WORDS
+-- TWO INDEXES IN SHAPE OF ONE EDITION WITH THE SAME COLUMNS, CIRCLES, m AND l AND THE SAME TREE HAVE THE SAME WORDS
 pub tree-only : (w v : List ℕ) → wholeOk w ≡ true → shapeOk w ≡ true → wholeOk v ≡ true → shapeOk v ≡ true → edition# w ≡ edition# v → c# w ≡ c# v
-    → m# w ≡ m# v → l# w ≡ l# v → treeOf w ≡ treeOf v → take (wordsOf w) w ≡ take (wordsOf v) v
-tree-only w v a b a′ b′ o p q r e =
-    sym (tree-encode w a b) ∙ ap₂ (λ (e : ℕ) (g : Grove). encode e (c# w) (m# w) (l# w) g) o e
-    ∙ ap₂ (λ (c m : ℕ). encode (edition# v) c m (l# w) (treeOf v)) p q ∙ ap (λ (l : ℕ). encode (edition# v) (c# v) (m# v) l (treeOf v)) r
-    ∙ tree-encode v a′ b′
+    → circles# w ≡ circles# v → m# w ≡ m# v → l# w ≡ l# v → treeOf w ≡ treeOf v → take (wordsOf w) w ≡ take (wordsOf v) v
+tree-only w v a b a′ b′ o p u q r e =
+    sym (tree-encode w a b) ∙ ap₂ (λ (e : ℕ) (g : Grove). encode e (c# w) (circles# w) (m# w) (l# w) g) o e
+    ∙ ap₂ (λ (c k : ℕ). encode (edition# v) c k (m# w) (l# w) (treeOf v)) p u
+    ∙ ap₂ (λ (m l : ℕ). encode (edition# v) (c# v) (circles# v) m l (treeOf v)) q r ∙ tree-encode v a′ b′

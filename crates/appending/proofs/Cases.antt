@@ -1,5 +1,5 @@
 -- The appended index is the one that another hand worked out. Assumes nothing.
-use Rattle.appending.specs.Cases.{deepest, marked, ours, right, unbuilt}
+use Rattle.appending.specs.Cases.{deepest, marked, ours, right, seam, unbuilt}
 use Rattle.laws.specs.Lists.{all}
 use mathlib.Core.Bool.{true}
 use mathlib.Core.Path.{_≡_, refl}
@@ -18,6 +18,11 @@ ours-right = refl
 pub unbuilt-right : all right unbuilt ≡ true
 unfolding right
 unbuilt-right = refl
+
+-- each of those on a circle
+pub seam-right : all right seam ≡ true
+unfolding right
+seam-right = refl
 
 -- the leaf at depth 24
 pub deepest-right : right deepest ≡ true

@@ -142,19 +142,19 @@ nodes-some zero nx fs = omega (arith, level-length nx fs)
 nodes-some (suc deep) nx fs = omega (arith, nodes-length deep nx fs)
 
 -- THE TREE OF WHAT ENCODE WRITES IN EDITION 2 IS THE TREE (edition 1 does not keep the inner reaches)
-pub encode-tree : (c m l : ℕ) (t : Grove) → span t ≡ 1 → Even m t → Fine l maxDepth t → treeOf (encode 2 c m l t) ≡ t
+pub encode-tree : (c o m l : ℕ) (t : Grove) → span t ≡ 1 → Even m t → Fine l maxDepth t → treeOf (encode 2 c o m l t) ≡ t
 unfolding treeOf encode numbered
-encode-tree c m l t one ev fi =
+encode-tree c o m l t one ev fi =
     let ed : Edition 2 = (omega arith, omega arith) in
-    let r = nodes-read (encode 2 c m l t) refl l maxDepth 0 (span t) ((0, t) ∷ []) (encode-nodes 2 c m l ed t) (encode-pairs 2 c m l ed t, tt)
+    let r = nodes-read (encode 2 c o m l t) refl l maxDepth 0 (span t) ((0, t) ∷ []) (encode-nodes 2 c o m l ed t) (encode-pairs 2 c o m l ed t, tt)
     (ev, tt) (fi, tt) (omega arith) (omega arith) in
     let q : min (length (numbered t)) 1 ≡ span t = omega (arith, nodes-some maxDepth (span t) ((0, t) ∷ [])) in
-    ap (λ (k : ℕ). forest (encode 2 c m l t) maxDepth 0 k) q ∙ r .0
+    ap (λ (k : ℕ). forest (encode 2 c o m l t) maxDepth 0 k) q ∙ r .0
 
 -- WHAT ENCODE WRITES HAS AS MANY WORDS AS ITS HEADER ASKS FOR
-pub encode-length : (e c m l : ℕ) (t : Grove) → Edition e → length (encode e c m l t) ≡ wordsOf (encode e c m l t)
+pub encode-length : (e c o m l : ℕ) (t : Grove) → Edition e → length (encode e c o m l t) ≡ wordsOf (encode e c o m l t)
 unfolding encode
-encode-length e c m l t ed =
+encode-length e c o m l t ed =
     let B : List ℕ = each (nodeWords e) (numbered t) in
     let Z : List ℕ = each pairWords (entries t) in
     omega (arith, length-append B Z, each-words e (numbered t) ed, pairs-length (entries t))

@@ -7,7 +7,7 @@ use Rattle.measure.specs.Table.{between}
 use Rattle.tree.specs.Build.{build, grow}
 use Rattle.tree.specs.Encode.{encode}
 use Rattle.tree.specs.Grove.{Grove, Reach, bare, entries, first, firsts, fork, leaf, reaching, treeOf}
-use Rattle.words.specs.Words.{l#, m#, n#}
+use Rattle.words.specs.Words.{circles#, l#, m#, n#}
 use lib.Dec.{eqb, leb, ltb}
 use lib.ListN.{length}
 use mathlib.Core.Bool.{Bool, _||_, cond, false}
@@ -73,8 +73,8 @@ module _ (d : ℕ → ℕ → ℕ) (m l z : ℕ) where
   join zero (suc at) (fork R ks g) = fork R ks (join zero at g)
   join (suc deep) (suc at) (fork R ks g) = fork R ks (join (suc deep) at g)
 
--- the words, in edition 2, of the edition 2 index w with the table's last row in it; on an empty table those of the build
+-- the words, in edition 2, of the edition 2 index w with the table's last row in it; on an empty table those of the build with its m, l and circles
 unfoldable pub appended : List ℕ → ℕ → List ℕ → List ℕ
 appended T c w =
-    let t : Grove = join (between T c) (m# w) (l# w) (n# w) maxDepth 0 (treeOf w) in
-    cond (eqb (n# w) 0) (build T c 2 (m# w) (l# w)) (encode 2 c (m# w) (l# w) t)
+    let t : Grove = join (between T c (circles# w)) (m# w) (l# w) (n# w) maxDepth 0 (treeOf w) in
+    cond (eqb (n# w) 0) (build T c (circles# w) 2 (m# w) (l# w)) (encode 2 c (circles# w) (m# w) (l# w) t)

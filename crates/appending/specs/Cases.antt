@@ -25,8 +25,8 @@ pub data Case : Type 0 where
 -- a case comes out as it says
 unfoldable pub right : Case → Bool
 unfolding sumTo l1 between treeAt treeOf family broods levelNodes nodes numbered encode choose split grow build appended join lodge lowestAt
-right (built T v w) = same (appended (T ++ v ∷ []) 1 (build T 1 2 2 2)) w
-right (order T v is N) = let w = appended (T ++ v ∷ []) 1 (build T 1 2 2 2) in same (map (row# w) (range 0 (n# w))) is && eqb (N# w) N
+right (built T v w) = same (appended (T ++ v ∷ []) 1 (build T 1 0 2 2 2)) w
+right (order T v is N) = let w = appended (T ++ v ∷ []) 1 (build T 1 0 2 2 2) in same (map (row# w) (range 0 (n# w))) is && eqb (N# w) N
 right (given T w w′) = same (appended T 1 w) w′
 
 -- equal rows
@@ -239,5 +239,41 @@ unbuilt =
     ∷ 0 ∷ 1 ∷ 0 ∷ 0 ∷ 0
     ∷ 1 ∷ 2 ∷ 0 ∷ 4 ∷ 4
     ∷ 0 ∷ 0 ∷ 1 ∷ 0 ∷ 2 ∷ 4 ∷ []
+    )
+    ∷ []
+
+-- a column that is a circle: the build of one row keeps the set; a row beyond the seam is near, in a leaf that is split and on the way down
+abbrev pub seam : List Case
+seam =
+    given (7 ∷ []) (2 ∷ 0 ∷ 1 ∷ 2 ∷ 2 ∷ 0 ∷ 1 ∷ 1 ∷ []) (
+    2 ∷ 1 ∷ 1 ∷ 2 ∷ 2 ∷ 1 ∷ 1 ∷ 1
+    ∷ 0 ∷ 1 ∷ 0 ∷ 0 ∷ 0
+    ∷ 0 ∷ 0 ∷ []
+    )
+    ∷ given (3595 ∷ 1800 ∷ 5 ∷ []) (
+    2 ∷ 2 ∷ 1 ∷ 2 ∷ 2 ∷ 1 ∷ 1 ∷ 1
+    ∷ 0 ∷ 2 ∷ 0 ∷ 1795 ∷ 1795
+    ∷ 0 ∷ 0 ∷ 1 ∷ 1795 ∷ []
+    ) (
+    2 ∷ 3 ∷ 1 ∷ 2 ∷ 2 ∷ 3 ∷ 1 ∷ 1
+    ∷ 0 ∷ 3 ∷ 1 ∷ 1795 ∷ 10
+    ∷ 0 ∷ 2 ∷ 0 ∷ 10 ∷ 10
+    ∷ 2 ∷ 1 ∷ 0 ∷ 0 ∷ 0
+    ∷ 0 ∷ 0 ∷ 2 ∷ 10 ∷ 1 ∷ 0 ∷ []
+    )
+    ∷ given (3595 ∷ 1800 ∷ 5 ∷ 3 ∷ []) (
+    2 ∷ 3 ∷ 1 ∷ 2 ∷ 2 ∷ 3 ∷ 1 ∷ 1
+    ∷ 0 ∷ 3 ∷ 1 ∷ 1795 ∷ 10
+    ∷ 0 ∷ 2 ∷ 0 ∷ 10 ∷ 10
+    ∷ 2 ∷ 1 ∷ 0 ∷ 0 ∷ 0
+    ∷ 0 ∷ 0 ∷ 2 ∷ 10 ∷ 1 ∷ 0 ∷ []
+    ) (
+    2 ∷ 4 ∷ 1 ∷ 2 ∷ 2 ∷ 5 ∷ 1 ∷ 1
+    ∷ 0 ∷ 4 ∷ 1 ∷ 1795 ∷ 8
+    ∷ 0 ∷ 3 ∷ 3 ∷ 10 ∷ 8
+    ∷ 3 ∷ 1 ∷ 0 ∷ 0 ∷ 0
+    ∷ 0 ∷ 1 ∷ 0 ∷ 0 ∷ 0
+    ∷ 1 ∷ 2 ∷ 0 ∷ 2 ∷ 2
+    ∷ 0 ∷ 0 ∷ 2 ∷ 0 ∷ 3 ∷ 2 ∷ 1 ∷ 0 ∷ []
     )
     ∷ []

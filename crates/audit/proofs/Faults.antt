@@ -7,15 +7,15 @@ use Rattle.laws.proofs.Ranges.{at-every, range-every}
 use Rattle.laws.specs.Every.{Every}
 use Rattle.laws.specs.First.{First}
 use Rattle.laws.specs.Lists.{each, keep, range}
-use Rattle.limits.specs.Limits.{maxRows}
+use Rattle.limits.specs.Limits.{maxRows, within}
 use Rattle.limits.specs.Said.{Said, said}
 use Rattle.nearness.specs.Strays.{allStrays, nodeStrays}
 use Rattle.tree.specs.Check.{again, faults, strays, wrongDist, wrongReach}
 use Rattle.words.specs.InShape.{InShape}
 use Rattle.words.specs.Words.{N#, count#, n#, start#}
-use mathlib.Core.Bool.{Bool}
+use mathlib.Core.Bool.{Bool, true}
 use mathlib.Core.List.{List, [], _++_, _∷_, append-assoc, map}
-use mathlib.Core.Path.{_∙_, _≡_, ap, subst, sym}
+use mathlib.Core.Path.{_∙_, _≡_, ap, refl, subst, sym}
 use native.Mathlib.Nat.{zero-add}
 use native.Mathlib.Omega.{arith}
 
@@ -116,11 +116,11 @@ module _ (P : Said → Type 0) where
 
 -- the number is one of the passes'
 abbrev pub Late : Said → Type 0
-Late s = 10 ≤ s .0
+Late s = within 10 13 (s .0) ≡ true
 
 -- every fault's is
 pub faults-late : (d : ℕ → ℕ → ℕ) (w : List ℕ) → Every Late (faults d w)
-faults-late d w = every-fault Late d w (λ p h. (omega arith, omega arith)) (λ k h. omega arith) (λ k i h l. omega arith)
+faults-late d w = every-fault Late d w (λ p h. (refl, refl)) (λ k h. refl) (λ k i h l. refl)
 
 -- the places are those of an index in shape: a node or a position, and a position
 abbrev pub Small : Said → Type 0

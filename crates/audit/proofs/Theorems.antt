@@ -1,6 +1,6 @@
 -- What the full check's contract comes to: it settles every outcome, and 0 is given exactly on an accepted index. Assumes nothing.
-use Prim.Native.Nat.{_*_, _≤_, ℕ}
-use Rattle.audit.proofs.Contract.{said-check}
+use Prim.Native.Nat.{_*_, _<_, _≤_, ℕ}
+use Rattle.audit.proofs.Contract.{said-check, unfound}
 use Rattle.audit.proofs.Faults.{Late, Small, faults-late, faults-small}
 use Rattle.audit.specs.Calls.{Checks, Passed}
 use Rattle.audit.specs.Numbers.{checkAsks, refusals}
@@ -10,19 +10,23 @@ use Rattle.laws.proofs.Every.{every-of}
 use Rattle.laws.specs.Every.{Every}
 use Rattle.limits.proofs.Faults.{Early, Numbered, early-numbered, none-listed, numberOf, says-next, says-none}
 use Rattle.limits.proofs.Numbers.{sized-of}
-use Rattle.limits.specs.Limits.{maxRows}
+use Rattle.limits.proofs.Ranges.{within-both}
+use Rattle.limits.specs.Limits.{maxRows, within}
 use Rattle.limits.specs.Said.{Said, said}
 use Rattle.limits.specs.declared.Asked.{Asked}
+use Rattle.measure.proofs.OnCircle.{empty-on}
 use Rattle.measure.specs.Table.{between, rowsOf}
+use Rattle.refusals.proofs.Refusals.{call-early, clear, clear-none, clear-shape}
 use Rattle.tree.specs.Check.{faults}
 use Rattle.words.proofs.Headers.{whole-words, words-whole}
-use Rattle.words.proofs.Indexes.{call-early, clear, clear-none, clear-shape}
+use Rattle.words.specs.Words.{circles#}
 use borrow.Author.Tests.{le-ltb, ltb-false}
+use lib.Dec.{T}
 use lib.ListN.{length}
-use mathlib.Core.Bool.{cond}
+use mathlib.Core.Bool.{cond, false}
 use mathlib.Core.List.{List, [], _++_, _∷_}
 use mathlib.Core.Logic.{_↔_}
-use mathlib.Core.Path.{_∙_, _≡_, ap, refl, sym}
+use mathlib.Core.Path.{_∙_, _≡_, ap, refl, subst, sym}
 use native.Mathlib.Omega.{arith}
 
 -- CHECK-ONLY: NO SECOND OUTCOME FITS
@@ -40,13 +44,14 @@ check-only {T} {c} {w} {work} A B =
 -- ---- refusals, and then faults of the passes
 -- no fault of the passes has the number 0
 faults-numbered : (d : ℕ → ℕ → ℕ) (w : List ℕ) → Numbered (faults d w)
-faults-numbered d w = every-of Late (λ f. 1 ≤ f .0) (λ f h. omega arith) (faults d w) (faults-late d w)
+faults-numbered d w = every-of Late (λ f. 1 ≤ f .0) (λ f h. omega (arith, within-both 10 13 (f .0) h .0)) (faults d w) (faults-late d w)
 
--- a number up to 9 names no place: it is a refusal's, or 0
-low-placeless : (l m : List Said) → Every Early l → Every Late m → said (l ++ m) .0 ≤ 9 → (said (l ++ m) .1 ≡ 0) × (said (l ++ m) .2 ≡ 0)
-low-placeless [] [] h k q = (refl, refl)
-low-placeless [] (s ∷ m) h k q = absurd (omega (arith, k .0))
-low-placeless (s ∷ l) m h k q = h .0 .placeless
+-- a number that is none of the passes' names no place: it is a refusal's, or 0
+none-placed : (l m : List Said) → Every Early l → Every Late m → within 10 13 (said (l ++ m) .0) ≡ false
+    → (said (l ++ m) .1 ≡ 0) × (said (l ++ m) .2 ≡ 0)
+none-placed [] [] h k q = (refl, refl)
+none-placed [] (s ∷ m) h k q = absurd (subst T (sym (sym q ∙ k .0)) tt)
+none-placed (s ∷ l) m h k q = h .0 .placeless
 
 -- the first of faults with small places has small places, and so has 0
 first-small : (m : List Said) → Every Small m → Small (said m)
@@ -70,7 +75,7 @@ module _ {T : List ℕ} {c : ℕ} {w work work′ : List ℕ} {number place seco
 
   -- the faults of its index
   abbrev late : List Said
-  late = faults (between T c) w
+  late = faults (between T c (circles# w)) w
 
   -- its number is that of the first refusal, else of the first fault
   number-is : number ≡ said (early ++ late) .0
@@ -87,8 +92,8 @@ module _ {T : List ℕ} {c : ℕ} {w work work′ : List ℕ} {number place seco
   -- 0 is given: no refusal meets the call, and the index is accepted
   zero-passed : number ≡ 0 → Passed T c w work
   zero-passed z =
-      let b = says-none early late (early-numbered early (call-early asks w)) (sym number-is ∙ z) in
-      let P = clear asks w (b .0) in
+      let b = says-none early late (early-numbered early (call-early asks T w [])) (sym number-is ∙ z) in
+      let P = clear asks T w [] (b .0) in
       let t = P .numbers .table in
       record {
         columns = (t .some, t .few);
@@ -98,14 +103,20 @@ module _ {T : List ℕ} {c : ℕ} {w work work′ : List ℕ} {number place seco
         same-rows = P .rows;
         same-columns = P .columns;
         edition = words-whole w (P .whole) .0;
-        accepted = record { words = words-whole w (P .whole) .1; shape = P .shape; sound = none-listed late (faults-numbered (between T c) w) (b .1) };
+        circled = P .table;
+        accepted =
+            record {
+              words = words-whole w (P .whole) .1;
+              shape = P .shape;
+              sound = none-listed late (faults-numbered (between T c (circles# w)) w) (b .1);
+            };
       }
 
   -- no refusal meets the call, and the index is accepted: 0 is given
   passed-zero : Passed T c w work → number ≡ 0
   passed-zero P =
       let A = P .accepted in
-      let none = clear-none asks w (record {
+      let none = clear-none asks T w [] (record {
         numbers =
             record {
               table = sized-of (length T) c (P .columns) (P .multiple) (P .few);
@@ -118,22 +129,24 @@ module _ {T : List ℕ} {c : ℕ} {w work work′ : List ℕ} {number place seco
         rows = P .same-rows;
         columns = P .same-columns;
         shape = A .shape;
+        table = P .circled;
+        query = empty-on c (circles# w);
       }) in
-      number-is ∙ ap numberOf (sym (says-next early late (early-numbered early (call-early asks w)) (sym none))) ∙ ap (λ l. said l .0) (A .sound)
+      number-is ∙ ap numberOf (sym (says-next early late (early-numbered early (call-early asks T w [])) (sym none))) ∙ ap (λ l. said l .0) (A .sound)
 
   -- CHECK-EXACT: 0 IS GIVEN EXACTLY WHERE NO REFUSAL MEETS THE CALL, THE INDEX IS THE TABLE'S, AND IT IS ACCEPTED
   pub check-exact : (number ≡ 0) ↔ Passed T c w work
   check-exact = (zero-passed, passed-zero)
 
-  -- CHECK-PLACELESS: 0 AND THE REFUSALS 1 TO 9 NAME NO PLACE
-  pub check-placeless : number ≤ 9 → (place ≡ 0) × (second ≡ 0)
-  check-placeless low =
-      let p = low-placeless early late (call-early asks w) (faults-late (between T c) w) (omega (arith, number-is)) in
+  -- CHECK-PLACELESS: 0 AND THE REFUSALS, WHICH ARE NONE OF 10 TO 13, NAME NO PLACE
+  pub check-placeless : (10 ≤ number → 13 < number) → (place ≡ 0) × (second ≡ 0)
+  check-placeless none =
+      let p = none-placed early late (call-early asks T w []) (faults-late (between T c (circles# w)) w) (rw (← number-is) (unfound number none)) in
       (place-is ∙ p .0, second-is ∙ p .1)
 
   -- CHECK-SMALL: THE FIRST PLACE IS AT MOST TWICE THE MOST ROWS, THE SECOND AT MOST THE MOST ROWS, so that 32 bits hold them
   pub check-small : (place ≤ 2 * maxRows) × (second ≤ maxRows)
   check-small =
-      let P = said-small early late (call-early asks w)
-      (λ z. faults-small (between T c) w (clear-shape asks w (clear asks w (ap (λ l. said l .0) z)))) in
+      let P = said-small early late (call-early asks T w [])
+      (λ z. faults-small (between T c (circles# w)) w (clear-shape asks T w [] (clear asks T w [] (ap (λ l. said l .0) z)))) in
       (rw place-is (P .0), rw second-is (P .1))

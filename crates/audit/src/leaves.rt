@@ -5,7 +5,7 @@ ghost use Rattle.laws.specs.First.{First};
 ghost use Rattle.measure.specs.Table.{between};
 ghost use Rattle.tree.specs.Check.{wrongDist};
 ghost use Rattle.tree.specs.Tested.{Tested};
-ghost use Rattle.words.specs.Words.{N#, n#};
+ghost use Rattle.words.specs.Words.{N#, circles#, n#};
 use reach::apart;
 use reach::lesser;
 use reach::node_end;
@@ -20,7 +20,8 @@ use words::places::stored_at;
 fn leaf_wrong(table: &[u16], c: usize, index: &[u32], k: usize) -> usize
     requires { ⌜ Tested (now index) (now table) c ⌝ }
     requires { ⌜ k < N# (now index) ⌝ }
-    ensures { λ r. ⌜ First (leafWrong (between (now (table .entry)) c) (now (index .entry)) k) 0 (n# (now (index .entry))) r ⌝ }
+    ensures { λ r. ⌜ First (leafWrong (between (now (table .entry)) c (circles# (now (index .entry)))) (now (index .entry)) k) 0
+        (n# (now (index .entry))) r ⌝ }
 {
     let n = rows(index);
     if node_child(index, k) != 0 {
@@ -41,7 +42,8 @@ fn leaf_wrong(table: &[u16], c: usize, index: &[u32], k: usize) -> usize
 // The lowest position with a wrong stored distance, or n.
 pub fn first_wrong_distance(table: &[u16], c: usize, index: &[u32]) -> usize
     requires { ⌜ Tested (now index) (now table) c ⌝ }
-    ensures { λ r. ⌜ First (wrongDist (between (now (table .entry)) c) (now (index .entry))) 0 (n# (now (index .entry))) r ⌝ }
+    ensures { λ r. ⌜ First (wrongDist (between (now (table .entry)) c (circles# (now (index .entry)))) (now (index .entry))) 0
+        (n# (now (index .entry))) r ⌝ }
 {
     let total = nodes(index);
     let n = rows(index);

@@ -11,7 +11,7 @@ ghost use Rattle.limits.specs.Said.{said};
 ghost use Rattle.measure.specs.Table.{between};
 ghost use Rattle.tree.specs.Check.{faults};
 ghost use Rattle.tree.specs.Tested.{Tested};
-ghost use Rattle.words.specs.Words.{n#};
+ghost use Rattle.words.specs.Words.{circles#, n#};
 ghost use lib.ListN.{length};
 ghost use mathlib.Core.Path.{_≡_};
 use buffers::clear_words;
@@ -21,8 +21,8 @@ use limits::is_short;
 use limits::rows_in;
 use nearness::closeness;
 use reach::radii::first_wrong_reach;
+use refusals::refusal;
 use repeats::first_again;
-use words::index::refusal;
 use words::places::nodes;
 use words::places::rows;
 
@@ -33,7 +33,7 @@ pub struct Checked {
     pub second: usize,
 }
 
-// 1 to 9: what refuses the call before the passes, or 0. `room` is the workspace's length.
+// 1 to 9 and 19: what refuses the call before the passes, or 0. `room` is the workspace's length. A check has no query: an empty part stands for it.
 fn refusal_of(table: &[u16], c: usize, index: &[u32], room: usize) -> u32
     ensures { λ r. ⌜ r ≡ said (refusals (now (table .entry)) c (now (index .entry)) room) .0 ⌝ }
 {
@@ -46,13 +46,13 @@ fn refusal_of(table: &[u16], c: usize, index: &[u32], room: usize) -> u32
         unlike: false,
         none: false,
     };
-    refusal(asked, index)
+    refusal(asked, table, index, &table[..0])
 }
 
 // 11 to 13: the first fault that distances show, or 0.
 fn measured_fault(table: &[u16], c: usize, index: &[u32]) -> Checked
     requires { ⌜ Tested (now index) (now table) c ⌝ }
-    ensures { λ r. ⌜ told r ≡ said (measuredFaults (between (now (table .entry)) c) (now (index .entry))) ⌝ }
+    ensures { λ r. ⌜ told r ≡ said (measuredFaults (between (now (table .entry)) c (circles# (now (index .entry)))) (now (index .entry))) ⌝ }
 {
     let p = first_wrong_distance(table, c, index);
     if p < rows(index) {
@@ -82,7 +82,7 @@ fn measured_fault(table: &[u16], c: usize, index: &[u32]) -> Checked
 fn first_fault(table: &[u16], c: usize, index: &[u32], work: &mut [u32]) -> Checked
     requires { ⌜ Tested (now index) (now table) c ⌝ }
     requires { ⌜ 6 * n# (now index) ≤ length (now work) ⌝ }
-    ensures says { λ r. ⌜ told r ≡ said (faults (between (now (table .entry)) c) (now (index .entry))) ⌝ }
+    ensures says { λ r. ⌜ told r ≡ said (faults (between (now (table .entry)) c (circles# (now (index .entry)))) (now (index .entry))) ⌝ }
     ensures leaves { λ _. ⌜ now (work .exit) ≡ wiped (6 * n# (now (index .entry))) (now (work .entry)) ⌝ }
 {
     let n = rows(index);
@@ -100,7 +100,8 @@ fn first_fault(table: &[u16], c: usize, index: &[u32], work: &mut [u32]) -> Chec
 }
 
 // The full check of an index for a table of c columns: 0 where it is accepted, else the number and the places of the first refusal or fault.
-// Each row is measured once for its stored distance, and at each level of the tree once for the radius and the inner reach and at most m times for the centres.
+// Each row is measured once for its stored distance, and at each level of the tree once for the radius and the inner reach and at most m times for
+// the centres.
 pub fn check(table: &[u16], c: usize, index: &[u32], work: &mut [u32]) -> Checked
     ensures { λ r. ⌜ Checks (now (table .entry)) c (now (index .entry)) (now (work .entry)) (now (work .exit)) (r .number) (r .place) (r .second) ⌝ }
 {

@@ -178,6 +178,38 @@ fn free() {
     show(&rows[..0], 1, &none, &mut kept);
 }
 
+// The rows 3595 5 3590 in one leaf; `circles` has the bits of the columns that are circles.
+fn seam_index(circles: u32) -> [u32; 19]
+    ensures { λ r. ⌜ 19 ≡ length r ⌝ }
+{
+    let mut index = [0; 19];
+    put(&[2, 3, 1, 2, 4, 1, 1, circles], &mut index, 0);
+    put(&[0, 3, 0, 10, 5], &mut index, 8);
+    put(&[0, 0, 1, 10, 2, 5], &mut index, 13);
+    index
+}
+
+// A table of three rows and an index.
+fn seam(rows: &[u16], index: [u32; 19]) {
+    let mut work = [7u32; 19];
+    show(rows, 1, &index, &mut work);
+}
+
+// On the circle the distances are right, as plain numbers they are not, and a bit for a second column is impossible. A row that is not on the circle
+// gives 19, which comes before a row again and leaves the workspace.
+fn circular() {
+    let on: [u16; 3] = [3595, 5, 3590];
+    let off: [u16; 3] = [3595, 5, 3600];
+    seam(&on, seam_index(1));
+    seam(&on, seam_index(0));
+    seam(&on, seam_index(3));
+    seam(&off, seam_index(1));
+    let mut again = seam_index(1);
+    again[17] = 0;
+    seam(&on, again);
+    seam(&off, again);
+}
+
 fn main() {
     five(five_index());
     one_fault();
@@ -187,4 +219,5 @@ fn main() {
     other_table();
     missing_word();
     free();
+    circular();
 }

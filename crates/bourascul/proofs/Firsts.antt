@@ -3,12 +3,11 @@ use Prim.Native.Nat.{_<_, _≤_, min, suc, zero, ℕ}
 use Rattle.laws.proofs.Tests.{or-l, or-r}
 use Rattle.laws.proofs.Times.{lefts}
 use Rattle.laws.specs.Lists.{has, look}
-use Rattle.nearest.proofs.Contract.{same-answers}
 use Rattle.tree.proofs.Answers.{answers-length, near-at}
 use Rattle.tree.proofs.Sorted.{Sorted, sort-sorted, sorted-take, under-last}
 use Rattle.tree.specs.Grove.{Grove}
 use Rattle.tree.specs.Homes.{homes}
-use Rattle.tree.specs.Nearest.{answers, candidates, isMeasured, lastDistance, nearHow, passes, sort}
+use Rattle.tree.specs.Nearest.{answers, candidates, isMeasured, lastDistance, nearHow, passes, remaining, sort}
 use borrow.Author.Tests.{le-leb, leb-true, lt-ltb, ltb-true}
 use lib.Dec.{T, eqb, leb, ltb}
 use lib.ListN.{getD, length, take}
@@ -65,49 +64,54 @@ first-made f zero s z h = refl
 first-made f (suc g) [] z h = absurd (omega arith)
 first-made {A} f (suc g) (a ∷ s) z h = ap (λ (l : List A). f a ∷ l) (first-made f g s z (omega arith))
 
--- ---- of the answers of n rows at x
-module _ (x : ℕ → ℕ) (n : ℕ) where
+-- as many as were taken, taken again
+take-again : {A : Type 0} (k : ℕ) (s : List A) → take (length (take k s)) s ≡ take k s
+take-again zero s = refl
+take-again (suc k) [] = refl
+take-again {A} (suc k) (a ∷ s) = ap (λ (l : List A). a ∷ l) (take-again k s)
+
+-- ---- of the answers of n rows at x, of which some are withdrawn
+module _ (x : ℕ → ℕ) (gone : ℕ → Bool) (n : ℕ) where
   -- THE FIRST k OF MORE ANSWERS ARE THE k
-  pub answers-first : (k k′ : ℕ) → k ≤ k′ → take (min k n) (answers x n k′) ≡ answers x n k
+  pub answers-first : (k k′ : ℕ) → k ≤ k′ → take k (answers x gone n k′) ≡ answers x gone n k
   unfolding answers
-  answers-first k k′ h = take-take (min k n) (min k′ n) (sort (candidates x n)) (omega arith)
+  answers-first k k′ h = take-take k k′ (sort (candidates x gone n)) h
 
   -- an answer stays one
-  pub answer-stays : (i k k′ : ℕ) → k ≤ k′ → has i (lefts (answers x n k)) ≡ true → has i (lefts (answers x n k′)) ≡ true
+  pub answer-stays : (i k k′ : ℕ) → k ≤ k′ → has i (lefts (answers x gone n k)) ≡ true → has i (lefts (answers x gone n k′)) ≡ true
   unfolding answers
-  answer-stays i k k′ h = has-more i (sort (candidates x n)) (min k n) (min k′ n) (omega arith)
+  answer-stays i k k′ h = has-more i (sort (candidates x gone n)) k k′ h
 
   -- D does not fall
-  pub last-more : (k k′ : ℕ) → k ≤ k′ → lastDistance (answers x n k) ≤ lastDistance (answers x n k′)
+  pub last-more : (k k′ : ℕ) → k ≤ k′ → lastDistance (answers x gone n k) ≤ lastDistance (answers x gone n k′)
   unfolding answers
-  last-more k k′ h = last-grows (sort (candidates x n)) (min k n) (min k′ n) (sort-sorted (candidates x n)) (omega arith)
+  last-more k k′ h = last-grows (sort (candidates x gone n)) k k′ (sort-sorted (candidates x gone n)) h
 
   -- A HOME BOUND THAT PASSES FOR k PASSES FOR MORE
-  pub passes-more : (k k′ b : ℕ) → k ≤ k′ → passes x n k b ≡ true → passes x n k′ b ≡ true
+  pub passes-more : (k k′ b : ℕ) → k ≤ k′ → passes x gone n k b ≡ true → passes x gone n k′ b ≡ true
   unfolding passes
-  passes-more k k′ b h = pass-still n k k′ b (lastDistance (answers x n k)) (lastDistance (answers x n k′)) h (last-more k k′ h)
+  passes-more k k′ b h = pass-still (length (candidates x gone n)) k k′ b (lastDistance (answers x gone n k)) (lastDistance (answers x gone n k′)) h (last-more k k′ h)
 
   -- A ROW MEASURED FOR k IS MEASURED FOR MORE
-  pub measured-still : (t : Grove) (k k′ i : ℕ) → k ≤ k′ → i < n → T (isMeasured (getD (nearHow x n t k) i 0))
-      → T (isMeasured (getD (nearHow x n t k′) i 0))
+  pub measured-still : (t : Grove) (k k′ i : ℕ) → k ≤ k′ → i < n → T (isMeasured (getD (nearHow x gone n t k) i 0))
+      → T (isMeasured (getD (nearHow x gone n t k′) i 0))
   measured-still t k k′ i more h m =
       let b : ℕ = look i (homes x t) in
-      subst (λ (v : ℕ). T (isMeasured v)) (sym (near-at x n t k′ i h))
-      (still-measured (has i (lefts (answers x n k))) (passes x n k b) (has i (lefts (answers x n k′))) (passes x n k′ b) (answer-stays i k k′ more)
-      (passes-more k k′ b more) (subst (λ (v : ℕ). T (isMeasured v)) (near-at x n t k i h) m))
-
-  -- as many as are wanted, or all
-  answers-many : (k : ℕ) → length (answers x n k) ≡ min k n
-  answers-many k = ap length (sym (same-answers x n k (min k n) refl)) ∙ answers-length x n (min k n) (omega arith)
+      subst (λ (v : ℕ). T (isMeasured v)) (sym (near-at x gone n t k′ i h))
+      (still-measured (has i (lefts (answers x gone n k))) (passes x gone n k b) (has i (lefts (answers x gone n k′))) (passes x gone n k′ b) (answer-stays i k k′ more)
+      (passes-more k k′ b more) (subst (λ (v : ℕ). T (isMeasured v)) (near-at x gone n t k i h) m))
 
   -- what is handed out of the answers, in any form f: what stands in front of l, before z
-  first-out : {A : Type 0} {l : List A} (f : ℕ × ℕ → A) (k k′ g : ℕ) (z : List A) → k ≤ k′ → g ≡ min k n → l ≡ map f (answers x n k′) ++ z
-      → take g l ≡ map f (answers x n k)
+  first-out : {A : Type 0} {l : List A} (f : ℕ × ℕ → A) (k k′ g : ℕ) (z : List A) → k ≤ k′ → g ≡ min k (remaining gone n)
+      → l ≡ map f (answers x gone n k′) ++ z → take g l ≡ map f (answers x gone n k)
   first-out f k k′ g z more e out =
-      ap (take g) out ∙ first-made f g (answers x n k′) z (omega (arith, answers-many k′))
-      ∙ ap (λ (s : List (ℕ × ℕ)). map f s) (ap (λ (j : ℕ). take j (answers x n k′)) e ∙ answers-first k k′ more)
+      let whole : g ≡ length (take k (answers x gone n k′)) =
+      e ∙ sym (answers-length x gone n k) ∙ ap (λ (s : List (ℕ × ℕ)). length s) (sym (answers-first k k′ more)) in
+      ap (take g) out ∙ first-made f g (answers x gone n k′) z (omega (arith, answers-length x gone n k′))
+      ∙ ap (λ (s : List (ℕ × ℕ)). map f s)
+      (ap (λ (j : ℕ). take j (answers x gone n k′)) whole ∙ take-again k (answers x gone n k′) ∙ answers-first k k′ more)
 
   -- IN ANY FORM, THE FIRST OF MORE ARE THE FEWER
-  pub same-first : {A : Type 0} {l l′ : List A} (f : ℕ × ℕ → A) (k k′ g : ℕ) (z z′ : List A) → k ≤ k′ → g ≡ min k n
-      → l ≡ map f (answers x n k) ++ z → l′ ≡ map f (answers x n k′) ++ z′ → take g l′ ≡ take g l
+  pub same-first : {A : Type 0} {l l′ : List A} (f : ℕ × ℕ → A) (k k′ g : ℕ) (z z′ : List A) → k ≤ k′ → g ≡ min k (remaining gone n)
+      → l ≡ map f (answers x gone n k) ++ z → l′ ≡ map f (answers x gone n k′) ++ z′ → take g l′ ≡ take g l
   same-first f k k′ g z z′ more e out out′ = first-out f k k′ g z′ more e out′ ∙ sym (first-out f k k g z (omega arith) e out)

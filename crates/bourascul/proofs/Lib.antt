@@ -6,3 +6,4 @@ pub mod Numbers
 pub mod Own
 pub mod Promises
 pub mod Trees
+pub mod Orders

@@ -9,16 +9,17 @@ use Rattle.audit.specs.Numbers.{checkAsks, saidCheck}
 use Rattle.tree.specs.Check.{faults}
 use Rattle.words.proofs.Headers.{edition-two, good-words, words-whole}
 use Rattle.words.proofs.InShape.{header-possible, in-shape, whole}
-use Rattle.words.specs.Index.{callFaults, fitFaults, indexFaults}
+use Rattle.refusals.specs.Refused.{callFaults, circleFaults}
+use Rattle.words.specs.Index.{fitFaults, indexFaults}
 use Rattle.words.specs.InShape.{InShape}
 use Rattle.words.specs.Shape.{shapeOk}
-use Rattle.words.specs.Words.{at, c#, cardOk, edition#, headerOk, n#, wordsOf, wordsOk}
+use Rattle.words.specs.Words.{at, c#, cardOk, circles#, edition#, headerOk, n#, wordsOf, wordsOk}
 use borrow.Author.Tests.{le-leb}
 use lib.Dec.{eqb, lit<, ltb}
 use lib.ListN.{length, take}
 use lib.Seq.{getD-take, length-take-le}
 use mathlib.Core.Bool.{Bool, _&&_, not, true}
-use mathlib.Core.List.{List, _++_}
+use mathlib.Core.List.{List, [], _++_}
 use mathlib.Core.Path.{_∙_, _≡_, ap, ap₂, sym}
 use native.Mathlib.Omega.{arith}
 
@@ -74,7 +75,9 @@ module _ (w : List ℕ) (ok : wordsOk w ≡ true) (shape : shapeOk w ≡ true) w
   said-own : (T : List ℕ) (c work : ℕ) → saidCheck T c own work ≡ saidCheck T c w work
   unfolding saidCheck callFaults
   said-own T c work =
-      ap₂ (λ (x y : List Said). said (numberFaults (checkAsks T c work) ++ x ++ y)) (index-own (rowsOf T c) c) (faults-own (between T c))
+      ap₂ (λ (x y : List Said). said (numberFaults (checkAsks T c work) ++ x ++ y))
+      (ap₂ (λ (x y : List Said). x ++ y) (index-own (rowsOf T c) c) (ap (λ (o : ℕ). circleFaults c o T []) (head-own 7 (lit< tt))))
+      (ap (λ (o : ℕ). faults (between T c o) own) (head-own 7 (lit< tt)) ∙ faults-own (between T c (circles# w)))
 
   -- CHECK-OWN: WHAT A CHECK GIVES OF ITS OWN WORDS IT GIVES OF THE INDEX, WHATEVER STANDS BEHIND IT
   pub check-own : {T : List ℕ} {c : ℕ} {work work′ : List ℕ} {number place second : ℕ} → Checks T c own work work′ number place second

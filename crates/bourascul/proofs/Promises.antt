@@ -8,14 +8,14 @@ use Rattle.bourascul.specs.Calls.{ReadsBlock}
 use Rattle.bourascul.specs.Recorded.{Recorded}
 use Rattle.card.proofs.Theorems.{read-only}
 use Rattle.measure.specs.Table.{between, from, row}
-use Rattle.nearest.proofs.Contract.{same-answers}
 use Rattle.nearest.proofs.Promises.{Same, nearest-exact, nearest-only, nearest-two-tables}
 use Rattle.nearest.specs.Calls.{Serves}
-use Rattle.nearest_search.specs.Asked.{NearestAsked, NearestLent, asks, away, due, rowsIn}
+use Rattle.nearest_search.specs.Asked.{NearestAsked, NearestLent, asks, away, gone, rowsIn}
 use Rattle.nearest_search.specs.Found.{Settled}
 use Rattle.tree.proofs.Answers.{answers-length}
 use Rattle.tree.specs.Check.{Accepted}
 use Rattle.tree.specs.Nearest.{answers, isMeasured}
+use Rattle.words.specs.Words.{circles#}
 use lib.Dec.{T}
 use lib.ListN.{drop, getD, length, take}
 use lib.Seq.{take-at}
@@ -31,10 +31,8 @@ module _ {asked : NearestAsked} {as₀ as₁ : List Answer} {lent lent′ : Near
   refused-records k = s .recorded ∙ ap (λ (given : ℕ). records (lent′ .rows) (lent′ .distances) given ++ drop given as₀) (s .plain .refused k .0)
 
   -- RECORDS BEYOND WHAT IS WRITTEN STAY
-  pub records-stay : number ≡ 0 → drop (due asked) as₁ ≡ drop (due asked) as₀
-  records-stay z =
-      ap (drop (due asked)) (s .recorded)
-      ∙ records-beyond (lent′ .rows) (lent′ .distances) as₀ given (due asked) (omega (arith, s .plain .sound z .count))
+  pub records-stay : drop given as₁ ≡ drop given as₀
+  records-stay = ap (drop given) (s .recorded) ∙ records-beyond (lent′ .rows) (lent′ .distances) as₀ given given (omega arith)
 
   -- the first of them are made of the numbers and distances that were handed out
   first-records : take given as₁ ≡ records (take given (lent′ .rows)) (take given (lent′ .distances)) given
@@ -42,39 +40,35 @@ module _ {asked : NearestAsked} {as₀ as₁ : List Answer} {lent lent′ : Near
       ap (take given) (s .recorded) ∙ take-at (records (lent′ .rows) (lent′ .distances) given) (drop given as₀) given (length-records (lent′ .rows) (lent′ .distances) given) ∙ records-first (lent′ .rows) (lent′ .distances) given
 
   -- the records are those of the rows and distances that the plain call settles
-  settled-records : (x : ℕ → ℕ) → Settled x (asked .index) (asked .wanted) lent lent′ given
-      → as₁ ≡ map (λ a. made (a .0) (a .1)) (answers x (rowsIn asked) (asked .wanted)) ++ drop (due asked) as₀
+  settled-records : (x : ℕ → ℕ) → Settled x (gone asked) (asked .index) (asked .wanted) lent lent′ given
+      → as₁ ≡ map (λ a. made (a .0) (a .1)) (answers x (gone asked) (rowsIn asked) (asked .wanted)) ++ drop given as₀
   settled-records x Z =
-      let k : ℕ = due asked in
-      let long : length (answers x (rowsIn asked) (asked .wanted)) ≡ k =
-      ap length (sym (same-answers x (rowsIn asked) (asked .wanted) k refl)) ∙ answers-length x (rowsIn asked) k (omega arith) in
-      s .recorded ∙ ap₂ (λ (l : List Answer) (k : ℕ). l ++ drop k as₀)
-      (records-of (answers x (rowsIn asked) (asked .wanted)) (lent′ .rows) (lent′ .distances) (drop k (lent .rows)) (drop k (lent .distances)) given (Z .rows) (Z .distances) (Z .count ∙ sym long)) (Z .count)
+      let A : List (ℕ × ℕ) = answers x (gone asked) (rowsIn asked) (asked .wanted) in
+      let long : given ≡ length A = Z .count ∙ sym (answers-length x (gone asked) (rowsIn asked) (asked .wanted)) in
+      s .recorded ∙ ap (λ (l : List Answer). l ++ drop given as₀)
+      (records-of A (lent′ .rows) (lent′ .distances) (drop given (lent .rows)) (drop given (lent .distances)) given (Z .rows) (Z .distances) long)
 
   -- THE RECORDS ARE THE ANSWERS OF ANY TABLE THAT FITS THE INDEX AND WITH WHICH THE LENT ONE AGREES IN THE ROWS MEASURED
   pub answers-served : number ≡ 0 → (t′ : List ℕ) → Serves asked t′
-      → as₁ ≡ map (λ a. made (a .0) (a .1)) (answers (from t′ (asked .columns) (asked .query)) (rowsIn asked) (asked .wanted)) ++ drop (due asked) as₀
-  answers-served z t′ A = settled-records (from t′ (asked .columns) (asked .query)) (s .plain .found z t′ A)
+      → as₁ ≡ map (λ a. made (a .0) (a .1)) (answers (from t′ (asked .columns) (circles# (asked .index)) (asked .query)) (gone asked) (rowsIn asked) (asked .wanted)) ++ drop given as₀
+  answers-served z t′ A = settled-records (from t′ (asked .columns) (circles# (asked .index)) (asked .query)) (s .plain .found z t′ A)
 
-  module _ (done : number ≡ 0) (A : Accepted (between (asked .table) (asked .columns)) (asked .index)) where
+  module _ (done : number ≡ 0) (A : Accepted (between (asked .table) (asked .columns) (circles# (asked .index))) (asked .index)) where
     -- EXACT: THE RECORDS ARE THE FIRST OF ALL ROWS BY DISTANCE, THEN ROW NUMBER, EACH WITH ITS DISTANCE, BEFORE WHAT STOOD BEYOND
-    pub answers-exact : as₁ ≡ map (λ a. made (a .0) (a .1)) (answers (away asked) (rowsIn asked) (asked .wanted)) ++ drop (due asked) as₀
+    pub answers-exact : as₁ ≡ map (λ a. made (a .0) (a .1)) (answers (away asked) (gone asked) (rowsIn asked) (asked .wanted)) ++ drop given as₀
     answers-exact = settled-records (away asked) (nearest-exact (s .plain) done A)
 
 -- ---- two outcomes, on two tables: the first accepted with the index, the second agreeing with it in every row that was measured
 module _ {asked : NearestAsked} {t₂ : List ℕ} {as₀ as₁ bs₀ bs₁ : List Answer} {lent lent′ lent₂ lent₂′ : NearestLent} {number given met number₂ given₂ met₂ : ℕ}
     (s : Recorded asked as₀ as₁ lent lent′ number given met)
-    (s₂ : Recorded (asks t₂ (asked .columns) (asked .index) (asked .query) (asked .wanted)) bs₀ bs₁ lent₂ lent₂′ number₂ given₂ met₂) where
+    (s₂ : Recorded (asks t₂ (asked .columns) (asked .index) (asked .query) (asked .wanted) (asked .withdrawn)) bs₀ bs₁ lent₂ lent₂′ number₂ given₂ met₂) where
   -- TWO TABLES: A SEARCH ON THE SECOND THAT IS NOT REFUSED GIVES THE SAME RECORDS
-  pub answers-two-tables : number ≡ 0 → number₂ ≡ 0 → Accepted (between (asked .table) (asked .columns)) (asked .index)
+  pub answers-two-tables : number ≡ 0 → number₂ ≡ 0 → Accepted (between (asked .table) (asked .columns) (circles# (asked .index))) (asked .index)
       → ((i : ℕ) → i < rowsIn asked → T (isMeasured (getD (lent′ .how) i 0)) → row (asked .table) (asked .columns) i ≡ row t₂ (asked .columns) i) → (given ≡ given₂) × (take given as₁ ≡ take given₂ bs₁)
   answers-two-tables z z₂ A agree =
       let E = nearest-two-tables (s .plain) z A (s₂ .plain) z₂ agree in
-      let k : given ≡ due asked = nearest-exact (s .plain) z A .count in
-      let r : take given (lent′ .rows) ≡ take given₂ (lent₂′ .rows) =
-      ap (λ (k : ℕ). take k (lent′ .rows)) k ∙ E .2 ∙ ap (λ (k : ℕ). take k (lent₂′ .rows)) (sym k ∙ E .0) in
-      let d : take given (lent′ .distances) ≡ take given₂ (lent₂′ .distances) =
-      ap (λ (k : ℕ). take k (lent′ .distances)) k ∙ E .3 ∙ ap (λ (k : ℕ). take k (lent₂′ .distances)) (sym k ∙ E .0) in (
+      let r : take given (lent′ .rows) ≡ take given₂ (lent₂′ .rows) = E .2 ∙ ap (λ (k : ℕ). take k (lent₂′ .rows)) (E .0) in
+      let d : take given (lent′ .distances) ≡ take given₂ (lent₂′ .distances) = E .3 ∙ ap (λ (k : ℕ). take k (lent₂′ .distances)) (E .0) in (
         E .0,
         first-records s ∙ ap₂ (λ (r d : List ℕ). records r d given) r d ∙ ap (records (take given₂ (lent₂′ .rows)) (take given₂ (lent₂′ .distances))) (E .0) ∙ sym (first-records s₂),
       )

@@ -10,6 +10,7 @@ ghost use Rattle.image.specs.Calls.{Writes};
 ghost use Rattle.nearest.specs.Calls.{Answered};
 ghost use Rattle.nearest_search.specs.Asked.{asks, lends};
 ghost use Rattle.radius.specs.Calls.{Searched};
+ghost use Rattle.rowset.specs.Orders.{Orders, restoring, striking};
 ghost use Rattle.words.specs.Calls.{Lists};
 ghost use lib.ListN.{length};
 ghost use mathlib.Core.Path.{_≡_};
@@ -78,11 +79,12 @@ pub extern "C" fn bourascul_build(
     c: u32,
     m: u32,
     l: u32,
+    circles: u32,
     edition: u32,
     room: &mut [u32],
     work: &mut [u32],
 ) -> Built
-    ensures { λ r. ⌜ Builds (now (table .entry)) c edition m l (now (room .entry)) (now (work .entry)) (now (room .exit)) (now (work .exit))
+    ensures { λ r. ⌜ Builds (now (table .entry)) c circles edition m l (now (room .entry)) (now (work .entry)) (now (room .exit)) (now (work .exit))
         (r .number) (r .words) (r .nodes) ⌝ }
 {
     let built = build::build(
@@ -90,6 +92,7 @@ pub extern "C" fn bourascul_build(
         c as usize,
         m as usize,
         l as usize,
+        circles,
         edition as usize,
         room,
         work,
@@ -140,12 +143,13 @@ pub extern "C" fn bourascul_radius(
     index: &[u32],
     query: &[u16],
     r: u32,
+    withdrawn: &[u32],
     how: &mut [u8],
 ) -> Found
-    ensures { λ f. ⌜ Searched (now (table .entry)) c (now (index .entry)) (now (query .entry)) r (now (how .entry)) (now (how .exit)) (f .number)
-        (f .inside) (f .measured) ⌝ }
+    ensures { λ f. ⌜ Searched (now (table .entry)) c (now (index .entry)) (now (query .entry)) r (now (withdrawn .entry)) (now (how .entry)) (now (how .exit))
+        (f .number) (f .inside) (f .measured) ⌝ }
 {
-    let found = radius::radius(table, c as usize, index, query, r, how);
+    let found = radius::radius(table, c as usize, index, query, r, withdrawn, how);
     Found {
         number: found.number,
         inside: found.inside as u32,
@@ -160,12 +164,13 @@ pub extern "C" fn bourascul_nearest(
     index: &[u32],
     query: &[u16],
     w: u32,
+    withdrawn: &[u32],
     rows: &mut [u32],
     distances: &mut [u32],
     how: &mut [u8],
     work: &mut [u32],
 ) -> Near
-    ensures { λ g. ⌜ Answered (asks (now (table .entry)) c (now (index .entry)) (now (query .entry)) w)
+    ensures { λ g. ⌜ Answered (asks (now (table .entry)) c (now (index .entry)) (now (query .entry)) w (now (withdrawn .entry)))
         (min (length (now (rows .entry))) (length (now (distances .entry))))
         (lends (now (rows .entry)) (now (distances .entry)) (now (how .entry)) (now (work .entry)))
         (lends (now (rows .exit)) (now (distances .exit)) (now (how .exit)) (now (work .exit))) (g .number) (g .given) (g .measured) ⌝ }
@@ -176,6 +181,7 @@ pub extern "C" fn bourascul_nearest(
         index,
         query,
         w as usize,
+        withdrawn,
         rows,
         distances,
         how,
@@ -195,13 +201,14 @@ fn within(
     index: &[u32],
     query: &[u16],
     w: u32,
+    withdrawn: &[u32],
     own: usize,
     rows: &mut [u32],
     distances: &mut [u32],
     how: &mut [u8],
     work: &mut [u32],
 ) -> Near
-    ensures { λ g. ⌜ Answered (asks (now (table .entry)) c (now (index .entry)) (now (query .entry)) w)
+    ensures { λ g. ⌜ Answered (asks (now (table .entry)) c (now (index .entry)) (now (query .entry)) w (now (withdrawn .entry)))
         (min own (min (length (now (rows .entry))) (length (now (distances .entry)))))
         (lends (now (rows .entry)) (now (distances .entry)) (now (how .entry)) (now (work .entry)))
         (lends (now (rows .exit)) (now (distances .exit)) (now (how .exit)) (now (work .exit))) (g .number) (g .given) (g .measured) ⌝ }
@@ -212,6 +219,7 @@ fn within(
         index,
         query,
         w as usize,
+        withdrawn,
         own,
         rows,
         distances,
@@ -234,19 +242,32 @@ pub extern "C" fn bourascul_nearest_answers(
     index: &[u32],
     query: &[u16],
     w: u32,
+    withdrawn: &[u32],
     answers: &mut [Answer],
     rows: &mut [u32],
     distances: &mut [u32],
     how: &mut [u8],
     work: &mut [u32],
 ) -> Near
-    ensures { λ g. ⌜ Recorded (asks (now (table .entry)) c (now (index .entry)) (now (query .entry)) w)
+    ensures { λ g. ⌜ Recorded (asks (now (table .entry)) c (now (index .entry)) (now (query .entry)) w (now (withdrawn .entry)))
         (now (answers .entry)) (now (answers .exit))
         (lends (now (rows .entry)) (now (distances .entry)) (now (how .entry)) (now (work .entry)))
         (lends (now (rows .exit)) (now (distances .exit)) (now (how .exit)) (now (work .exit))) (g .number) (g .given) (g .measured) ⌝ }
 {
     let room = answers.len();
-    let near = within(table, c, index, query, w, room, rows, distances, how, work);
+    let near = within(
+        table,
+        c,
+        index,
+        query,
+        w,
+        withdrawn,
+        room,
+        rows,
+        distances,
+        how,
+        work,
+    );
     let given = near.given as usize;
     answers::fill_answers(answers, rows, distances, given);
     near
@@ -284,4 +305,20 @@ pub extern "C" fn bourascul_list(index: &[u32], node: u32) -> Part
         start: part.start as u32,
         length: part.length as u32,
     }
+}
+
+// Strikes a row of n: it is withdrawn from the searches that are lent the set from now on.
+#[no_mangle]
+pub extern "C" fn bourascul_strike(withdrawn: &mut [u32], n: u32, row: u32) -> u32
+    ensures { λ k. ⌜ Orders (now (withdrawn .entry)) (now (withdrawn .exit)) n (striking row) k ⌝ }
+{
+    rowset::strike(withdrawn, n as usize, row as usize)
+}
+
+// Restores a row of n: it is withdrawn no longer.
+#[no_mangle]
+pub extern "C" fn bourascul_restore(withdrawn: &mut [u32], n: u32, row: u32) -> u32
+    ensures { λ k. ⌜ Orders (now (withdrawn .entry)) (now (withdrawn .exit)) n (restoring row) k ⌝ }
+{
+    rowset::restore(withdrawn, n as usize, row as usize)
 }

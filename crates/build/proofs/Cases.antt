@@ -6,7 +6,8 @@ use Rattle.laws.specs.Lists.{range}
 use Rattle.laws.specs.Upto.{sumTo}
 use Rattle.limits.specs.Said.{numberFaults}
 use Rattle.measure.specs.Distance.{l1}
-use Rattle.measure.specs.Table.{between, rowsOf}
+use Rattle.measure.specs.Table.{between, offCircle, rowsOf}
+use Rattle.refusals.specs.Refused.{circleFaults}
 use Rattle.tree.specs.Build.{build, choose, grow, split}
 use Rattle.build.specs.Numbers.{roomOf, saidBuild}
 use Rattle.tree.specs.Cases.{five, fiveWords}
@@ -20,8 +21,8 @@ use mathlib.Core.List.{List, [], _++_, _∷_, map}
 use mathlib.Core.Path.{_∙_, _≡_, ap, ap₂, refl}
 
 -- a table whose words are known and whose rooms are long enough
-comes : (T ws : List ℕ) → build T 1 2 2 2 ≡ ws → rowsOf T 1 ≡ length T
-    → ((room work : ℕ) → ltb room (roomOf (length T)) ≡ false → ltb work (6 * length T) ≡ false → saidBuild T 1 2 2 2 room work .0 ≡ 0)
+comes : (T ws : List ℕ) → build T 1 0 2 2 2 ≡ ws → rowsOf T 1 ≡ length T
+    → ((room work : ℕ) → ltb room (roomOf (length T)) ≡ false → ltb work (6 * length T) ≡ false → saidBuild T 1 0 2 2 2 room work .0 ≡ 0)
     → Comes (T, ws)
 comes T ws is n said room work room′ work′ number words count hr hw b =
     let z : number ≡ 0 =
@@ -37,7 +38,7 @@ comes T ws is n said room work room′ work′ number words count hr hw b =
 
 -- EVERY CALL ON A TABLE OF 01 LEAVES ITS WORDS: THE FIVE ROWS; FOUR EQUAL ROWS, IN THE ORDER 0 3 2 1 UNDER FIVE NODES; NO ROWS
 pub build-cases : Every Comes table × (map (row# sevenWords) (range 0 4) ≡ 0 ∷ 3 ∷ 2 ∷ 1 ∷ []) × (N# sevenWords ≡ 5)
-unfolding saidBuild numberFaults sumTo l1 between family broods levelNodes nodes numbered encode choose split grow build
+unfolding saidBuild numberFaults circleFaults offCircle sumTo l1 between family broods levelNodes nodes numbered encode choose split grow build
 build-cases = (
   (
     comes five fiveWords refl refl (λ room work a b. rw (a, b)),

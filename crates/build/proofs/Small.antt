@@ -12,10 +12,13 @@ use Rattle.laws.proofs.Every.{every-append}
 use Rattle.laws.proofs.Ranges.{range-length}
 use Rattle.laws.specs.Every.{Every}
 use Rattle.laws.specs.Lists.{joined, range}
-use Rattle.limits.specs.Limits.{columnsOk, maxDepth, maxRows, shareOk}
+use Rattle.limits.specs.Chosen.{choiceOk}
+use Rattle.limits.specs.Limits.{columnsOk, maxDepth, maxRows}
 use Rattle.limits.specs.Said.{fault, numberFaults, said}
 use Rattle.limits.specs.declared.Params.{Params}
-use Rattle.measure.specs.Table.{between, rowsOf}
+use Rattle.measure.proofs.OnCircle.{empty-on}
+use Rattle.measure.specs.Table.{between, offCircle, rowsOf}
+use Rattle.refusals.specs.Refused.{circleFaults}
 use Rattle.split.proofs.Laid.{split-joined}
 use Rattle.tree.proofs.Grow.{split-length, split-runs}
 use Rattle.tree.specs.Build.{Run, build, plant, split}
@@ -25,8 +28,9 @@ use Rattle.words.specs.Words.{N#}
 use borrow.Author.Tests.{eqb-true, leb-false}
 use lib.Dec.{eqb, leb, ltb}
 use lib.ListN.{length, length-append, length-map}
-use mathlib.Core.Bool.{Bool, _&&_, cond, false, not, true}
+use mathlib.Core.Bool.{Bool, _||_, cond, false, not, true}
 use mathlib.Core.List.{List, [], _++_, _∷_}
+use mathlib.Core.Logic.{_⊎_, inl, inr}
 use mathlib.Core.Path.{_∙_, _≡_, ap, refl, subst, sym}
 use native.Mathlib.Omega.{arith}
 
@@ -130,51 +134,55 @@ module _ (d : ℕ → ℕ → ℕ) (m l : ℕ) (m2 : 2 ≤ m) (ml : m ≤ l) whe
         range-length 0 (suc n),
       )
 
-module _ (T : List ℕ) (c e m l : ℕ) (room work : List ℕ) where
+module _ (T : List ℕ) (c o e m l : ℕ) (room work : List ℕ) where
   -- number 0: the numbers are in range
-  fit : saidBuild T c e m l (length room) (length work) .0 ≡ 0 → Fit T c m l (rowsOf T c)
+  fit : saidBuild T c o e m l (length room) (length work) .0 ≡ 0 → Fit T c m l (rowsOf T c)
   fit z =
-      let p : Params = record { centres = m; leaf = l } in
-      let passed : Passed T c e m l room work p = record { none = z; m-is = refl; l-is = refl } in
+      let p : Params = record { centres = m; leaf = l; circles = o } in
+      let passed : Passed T c o e m l room work p = record { none = z; m-is = refl; l-is = refl; o-is = refl } in
       built-fit passed
 
   -- the index of any table that is not refused
-  built-small : saidBuild T c e m l (length room) (length work) .0 ≡ 0
-      → (length (build T c 2 m l) ≤ 12 * maxRows + 8) × (N# (build T c 2 m l) ≤ 2 * maxRows)
+  built-small : saidBuild T c o e m l (length room) (length work) .0 ≡ 0
+      → (length (build T c o 2 m l) ≤ 12 * maxRows + 8) × (N# (build T c o 2 m l) ≤ 2 * maxRows)
   unfolding build encode
   built-small z =
       let f = fit z in
-      let few = nodes-few (between T c) m l (f .two) (f .leafy) (rowsOf T c) in
-      (omega (arith, few, f .rows, encode-long f refl), omega (arith, few, f .rows))
+      let few = nodes-few (between T c o) m l (f .two) (f .leafy) (rowsOf T c) in
+      (omega (arith, few, f .rows, encode-long f o refl), omega (arith, few, f .rows))
 
 -- THE COUNTS ARE SMALL: at most 12n + 8 words and 2n nodes for the most rows, so that 32 bits hold them
-pub build-small : {T : List ℕ} {c e m l : ℕ} {room work room′ work′ : List ℕ} {number words nodes : ℕ}
-    → Builds T c e m l room work room′ work′ number words nodes
+pub build-small : {T : List ℕ} {c o e m l : ℕ} {room work room′ work′ : List ℕ} {number words nodes : ℕ}
+    → Builds T c o e m l room work room′ work′ number words nodes
     → (words ≤ 12 * maxRows + 8) × (nodes ≤ 2 * maxRows)
-build-small {T} {c} {e} {m} {l} {room} {work} {number = number} {words} {nodes} b = go (eqb number 0) refl (b .counted .0) (b .counted .1)
+build-small {T} {c} {o} {e} {m} {l} {room} {work} {number = number} {words} {nodes} b = go (eqb number 0) refl (b .counted .0) (b .counted .1)
   where
-    go : (t : Bool) → eqb number 0 ≡ t → words ≡ cond t (length (build T c 2 m l)) 0 → nodes ≡ cond t (N# (build T c 2 m l)) 0
+    go : (t : Bool) → eqb number 0 ≡ t → words ≡ cond t (length (build T c o 2 m l)) 0 → nodes ≡ cond t (N# (build T c o 2 m l)) 0
         → (words ≤ 12 * maxRows + 8) × (nodes ≤ 2 * maxRows)
     go true q w k =
-        let s = built-small T c e m l room work (sym (b .said) ∙ eqb-true number 0 q) in
+        let s = built-small T c o e m l room work (sym (b .said) ∙ eqb-true number 0 q) in
         (omega (arith, s .0), omega (arith, s .1))
     go false q w k = (omega arith, omega arith)
 
 -- ---- the number
--- THE NUMBER IS AT MOST 5
-pub build-low : {T : List ℕ} {c e m l : ℕ} {room work room′ work′ : List ℕ} {number words nodes : ℕ}
-    → Builds T c e m l room work room′ work′ number words nodes → number ≤ 5
-unfolding saidBuild numberFaults
-build-low {T} {c} {e} {m} {l} {room} {work} b =
-    subst (λ (k : ℕ). k ≤ 5) (sym (b .said))
-    (five-low (not (columnsOk c)) (not (shareOk m l && eqb e 2)) (not (eqb (length T % c) 0)) (ltb maxRows (rowsOf T c))
-    (shortOf (rowsOf T c) (length room) (length work)))
+-- THE NUMBER IS AT MOST 5, OR IT IS 19 AND A CIRCULAR COLUMN HOLDS 3,600 OR MORE
+pub build-low : {T : List ℕ} {c o e m l : ℕ} {room work room′ work′ : List ℕ} {number words nodes : ℕ}
+    → Builds T c o e m l room work room′ work′ number words nodes → (number ≤ 5) ⊎ ((number ≡ 19) × (offCircle c o T ≡ true))
+unfolding saidBuild numberFaults circleFaults
+build-low {T} {c} {o} {e} {m} {l} {room} {work} b =
+    subst (λ (k : ℕ). (k ≤ 5) ⊎ ((k ≡ 19) × (offCircle c o T ≡ true))) (sym (b .said))
+    (rw (empty-on c o)
+    (six-low (not (columnsOk c)) (not (choiceOk c m l o e)) (not (eqb (length T % c) 0)) (ltb maxRows (rowsOf T c))
+    (shortOf (rowsOf T c) (length room) (length work)) (offCircle c o T)))
   where
-    -- the first of the five refusals, or 0
-    five-low : (a b c d e : Bool) → said (fault 1 a ++ (fault 2 b ++ (fault 3 c ++ (fault 4 d ++ (fault 5 e ++ []))))) .0 ≤ 5
-    five-low true b c d e = omega arith
-    five-low false true c d e = omega arith
-    five-low false false true d e = omega arith
-    five-low false false false true e = omega arith
-    five-low false false false false true = omega arith
-    five-low false false false false false = omega arith
+    -- the first of the five refusals that numbers decide, or 19, or 0
+    six-low : (a b c d e f : Bool)
+        → (said ((fault 1 a ++ (fault 2 b ++ (fault 3 c ++ (fault 4 d ++ (fault 5 e ++ []))))) ++ fault 19 (f || false)) .0 ≤ 5)
+        ⊎ ((said ((fault 1 a ++ (fault 2 b ++ (fault 3 c ++ (fault 4 d ++ (fault 5 e ++ []))))) ++ fault 19 (f || false)) .0 ≡ 19) × (f ≡ true))
+    six-low true b c d e f = inl (omega arith)
+    six-low false true c d e f = inl (omega arith)
+    six-low false false true d e f = inl (omega arith)
+    six-low false false false true e f = inl (omega arith)
+    six-low false false false false true f = inl (omega arith)
+    six-low false false false false false true = inr (refl, refl)
+    six-low false false false false false false = inl (omega arith)

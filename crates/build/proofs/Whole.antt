@@ -34,9 +34,9 @@ use native.Mathlib.Nat.{add-zero}
 use native.Mathlib.Omega.{arith}
 
 -- 8 + 5N + 2n words, whatever the tree
-pub encode-words : (c m l : ℕ) (g : Grove) → length (encode 2 c m l g) ≡ nodeAt (length (numbered g)) + 2 * length (entries g)
+pub encode-words : (c o m l : ℕ) (g : Grove) → length (encode 2 c o m l g) ≡ nodeAt (length (numbered g)) + 2 * length (entries g)
 unfolding encode
-encode-words c m l g =
+encode-words c o m l g =
     omega (
       arith,
       length-append (each (nodeWords 2) (numbered g)) (each pairWords (entries g)),
@@ -79,39 +79,39 @@ module _ {t : List ℕ} {c m l n : ℕ} (fit : Fit t c m l n) where
   one = omega (arith, fit .two)
 
   -- its index has 8 + 5N + 2n words
-  pub encode-long : {made : ℕ} → made ≡ length (numbered (plant (between t c) m l n))
-      → length (encode 2 c m l (plant (between t c) m l n)) ≡ nodeAt made + 2 * n
-  encode-long k =
-      encode-words c m l (plant (between t c) m l n)
-      ∙ ap₂ (λ (i j : ℕ). nodeAt i + 2 * j) (sym k) (positions (between t c) m l one (fit .leafy) n)
+  pub encode-long : (o : ℕ) {made : ℕ} → made ≡ length (numbered (plant (between t c o) m l n))
+      → length (encode 2 c o m l (plant (between t c o) m l n)) ≡ nodeAt made + 2 * n
+  encode-long o k =
+      encode-words c o m l (plant (between t c o) m l n)
+      ∙ ap₂ (λ (i j : ℕ). nodeAt i + 2 * j) (sym k) (positions (between t c o) m l one (fit .leafy) n)
 
   -- THE LEVELS ARE THE TREE OF 01
-  pub grown-levels : {origin room work : List ℕ} {made : ℕ} → 1 ≤ n → Layered (between t c) m l n origin room work made
-      → Grown t c m l n origin room work made
-  grown-levels {origin} some s =
-      let e = plant-nodes (between t c) m l one (fit .leafy) n some in
+  pub grown-levels : {o : ℕ} {origin room work : List ℕ} {made : ℕ} → 1 ≤ n → Layered (between t c o) m l n origin room work made
+      → Grown t c o m l n origin room work made
+  grown-levels {o} {origin} some s =
+      let e = plant-nodes (between t c o) m l one (fit .leafy) n some in
       record {
         nodes = s .nodes ∙ ap (withNodes origin) e;
         count = s .count ∙ ap length e;
         few = s .few;
-        pairs = ap pairsIn (s .tiles) ∙ plant-pairs (between t c) m l one (fit .leafy) n some;
+        pairs = ap pairsIn (s .tiles) ∙ plant-pairs (between t c o) m l one (fit .leafy) n some;
       }
 
 -- a table of no rows has no nodes
-pub grown-none : {t : List ℕ} {c m l n : ℕ} {origin work : List ℕ} → n ≡ 0 → Grown t c m l n origin origin work 0
+pub grown-none : {t : List ℕ} {c o m l n : ℕ} {origin work : List ℕ} → n ≡ 0 → Grown t c o m l n origin origin work 0
 unfolding numbered nodes levelNodes family broods pairsIn
 grown-none {origin = origin} e = rw e record { nodes = sym (take-append-drop 8 origin); count = refl; few = omega arith; pairs = refl }
 
 -- ---- the header before the nodes, the positions behind them
-module _ {t : List ℕ} {c m l n : ℕ} {origin work₀ : List ℕ} (asked : Room t c m l n origin work₀) {room work : List ℕ} {made : ℕ}
-    (grown : Grown t c m l n origin room work made) where
+module _ {t : List ℕ} {c o m l n : ℕ} {origin work₀ : List ℕ} (asked : Room t c m l n origin work₀) {room work : List ℕ} {made : ℕ}
+    (grown : Grown t c o m l n origin room work made) where
   -- the numbers fit
   fit : Fit t c m l n
   fit = asked .fit
 
   -- the tree of 01
   abbrev tree : Grove
-  tree = plant (between t c) m l n
+  tree = plant (between t c o) m l n
 
   -- its nodes, in number order
   abbrev ns : List Node
@@ -157,33 +157,33 @@ module _ {t : List ℕ} {c m l n : ℕ} {origin work₀ : List ℕ} (asked : Roo
 
   -- the words before the positions
   abbrev front : List ℕ
-  front = headerOf n c m l made ++ each (nodeWords 2) ns
+  front = headerOf n c o m l made ++ each (nodeWords 2) ns
 
   -- as far as the nodes' end
   front-long : length front ≡ nodeAt made
   front-long =
-      length-append (headerOf n c m l made) (each (nodeWords 2) ns)
+      length-append (headerOf n c o m l made) (each (nodeWords 2) ns)
       ∙ omega (arith, each-words 2 ns (omega arith, omega arith), grown .count)
 
   -- the header is written
-  headed : {room₂ : List ℕ} → room₂ ≡ headerOf n c m l made ++ drop 8 room → room₂ ≡ front ++ drop (nodeAt made) room
+  headed : {room₂ : List ℕ} → room₂ ≡ headerOf n c o m l made ++ drop 8 room → room₂ ≡ front ++ drop (nodeAt made) room
   headed q =
-      q ∙ ap (λ (x : List ℕ). headerOf n c m l made ++ x) grown-nodes
-      ∙ sym (append-assoc (headerOf n c m l made) (each (nodeWords 2) ns) (drop (nodeAt made) room))
+      q ∙ ap (λ (x : List ℕ). headerOf n c o m l made ++ x) grown-nodes
+      ∙ sym (append-assoc (headerOf n c o m l made) (each (nodeWords 2) ns) (drop (nodeAt made) room))
 
   -- with the positions they are the words of 01
-  words-are : front ++ each pairWords (entries tree) ≡ encode 2 c m l tree
+  words-are : front ++ each pairWords (entries tree) ≡ encode 2 c o m l tree
   unfolding encode
   words-are =
-      append-assoc (headerOf n c m l made) (each (nodeWords 2) ns) (each pairWords (entries tree))
-      ∙ ap₂ (λ (i j : ℕ). headerOf i c m l j ++ (each (nodeWords 2) ns ++ each pairWords (entries tree)))
-      (sym (positions (between t c) m l (one fit) (fit .leafy) n)) (grown .count)
+      append-assoc (headerOf n c o m l made) (each (nodeWords 2) ns) (each pairWords (entries tree))
+      ∙ ap₂ (λ (i j : ℕ). headerOf i c o m l j ++ (each (nodeWords 2) ns ++ each pairWords (entries tree)))
+      (sym (positions (between t c o) m l (one fit) (fit .leafy) n)) (grown .count)
 
   -- THE WHOLE INDEX STANDS IN THE ROOM
-  pub filled : {room₂ ys work′ : List ℕ} {at : ℕ} → length room₂ ≡ length origin → room₂ ≡ headerOf n c m l made ++ drop 8 room → at ≡ nodeAt made
+  pub filled : {room₂ ys work′ : List ℕ} {at : ℕ} → length room₂ ≡ length origin → room₂ ≡ headerOf n c o m l made ++ drop 8 room → at ≡ nodeAt made
       → ys ≡ pairsIn (stretch work 0 (3 * n)) ++ drop (2 * n) (midOf at (length room₂ - at) room₂)
       → length work ≡ 6 * n → work′ ≡ wiped (length work) work
-      → Filled t c m l n origin (putMid at (length room₂ - at) room₂ ys) work′ made
+      → Filled t c o m l n origin (putMid at (length room₂ - at) room₂ ys) work′ made
   filled {room₂} {ys} {at = at} same q place f half cleared =
       let z : 3 * n - 0 ≡ 3 * n = omega arith in
       let pairs : pairsIn (stretch work 0 (3 * n)) ≡ each pairWords (entries tree) = ap (λ (k : ℕ). pairsIn (take k work)) z ∙ grown .pairs in
@@ -193,8 +193,8 @@ module _ {t : List ℕ} {c m l n : ℕ} {origin work₀ : List ℕ} (asked : Roo
             (omega (arith, place, same, positions-fit asked made (grown .few))) (headed q ∙ ap (λ (k : ℕ). front ++ drop k room) (sym place))
             (f ∙ ap (λ (x : List ℕ). x ++ drop (2 * n) (midOf at (length room₂ - at) room₂)) pairs)
             ∙ ap₂ (λ (x : List ℕ) (k : ℕ). x ++ drop (k + 2 * n) room) words-are place
-            ∙ ap (λ (x : List ℕ). encode 2 c m l tree ++ x) (grown-behind
-            ∙ ap (λ (k : ℕ). drop k origin) (sym (encode-long fit (grown .count))));
+            ∙ ap (λ (x : List ℕ). encode 2 c o m l tree ++ x) (grown-behind
+            ∙ ap (λ (k : ℕ). drop k origin) (sym (encode-long fit o (grown .count))));
         count = grown .count;
         few = grown .few;
         cleared = cleared ∙ wiped-whole work ∙ ap (λ (k : ℕ). replicate k 0) half;

@@ -51,4 +51,4 @@ pub record Left (T ws room work room′ work′ : List ℕ) (number words nodes 
 abbrev pub Comes : Case → Type 0
 Comes v =
     (room work room′ work′ : List ℕ) (number words nodes : ℕ) → roomOf (length (v .0)) ≤ length room → 6 * length (v .0) ≤ length work
-    → Builds (v .0) 1 2 2 2 room work room′ work′ number words nodes → Left (v .0) (v .1) room work room′ work′ number words nodes
+    → Builds (v .0) 1 0 2 2 2 room work room′ work′ number words nodes → Left (v .0) (v .1) room work room′ work′ number words nodes

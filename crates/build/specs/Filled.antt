@@ -11,9 +11,9 @@ use lib.ListN.{drop, length, replicate, take}
 use mathlib.Core.List.{List, [], _++_, _∷_}
 use mathlib.Core.Path.{_≡_}
 
--- the header's words: edition 2, n, c, m, l, the node count, distance kind 1, zero
-abbrev pub headerOf : ℕ → ℕ → ℕ → ℕ → ℕ → List ℕ
-headerOf n c m l nodes = 2 ∷ n ∷ c ∷ m ∷ l ∷ nodes ∷ 1 ∷ 0 ∷ []
+-- the header's words: edition 2, n, c, m, l, the node count, distance kind 1, the set of circles
+abbrev pub headerOf : ℕ → ℕ → ℕ → ℕ → ℕ → ℕ → List ℕ
+headerOf n c o m l nodes = 2 ∷ n ∷ c ∷ m ∷ l ∷ nodes ∷ 1 ∷ o ∷ []
 
 -- of each entry the row and the distance
 unfoldable pub pairsIn : List ℕ → List ℕ
@@ -23,15 +23,15 @@ pairsIn (i ∷ x ∷ []) = []
 pairsIn (i ∷ x ∷ a ∷ es) = i ∷ x ∷ pairsIn es
 
 -- the tree's nodes stand in the room, and its positions in the workspace
-pub record Grown (t : List ℕ) (c m l n : ℕ) (origin room work : List ℕ) (made : ℕ) : Type 0 where
-  pub nodes : room ≡ withNodes origin (numbered (plant (between t c) m l n))
-  pub count : made ≡ length (numbered (plant (between t c) m l n))
+pub record Grown (t : List ℕ) (c o m l n : ℕ) (origin room work : List ℕ) (made : ℕ) : Type 0 where
+  pub nodes : room ≡ withNodes origin (numbered (plant (between t c o) m l n))
+  pub count : made ≡ length (numbered (plant (between t c o) m l n))
   pub few : made ≤ 2 * n
-  pub pairs : pairsIn (take (3 * n) work) ≡ each pairWords (entries (plant (between t c) m l n))
+  pub pairs : pairsIn (take (3 * n) work) ≡ each pairWords (entries (plant (between t c o) m l n))
 
 -- the index stands in the room, and the workspace is cleared
-pub record Filled (t : List ℕ) (c m l n : ℕ) (room room′ work′ : List ℕ) (nodes : ℕ) : Type 0 where
-  pub index : room′ ≡ encode 2 c m l (plant (between t c) m l n) ++ drop (length (encode 2 c m l (plant (between t c) m l n))) room
-  pub count : nodes ≡ length (numbered (plant (between t c) m l n))
+pub record Filled (t : List ℕ) (c o m l n : ℕ) (room room′ work′ : List ℕ) (nodes : ℕ) : Type 0 where
+  pub index : room′ ≡ encode 2 c o m l (plant (between t c o) m l n) ++ drop (length (encode 2 c o m l (plant (between t c o) m l n))) room
+  pub count : nodes ≡ length (numbered (plant (between t c o) m l n))
   pub few : nodes ≤ 2 * n
   pub cleared : work′ ≡ replicate (6 * n) 0

@@ -2,7 +2,7 @@
 ghost use Prim.Native.Nat.{_*_, _+_, _≤_};
 ghost use Rattle.build.specs.Calls.{Builds};
 ghost use Rattle.build.specs.Filled.{Filled, Grown, headerOf, pairsIn};
-ghost use Rattle.build.specs.Numbers.{shortOf, writerAsks};
+ghost use Rattle.build.specs.Numbers.{buildFaults, shortOf, writerAsks};
 ghost use Rattle.growing.specs.Rooted.{Room};
 ghost use Rattle.limits.specs.Limits.{maxColumns, maxRows};
 ghost use Rattle.limits.specs.Said.{numberFaults, said};
@@ -19,6 +19,7 @@ use limits::Params;
 use limits::is_short;
 use limits::number_of;
 use limits::rows_in;
+use refusals::circle_number;
 use split::WIDTH;
 use words::places::HEADER;
 
@@ -35,6 +36,7 @@ pub struct Built {
 fn grow(
     table: &[u16],
     c: usize,
+    circles: u32,
     m: usize,
     l: usize,
     n: usize,
@@ -42,13 +44,13 @@ fn grow(
     work: &mut [u32],
 ) -> usize
     requires { ⌜ Room (now table) c m l n (now room) (now work) ⌝ }
-    ensures { λ r. ⌜ Grown (now (table .entry)) c m l n (now (room .entry)) (now (room .exit)) (now (work .exit)) r ⌝ }
+    ensures { λ r. ⌜ Grown (now (table .entry)) c circles m l n (now (room .entry)) (now (room .exit)) (now (work .exit)) r ⌝ }
 {
     if n == 0 {
         return 0;
     }
-    root(table, c, m, l, n, room, work);
-    levels(table, c, m, l, n, room, work)
+    root(table, c, circles, m, l, n, room, work);
+    levels(table, c, circles, m, l, n, room, work)
 }
 
 // ---- the header, the positions, and the cleared workspace
@@ -56,7 +58,7 @@ fn grow(
 // The header's eight words.
 pub fn put_header(room: &mut [u32], n: usize, c: usize, p: Params, nodes: usize)
     requires { ⌜ (8 ≤ length (now room)) × (n ≤ maxRows) × (c ≤ maxColumns) × (p .centres ≤ 64) × (p .leaf ≤ 1024) × (nodes ≤ 2097152) ⌝ }
-    ensures { λ _. ⌜ now (room .exit) ≡ headerOf n c (p .centres) (p .leaf) nodes ++ drop 8 (now (room .entry)) ⌝ }
+    ensures { λ _. ⌜ now (room .exit) ≡ headerOf n c (p .circles) (p .centres) (p .leaf) nodes ++ drop 8 (now (room .entry)) ⌝ }
 {
     room[0] = Params::LAST_EDITION as u32;
     room[1] = n as u32;
@@ -65,7 +67,7 @@ pub fn put_header(room: &mut [u32], n: usize, c: usize, p: Params, nodes: usize)
     room[4] = p.leaf as u32;
     room[5] = nodes as u32;
     room[6] = 1;
-    room[7] = 0;
+    room[7] = p.circles;
 }
 
 // Each position's row and its distance from its leaf's first.
@@ -85,9 +87,10 @@ pub fn put_positions(part: &mut [u32], n: usize, work: &[u32])
 // The index over n rows, in a room that is long enough and with a workspace of 6n words. Gives the number of nodes.
 fn fill(table: &[u16], c: usize, p: Params, n: usize, room: &mut [u32], work: &mut [u32]) -> usize
     requires { ⌜ Room (now table) c (p .centres) (p .leaf) n (now room) (now work) ⌝ }
-    ensures { λ r. ⌜ Filled (now (table .entry)) c (p .centres) (p .leaf) n (now (room .entry)) (now (room .exit)) (now (work .exit)) r ⌝ }
+    ensures { λ r. ⌜ Filled (now (table .entry)) c (p .circles) (p .centres) (p .leaf) n
+        (now (room .entry)) (now (room .exit)) (now (work .exit)) r ⌝ }
 {
-    let nodes = grow(table, c, p.centres, p.leaf, n, room, work);
+    let nodes = grow(table, c, p.circles, p.centres, p.leaf, n, room, work);
     put_header(room, n, c, p, nodes);
     let at = HEADER + WIDTH * nodes;
     put_positions(&mut room[at..], n, work);
@@ -107,7 +110,8 @@ fn too_short(n: usize, room: usize, work: usize) -> bool
     is_short(room - HEADER, 12, n) | is_short(work, 6, n)
 }
 
-// What numbers refuse of a call that writes an index over a table of this length and c columns, or 0. `room` and `work` are the lengths of what is lent.
+// What numbers refuse of a call that writes an index over a table of this length and c columns, or 0. `room` and `work` are the lengths of what is
+// lent.
 pub fn writer_number(length: usize, c: usize, unfit: bool, room: usize, work: usize) -> u32
     ensures { λ r. ⌜ r ≡ said (numberFaults (writerAsks length c unfit room work)) .0 ⌝ }
 {
@@ -133,23 +137,35 @@ pub fn refused(number: u32) -> Built
     }
 }
 
-// Builds the index into the room, where the edition that is asked for is 2.
+// Why a build is refused, or 0: what numbers refuse, and then 19. `unfit` is whether the parameters were refused.
+fn build_number(table: &[u16], c: usize, circles: u32, unfit: bool, room: usize, work: usize) -> u32
+    ensures { λ r. ⌜ r ≡ said (buildFaults (now (table .entry)) c circles unfit room work) .0 ⌝ }
+{
+    let number = writer_number(table.len(), c, unfit, room, work);
+    if number != 0 {
+        return number;
+    }
+    circle_number(table, c, circles, &table[..0])
+}
+
+// Builds the index into the room, where the edition that is asked for is 2. Of the set `circles`, bit j on means that column j is a circle.
 pub fn build(
     table: &[u16],
     c: usize,
     m: usize,
     l: usize,
+    circles: u32,
     edition: usize,
     room: &mut [u32],
     work: &mut [u32],
 ) -> Built
-    ensures { λ r. ⌜ Builds (now (table .entry)) c edition m l (now (room .entry)) (now (work .entry)) (now (room .exit)) (now (work .exit))
-        (r .number) (r .words) (r .nodes) ⌝ }
+    ensures { λ r. ⌜ Builds (now (table .entry)) c circles edition m l (now (room .entry)) (now (work .entry))
+        (now (room .exit)) (now (work .exit)) (r .number) (r .words) (r .nodes) ⌝ }
 {
-    let Chosen::Taken(p) = Params::new(m, l, edition) else {
-        return refused(writer_number(table.len(), c, true, room.len(), work.len()));
+    let Chosen::Taken(p) = Params::new(c, m, l, circles, edition) else {
+        return refused(build_number(table, c, circles, true, room.len(), work.len()));
     };
-    let number = writer_number(table.len(), c, false, room.len(), work.len());
+    let number = build_number(table, c, circles, false, room.len(), work.len());
     if number != 0 {
         return refused(number);
     }

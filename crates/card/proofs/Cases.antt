@@ -1,5 +1,5 @@
 -- The cases come out as they should. Assumes nothing.
-use Rattle.card.specs.Cases.{right, table}
+use Rattle.card.specs.Cases.{circular, right, table}
 use Rattle.laws.specs.Lists.{all}
 use lib.Dec.{T}
 
@@ -7,3 +7,8 @@ use lib.Dec.{T}
 pub read-cases : T (all right table)
 unfolding right
 read-cases = tt
+
+-- SO IS EVERY ONE ON A CIRCLE
+pub circular-cases : T (all right circular)
+unfolding right
+circular-cases = tt

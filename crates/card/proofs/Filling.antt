@@ -8,7 +8,7 @@ use Rattle.card.specs.Calls.{readTotal, readWords}
 use Rattle.image.specs.Image.{imageTotal}
 use Rattle.measure.specs.Table.{between}
 use Rattle.tree.specs.Widen.{widen}
-use Rattle.words.specs.Words.{N#, edition#, n#, width}
+use Rattle.words.specs.Words.{N#, circles#, edition#, n#, width}
 use borrow.Author.Tests.{eq-eqb, ne-eqb}
 use lib.ListN.{drop, length}
 use mathlib.Core.Bool.{Bool, cond}
@@ -41,12 +41,12 @@ module _ (i : List ℕ) where
     same-put T c room h e q =
         let b = ne-eqb (edition# (cardWords i)) 1 h in
         q ∙ ap₂ (λ (a b : ℕ). imageWords i a ++ drop b room) (e ∙ total-same h) e
-        ∙ ap (λ (b : Bool). cond b (widen (between T c) (cardWords i)) (cardWords i) ++ drop (readTotal i) room) (sym b)
+        ∙ ap (λ (b : Bool). cond b (widen (between T c (circles# (cardWords i))) (cardWords i)) (cardWords i) ++ drop (readTotal i) room) (sym b)
 
   -- an edition 1 card's are widened
   pub wide-put : (T : List ℕ) (c : ℕ) (room : List ℕ) {room′ : List ℕ} → edition# (cardWords i) ≡ 1
-      → room′ ≡ withWide (between T c) (cardWords i) room → room′ ≡ readWords T c i ++ drop (readTotal i) room
+      → room′ ≡ withWide (between T c (circles# (cardWords i))) (cardWords i) room → room′ ≡ readWords T c i ++ drop (readTotal i) room
   unfolding readWords readTotal
   wide-put T c room e q =
       let b = eq-eqb (edition# (cardWords i)) 1 e in
-      q ∙ ap (λ (b : Bool). cond b (widen (between T c) (cardWords i)) (cardWords i) ++ drop (readTotal i) room) (sym b)
+      q ∙ ap (λ (b : Bool). cond b (widen (between T c (circles# (cardWords i))) (cardWords i)) (cardWords i) ++ drop (readTotal i) room) (sym b)

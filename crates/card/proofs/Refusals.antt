@@ -14,15 +14,19 @@ use Rattle.limits.proofs.Faults.{Early, early-numbered, early-placeless, fault-
 use Rattle.limits.proofs.Numbers.{Sized, numbers-early, numbers-numbered, passed, passed-none}
 use Rattle.limits.specs.Said.{Said, fault, numberFaults, said, tabled}
 use Rattle.limits.specs.declared.Asked.{Asked}
-use Rattle.measure.specs.Table.{rowsOf}
+use Rattle.measure.proofs.OnCircle.{empty-on}
+use Rattle.measure.specs.Table.{offCircle, rowsOf}
+use Rattle.refusals.proofs.Refusals.{circle-early, circle-none, circle-tests}
+use Rattle.refusals.specs.Refused.{circleFaults}
 use Rattle.words.proofs.Indexes.{by-shape, fit-early, fit-tests}
+use Rattle.words.specs.Index.{fitFaults}
 use Rattle.words.specs.Shape.{shapeOk}
-use Rattle.words.specs.Words.{c#, n#}
+use Rattle.words.specs.Words.{c#, circles#, n#}
 use borrow.Author.Tests.{eqb-false, eqb-true, le-ltb, lt-ltb, ltb-false, ne-eqb}
 use lib.Dec.{eqb, ltb}
 use lib.ListN.{length}
 use mathlib.Core.Bool.{Bool, cond, false, true}
-use mathlib.Core.List.{List, _++_}
+use mathlib.Core.List.{List, [], _++_}
 use mathlib.Core.Path.{_∙_, _≡_, ap, refl, sym}
 use native.Mathlib.Omega.{arith}
 
@@ -31,14 +35,40 @@ use native.Mathlib.Omega.{arith}
 pub image-right : (i : List ℕ) {found at count : ℕ} → Sound i (imageFaults i) found at count → found ≡ 0 → Carded i
 image-right i S z = carded i (sym (S .found) ∙ z)
 
+-- ---- the card
+module _ (T : List ℕ) (c : ℕ) (i : List ℕ) where
+  -- its header and shape
+  abbrev fit : List Said
+  fit = fitFaults true (cardWords i) (rowsOf T c) c
+
+  -- its circles, in the table
+  abbrev off : List Said
+  off = circleFaults c (circles# (cardWords i)) T []
+
+  -- both are early
+  fits-early : Every Early fit
+  fits-early = fit-early true (cardWords i) (rowsOf T c) c
+
+  card-early : Every Early (cardFaults T c i)
+  card-early = every-append Early fit off fits-early (circle-early c (circles# (cardWords i)) T [])
+
+  -- header or shape refuses it
+  pub by-fit : {k : ℕ} → k ≡ said fit .0 → (k ≡ 0 → ⊥) → k ≡ said (cardFaults T c i) .0
+  by-fit e h = e ∙ ap numberOf (says-first fit off (λ z. h (e ∙ z)))
+
+  -- they do not, and the circles decide
+  pub by-off : {k o : ℕ} → 0 ≡ said fit .0 → o ≡ circles# (cardWords i) → k ≡ said (circleFaults c o T []) .0 → k ≡ said (cardFaults T c i) .0
+  by-off z e h = h ∙ ap (λ (o : ℕ). said (circleFaults c o T []) .0) e ∙ ap numberOf (says-next fit off (early-numbered fit fits-early) (sym z))
+
 -- ---- all of them
--- WITH 0 NOTHING IS WRONG: the table, the image, the card's header and shape, and the room of `room` words
+-- WITH 0 NOTHING IS WRONG: the table, the image, the card's header and shape, the table's circular columns, and the room of `room` words
 pub record Clear (T : List ℕ) (c : ℕ) (i : List ℕ) (room : ℕ) : Type 0 where
   pub table : Sized (length T) c
   pub image : said (imageFaults i) .0 ≡ 0
   pub rows : n# (cardWords i) ≡ rowsOf T c
   pub columns : c# (cardWords i) ≡ c
   pub shape : shapeOk (cardWords i) ≡ true
+  pub circled : offCircle c (circles# (cardWords i)) T ≡ false
   pub space : readTotal i ≤ room
 
 module _ (T : List ℕ) (c : ℕ) (i : List ℕ) (room : ℕ) where
@@ -61,10 +91,6 @@ module _ (T : List ℕ) (c : ℕ) (i : List ℕ) (room : ℕ) where
   -- the image's before them
   abbrev next : List Said
   next = imageFaults i ++ last
-
-  -- the card's faults are early
-  card-early : Every Early (cardFaults T c i)
-  card-early = fit-early true (cardWords i) (rowsOf T c) c
 
   -- one after the other they decide what is said
   in-turn : said (first ++ next) ≡ says
@@ -117,14 +143,14 @@ module _ (T : List ℕ) (c : ℕ) (i : List ℕ) (room : ℕ) where
           by-card h en ep ew =
               let n : said (cardFaults T c i) .0 ≡ 0 → ⊥ = λ z. h (f ∙ z) in
               refuses (says-first (cardFaults T c i) (fault 5 (ltb room (readTotal i))) n ∙ after-image) n (en ∙ f)
-              (ep ∙ sym (early-placeless (cardFaults T c i) card-early .0)) ew
+              (ep ∙ sym (early-placeless (cardFaults T c i) (card-early T c i) .0)) ew
 
           module _ (g : k ≡ 0) where
             -- past the card the room decides
             by-room : {b : Bool} → ltb room (readTotal i) ≡ b → said (fault 5 b) ≡ says
             by-room q =
                 ap (λ b. said (fault 5 b)) (sym q)
-                ∙ says-next (cardFaults T c i) (fault 5 (ltb room (readTotal i))) (early-numbered (cardFaults T c i) card-early) (sym f ∙ g)
+                ∙ says-next (cardFaults T c i) (fault 5 (ltb room (readTotal i))) (early-numbered (cardFaults T c i) (card-early T c i)) (sym f ∙ g)
                 ∙ after-image
 
             -- it is too short
@@ -148,23 +174,27 @@ module _ (T : List ℕ) (c : ℕ) (i : List ℕ) (room : ℕ) where
       let t = says-none first next (numbers-numbered asks) (ap numberOf in-turn ∙ z) in
       let m = says-none (imageFaults i) last (faults-numbered i) (t .1) in
       let b = ltb room (readTotal i) in
-      let k = says-none (cardFaults T c i) (fault 5 b) (early-numbered (cardFaults T c i) card-early) (m .1) in
-      let r = fit-tests true (cardWords i) (rowsOf T c) c (k .0) in
+      let k = says-none (cardFaults T c i) (fault 5 b) (early-numbered (cardFaults T c i) (card-early T c i)) (m .1) in
+      let s = says-none (fit T c i) (off T c i) (early-numbered (fit T c i) (fits-early T c i)) (k .0) in
+      let r = fit-tests true (cardWords i) (rowsOf T c) c (s .0) in
       record {
         table = passed asks (t .0) .table;
         image = m .0;
         rows = r .1;
         columns = r .2;
         shape = r .3;
+        circled = circle-tests c (circles# (cardWords i)) T [] (s .1) .0;
         space = ltb-false room (readTotal i) (fault-not 5 b (omega arith) (k .1));
       }
 
   -- and where nothing is wrong 0 is said, with no place
   pub clear-none : Clear T c i room → (0, 0, 0) ≡ says
   clear-none C =
-      let k = by-shape true (cardWords i) (rowsOf T c) c refl (C .rows) (C .columns) (sym (C .shape)) in
+      let o : ℕ = circles# (cardWords i) in
+      let k = by-off T c i (by-shape true (cardWords i) (rowsOf T c) c refl (C .rows) (C .columns) (sym (C .shape))) refl
+      (circle-none c o T [] (C .circled) (empty-on c o)) in
       ap (λ b. said (fault 5 b)) (sym (le-ltb room (readTotal i) (C .space)))
-      ∙ says-next (cardFaults T c i) (fault 5 (ltb room (readTotal i))) (early-numbered (cardFaults T c i) card-early) (sym k)
+      ∙ says-next (cardFaults T c i) (fault 5 (ltb room (readTotal i))) (early-numbered (cardFaults T c i) (card-early T c i)) (sym k)
       ∙ says-next (imageFaults i) last (faults-numbered i) (C .image) ∙ after-table (right (C .table)) refl
 
   -- over a right table a fault of the image is what is said
@@ -179,8 +209,8 @@ module _ (T : List ℕ) (c : ℕ) (i : List ℕ) (room : ℕ) where
   -- the card's faults and the room's are early
   last-early : Every Early last
   last-early =
-      every-append Early (cardFaults T c i) (fault 5 (ltb room (readTotal i))) card-early
-      (fault-early 5 (ltb room (readTotal i)) (omega arith) (omega arith))
+      every-append Early (cardFaults T c i) (fault 5 (ltb room (readTotal i))) (card-early T c i)
+      (fault-early 5 (ltb room (readTotal i)) (omega arith) refl)
 
   -- no number but 15 has one
   pub placeless : (says .0 ≡ 15 → ⊥) → says .1 ≡ 0

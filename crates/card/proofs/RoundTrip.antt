@@ -11,17 +11,17 @@ use Rattle.image.specs.Calls.{Writes}
 use Rattle.image.specs.Image.{image}
 use Rattle.limits.proofs.Numbers.{Sized}
 use Rattle.limits.specs.Said.{said}
-use Rattle.measure.specs.Table.{rowsOf}
+use Rattle.measure.specs.Table.{offCircle, rowsOf}
 use Rattle.tree.proofs.Alike.{Alike, shape-alike}
 use Rattle.words.proofs.Headers.{words-whole}
 use Rattle.words.proofs.InShape.{in-shape, whole}
 use Rattle.words.proofs.Strides.{stride}
 use Rattle.words.specs.InShape.{Whole}
 use Rattle.words.specs.Shape.{shapeOk}
-use Rattle.words.specs.Words.{N#, at, c#, edition#, inner#, kept, n#, nodeAt, pairAt, width, wordsOf, wordsOk}
+use Rattle.words.specs.Words.{N#, at, c#, circles#, edition#, inner#, kept, n#, nodeAt, pairAt, width, wordsOf, wordsOk}
 use lib.ListN.{drop, length, take}
 use lib.Seq.{getD-take}
-use mathlib.Core.Bool.{true}
+use mathlib.Core.Bool.{false, true}
 use mathlib.Core.List.{List, _++_}
 use mathlib.Core.Path.{_∙_, _≡_, ap, ap₂, subst, sym}
 use native.Mathlib.Nat.{add-zero}
@@ -93,13 +93,13 @@ module _ (w : List ℕ) (ok : wordsOk w ≡ true) (small : Below (2 ^ 32) w) whe
       total-wide (image w) ∙ ap₂ (λ (N n : ℕ). 8 + 5 * N + 2 * n) (head-own 5 (omega arith)) (head-own 1 (omega arith))
       ∙ ap (λ (e : ℕ). 8 + width e * N# w + 2 * n# w) (sym (words-whole w ok .0))
 
--- THE ROUND TRIP: AN INDEX IN SHAPE THAT WAS WRITTEN IS READ BACK OVER A TABLE OF ITS ROWS AND COLUMNS, AS THE SAME WORDS, WHERE THE ROOM
--- IS LONG ENOUGH
+-- THE ROUND TRIP: AN INDEX IN SHAPE THAT WAS WRITTEN IS READ BACK OVER A TABLE OF ITS ROWS AND COLUMNS THAT STANDS ON ITS CIRCLES, AS THE SAME
+-- WORDS, WHERE THE ROOM IS LONG ENOUGH
 pub round-trip : {T : List ℕ} {c : ℕ} {w before after room room′ : List ℕ} {blocks number place words : ℕ} → Sized (length T) c
-    → n# w ≡ rowsOf T c → c# w ≡ c → shapeOk w ≡ true → Below (2 ^ 32) w → Writes w before after 0 blocks
+    → n# w ≡ rowsOf T c → c# w ≡ c → shapeOk w ≡ true → offCircle c (circles# w) T ≡ false → Below (2 ^ 32) w → Writes w before after 0 blocks
     → wordsOf w ≤ length room → Reads T c (take (512 * blocks) after) room room′ number place words
     → (number ≡ 0) × (words ≡ wordsOf w) × (room′ ≡ take (wordsOf w) w ++ drop (wordsOf w) room)
-round-trip {T} {c} {w} {before} {after} {room} {room′} {blocks} {number} {place} {words} fine rows columns shape small x enough y =
+round-trip {T} {c} {w} {before} {after} {room} {room′} {blocks} {number} {place} {words} fine rows columns shape circled small x enough y =
     let ok = written-ok w (length before) (sym (x .said)) in
     let r = subst (λ (l : List ℕ). Reads T c l room room′ number place words) (written-image small x) y in
     let own = card-own w ok small in
@@ -111,6 +111,7 @@ round-trip {T} {c} {w} {before} {after} {room} {room′} {blocks} {number} {plac
       rows = head-own w ok small 1 (omega arith) ∙ rows;
       columns = head-own w ok small 2 (omega arith) ∙ columns;
       shape = ap shapeOk own ∙ own-shape w ok shape;
+      circled = rw (head-own w ok small 7 (omega arith)) circled;
       space = omega (arith, total);
     } in
     let z = read-taken r C in

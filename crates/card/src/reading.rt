@@ -11,6 +11,7 @@ use crate::Read;
 use card_shape::shape::card_shape_ok;
 use card_widen::widening::WIDE;
 use card_widen::widening::widen_card;
+use card_words::places::card_circles;
 use card_words::places::card_columns;
 use card_words::places::card_nodes;
 use card_words::places::card_rows;
@@ -19,11 +20,12 @@ use image::reading::check_image;
 use image::reading::get_words;
 use limits::Asked;
 use limits::number_of;
+use refusals::circle_number;
 use words::places::HEADER;
 
 // ---- the tests
 
-// What is wrong with a card for a table of c columns: 8, 9, or 0 for nothing.
+// What is wrong with a card for a table of c columns: 8, 9, 19, or 0 for nothing. A reading has no query: an empty part stands for it.
 fn card_number(image: &[u8], table: &[u16], c: usize) -> u32
     requires { ⌜ Carded (now image) ⌝ }
     requires { ⌜ 1 ≤ c ⌝ }
@@ -38,7 +40,7 @@ fn card_number(image: &[u8], table: &[u16], c: usize) -> u32
     if !card_shape_ok(image) {
         return 9;
     }
-    0
+    circle_number(table, c, card_circles(image), &table[..0])
 }
 
 // How many words a card's index has in edition 2.

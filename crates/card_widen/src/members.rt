@@ -4,8 +4,9 @@ ghost use Rattle.card_widen.specs.Tabled.{Tabled};
 ghost use Rattle.card_words.specs.Cards.{cardWords};
 ghost use Rattle.measure.specs.Table.{between};
 ghost use Rattle.tree.specs.Check.{nearest#};
-ghost use Rattle.words.specs.Words.{N#, n#, row#};
+ghost use Rattle.words.specs.Words.{N#, circles#, n#, row#};
 ghost use mathlib.Core.Path.{_≡_};
+use card_words::places::card_circles;
 use card_words::places::card_count;
 use card_words::places::card_row;
 use card_words::places::card_start;
@@ -16,16 +17,16 @@ use numbers::smaller;
 fn card_apart(table: &[u16], c: usize, image: &[u8], f: usize, p: usize) -> u32
     requires { ⌜ Tabled (now table) c (now image) ⌝ }
     requires { ⌜ (f < n# (cardWords (now image))) × (p < n# (cardWords (now image))) ⌝ }
-    ensures { λ r. ⌜ r ≡ between (now (table .entry)) c f (row# (cardWords (now (image .entry))) p) ⌝ }
+    ensures { λ r. ⌜ r ≡ between (now (table .entry)) c (circles# (cardWords (now (image .entry)))) f (row# (cardWords (now (image .entry))) p) ⌝ }
 {
-    row_distance(table, c, f, card_row(image, p))
+    row_distance(table, c, card_circles(image), f, card_row(image, p))
 }
 
 // The least distance of a member of node k other than its first from it, 0 where there is none.
 pub fn card_nearest(table: &[u16], c: usize, image: &[u8], k: usize) -> u32
     requires { ⌜ Tabled (now table) c (now image) ⌝ }
     requires { ⌜ k < N# (cardWords (now image)) ⌝ }
-    ensures { λ r. ⌜ r ≡ nearest# (between (now (table .entry)) c) (cardWords (now (image .entry))) k ⌝ }
+    ensures { λ r. ⌜ r ≡ nearest# (between (now (table .entry)) c (circles# (cardWords (now (image .entry))))) (cardWords (now (image .entry))) k ⌝ }
 {
     let start = card_start(image, k);
     let end = start + card_count(image, k);

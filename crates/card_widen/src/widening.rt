@@ -4,7 +4,7 @@ ghost use Rattle.card_widen.specs.Parts.{topOf, wideLong, withNodes, wit
 ghost use Rattle.card_widen.specs.Tabled.{Tabled};
 ghost use Rattle.card_words.specs.Cards.{Held, cardWords};
 ghost use Rattle.measure.specs.Table.{between};
-ghost use Rattle.words.specs.Words.{N#, headerWords, n#};
+ghost use Rattle.words.specs.Words.{N#, circles#, headerWords, n#};
 ghost use lib.ListN.{drop, length};
 ghost use mathlib.Core.List.{_++_};
 ghost use mathlib.Core.Path.{_≡_};
@@ -38,7 +38,8 @@ fn put_top(image: &[u8], room: &mut [u32])
 fn put_nodes(table: &[u16], c: usize, image: &[u8], part: &mut [u32])
     requires { ⌜ Tabled (now table) c (now image) ⌝ }
     requires { ⌜ 5 * N# (cardWords (now image)) ≤ length (now part) ⌝ }
-    ensures { λ _. ⌜ now (part .exit) ≡ withNodes (between (now (table .entry)) c) (cardWords (now (image .entry))) (now (part .entry)) ⌝ }
+    ensures { λ _. ⌜ now (part .exit) ≡ withNodes (between (now (table .entry)) c (circles# (cardWords (now (image .entry)))))
+        (cardWords (now (image .entry))) (now (part .entry)) ⌝ }
 {
     let total = card_nodes(image);
     let mut k = 0;
@@ -77,7 +78,8 @@ fn put_pairs(image: &[u8], part: &mut [u32])
 pub fn widen_card(table: &[u16], c: usize, image: &[u8], room: &mut [u32])
     requires { ⌜ Tabled (now table) c (now image) ⌝ }
     requires { ⌜ wideLong (cardWords (now image)) ≤ length (now room) ⌝ }
-    ensures { λ _. ⌜ now (room .exit) ≡ withWide (between (now (table .entry)) c) (cardWords (now (image .entry))) (now (room .entry)) ⌝ }
+    ensures { λ _. ⌜ now (room .exit) ≡ withWide (between (now (table .entry)) c (circles# (cardWords (now (image .entry)))))
+        (cardWords (now (image .entry))) (now (room .entry)) ⌝ }
 {
     put_top(image, room);
     let first = HEADER;

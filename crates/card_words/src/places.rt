@@ -1,7 +1,8 @@
 // The words of an index on a card, by place.
 ghost use Prim.Native.Nat.{_+_, _<_, _≤_};
 ghost use Rattle.card_words.specs.Cards.{Held, cardWords};
-ghost use Rattle.words.specs.Words.{N#, at, c#, child#, count#, dist#, edition#, inner#, l#, m#, n#, nodeAt, pairAt, radius#, row#, start#, width};
+ghost use Rattle.words.specs.Words.{N#, at, c#, child#, circles#, count#, dist#, edition#, inner#, l#, m#, n#, nodeAt, pairAt};
+ghost use Rattle.words.specs.Words.{radius#, row#, start#, width};
 ghost use lib.ListN.{length};
 ghost use mathlib.Core.Path.{_≡_};
 use blocks::word::image_word;
@@ -71,6 +72,14 @@ pub fn card_nodes(image: &[u8]) -> usize
     ensures { λ r. ⌜ (r ≡ N# (cardWords (now (image .entry)))) × (r < 4294967296) ⌝ }
 {
     card_word(image, 5)
+}
+
+// The columns that are circles, a bit for each.
+pub fn card_circles(image: &[u8]) -> u32
+    requires { ⌜ Held (now image) ⌝ }
+    ensures { λ r. ⌜ r ≡ circles# (cardWords (now (image .entry))) ⌝ }
+{
+    held_word(image, 7)
 }
 
 // Which index word node k's first is.

@@ -6,12 +6,15 @@ use Rattle.blocks.specs.Blocks.{checkFrom, checkWord, rotate, step, window}
 use Rattle.laws.specs.Upto.{sumTo}
 use Rattle.limits.specs.Said.{numberFaults}
 use Rattle.measure.specs.Distance.{l1}
-use Rattle.measure.specs.Table.{between}
+use Rattle.measure.specs.Table.{between, offCircle}
 use Rattle.nearest.specs.Numbers.{saidNearest}
 use Rattle.radius.specs.Numbers.{saidRadius}
-use Rattle.tree.specs.Cases.{Case, checked, five, fiveWords, found, grown, near, nearest, old, oldWords, order, radius, right, sought, swept, words}
+use Rattle.tree.specs.Cases.{Case, checked, five, fiveWords, found, grown, near, nearest, old, oldWords, order, radius, right, round, seam, sought, swept}
+use Rattle.tree.specs.Cases.{withdrawn, without, words}
 use Rattle.tree.specs.Check.{again, faults, strays, wrongDist, wrongInner, wrongRadius}
-use Rattle.words.specs.Index.{callFaults, fitFaults}
+use Rattle.refusals.specs.Refused.{callFaults, circleFaults}
+use Rattle.rowset.specs.Sets.{bitOf, setBad}
+use Rattle.words.specs.Index.{fitFaults}
 use Rattle.words.specs.Shape.{born, level, nodeOk, shapeOk, tile}
 use Rattle.words.specs.Words.{cardOk, headerOk, wholeOk, wordsOk}
 use lib.Dec.{eqb}
@@ -31,6 +34,18 @@ orphanWords =
     ∷ 0 ∷ 1 ∷ 0 ∷ 0 ∷ 0
     ∷ 0 ∷ 0 ∷ 1 ∷ 1 ∷ 2 ∷ 0 ∷ 4 ∷ 0 ∷ 3 ∷ 9 ∷ []
 
+-- a set of five rows of which none is withdrawn
+abbrev pub zero : List ℕ
+zero = 0 ∷ []
+
+-- five rows of which the last does not stand on the circle
+abbrev pub off : List ℕ
+off = 0 ∷ 1 ∷ 10 ∷ 11 ∷ 3_600 ∷ []
+
+-- the index of the five rows where their column is a circle: none is far enough for the way round to be the shorter
+abbrev pub roundWords : List ℕ
+roundWords = set fiveWords 7 1
+
 -- an entry of the table. Every one has one column, m = 2 and l = 2
 pub data Entry : Type 0 where
   -- the definitions give what the case says, and so does a full check of its words
@@ -39,12 +54,14 @@ pub data Entry : Type 0 where
   block : ℕ → List ℕ → ℕ → Entry
   -- the check of these words for the five-row table gives a number and two places
   check : List ℕ → ℕ → ℕ → ℕ → Entry
-  -- for the five-row table: the number of a build with c, edition, m, l, room and workspace
-  buildSays : ℕ → ℕ → ℕ → ℕ → ℕ → ℕ → ℕ → Entry
-  -- of a radius search with these words and query, by the how-bytes that it is lent
-  radiusSays : List ℕ → List ℕ → ℕ → ℕ → Entry
+  -- for a table: the number of a build with c, circles, edition, m, l, room and workspace
+  buildSays : List ℕ → ℕ → ℕ → ℕ → ℕ → ℕ → ℕ → ℕ → ℕ → Entry
+  -- of a check with these words and 30 words of workspace
+  checkSays : List ℕ → List ℕ → ℕ → Entry
+  -- of a radius search with these words, query and withdrawn rows, by the how-bytes that it is lent
+  radiusSays : List ℕ → List ℕ → List ℕ → List ℕ → ℕ → ℕ → Entry
   -- and of a nearest search that wants so many, by what it is lent
-  nearestSays : List ℕ → List ℕ → ℕ → ℕ → ℕ → ℕ → ℕ → Entry
+  nearestSays : List ℕ → List ℕ → List ℕ → ℕ → List ℕ → ℕ → ℕ → ℕ → ℕ → Entry
 
 -- what a check of these words for this table gives
 unfoldable pub checks : List ℕ → List ℕ → ℕ → ℕ → ℕ → Bool
@@ -57,19 +74,22 @@ said (order T is N) = true
 said (radius T q r how i k) = true
 said (nearest T q w as′ k) = true
 said (near T q w how) = true
+said (without T out q w as′ how) = true
+said (round T q r how w as′) = true
 said (old T v w) = checks T w 0 0 0
 said (found w k p p′) = checks five w k p p′
 
 -- an entry comes out as it says
 unfoldable pub holds : Entry → Bool
-unfolding sumTo numberFaults l1 between cardOk headerOk wholeOk wordsOk born level tile nodeOk shapeOk fitFaults callFaults again wrongDist
+unfolding sumTo numberFaults l1 between cardOk headerOk wholeOk wordsOk born level tile nodeOk shapeOk fitFaults offCircle circleFaults callFaults bitOf setBad again wrongDist
     wrongRadius wrongInner strays faults rotate step checkFrom checkWord window saidBuild saidCheck saidRadius saidNearest right checks said
 holds (means k) = right k && said k
 holds (block b ws s) = eqb (checkWord b (window ws 0 127)) s
 holds (check w k p p′) = checks five w k p p′
-holds (buildSays c e m l room work k) = eqb (saidBuild five c e m l room work .0) k
-holds (radiusSays w q how k) = eqb (saidRadius five 1 w q how .0) k
-holds (nearestSays w q wanted room how work k) = eqb (saidNearest five 1 w q wanted room how work .0) k
+holds (buildSays T c o e m l room work k) = eqb (saidBuild T c o e m l room work .0) k
+holds (checkSays T w k) = eqb (saidCheck T 1 w 30 .0) k
+holds (radiusSays T w q s how k) = eqb (saidRadius T 1 w q s how .0) k
+holds (nearestSays T w q wanted s room how work k) = eqb (saidNearest T 1 w q wanted s room how work .0) k
 
 -- the cases that 01 marks P
 abbrev pub marked : List Entry
@@ -92,7 +112,7 @@ marked =
 -- ours: what pins the definitions (tree/specs/Cases), and the refusals of each call
 abbrev pub ours : List Entry
 ours =
-    map means (grown ++ swept ++ sought ++ checked)
+    map means (grown ++ swept ++ sought ++ seam ++ withdrawn ++ checked)
     ++ (check (set fiveWords 0 3) 8 0 0
     ∷ check oldWords 8 0 0
     ∷ check (set fiveWords 1 4) 8 0 0
@@ -103,23 +123,44 @@ ours =
     ∷ check (set fiveWords 14 2) 9 0 0
     ∷ check (set fiveWords 33 5) 9 0 0
     ∷ check orphanWords 9 0 0
-    ∷ buildSays 17 2 2 1 0 0 1
-    ∷ buildSays 1 2 2 1 0 0 2
-    ∷ buildSays 1 3 2 2 99 30 2
-    ∷ buildSays 1 1 2 2 99 30 2
-    ∷ buildSays 1 0 2 2 99 30 2
-    ∷ buildSays 2 2 2 2 0 0 3
-    ∷ buildSays 1 2 2 2 67 30 5
-    ∷ buildSays 1 2 2 2 68 29 5
-    ∷ buildSays 1 2 2 2 68 30 0
-    ∷ radiusSays fiveWords (9 ∷ []) 4 5
-    ∷ radiusSays fiveWords [] 5 6
-    ∷ radiusSays (take 42 fiveWords) (9 ∷ []) 5 8
-    ∷ radiusSays oldWords (9 ∷ []) 5 8
-    ∷ radiusSays (set fiveWords 9 4) (9 ∷ []) 5 9
-    ∷ radiusSays fiveWords (9 ∷ []) 5 0
-    ∷ nearestSays fiveWords (9 ∷ []) 2 1 5 30 5
-    ∷ nearestSays fiveWords [] 0 0 5 30 6
-    ∷ nearestSays fiveWords (9 ∷ []) 0 0 5 30 7
-    ∷ nearestSays fiveWords (9 ∷ []) 9 5 5 30 0
+    ∷ buildSays five 17 0 2 2 1 0 0 1
+    ∷ buildSays five 1 0 2 2 1 0 0 2
+    ∷ buildSays five 1 0 3 2 2 99 30 2
+    ∷ buildSays five 1 0 1 2 2 99 30 2
+    ∷ buildSays five 1 0 0 2 2 99 30 2
+    ∷ buildSays five 2 0 2 2 2 0 0 3
+    ∷ buildSays five 1 0 2 2 2 67 30 5
+    ∷ buildSays five 1 0 2 2 2 68 29 5
+    ∷ buildSays five 1 0 2 2 2 68 30 0
+    ∷ radiusSays five fiveWords (9 ∷ []) zero 4 5
+    ∷ radiusSays five fiveWords [] zero 5 6
+    ∷ radiusSays five (take 42 fiveWords) (9 ∷ []) zero 5 8
+    ∷ radiusSays five oldWords (9 ∷ []) zero 5 8
+    ∷ radiusSays five (set fiveWords 9 4) (9 ∷ []) zero 5 9
+    ∷ radiusSays five fiveWords (9 ∷ []) zero 5 0
+    -- 02, R-5: 20 for too few words, for too many, and for the bit of row 5, after 9
+    ∷ radiusSays five fiveWords (9 ∷ []) [] 5 20
+    ∷ radiusSays five fiveWords (9 ∷ []) (0 ∷ 0 ∷ []) 5 20
+    ∷ radiusSays five fiveWords (9 ∷ []) (32 ∷ []) 5 20
+    ∷ radiusSays five (set fiveWords 9 4) (9 ∷ []) (32 ∷ []) 5 9
+    ∷ nearestSays five fiveWords (9 ∷ []) 2 zero 1 5 30 5
+    ∷ nearestSays five fiveWords [] 0 zero 0 5 30 6
+    ∷ nearestSays five fiveWords (9 ∷ []) 0 zero 0 5 30 7
+    ∷ nearestSays five fiveWords (9 ∷ []) 9 zero 5 5 30 0
+    ∷ nearestSays five fiveWords (9 ∷ []) 9 (32 ∷ []) 5 5 30 20
+    -- 02, R-1: bits at or above the columns; 3,600 in table or query, in a build after 5, else after 9 and before 10 and 20
+    ∷ buildSays five 1 2 2 2 2 68 30 2
+    ∷ buildSays off 1 1 2 2 2 68 29 5
+    ∷ buildSays off 1 1 2 2 2 68 30 19
+    ∷ buildSays off 1 0 2 2 2 68 30 0
+    ∷ checkSays five (set fiveWords 7 2) 8
+    ∷ checkSays off roundWords 19
+    ∷ checkSays off (set roundWords 35 0) 19
+    ∷ checkSays off (set roundWords 8 1) 9
+    ∷ checkSays five (set roundWords 35 0) 10
+    ∷ radiusSays five roundWords (9 ∷ []) zero 5 0
+    ∷ radiusSays five roundWords (3_600 ∷ []) zero 5 19
+    ∷ radiusSays off roundWords (9 ∷ []) (32 ∷ []) 5 19
+    ∷ nearestSays five roundWords (3_600 ∷ []) 9 zero 5 5 30 19
+    ∷ nearestSays off roundWords (9 ∷ []) 9 zero 5 5 30 19
     ∷ [])

@@ -13,7 +13,7 @@ use Rattle.measure.specs.Table.{between}
 use Rattle.split.specs.Places.{nodeAt}
 use Rattle.tree.proofs.Written.{each-words}
 use Rattle.tree.specs.Encode.{Node, nodeWords}
-use Rattle.words.specs.Words.{c#, child#, count#, first#, inner#, n#, radius#, start#}
+use Rattle.words.specs.Words.{c#, child#, circles#, count#, first#, inner#, n#, radius#, start#}
 use borrow.Author.Tests.{eq-eqb, eqb-false, eqb-true, le-leb, lt-leb, lt-ltb, ne-eqb}
 use borrow.Rule.Slice.PartMut.{midOf, putMid}
 use lib.Dec.{eqb, leb}
@@ -72,12 +72,14 @@ module _ (w : List ℕ) (v k : ℕ) where
       reach-none ex ey eb h z = rw (sym eb ∙ h, z) (ex, ey)
 
     -- to the row that has come too
-    pub reach-more : (t : List ℕ) {c x y f n e a r i : ℕ} {b : Bool} → x ≡ radius# w k → y ≡ inner# w k → b ≡ holds w v k → b ≡ true → (added ≡ 0 → ⊥)
-        → f ≡ first# w k → n ≡ n# w → c ≡ c# w → e ≡ between t c f n → a ≡ count# w k → 1 ≤ count# w k → r ≡ max x e → i ≡ lower a y e
-        → Numbers (newReach (between t (c# w)) w v added k) r i
+    pub reach-more : (t : List ℕ) {c o x y f n e a r i : ℕ} {b : Bool} → x ≡ radius# w k → y ≡ inner# w k → b ≡ holds w v k → b ≡ true
+        → (added ≡ 0 → ⊥)
+        → f ≡ first# w k → n ≡ n# w → c ≡ c# w → o ≡ circles# w → e ≡ between t c o f n → a ≡ count# w k → 1 ≤ count# w k → r ≡ max x e → i
+        ≡ lower a y e
+        → Numbers (newReach (between t (c# w) (circles# w)) w v added k) r i
     unfolding newReach
-    reach-more t {x = x} {y = y} {e = e} ex ey eb h z ef en ec ee ea some er ei =
-        let far : e ≡ between t (c# w) (first# w k) (n# w) = ee ∙ rw (ef, en, ec) refl in
+    reach-more t {x = x} {y = y} {e = e} ex ey eb h z ef en ec eo ee ea some er ei =
+        let far : e ≡ between t (c# w) (circles# w) (first# w k) (n# w) = ee ∙ rw (ef, en, ec, eo) refl in
         let one : leb (count# w k) 1 ≡ eqb (count# w k) 1 = go (eqb (count# w k) 1) refl in
         rw (sym eb ∙ h, lt-ltb 0 added (omega arith)) (
           er ∙ ap₂ max ex far,

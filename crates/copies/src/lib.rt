@@ -4,7 +4,7 @@ ghost use Rattle.copies.specs.Copies.{Change, Numbers, copied, holds, ne
 ghost use Rattle.measure.specs.Table.{between};
 ghost use Rattle.split.specs.Places.{nodeAt};
 ghost use Rattle.words.specs.InShape.{InShape};
-ghost use Rattle.words.specs.Words.{N#, c#, m#, n#};
+ghost use Rattle.words.specs.Words.{N#, c#, circles#, m#, n#};
 ghost use lib.ListN.{length};
 ghost use mathlib.Core.Path.{_≡_};
 use groups::least_of;
@@ -15,6 +15,7 @@ use reach::node_end;
 use split::WIDTH;
 use words::places::HEADER;
 use words::places::centres;
+use words::places::circles;
 use words::places::columns;
 use words::places::node_child;
 use words::places::node_count;
@@ -86,8 +87,9 @@ fn child_of(index: &[u32], v: usize, k: usize) -> usize
 fn reach_of(table: &[u16], index: &[u32], p: Growth, k: usize) -> Reach
     requires { ⌜ Change (now table) (now index) (p .node) (p .added) (p .limit) ⌝ }
     requires { ⌜ k < N# (now index) ⌝ }
-    ensures { λ r. ⌜ Numbers (newReach (between (now (table .entry)) (c# (now (index .entry)))) (now (index .entry)) (p .node) (p .added) k)
-        (r .radius) (r .inner) ⌝ }
+    ensures { λ r. ⌜ Numbers
+        (newReach (between (now (table .entry)) (c# (now (index .entry))) (circles# (now (index .entry))))
+        (now (index .entry)) (p .node) (p .added) k) (r .radius) (r .inner) ⌝ }
 {
     let radius = node_radius(index, k);
     let inner = node_inner(index, k);
@@ -97,7 +99,13 @@ fn reach_of(table: &[u16], index: &[u32], p: Growth, k: usize) -> Reach
     if p.added == 0 {
         return Reach { radius, inner };
     }
-    let d = row_distance(table, columns(index), node_first(index, k), rows(index));
+    let d = row_distance(
+        table,
+        columns(index),
+        circles(index),
+        node_first(index, k),
+        rows(index),
+    );
     Reach {
         radius: larger(radius, d),
         inner: least_of(node_count(index, k), inner, d),
@@ -109,7 +117,7 @@ pub fn copied_node(table: &[u16], index: &[u32], p: Growth, room: &mut [u32], o:
     requires { ⌜ Change (now table) (now index) (p .node) (p .added) (p .limit) ⌝ }
     requires { ⌜ (o < N# (now index)) × (made ≤ 2097152) × (nodeAt (made + 1) ≤ length (now room)) ⌝ }
     ensures { λ _. ⌜ now (room .exit) ≡ withCopies
-        (copied (between (now (table .entry)) (c# (now (index .entry)))) (now (index .entry)) (p .node) (p .added))
+        (copied (between (now (table .entry)) (c# (now (index .entry))) (circles# (now (index .entry)))) (now (index .entry)) (p .node) (p .added))
         o 1 (now (room .entry)) made ⌝ }
 {
     let start = start_of(index, p.node, p.added, o);
@@ -140,7 +148,7 @@ pub fn copy_children(
     requires { ⌜ (child + m# (now index) ≤ N# (now index)) × (made + m# (now index) ≤ 2097152) ×
         (nodeAt (made + m# (now index)) ≤ length (now room)) ⌝ }
     ensures { λ _. ⌜ now (room .exit) ≡ withCopies
-        (copied (between (now (table .entry)) (c# (now (index .entry)))) (now (index .entry)) (p .node) (p .added))
+        (copied (between (now (table .entry)) (c# (now (index .entry))) (circles# (now (index .entry)))) (now (index .entry)) (p .node) (p .added))
         child (m# (now (index .entry))) (now (room .entry)) made ⌝ }
 {
     let m = centres(index);

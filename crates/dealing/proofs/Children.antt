@@ -15,11 +15,11 @@ use Rattle.rounds.proofs.Parts.{stretch-front}
 use Rattle.rounds.specs.Stretch.{stretch}
 use Rattle.split.specs.Places.{nodeAt}
 use Rattle.swelling.proofs.Routed.{routed, routed-all}
-use Rattle.swelling.specs.Pieces.{Piece, kidFor, kidsFrom, pieceOf}
+use Rattle.swelling.specs.Pieces.{Piece, kidFor, kidsFrom}
 use Rattle.tree.specs.Encode.{Node, nodeWords}
 use Rattle.words.proofs.Tiles.{tile-none, tile-tail}
 use Rattle.words.specs.Shape.{tile}
-use Rattle.words.specs.Words.{N#, c#, child#, count#, first#, m#, start#}
+use Rattle.words.specs.Words.{c#, child#, circles#, count#, first#, m#, start#}
 use lib.Dec.{T, eqb}
 use lib.ListN.{drop, drop-of-length-le, length, length-append, length-drop, length-map, take, take-append-drop}
 use lib.Seq.{drop-append-le, drop-at, drop-drop, length-take-le, take-add, take-append-le, take-at, take-length, take-take}
@@ -52,7 +52,7 @@ stand-last t w last (p ∷ qs) q xs ys a l s =
 
 -- the sizes of old nodes side by side that take rows
 kids-sizes : (t w : List ℕ) (place : ℕ → ℕ) (zs : List ℕ) (s o k j a e : ℕ) → T (tile w o j a e)
-    → sizes w (kidsFrom (between t (c# w)) w place zs s o k j) + a ≡ e + routed place zs k j
+    → sizes w (kidsFrom (between t (c# w) (circles# w)) w place zs s o k j) + a ≡ e + routed place zs k j
 kids-sizes t w place zs s o k zero a e h = omega (arith, tile-none w o a e h)
 kids-sizes t w place zs s o k (suc j) a e h =
     let here : List ℕ = keep (λ z. eqb (place z) k) zs in
@@ -65,7 +65,7 @@ kids-sizes t w place zs s o k (suc j) a e h =
 module _ {t w : List ℕ} {o n lo hi : ℕ} {room₀ work₀ : List ℕ} {s made : ℕ} (g : KidsAsk t w o n lo hi room₀ work₀ s made) where
   -- how far two rows are apart
   abbrev d : ℕ → ℕ → ℕ
-  d = between t (c# w)
+  d = between t (c# w) (circles# w)
 
   -- which child takes a row
   abbrev place : ℕ → ℕ
@@ -101,7 +101,7 @@ module _ {t w : List ℕ} {o n lo hi : ℕ} {room₀ work₀ : List ℕ} {s made
       pub some : k ≤ m# w
       pub many : length done ≡ k
       pub upto : at ≡ s + sizes w done
-      pub split : kidPieces t w o (g .zs) s ≡ done ++ kidsFrom (between t (c# w)) w (kidFor (between t (c# w)) w o) (g .zs) at (child# w o + k) k (m# w - k)
+      pub split : kidPieces t w o (g .zs) s ≡ done ++ kidsFrom (between t (c# w) (circles# w)) w (kidFor (between t (c# w) (circles# w)) w o) (g .zs) at (child# w o + k) k (m# w - k)
       pub nodes : room ≡ take (nodeAt made) room₀ ++ (each (nodeWords 2) (map (pendOf t w last) done) ++ drop (nodeAt (made + k)) room₀)
       pub before : take (3 * n) work ≡ take (3 * n) work₀
       pub long : length work ≡ length work₀

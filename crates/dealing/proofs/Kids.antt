@@ -1,15 +1,14 @@
 -- One child: its rows are picked behind room for its own, it is laid, and its node is written. Assumes nothing.
-use Prim.Native.Nat.{_%_, _*_, _+_, _-_, _<_, _≤_, ℕ}
+use Prim.Native.Nat.{_*_, _+_, _-_, _<_, _≤_, ℕ}
 use Rattle.appending.specs.Append.{Ascends}
 use Rattle.dealing.proofs.Marking.{marked-long}
 use Rattle.dealing.proofs.Settling.{piece-reach, piece-size, piece-start}
 use Rattle.dealing.specs.Dealt.{ChildAsk, ChildDealt, kidPiece, kidRows}
 use Rattle.dealing.specs.Marked.{Reaching, marked}
 use Rattle.dealing.specs.Pending.{Settles, pendOf, reachOf, sizeOf}
-use Rattle.groups.specs.Groups.{Picked, Picking, distances, narrowest, picked, size, widest}
+use Rattle.groups.specs.Groups.{Picked, Picking, distances, picked, size, widest}
 use Rattle.laws.proofs.Every.{every-keep}
 use Rattle.laws.proofs.Parts.{put-more}
-use Rattle.laws.specs.Every.{Every}
 use Rattle.laws.specs.Lists.{keep, lowest}
 use Rattle.limits.specs.Limits.{maxRows}
 use Rattle.lodging.specs.Standing.{New, Stands, Takes, markOf, newRows}
@@ -21,12 +20,11 @@ use Rattle.split.proofs.Laid.{under, under-distances, under-long, under-rows, u
 use Rattle.split.proofs.Parted.{part-lent, part-put}
 use Rattle.split.specs.Places.{nodeAt}
 use Rattle.split.specs.Runs.{rows}
-use Rattle.swelling.specs.Pieces.{Piece, kidFor, pieceOf, startOf}
+use Rattle.swelling.specs.Pieces.{Piece, kidFor, pieceOf}
 use Rattle.swelling.specs.Swell.{reachTaking}
 use Rattle.tree.specs.Encode.{nodeWords}
 use Rattle.tree.specs.Grove.{Reach, reach#}
-use Rattle.words.specs.InShape.{Kids}
-use Rattle.words.specs.Words.{N#, c#, child#, count#, first#, m#, n#}
+use Rattle.words.specs.Words.{N#, c#, child#, circles#, count#, first#, n#}
 use borrow.Author.Tests.{eqb-true}
 use borrow.Rule.Slice.PartMut.{mid-len, midOf, putMid}
 use lib.Dec.{eqb}
@@ -82,7 +80,7 @@ new-keep {t} {c} {w} {zs} f N =
 module _ {t w : List ℕ} {o n lo hi : ℕ} {room work : List ℕ} {k at made : ℕ} (g : ChildAsk t w o n lo hi room work k at made) where
   -- how far two rows are apart
   abbrev d : ℕ → ℕ → ℕ
-  d = between t (c# w)
+  d = between t (c# w) (circles# w)
 
   -- the child
   abbrev kid : ℕ

@@ -1,5 +1,5 @@
 -- New rows marked with the child that takes them, one after the other. Assumes nothing.
-use Prim.Native.Nat.{_%_, _*_, _+_, _-_, _<_, _≤_, suc, zero, ℕ}
+use Prim.Native.Nat.{_*_, _+_, _-_, _<_, _≤_, suc, zero, ℕ}
 use Rattle.appending.specs.Append.{lowestAt}
 use Rattle.dealing.specs.Marked.{Marks, markEntry, marked}
 use Rattle.laws.proofs.Joins.{each-append}
@@ -8,7 +8,7 @@ use Rattle.laws.proofs.Maps.{map-shift}
 use Rattle.laws.proofs.Parts.{put-more}
 use Rattle.laws.specs.Lists.{each, range}
 use Rattle.laying.proofs.Ordering.{every-place}
-use Rattle.leafward.specs.Way.{Lent, closestKid, toKid}
+use Rattle.leafward.specs.Way.{Lent, closestKid}
 use Rattle.limits.specs.Limits.{maxColumns, maxRows}
 use Rattle.lodging.proofs.Entries.{rows-count, rows-read}
 use Rattle.measure.proofs.Rows.{row-ends}
@@ -17,7 +17,7 @@ use Rattle.rounds.proofs.Parts.{mid-end}
 use Rattle.rounds.specs.Entries.{InTable}
 use Rattle.split.specs.Runs.{rows}
 use Rattle.swelling.specs.Pieces.{kidFor}
-use Rattle.words.specs.Words.{N#, at, child#, first#, m#, n#}
+use Rattle.words.specs.Words.{N#, at, child#, circles#, first#, m#, n#}
 use borrow.Rule.Slice.PartMut.{midOf, putMid}
 use lib.ListN.{drop, drop-of-length-le, getD, length, length-append, length-drop, take}
 use lib.Seq.{drop-at, getD-drop, length-take-le, take-all, take-suc}
@@ -55,7 +55,7 @@ module _ {t : List ℕ} {c : ℕ} {w : List ℕ} {o : ℕ} {part₀ : List ℕ} 
     pub i : ℕ
     pub place : p ≡ 3 * i
     pub upto : p ≤ length part₀
-    pub words : part ≡ marked (between t c) w o (take i (rows part₀)) ++ drop (3 * i) part₀
+    pub words : part ≡ marked (between t c (circles# w)) w o (take i (rows part₀)) ++ drop (3 * i) part₀
 
   -- none is
   pub marking-start : Marking part₀ 0
@@ -64,9 +64,9 @@ module _ {t : List ℕ} {c : ℕ} {w : List ℕ} {o : ℕ} {part₀ : List ℕ} 
 
   module _ {part : List ℕ} {p : ℕ} (inv : Marking part p) where
     -- their words
-    front-size : length (marked (between t c) w o (take (inv .i) rs)) ≡ p
+    front-size : length (marked (between t c (circles# w)) w o (take (inv .i) rs)) ≡ p
     front-size =
-        marked-long (between t c) w o (take (inv .i) rs)
+        marked-long (between t c (circles# w)) w o (take (inv .i) rs)
         ∙ omega (arith, length-take-le (inv .i) rs (omega (arith, inv .place, inv .upto, all-count)), inv .place)
 
     -- as long as it was
@@ -75,7 +75,7 @@ module _ {t : List ℕ} {c : ℕ} {w : List ℕ} {o : ℕ} {part₀ : List ℕ} 
         ap length (inv .words)
         ∙ omega (
           arith,
-          length-append (marked (between t c) w o (take (inv .i) rs)) (drop (3 * inv .i) part₀),
+          length-append (marked (between t c (circles# w)) w o (take (inv .i) rs)) (drop (3 * inv .i) part₀),
           front-size,
           length-drop (3 * inv .i) part₀,
           inv .place,
@@ -92,7 +92,7 @@ module _ {t : List ℕ} {c : ℕ} {w : List ℕ} {o : ℕ} {part₀ : List ℕ} 
         let q : ℕ = 3 * inv .i in
         let y : q + 0 ≡ q = omega arith in
         let back : drop q part ≡ drop q part₀ =
-        ap (drop q) (inv .words) ∙ drop-at (marked (between t c) w o (take (inv .i) rs)) (drop q part₀) q (front-size ∙ inv .place) in
+        ap (drop q) (inv .words) ∙ drop-at (marked (between t c (circles# w)) w o (take (inv .i) rs)) (drop q part₀) q (front-size ∙ inv .place) in
         e ∙ ap (λ (k : ℕ). getD part k 0) (inv .place ∙ sym y) ∙ sym (getD-drop q part 0 0) ∙ ap (λ (l : List ℕ). getD l 0 0) back
         ∙ getD-drop q part₀ 0 0 ∙ ap (λ (k : ℕ). getD part₀ k 0) y
         ∙ sym (rows-read part₀ (inv .i) (T .whole) (omega (arith, inv .place, marking-long)))
@@ -128,16 +128,16 @@ module _ {t : List ℕ} {c : ℕ} {w : List ℕ} {o : ℕ} {part₀ : List ℕ} 
     marking-room h = omega (arith, ap length (mid-end p part), length-drop p part, marking-fits h)
 
     -- it is marked
-    pub marking-step : (new : List ℕ) {z k x f child : ℕ} → p < length part → z ≡ at part p → k ≡ closestKid (between t c) w z o → child ≡ child# w o
-        → f ≡ first# w (child + k) → x ≡ between t c f z → new ≡ z ∷ x ∷ k ∷ drop 3 (midOf p (length part - p) part)
+    pub marking-step : (new : List ℕ) {z k x f child set : ℕ} → p < length part → z ≡ at part p → k ≡ closestKid (between t c (circles# w)) w z o → child ≡ child# w o
+        → f ≡ first# w (child + k) → set ≡ circles# w → x ≡ between t c set f z → new ≡ z ∷ x ∷ k ∷ drop 3 (midOf p (length part - p) part)
         → Marking (putMid p (length part - p) part new) (p + 3)
     unfolding marked
-    marking-step new {z} {k} {x} {f} {child} h ez ek ec ef ex e =
-        let d : ℕ → ℕ → ℕ = between t c in
+    marking-step new {z} {k} {x} {f} {child} h ez ek ec ef es ex e =
+        let d : ℕ → ℕ → ℕ = between t c (circles# w) in
         let i : ℕ = inv .i in
         let kid : k ≡ kidFor d w o z = ek ∙ kid-place d w o z in
         let dist : x ≡ d (first# w (child# w o + kidFor d w o z)) z =
-        ex ∙ ap (λ (a : ℕ). d a z) (ef ∙ ap₂ (λ (a b : ℕ). first# w (a + b)) ec kid) in
+        ex ∙ ap (λ (a : ℕ). between t c a f z) es ∙ ap (λ (a : ℕ). d a z) (ef ∙ ap₂ (λ (a b : ℕ). first# w (a + b)) ec kid) in
         let entry : z ∷ x ∷ k ∷ [] ≡ markEntry d w o (getD rs i 0) =
         ap₂ (λ (a b : ℕ). z ∷ a ∷ b ∷ []) dist kid ∙ ap (markEntry d w o) (row-is h ez) in
         let more : marked d w o (take i rs) ++ (z ∷ x ∷ k ∷ []) ≡ marked d w o (take (suc i) rs) =
@@ -156,10 +156,10 @@ module _ {t : List ℕ} {c : ℕ} {w : List ℕ} {o : ℕ} {part₀ : List ℕ} 
         }
 
     -- all are
-    pub marking-done : length part ≤ p → part ≡ marked (between t c) w o (rows part₀)
+    pub marking-done : length part ≤ p → part ≡ marked (between t c (circles# w)) w o (rows part₀)
     marking-done h =
         inv .words
-        ∙ ap₂ (λ (x y : List ℕ). marked (between t c) w o x ++ y)
+        ∙ ap₂ (λ (x y : List ℕ). marked (between t c (circles# w)) w o x ++ y)
         (take-all (inv .i) rs (omega (arith, all-count, inv .place, marking-long)))
         (drop-of-length-le part₀ {i = 3 * inv .i} (omega (arith, inv .place, marking-long)))
-        ∙ append-nil (marked (between t c) w o rs)
+        ∙ append-nil (marked (between t c (circles# w)) w o rs)

@@ -1,14 +1,13 @@
 -- How far a node reaches that takes rows: by their greatest and their least distance. Assumes nothing.
 use Prim.Native.Nat.{_≤_, max, min, suc, zero, ℕ}
+use Rattle.appending.specs.Append.{reachWith}
 use Rattle.dealing.specs.Marked.{Reaching}
 use Rattle.laws.specs.Lists.{greatest, least, lower, lowest}
 use Rattle.swelling.specs.Swell.{reachTaking}
-use Rattle.appending.specs.Append.{reachWith}
 use Rattle.tree.specs.Grove.{Reach, reach#}
 use Rattle.words.specs.Words.{count#, inner#, radius#}
-use borrow.Author.Tests.{le-leb, lt-leb, ne-eqb}
+use borrow.Author.Tests.{lt-leb, ne-eqb}
 use lib.Dec.{eqb, leb}
-use lib.ListN.{length}
 use mathlib.Core.Bool.{Bool, cond}
 use mathlib.Core.List.{List, [], _∷_}
 use mathlib.Core.Path.{_∙_, _≡_, ap, refl, sym}

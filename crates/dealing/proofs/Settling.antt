@@ -1,17 +1,17 @@
 -- A child is laid as its piece says, whether it is a leaf or not; and what each piece of an old node is. Assumes nothing.
-use Prim.Native.Nat.{_*_, _+_, _≤_, suc, zero, ℕ}
+use Prim.Native.Nat.{_+_, _≤_, suc, zero, ℕ}
 use Rattle.appending.specs.Append.{twice}
 use Rattle.dealing.specs.Pending.{Settles, reachOf, sizeOf}
 use Rattle.laws.proofs.Ranges.{range-length}
 use Rattle.laws.specs.Lists.{head, range}
 use Rattle.lodging.proofs.Laying.{new-count}
-use Rattle.lodging.specs.Standing.{Lodges, Stands, Takes, markOf, newRows}
+use Rattle.lodging.specs.Standing.{Lodges, Takes}
 use Rattle.measure.specs.Table.{between}
 use Rattle.swelling.specs.Pieces.{Piece, grown, leafPiece, old, pieceOf, settled, startOf}
 use Rattle.swelling.specs.Swell.{reachTaking}
 use Rattle.tree.specs.Grove.{Reach, members#, reach#}
 use Rattle.words.specs.Shape.{inner}
-use Rattle.words.specs.Words.{c#, child#, count#, dist#, first#, row#, run#, start#}
+use Rattle.words.specs.Words.{c#, child#, circles#, count#, dist#, first#, row#, run#, start#}
 use borrow.Author.Tests.{eq-eqb, ne-eqb}
 use lib.Dec.{eqb}
 use lib.ListN.{length, length-append, length-map}
@@ -44,7 +44,7 @@ module _ {t w : List ℕ} {q : ℕ} {part : List ℕ} (T : Takes t (c# w) w q pa
 module _ (t w : List ℕ) (s o : ℕ) (zs : List ℕ) where
   -- how far two rows are apart
   abbrev d : ℕ → ℕ → ℕ
-  d = between t (c# w)
+  d = between t (c# w) (circles# w)
 
   -- a leaf's members are as many as it counts
   members-count : length (members# w o) ≡ count# w o

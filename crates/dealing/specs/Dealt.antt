@@ -2,7 +2,7 @@
 -- nothing.
 use Prim.Native.Nat.{_*_, _+_, _-_, _<_, _≤_, ℕ}
 use Rattle.dealing.specs.Marked.{marked}
-use Rattle.dealing.specs.Pending.{StandAll, pendOf, sizeOf, sizes}
+use Rattle.dealing.specs.Pending.{StandAll, pendOf}
 use Rattle.laws.specs.Lists.{each, keep}
 use Rattle.limits.specs.Limits.{maxRows}
 use Rattle.lodging.specs.Standing.{New, Stands}
@@ -13,7 +13,7 @@ use Rattle.swelling.specs.Pieces.{Piece, kidFor, kidsFrom, pieceOf}
 use Rattle.tree.specs.Encode.{nodeWords}
 use Rattle.words.specs.InShape.{InShape}
 use Rattle.words.specs.Shape.{inner}
-use Rattle.words.specs.Words.{N#, c#, child#, count#, edition#, m#, n#}
+use Rattle.words.specs.Words.{N#, c#, child#, circles#, count#, edition#, m#, n#}
 use lib.Dec.{eqb}
 use lib.ListN.{drop, length, take}
 use mathlib.Core.Bool.{Bool, true}
@@ -32,20 +32,20 @@ pub record Deals (t w : List ℕ) (o n lo hi : ℕ) (zs work : List ℕ) : Type 
   pub half : hi ≤ 3 * n
   pub halves : 6 * n ≤ length work
   pub few : n ≤ maxRows
-  pub entries : stretch work lo hi ≡ marked (between t (c# w)) w o zs
+  pub entries : stretch work lo hi ≡ marked (between t (c# w) (circles# w)) w o zs
 
 module _ (t w : List ℕ) (o : ℕ) (zs : List ℕ) where
   -- the rows of the child at place k
   abbrev pub kidRows : ℕ → List ℕ
-  kidRows k = keep (λ z. eqb (kidFor (between t (c# w)) w o z) k) zs
+  kidRows k = keep (λ z. eqb (kidFor (between t (c# w) (circles# w)) w o z) k) zs
 
   -- its piece, which starts at position `at`
   abbrev pub kidPiece : ℕ → ℕ → Piece
-  kidPiece k at = pieceOf (between t (c# w)) w at (child# w o + k) (kidRows k)
+  kidPiece k at = pieceOf (between t (c# w) (circles# w)) w at (child# w o + k) (kidRows k)
 
   -- all children's pieces, from position s on
   abbrev pub kidPieces : ℕ → List Piece
-  kidPieces s = kidsFrom (between t (c# w)) w (kidFor (between t (c# w)) w o) zs s (child# w o) 0 (m# w)
+  kidPieces s = kidsFrom (between t (c# w) (circles# w)) w (kidFor (between t (c# w) (circles# w)) w o) zs s (child# w o) 0 (m# w)
 
 -- ---- one child
 -- there is room for it from position `at` on in the second half, and for its node

@@ -7,7 +7,7 @@ use Rattle.swelling.specs.Pieces.{Piece, grown, old, pieceOf, settled, startOf}
 use Rattle.swelling.specs.Swell.{reachTaking}
 use Rattle.tree.specs.Encode.{Node}
 use Rattle.tree.specs.Grove.{Reach, reach#}
-use Rattle.words.specs.Words.{c#, count#, first#}
+use Rattle.words.specs.Words.{c#, circles#, count#, first#}
 use lib.ListN.{drop, length, take}
 use mathlib.Core.Bool.{Bool}
 use mathlib.Core.List.{List, [], _∷_, map}
@@ -27,7 +27,7 @@ sizes w (q ∷ qs) = sizeOf w q + sizes w qs
 module _ (t w : List ℕ) where
   -- how far it reaches
   abbrev pub reachOf : Piece → Reach
-  reachOf (old s o zs) = reachTaking (count# w o) (reach# w o) (map (between t (c# w) (first# w o)) zs)
+  reachOf (old s o zs) = reachTaking (count# w o) (reach# w o) (map (between t (c# w) (circles# w) (first# w o)) zs)
   reachOf (grown s R run) = R
   reachOf (settled s R es) = R
 
@@ -44,6 +44,6 @@ module _ (t w : List ℕ) where
 
 -- WHAT A NODE IS LAID AS: its piece, wherever it starts
 pub record Settles (t w : List ℕ) (o : ℕ) (last : Bool) (part part′ : List ℕ) (mark : ℕ) : Type 0 where
-  pub stands : (s : ℕ) → Stands t (c# w) w last (pieceOf (between t (c# w)) w s o (newRows w o part)) part′
-  pub marked : (s : ℕ) → mark ≡ markOf t (c# w) w last (pieceOf (between t (c# w)) w s o (newRows w o part))
+  pub stands : (s : ℕ) → Stands t (c# w) w last (pieceOf (between t (c# w) (circles# w)) w s o (newRows w o part)) part′
+  pub marked : (s : ℕ) → mark ≡ markOf t (c# w) w last (pieceOf (between t (c# w) (circles# w)) w s o (newRows w o part))
   pub long : length part′ ≡ length part

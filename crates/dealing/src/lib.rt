@@ -8,7 +8,7 @@ ghost use Rattle.lodging.specs.Standing.{Takes};
 ghost use Rattle.measure.specs.Table.{between};
 ghost use Rattle.split.specs.Runs.{rows};
 ghost use Rattle.words.specs.InShape.{InShape};
-ghost use Rattle.words.specs.Words.{N#, c#, edition#};
+ghost use Rattle.words.specs.Words.{N#, c#, circles#, edition#};
 ghost use mathlib.Core.Path.{_≡_};
 use groups::Group;
 use groups::least_of;
@@ -22,6 +22,7 @@ use rounds::put_entry;
 use split::WIDTH;
 use words::places::HEADER;
 use words::places::centres;
+use words::places::circles;
 use words::places::columns;
 use words::places::node_child;
 use words::places::node_count;
@@ -44,14 +45,15 @@ pub struct Deal {
 // Marks each new row of the inner node o with the child that takes it, and with how far it is from that child's first.
 pub fn mark_rows(table: &[u16], c: usize, index: &[u32], o: usize, part: &mut [u32])
     requires { ⌜ Marks (now table) c (now index) o (now part) ⌝ }
-    ensures { λ _. ⌜ now (part .exit) ≡ marked (between (now (table .entry)) c) (now (index .entry)) o (rows (now (part .entry))) ⌝ }
+    ensures { λ _. ⌜ now (part .exit) ≡ marked (between (now (table .entry)) c (circles# (now (index .entry)))) (now (index .entry)) o (rows (now (part .entry))) ⌝ }
 {
     let child = node_child(index, o);
+    let set = circles(index);
     let mut p = 0;
     while p < part.len() {
         let z = word(part, p);
         let k = closest_child(table, c, index, o, z);
-        let d = row_distance(table, c, node_first(index, child + k), z);
+        let d = row_distance(table, c, set, node_first(index, child + k), z);
         put_entry(&mut part[p..], z as u32, d, k as u32);
         p += 3;
     }

@@ -10,7 +10,7 @@ use Rattle.tree.specs.Homes.{childBound}
 use Rattle.tree.specs.Radius.{marksIn}
 use Rattle.words.specs.Words.{count#, start#}
 use lib.Dec.{leb, ltb}
-use mathlib.Core.Bool.{cond}
+use mathlib.Core.Bool.{Bool, cond}
 use mathlib.Core.List.{List, map}
 
 -- 01, Which rows are measured, Radius: a node whose first is at x, with the radius R and the bound b, in this order: x + R ≤ r, it is swept;
@@ -24,11 +24,11 @@ fateMarks others opened Swept = map (λ i. (i, 2)) others
 fateMarks others opened Closed = map (λ i. (i, 0)) others
 fateMarks others opened Opened = opened
 
--- the how-bytes once the fate of node k is known: of these cases only the swept one stores
-abbrev pub settled : List ℕ → ℕ → Fate → List ℕ → List ℕ
-settled w k Swept h = marked (sweptAt w) (start# w k + 1) (start# w k + count# w k) h
-settled w k Closed h = h
-settled w k Opened h = h
+-- the how-bytes once the fate of node k is known, those rows being gone: of these cases only the swept one stores
+abbrev pub settled : (ℕ → Bool) → List ℕ → ℕ → Fate → List ℕ → List ℕ
+settled gone w k Swept h = marked gone (sweptAt w) (start# w k + 1) (start# w k + count# w k) h
+settled gone w k Closed h = h
+settled gone w k Opened h = h
 
 module _ (x : ℕ → ℕ) (r : ℕ) (w : List ℕ) where
   -- the marks of the rows of node k but its first, with the bound b and `levels` left below it

@@ -7,8 +7,10 @@ ghost use Rattle.marking.specs.Lent.{Lent};
 ghost use Rattle.marking.specs.Marks.{firstAt};
 ghost use Rattle.marking.specs.Written.{write};
 ghost use Rattle.measure.specs.Table.{from};
+ghost use Rattle.rowset.specs.Sets.{isIn};
+ghost use Rattle.tree.specs.Radius.{veiled};
 ghost use Rattle.words.specs.InShape.{Left};
-ghost use Rattle.words.specs.Words.{N#, radius#};
+ghost use Rattle.words.specs.Words.{N#, circles#, radius#};
 ghost use mathlib.Core.Path.{_≡_};
 use crate::fate::Fate;
 use crate::fate::settle;
@@ -31,31 +33,44 @@ pub fn descend(
     bound: u32,
     r: u32,
     levels: usize,
+    withdrawn: &[u32],
     how: &mut [u8],
 )
     requires { ⌜ Lent (now index) (now table) c (now query) (now how) ⌝ }
-    requires { ⌜ Left (now index) levels k × (k < N# (now index)) × (x ≤ maxDistance) × (x ≡ firstAt (from (now table) c (now query)) (now index) k)
+    requires { ⌜ Left (now index) levels k × (k < N# (now index)) × (x ≤ maxDistance) × (x ≡ firstAt (from (now table) c (circles# (now index)) (now query)) (now index) k)
         × (Opened ≡ fateOf x (radius# (now index) k) bound r) ⌝ }
-    ensures { λ _. ⌜ now (how .exit) ≡ write (nodeMarks (from (now (table .entry)) c (now (query .entry))) r (now (index .entry)) levels k bound)
-        (now (how .entry)) ⌝ }
+    ensures { λ _. ⌜ now (how .exit) ≡ write (veiled (isIn (now (withdrawn .entry)))
+        (nodeMarks (from (now (table .entry)) c (circles# (now (index .entry))) (now (query .entry))) r (now (index .entry)) levels k bound)) (now (how .entry)) ⌝ }
 {
     let ch = node_child(index, k);
     if ch == 0 {
-        open_leaf(table, c, index, query, k, x, r, how);
+        open_leaf(table, c, index, query, k, x, r, withdrawn, how);
         return;
     }
     let m = centres(index);
-    let ds = open_inner(table, c, index, query, ch, x, r, how);
+    let ds = open_inner(table, c, index, query, ch, x, r, withdrawn, how);
     let y = least_of(ds, m);
     let mut j = 0;
     while j < m {
         let d = ds[j];
         let kid = ch + j;
         let b = kid_bound(index, kid, bound, y, d);
-        let fate = settle(index, kid, d, b, r, how);
+        let fate = settle(index, kid, d, b, r, withdrawn, how);
         j += 1;
         if let Fate::Opened = fate {
-            descend(table, c, index, query, kid, d, b, r, levels - 1, how);
+            descend(
+                table,
+                c,
+                index,
+                query,
+                kid,
+                d,
+                b,
+                r,
+                levels - 1,
+                withdrawn,
+                how,
+            );
         }
     }
 }

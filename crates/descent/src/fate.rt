@@ -2,6 +2,7 @@
 ghost use Prim.Native.Nat.{_<_, _≤_};
 ghost use Rattle.descent.specs.Descent.{fateOf, settled};
 ghost use Rattle.limits.specs.Limits.{maxDistance};
+ghost use Rattle.rowset.specs.Sets.{isIn};
 ghost use Rattle.words.specs.InShape.{InShape};
 ghost use Rattle.words.specs.Words.{N#, n#, radius#};
 ghost use lib.ListN.{length};
@@ -32,16 +33,24 @@ fn fate_of(x: u32, radius: u32, bound: u32, r: u32) -> Fate
 }
 
 // Node k, whose first is at x and which has this bound: its fate, and where that is to be swept, it is swept at once.
-pub fn settle(index: &[u32], k: usize, x: u32, bound: u32, r: u32, how: &mut [u8]) -> Fate
+pub fn settle(
+    index: &[u32],
+    k: usize,
+    x: u32,
+    bound: u32,
+    r: u32,
+    withdrawn: &[u32],
+    how: &mut [u8],
+) -> Fate
     requires { ⌜ InShape (now index) ⌝ }
     requires { ⌜ (k < N# (now index)) × (n# (now index) ≤ length (now how)) × (x ≤ maxDistance) ⌝ }
     ensures fate { λ v. ⌜ v ≡ fateOf x (radius# (now (index .entry)) k) bound r ⌝ }
-    ensures marks { λ v. ⌜ now (how .exit) ≡ settled (now (index .entry)) k v (now (how .entry)) ⌝ }
+    ensures marks { λ v. ⌜ now (how .exit) ≡ settled (isIn (now (withdrawn .entry))) (now (index .entry)) k v (now (how .entry)) ⌝ }
 {
     let fate = fate_of(x, node_radius(index, k), bound, r);
     let Fate::Swept = fate else {
         return fate;
     };
-    sweep(index, k, how);
+    sweep(index, k, withdrawn, how);
     fate
 }

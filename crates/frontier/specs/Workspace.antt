@@ -1,4 +1,5 @@
--- The workspace of a nearest search, 6n words for n rows: 2n for the frontier, n for the distances by row, 2n for the answers, and n to spare. A
+-- The workspace of a nearest search, 6n words for n rows: 2n for the frontier, n for the distances of centres by row, 2n for the answers, and n to
+-- spare. A
 -- working notion, on which no promise rests. Assumes nothing.
 use Prim.Native.Nat.{_*_, _+_, ℕ}
 use lib.ListN.{getD}
@@ -16,6 +17,6 @@ answersAt n = 3 * n
 abbrev pub workWords : ℕ → ℕ
 workWords n = 6 * n
 
--- the distance kept for row r
+-- the distance kept for row r, where it is a centre that is measured
 abbrev pub kept : List ℕ → ℕ → ℕ → ℕ
 kept work n r = getD work (distancesAt n + r) 0

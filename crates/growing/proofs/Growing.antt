@@ -63,39 +63,39 @@ module _ (d : ℕ → ℕ → ℕ) (m l : ℕ) where
   nodes-none hi items = refl
 
 -- `depth` levels are opened: with what is to come below, the nodes and the leaves are those of the whole tree
-pub record Growing (t : List ℕ) (c m l n : ℕ) (origin room work : List ℕ) (lo hi depth : ℕ) : Type 0 where
+pub record Growing (t : List ℕ) (c o m l n : ℕ) (origin room work : List ℕ) (lo hi depth : ℕ) : Type 0 where
   pub before : List Node
   pub items : List Item
   pub tiles : List (List ℕ)
-  pub stage : Stage (between t c) m l n origin before items tiles room work lo hi
-  pub nodes : before ++ allNodes (between t c) m l (maxDepth - depth) hi items ≡ allNodes (between t c) m l maxDepth 1 (rootItem n ∷ [])
-  pub below : each (leaves (between t c) m l (maxDepth - depth)) tiles ≡ leaves (between t c) m l maxDepth (range 0 n)
+  pub stage : Stage (between t c o) m l n origin before items tiles room work lo hi
+  pub nodes : before ++ allNodes (between t c o) m l (maxDepth - depth) hi items ≡ allNodes (between t c o) m l maxDepth 1 (rootItem n ∷ [])
+  pub below : each (leaves (between t c o) m l (maxDepth - depth)) tiles ≡ leaves (between t c o) m l maxDepth (range 0 n)
 
 -- the root stands alone
-pub growing-start : (t : List ℕ) (c m l n : ℕ) (origin room work : List ℕ) → Rooted (between t c) m l n origin room work
-    → Growing t c m l n origin room work 0 1 0
-growing-start t c m l n origin room work s =
+pub growing-start : (t : List ℕ) (c o m l n : ℕ) (origin room work : List ℕ) → Rooted (between t c o) m l n origin room work
+    → Growing t c o m l n origin room work 0 1 0
+growing-start t c o m l n origin room work s =
     record {
       before = [];
       items = rootItem n ∷ [];
       tiles = range 0 n ∷ [];
       stage = s;
       nodes = refl;
-      below = append-nil (leaves (between t c) m l maxDepth (range 0 n));
+      below = append-nil (leaves (between t c o) m l maxDepth (range 0 n));
     }
 
-module _ {t : List ℕ} {c m l n : ℕ} {origin room work : List ℕ} {lo hi depth : ℕ} (inv : Growing t c m l n origin room work lo hi depth) where
+module _ {t : List ℕ} {c o m l n : ℕ} {origin room work : List ℕ} {lo hi depth : ℕ} (inv : Growing t c o m l n origin room work lo hi depth) where
   -- how far two rows are apart
   abbrev d : ℕ → ℕ → ℕ
-  d = between t c
+  d = between t c o
 
   -- the next level has its items and tiles
-  abbrev pub growing-level : Fit t c m l n → Level t c m l n room work lo hi
+  abbrev pub growing-level : Fit t c m l n → Level t c o m l n room work lo hi
   growing-level fit = record { fit = fit; origin = origin; before = inv .before; items = inv .items; tiles = inv .tiles; stage = inv .stage }
 
   -- the next level is opened
-  pub growing-step : {room′ work′ : List ℕ} {made : ℕ} → Fit t c m l n → depth < maxDepth → Staged t c m l n room work lo hi room′ work′ made
-      → Growing t c m l n origin room′ work′ hi made (depth + 1)
+  pub growing-step : {room′ work′ : List ℕ} {made : ℕ} → Fit t c m l n → depth < maxDepth → Staged t c o m l n room work lo hi room′ work′ made
+      → Growing t c o m l n origin room′ work′ hi made (depth + 1)
   growing-step {made = made} fit h staged =
       let s = staged (growing-level fit) in
       let less : maxDepth - depth ≡ suc (maxDepth - (depth + 1)) = omega arith in
@@ -113,7 +113,7 @@ module _ {t : List ℕ} {c m l n : ℕ} {origin room work : List ℕ} {lo hi dep
       }
 
   -- all levels are opened
-  pub growing-done : maxDepth ≤ depth → Layered (between t c) m l n origin room work hi
+  pub growing-done : maxDepth ≤ depth → Layered (between t c o) m l n origin room work hi
   growing-done h =
       let z : maxDepth - depth ≡ 0 = omega arith in
       let s = inv .stage in
@@ -131,6 +131,6 @@ module _ {t : List ℕ} {c m l n : ℕ} {origin room work : List ℕ} {lo hi dep
       }
 
 -- `depth` levels are opened, whatever the room was before the root
-abbrev pub Grows : List ℕ → ℕ → ℕ → ℕ → ℕ → List ℕ → List ℕ → List ℕ → List ℕ → ℕ → ℕ → ℕ → Type 0
-Grows t c m l n room₀ work₀ room work lo hi depth =
-    (g : Planted (between t c) m l n room₀ work₀) → Growing t c m l n (g .origin) room work lo hi depth
+abbrev pub Grows : List ℕ → ℕ → ℕ → ℕ → ℕ → ℕ → List ℕ → List ℕ → List ℕ → List ℕ → ℕ → ℕ → ℕ → Type 0
+Grows t c o m l n room₀ work₀ room work lo hi depth =
+    (g : Planted (between t c o) m l n room₀ work₀) → Growing t c o m l n (g .origin) room work lo hi depth

@@ -17,25 +17,25 @@ use mathlib.Core.List.{List, [], _++_, _∷_, append-assoc, map}
 use mathlib.Core.Path.{_∙_, _≡_, ap, ap₂, sym}
 use native.Mathlib.Omega.{arith}
 
-module _ {t : List ℕ} {c m l n : ℕ} {room₀ work₀ : List ℕ} {lo hi : ℕ} (g : Level t c m l n room₀ work₀ lo hi) where
+module _ {t : List ℕ} {c o m l n : ℕ} {room₀ work₀ : List ℕ} {lo hi : ℕ} (g : Level t c o m l n room₀ work₀ lo hi) where
   -- the nodes of the levels above and of the items that are opened
   abbrev pub fore : List Item → List Node
-  fore done = g .before ++ levelOut (between t c) m l hi done
+  fore done = g .before ++ levelOut (between t c o) m l hi done
 
   -- the nodes of the items that are not, and of the children there are
   abbrev pub rear : List Item → List Item → List Node
-  rear done todo = map (leafNode (between t c) m l) todo ++ map (leafNode (between t c) m l) (nextLevel (between t c) m l done)
+  rear done todo = map (leafNode (between t c o) m l) todo ++ map (leafNode (between t c o) m l) (nextLevel (between t c o) m l done)
 
   -- `done` are opened and `todo` are not; the tiles `past` gave way to their children's, `ahead` did not
   pub record Half (done todo : List Item) (past ahead : List (List ℕ)) (room work : List ℕ) (made k : ℕ) : Type 0 where
     pub all : g .items ≡ done ++ todo
     pub runs : g .tiles ≡ past ++ ahead
     pub nodes : room ≡ withNodes (g .origin) (fore done ++ rear done todo)
-    pub count : made ≡ hi + length (nextLevel (between t c) m l done)
+    pub count : made ≡ hi + length (nextLevel (between t c o) m l done)
     pub here : k ≡ length (g .before) + length done
-    pub tiled : Tiled (between t c) n work (each (opened (between t c) m l) past ++ ahead)
-    pub wait : keep (waits l) todo ≡ keep (waits l) (placed (length (joined (each (opened (between t c) m l) past))) ahead)
-    pub few : made + 1 ≤ 2 * length (each (opened (between t c) m l) past ++ ahead)
+    pub tiled : Tiled (between t c o) n work (each (opened (between t c o) m l) past ++ ahead)
+    pub wait : keep (waits l) todo ≡ keep (waits l) (placed (length (joined (each (opened (between t c o) m l) past))) ahead)
+    pub few : made + 1 ≤ 2 * length (each (opened (between t c o) m l) past ++ ahead)
 
   -- the nodes before k are opened
   pub record Levelling (room work : List ℕ) (made k : ℕ) : Type 0 where
@@ -51,19 +51,19 @@ module _ {t : List ℕ} {c m l n : ℕ} {room₀ work₀ : List ℕ} {lo hi : �
 
   -- ---- one node more is opened, and its words are x
   pub fore-more : (done : List Item) (q : Item) (x : Node) (ns : List Node)
-      → levelOut (between t c) m l hi (done ++ q ∷ []) ≡ levelOut (between t c) m l hi done ++ x ∷ []
+      → levelOut (between t c o) m l hi (done ++ q ∷ []) ≡ levelOut (between t c o) m l hi done ++ x ∷ []
       → fore done ++ x ∷ ns ≡ fore (done ++ q ∷ []) ++ ns
   fore-more done q x ns e =
       sym (append-assoc (fore done) (x ∷ []) ns)
       ∙ ap (λ (y : List Node). y ++ ns)
-      (append-assoc (g .before) (levelOut (between t c) m l hi done) (x ∷ []) ∙ ap (λ (y : List Node). g .before ++ y) (sym e))
+      (append-assoc (g .before) (levelOut (between t c o) m l hi done) (x ∷ []) ∙ ap (λ (y : List Node). g .before ++ y) (sym e))
 
   -- ---- the node of item q, which is the next
   module _ {done : List Item} {q : Item} {rest : List Item} {past ahead : List (List ℕ)} {room work : List ℕ} {made k : ℕ}
       (half : Half done (q ∷ rest) past ahead room work made k) where
     -- how far two rows are apart
     abbrev d : ℕ → ℕ → ℕ
-    d = between t c
+    d = between t c o
 
     -- k nodes stand before it
     pub fore-long : length (fore done) ≡ k

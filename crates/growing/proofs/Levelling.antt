@@ -16,13 +16,13 @@ use mathlib.Core.Path.{_∙_, _≡_, ap, ap₂, refl, subst, sym}
 use native.Mathlib.Omega.{arith}
 
 -- the nodes before k are opened, whatever items and tiles the level has
-abbrev pub Turn : List ℕ → ℕ → ℕ → ℕ → ℕ → List ℕ → List ℕ → ℕ → ℕ → List ℕ → List ℕ → ℕ → ℕ → Type 0
-Turn t c m l n room₀ work₀ lo hi room work made k = (g : Level t c m l n room₀ work₀ lo hi) → Levelling g room work made k
+abbrev pub Turn : List ℕ → ℕ → ℕ → ℕ → ℕ → ℕ → List ℕ → List ℕ → ℕ → ℕ → List ℕ → List ℕ → ℕ → ℕ → Type 0
+Turn t c o m l n room₀ work₀ lo hi room work made k = (g : Level t c o m l n room₀ work₀ lo hi) → Levelling g room work made k
 
-module _ {t : List ℕ} {c m l n : ℕ} {room₀ work₀ : List ℕ} {lo hi : ℕ} (g : Level t c m l n room₀ work₀ lo hi) where
+module _ {t : List ℕ} {c o m l n : ℕ} {room₀ work₀ : List ℕ} {lo hi : ℕ} (g : Level t c o m l n room₀ work₀ lo hi) where
   -- how far two rows are apart
   abbrev d : ℕ → ℕ → ℕ
-  d = between t c
+  d = between t c o
 
   -- no node is opened yet
   pub levelling-start : Levelling g room₀ work₀ hi lo
@@ -54,15 +54,15 @@ module _ {t : List ℕ} {c m l n : ℕ} {room₀ work₀ : List ℕ} {lo hi : �
   module _ {room work : List ℕ} {made k : ℕ} (inv : Levelling g room work made k) where
     -- ---- node k, while there is one
     -- what opening it asks
-    pub levelling-open : k < hi → Openable t c m l n room work k made
+    pub levelling-open : k < hi → Openable t c o m l n room work k made
     levelling-open h = go (inv .todo) (inv .half)
       where
-        go : (todo : List Item) → Half g (inv .done) todo (inv .past) (inv .ahead) room work made k → Openable t c m l n room work k made
+        go : (todo : List Item) → Half g (inv .done) todo (inv .past) (inv .ahead) room work made k → Openable t c o m l n room work k made
         go [] f = absurd (omega (arith, f .here, ap length (f .all), length-append (inv .done) [], g .stage .last))
         go (q ∷ rest) f = half-open g f
 
     -- it is opened
-    pub levelling-step : {room′ work′ : List ℕ} {r : ℕ} → k < hi → length work′ ≡ length work → Opened t c m l n room work k made room′ work′ r
+    pub levelling-step : {room′ work′ : List ℕ} {r : ℕ} → k < hi → length work′ ≡ length work → Opened t c o m l n room work k made room′ work′ r
         → Levelling g room′ work′ r (k + 1)
     levelling-step {room′} {work′} {r} h same got = go (inv .todo) (inv .half)
       where
@@ -72,8 +72,8 @@ module _ {t : List ℕ} {c m l n : ℕ} {room₀ work₀ : List ℕ} {lo hi : �
 
     -- ---- behind the last: the stage one level down
     pub levelling-done : hi ≤ k
-        → Stage (between t c) m l n (g .origin) (g .before ++ levelOut (between t c) m l hi (g .items)) (nextLevel (between t c) m l (g .items))
-        (each (opened (between t c) m l) (g .tiles)) room work hi made
+        → Stage (between t c o) m l n (g .origin) (g .before ++ levelOut (between t c o) m l hi (g .items)) (nextLevel (between t c o) m l (g .items))
+        (each (opened (between t c o) m l) (g .tiles)) room work hi made
     levelling-done h = go (inv .todo) (inv .half)
       where
         go : (todo : List Item) → Half g (inv .done) todo (inv .past) (inv .ahead) room work made k

@@ -26,12 +26,12 @@ use mathlib.Core.List.{List, [], _++_, _∷_, append-assoc, append-nil, map}
 use mathlib.Core.Path.{_∙_, _≡_, ap, ap₂, refl, subst, sym}
 use native.Mathlib.Omega.{arith}
 
-module _ {t : List ℕ} {c m l n : ℕ} {room₀ work₀ : List ℕ} {lo hi : ℕ} (g : Level t c m l n room₀ work₀ lo hi)
+module _ {t : List ℕ} {c o m l n : ℕ} {room₀ work₀ : List ℕ} {lo hi : ℕ} (g : Level t c o m l n room₀ work₀ lo hi)
     {done : List Item} {q : Item} {rest : List Item} {past ahead : List (List ℕ)} {room work : List ℕ} {made k : ℕ}
     (half : Half g done (q ∷ rest) past ahead room work made k) where
   -- how far two rows are apart
   abbrev d : ℕ → ℕ → ℕ
-  d = between t c
+  d = between t c o
 
   -- ---- it has more than l rows
   module _ (large : leb (length (q .1)) l ≡ false) where
@@ -75,14 +75,14 @@ module _ {t : List ℕ} {c m l n : ℕ} {room₀ work₀ : List ℕ} {lo hi : �
     start-at = start-is g half ∙ next .place ∙ sym (joined-append gone (next .front))
 
     -- it can be split
-    half-ready : Splittable t c m n room work (start# room k) (count# room k) made
+    half-ready : Splittable t c o m n room work (start# room k) (count# room k) made
     half-ready =
         rw (start-at, count-is g half)
         (tile-ready (g .fit) front (q .1) (next .back) tiled-cut large-is (omega (arith, long g half, g .stage .space)) few-cut)
 
     -- ---- its run is split
     module _ {room′ work′ : List ℕ} (same : length work′ ≡ length work)
-        (got : Splitted t c m n (set room (nodeAt k + 2) made) work (start# room k) (count# room k) made room′ work′) where
+        (got : Splitted t c o m n (set room (nodeAt k + 2) made) work (start# room k) (count# room k) made room′ work′) where
       -- its children's runs
       kids : List (List ℕ)
       kids = split d m (q .1)
@@ -211,7 +211,7 @@ module _ {t : List ℕ} {c m l n : ℕ} {room₀ work₀ : List ℕ} {lo hi : �
 
   -- ---- either way
   -- what opening it asks
-  pub half-open : Openable t c m l n room work k made
+  pub half-open : Openable t c o m l n room work k made
   half-open =
       record {
         old = omega (arith, half .count, half .here, items-long g half, g .stage .last);
@@ -222,7 +222,7 @@ module _ {t : List ℕ} {c m l n : ℕ} {room₀ work₀ : List ℕ} {lo hi : �
       }
 
   -- what it leaves
-  pub half-step : {room′ work′ : List ℕ} {r : ℕ} → length work′ ≡ length work → Opened t c m l n room work k made room′ work′ r
+  pub half-step : {room′ work′ : List ℕ} {r : ℕ} → length work′ ≡ length work → Opened t c o m l n room work k made room′ work′ r
       → Levelling g room′ work′ r (k + 1)
   half-step {room′} {work′} {r} same got = go (leb (length (q .1)) l) refl
     where

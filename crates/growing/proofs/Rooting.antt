@@ -58,14 +58,14 @@ root-laid : (d : ℕ → ℕ → ℕ) (n : ℕ) → 1 ≤ n → laid d (range 0 
 root-laid d zero h = absurd (omega arith)
 root-laid d (suc n) h = refl
 
-module _ {t : List ℕ} {c m l n : ℕ} {room work : List ℕ} (asked : Room t c m l n room work) (some : 1 ≤ n) where
+module _ {t : List ℕ} {c m l n : ℕ} (o : ℕ) {room work : List ℕ} (asked : Room t c m l n room work) (some : 1 ≤ n) where
   -- how far two rows are apart
   abbrev d : ℕ → ℕ → ℕ
-  d = between t c
+  d = between t c o
 
   -- the workspace is the root's run, and nothing else
-  tiled : (work′ : List ℕ) → length work′ ≡ length work → work′ ≡ each (entryOf0 (between t c)) (range 0 n) ++ drop (3 * n) work
-      → Tiled (between t c) n work′ (range 0 n ∷ [])
+  tiled : (work′ : List ℕ) → length work′ ≡ length work → work′ ≡ each (entryOf0 (between t c o)) (range 0 n) ++ drop (3 * n) work
+      → Tiled (between t c o) n work′ (range 0 n ∷ [])
   tiled work′ same e =
       let long : length (laid d (range 0 n)) ≡ 3 * n = laid-long d (range 0 n) ∙ ap (λ (k : ℕ). 3 * k) (range-length 0 n) in
       record {
@@ -80,9 +80,9 @@ module _ {t : List ℕ} {c m l n : ℕ} {room work : List ℕ} (asked : Room t c
       }
 
   -- THE ROOT STANDS
-  pub root-stands : {r i : ℕ} {work′ ys : List ℕ} → length work′ ≡ length work → RootLaid (between t c) n work work′ r i
+  pub root-stands : {r i : ℕ} {work′ ys : List ℕ} → length work′ ≡ length work → RootLaid (between t c o) n work work′ r i
       → ys ≡ 0 ∷ n ∷ 0 ∷ r ∷ i ∷ drop 5 (midOf 8 (length room - 8) room)
-      → Rooted (between t c) m l n room (putMid 8 (length room - 8) room ys) work′
+      → Rooted (between t c o) m l n room (putMid 8 (length room - 8) room ys) work′
   root-stands {r} {i} {work′} {ys} same told put =
       let fits : 8 ≤ length room = omega (arith, asked .space) in
       let w : 0 ∷ n ∷ 0 ∷ r ∷ i ∷ [] ≡ nodeWords 2 (leafNode d m l (rootItem n)) =

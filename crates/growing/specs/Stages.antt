@@ -49,31 +49,32 @@ pub record Stage (d : ℕ → ℕ → ℕ) (m l n : ℕ) (origin : List ℕ) (be
   pub wait : keep (waits l) items ≡ keep (waits l) (placed 0 tiles)
 
 -- there are such items and tiles
-pub record Level (t : List ℕ) (c m l n : ℕ) (room work : List ℕ) (lo hi : ℕ) : Type 0 where
+pub record Level (t : List ℕ) (c o m l n : ℕ) (room work : List ℕ) (lo hi : ℕ) : Type 0 where
   pub fit : Fit t c m l n
   pub origin : List ℕ
   pub before : List Node
   pub items : List Item
   pub tiles : List (List ℕ)
-  pub stage : Stage (between t c) m l n origin before items tiles room work lo hi
+  pub stage : Stage (between t c o) m l n origin before items tiles room work lo hi
 
 -- the stage one level down, of any items and tiles that were there
-abbrev pub Staged : List ℕ → ℕ → ℕ → ℕ → ℕ → List ℕ → List ℕ → ℕ → ℕ → List ℕ → List ℕ → ℕ → Type 0
-Staged t c m l n room work lo hi room′ work′ r =
-    (g : Level t c m l n room work lo hi)
-    → Stage (between t c) m l n (g .origin) (g .before ++ levelOut (between t c) m l hi (g .items)) (nextLevel (between t c) m l (g .items))
-    (each (opened (between t c) m l) (g .tiles)) room′ work′ hi r
+abbrev pub Staged : List ℕ → ℕ → ℕ → ℕ → ℕ → ℕ → List ℕ → List ℕ → ℕ → ℕ → List ℕ → List ℕ → ℕ → Type 0
+Staged t c o m l n room work lo hi room′ work′ r =
+    (g : Level t c o m l n room work lo hi)
+    → Stage (between t c o) m l n (g .origin) (g .before ++ levelOut (between t c o) m l hi (g .items)) (nextLevel (between t c o) m l (g .items))
+    (each (opened (between t c o) m l) (g .tiles)) room′ work′ hi r
 
 -- ---- one node
 -- node k is one of the nodes made; where it has more than l rows, its run can be split
-pub record Openable (t : List ℕ) (c m l n : ℕ) (room work : List ℕ) (k made : ℕ) : Type 0 where
+pub record Openable (t : List ℕ) (c o m l n : ℕ) (room work : List ℕ) (k made : ℕ) : Type 0 where
   pub old : k < made
   pub small : made ≤ 2097152
   pub centres : m ≤ maxCentres
   pub there : nodeAt made ≤ length room
-  pub ready : l < count# room k → Splittable t c m n room work (start# room k) (count# room k) made
+  pub ready : l < count# room k → Splittable t c o m n room work (start# room k) (count# room k) made
 
 -- a node of at most l rows stays as it is; any other has its m children from `made` on
-pub record Opened (t : List ℕ) (c m l n : ℕ) (room work : List ℕ) (k made : ℕ) (room′ work′ : List ℕ) (r : ℕ) : Type 0 where
+pub record Opened (t : List ℕ) (c o m l n : ℕ) (room work : List ℕ) (k made : ℕ) (room′ work′ : List ℕ) (r : ℕ) : Type 0 where
   pub stays : count# room k ≤ l → (r ≡ made) × (room′ ≡ room) × (work′ ≡ work)
-  pub splits : l < count# room k → (r ≡ made + m) × Splitted t c m n (set room (nodeAt k + 2) made) work (start# room k) (count# room k) made room′ work′
+  pub splits : l < count# room k
+      → (r ≡ made + m) × Splitted t c o m n (set room (nodeAt k + 2) made) work (start# room k) (count# room k) made room′ work′

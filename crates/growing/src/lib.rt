@@ -24,15 +24,15 @@ pub struct Reach {
 }
 
 // The root's entries: each row with its distance from row 0. Gives how far they reach: row i is the i-th but the first, which is at 0.
-fn lay(table: &[u16], c: usize, n: usize, work: &mut [u32]) -> Reach
+fn lay(table: &[u16], c: usize, circles: u32, n: usize, work: &mut [u32]) -> Reach
     requires { ⌜ (c ≤ maxColumns) × (n ≤ maxRows) × (c * n ≤ length (now table)) × (3 * n ≤ length (now work)) ⌝ }
-    ensures { λ r. ⌜ RootLaid (between (now (table .entry)) c) n (now (work .entry)) (now (work .exit)) (r .radius) (r .inner) ⌝ }
+    ensures { λ r. ⌜ RootLaid (between (now (table .entry)) c circles) n (now (work .entry)) (now (work .exit)) (r .radius) (r .inner) ⌝ }
 {
     let mut radius: u32 = 0;
     let mut inner: u32 = 0;
     let mut i = 0;
     while i < n {
-        let d = row_distance(table, c, 0, i);
+        let d = row_distance(table, c, circles, 0, i);
         radius = larger(radius, d);
         inner = least_of(i, inner, d);
         let at = 3 * i;
@@ -46,6 +46,7 @@ fn lay(table: &[u16], c: usize, n: usize, work: &mut [u32]) -> Reach
 pub fn root(
     table: &[u16],
     c: usize,
+    circles: u32,
     m: usize,
     l: usize,
     n: usize,
@@ -54,9 +55,9 @@ pub fn root(
 )
     requires { ⌜ Room (now table) c m l n (now room) (now work) ⌝ }
     requires { ⌜ 1 ≤ n ⌝ }
-    ensures { λ _. ⌜ Rooted (between (now (table .entry)) c) m l n (now (room .entry)) (now (room .exit)) (now (work .exit)) ⌝ }
+    ensures { λ _. ⌜ Rooted (between (now (table .entry)) c circles) m l n (now (room .entry)) (now (room .exit)) (now (work .exit)) ⌝ }
 {
-    let reach = lay(table, c, n, work);
+    let reach = lay(table, c, circles, n, work);
     put_node(
         &mut room[HEADER..],
         0,
@@ -71,6 +72,7 @@ pub fn root(
 pub fn open_node(
     table: &[u16],
     c: usize,
+    circles: u32,
     m: usize,
     l: usize,
     n: usize,
@@ -79,8 +81,9 @@ pub fn open_node(
     k: usize,
     made: usize,
 ) -> usize
-    requires { ⌜ Openable (now table) c m l n (now room) (now work) k made ⌝ }
-    ensures { λ r. ⌜ Opened (now (table .entry)) c m l n (now (room .entry)) (now (work .entry)) k made (now (room .exit)) (now (work .exit)) r ⌝ }
+    requires { ⌜ Openable (now table) c circles m l n (now room) (now work) k made ⌝ }
+    ensures { λ r. ⌜ Opened (now (table .entry)) c circles m l n (now (room .entry)) (now (work .entry)) k made
+        (now (room .exit)) (now (work .exit)) r ⌝ }
 {
     let s = word(room, HEADER + WIDTH * k);
     let count = word(room, HEADER + WIDTH * k + 1);
@@ -88,7 +91,7 @@ pub fn open_node(
         return made;
     }
     room[HEADER + WIDTH * k + 2] = made as u32;
-    split_run(table, c, m, count, n, room, work, s, count, made);
+    split_run(table, c, circles, m, count, n, room, work, s, count, made);
     made + m
 }
 
@@ -96,6 +99,7 @@ pub fn open_node(
 fn level(
     table: &[u16],
     c: usize,
+    circles: u32,
     m: usize,
     l: usize,
     n: usize,
@@ -104,13 +108,14 @@ fn level(
     lo: usize,
     hi: usize,
 ) -> usize
-    requires { ⌜ Level (now table) c m l n (now room) (now work) lo hi ⌝ }
-    ensures { λ r. ⌜ Staged (now (table .entry)) c m l n (now (room .entry)) (now (work .entry)) lo hi (now (room .exit)) (now (work .exit)) r ⌝ }
+    requires { ⌜ Level (now table) c circles m l n (now room) (now work) lo hi ⌝ }
+    ensures { λ r. ⌜ Staged (now (table .entry)) c circles m l n (now (room .entry)) (now (work .entry)) lo hi
+        (now (room .exit)) (now (work .exit)) r ⌝ }
 {
     let mut made = hi;
     let mut k = lo;
     while k < hi {
-        made = open_node(table, c, m, l, n, room, work, k, made);
+        made = open_node(table, c, circles, m, l, n, room, work, k, made);
         k += 1;
     }
     made
@@ -120,6 +125,7 @@ fn level(
 pub fn levels(
     table: &[u16],
     c: usize,
+    circles: u32,
     m: usize,
     l: usize,
     n: usize,
@@ -127,14 +133,15 @@ pub fn levels(
     work: &mut [u32],
 ) -> usize
     requires { ⌜ Fit (now table) c m l n ⌝ }
-    requires { ⌜ Planted (between (now table) c) m l n (now room) (now work) ⌝ }
-    ensures { λ r. ⌜ Leveled (between (now (table .entry)) c) m l n (now (room .entry)) (now (work .entry)) (now (room .exit)) (now (work .exit)) r ⌝ }
+    requires { ⌜ Planted (between (now table) c circles) m l n (now room) (now work) ⌝ }
+    ensures { λ r. ⌜ Leveled (between (now (table .entry)) c circles) m l n (now (room .entry)) (now (work .entry))
+        (now (room .exit)) (now (work .exit)) r ⌝ }
 {
     let mut lo: usize = 0;
     let mut hi: usize = 1;
     let mut depth = 0;
     while depth < Params::MOST_DEPTH {
-        let made = level(table, c, m, l, n, room, work, lo, hi);
+        let made = level(table, c, circles, m, l, n, room, work, lo, hi);
         lo = hi;
         hi = made;
         depth += 1;

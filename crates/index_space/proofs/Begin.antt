@@ -5,7 +5,7 @@ use Rattle.index_space.proofs.Below.{below}
 use Rattle.index_space.proofs.Laws.{badOf, homesOf, off}
 use Rattle.index_space.proofs.Opening.{run-parts}
 use Rattle.index_space.specs.Fits.{homeBound}
-use Rattle.index_space.specs.Items.{rootOf, spaceOf, waitsNode}
+use Rattle.index_space.specs.Items.{liveOf, rootOf, spaceOf, waitsNode}
 use Rattle.laws.proofs.Bags.{times-total, total-append, total-map, total-range}
 use Rattle.laws.proofs.Sums.{sum-below-zero}
 use Rattle.laws.proofs.Times.{lefts, look-every, times-every}
@@ -21,6 +21,7 @@ use Rattle.tree.specs.Grove.{Grove, bare, firsts, rowsIn, treeAt, treeOf}
 use Rattle.tree.specs.Homes.{homes, homesIn}
 use Rattle.words.specs.InShape.{InShape, Root}
 use Rattle.words.specs.Words.{N#, first#, n#, row#}
+use mathlib.Core.Bool.{Bool}
 use mathlib.Core.List.{List, [], _∷_, map}
 use mathlib.Core.Path.{_∙_, _≡_, ap, ap₂, refl, subst, sym}
 use native.Mathlib.Decide.{decLt}
@@ -105,10 +106,11 @@ module _ (w : List ℕ) (S : InShape w) (some : 1 ≤ n# w) (once : (i : ℕ) �
       part a b c e = omega arith
 
   -- the root's first is due, however few are wanted
-  pub root-due : (wanted : ℕ) → 1 ≤ wanted → Due (spaceOf w) (homesOf w hb x) wanted x (first# w 0)
-  root-due wanted h =
-      let z : rowsCloser (n# w) (λ (r : ℕ). 1) x 0 ≡ 0 = sum-below-zero (λ (s : ℕ). min 1 (0 - x s)) (n# w) (λ j l. omega arith) in
-      omega (arith, ap (rowsCloser (n# w) (λ (r : ℕ). 1) x) root-home)
+  pub root-due : (gone : ℕ → Bool) (wanted : ℕ) → 1 ≤ wanted → Due (spaceOf w gone) (homesOf w hb x) wanted x (first# w 0)
+  root-due gone wanted h =
+      let z : rowsCloser (n# w) (liveOf gone) x 0 ≡ 0 =
+      sum-below-zero (λ (s : ℕ). min (liveOf gone s) (0 - x s)) (n# w) (λ j l. omega arith) in
+      omega (arith, ap (rowsCloser (n# w) (liveOf gone) x) root-home)
 
   -- each row is the root's first or waits below the root
   root-rows : (r : ℕ) → r < n# w → is r (first# w 0) + (waitsNode w 0 r + 0) ≡ 1
@@ -126,9 +128,9 @@ module _ (w : List ℕ) (S : InShape w) (some : 1 ≤ n# w) (once : (i : ℕ) �
       )
 
   -- THE SEARCH BEGINS SOUNDLY, with the root's first measured
-  pub begins : (wanted : ℕ) → 1 ≤ wanted → (m : ℕ → ℕ) → ((r : ℕ) → r < n# w → m r ≡ is r (first# w 0))
-      → Kept (spaceOf w) (homesOf w hb x) wanted x (rootOf w x ∷ []) m
-  begins wanted h m e = record { once = λ r l. omega (arith, e r l, root-rows r l); sound = sound; due = λ r l p. due r (omega (arith, e r l)) }
+  pub begins : (gone : ℕ → Bool) (wanted : ℕ) → 1 ≤ wanted → (m : ℕ → ℕ) → ((r : ℕ) → r < n# w → m r ≡ is r (first# w 0))
+      → Kept (spaceOf w gone) (homesOf w hb x) wanted x (rootOf w x ∷ []) m
+  begins gone wanted h m e = record { once = λ r l. omega (arith, e r l, root-rows r l); sound = sound; due = λ r l p. due r (omega (arith, e r l)) }
     where
       sound : total (badOf w hb x) (rootOf w x ∷ []) ≡ 0
       sound = root-bad (N# w) (x (first# w 0)) (off w hb (first# w 0, 0)) (below w x (off w hb) 0 0) root-there root-parts
@@ -136,7 +138,7 @@ module _ (w : List ℕ) (S : InShape w) (some : 1 ≤ n# w) (once : (i : ℕ) �
           root-bad : (N u a z : ℕ) → 1 ≤ N → a + z ≡ 0 → (1 - N) + gap u u + z + 0 ≡ 0
           root-bad N u a z h e = omega arith
 
-      due : (r : ℕ) → 0 < is r (first# w 0) → Due (spaceOf w) (homesOf w hb x) wanted x r
+      due : (r : ℕ) → 0 < is r (first# w 0) → Due (spaceOf w gone) (homesOf w hb x) wanted x r
       due r p =
           let e : first# w 0 ≡ r = omega arith in
-          subst (Due (spaceOf w) (homesOf w hb x) wanted x) e (root-due wanted h)
+          subst (Due (spaceOf w gone) (homesOf w hb x) wanted x) e (root-due gone wanted h)

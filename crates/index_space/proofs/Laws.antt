@@ -5,7 +5,7 @@ use Rattle.best_first.specs.Search.{Homes, Lawful}
 use Rattle.index_space.proofs.Below.{below, fork-below, kidBound, leaf-below, nearestTo}
 use Rattle.index_space.proofs.Leasts.{least-same}
 use Rattle.index_space.proofs.Opening.{InTree, inner-not, inner-some, item-falls, item-rises, item-split, kid-in, sizeOf}
-use Rattle.index_space.specs.Items.{IndexItem, boundOf, centreAt, childOf, measuredBy, measuresAt, nearestAt, node, openedBy, opensAt, place, placeBound, placeOf, spaceOf, waitsOf}
+use Rattle.index_space.specs.Items.{IndexItem, boundOf, centreAt, childOf, liveOf, measuredBy, measuresAt, nearestAt, node, openedBy, opensAt, place, placeBound, placeOf, spaceOf, waitsOf}
 use Rattle.laws.proofs.Bags.{total-upto}
 use Rattle.laws.proofs.Ones.{is-not, sum-each-none}
 use Rattle.laws.proofs.Sums.{sum-below-zero}
@@ -17,7 +17,7 @@ use Rattle.tree.specs.Homes.{childBound}
 use Rattle.words.specs.InShape.{InShape}
 use Rattle.words.specs.Shape.{inner}
 use Rattle.words.specs.Words.{N#, child#, count#, first#, m#, n#, row#, start#}
-use mathlib.Core.Bool.{false, true}
+use mathlib.Core.Bool.{Bool, cond, false, true}
 use mathlib.Core.List.{List}
 use mathlib.Core.Path.{_∙_, _≡_, ap, ap₂, refl, subst, sym}
 use native.Mathlib.Decide.{ℕ-discrete}
@@ -30,6 +30,14 @@ none-above f k h z = omega (arith, sum-below-zero f k z)
 -- a node's three faults, where it has none of them
 sound-node : (k N u v z : ℕ) → k < N → u ≡ v → z ≡ 0 → (suc k - N) + gap u v + z ≡ 0
 sound-node k N u v z h e f = omega arith
+
+-- a row counts once or not at all
+pub live-bit : (gone : ℕ → Bool) (r : ℕ) → liveOf gone r ≤ 1
+live-bit gone r = go (gone r)
+  where
+    go : (b : Bool) → cond {A = ℕ} b 0 1 ≤ 1
+    go true = omega arith
+    go false = omega arith
 
 module _ (w : List ℕ) (hb : ℕ → ℕ) where
   -- 0 where a row is below n and the bound is its home bound
@@ -165,13 +173,13 @@ module _ (w : List ℕ) (hb : ℕ → ℕ) where
       shares i r g = item-split w x S i r (sound-in i g)
 
       -- THE LAWS, where no row is closer than its home bound
-      pub lawful : ((r : ℕ) → r < n# w → hb r ≤ x r) → Lawful (spaceOf w) homesOf x
-      lawful under = record {
-        bit = λ r. omega arith;
+      pub lawful : (gone : ℕ → Bool) → ((r : ℕ) → r < n# w → hb r ≤ x r) → Lawful (spaceOf w gone) homesOf x
+      lawful gone under = record {
+        bit = λ r. live-bit gone r;
         split = shares;
         kin = kin;
         there = there;
-        low = bound-below-homes (spaceOf w) homesOf x (sizeOf w) shares kin there (λ i g. item-rises w x i)
+        low = bound-below-homes (spaceOf w gone) homesOf x (sizeOf w) shares kin there (λ i g. item-rises w x i)
             (λ i g. item-falls w x S i (sound-in i g));
         under = under;
       }

@@ -1,21 +1,23 @@
--- A run of the search, where items are left out: it goes on and ends as if they waited, since w measured rows are closer than the bound of each.
+-- A run of the search, where items are left out: it goes on and ends as if they waited, since w measured rows that remain are closer than the bound
+-- of each.
 -- Assumes nothing.
 use Prim.Native.Nat.{_+_, _-_, _<_, _≤_, ℕ}
 use Rattle.best_first.proofs.Keeps.{closer-le}
 use Rattle.best_first.specs.Search.{Ended, both, found, step}
-use Rattle.index_space.specs.Items.{IndexItem, boundOf, measuredBy, openedBy, spaceOf}
+use Rattle.index_space.specs.Items.{IndexItem, boundOf, liveOf, measuredBy, openedBy, spaceOf}
 use Rattle.index_space.specs.Run.{RunSoFar, RunToEnd}
 use Rattle.laws.proofs.Bags.{total-append, total-none}
 use Rattle.laws.specs.Bags.{SameBag, total}
 use Rattle.words.specs.Words.{n#}
+use mathlib.Core.Bool.{Bool}
 use mathlib.Core.List.{List, _++_, _∷_}
 use mathlib.Core.Path.{_≡_}
 use native.Mathlib.Omega.{arith}
 
-module _ (w : List ℕ) (wanted : ℕ) (x : ℕ → ℕ) where
-  -- how many rows of m are closer than a bound
+module _ (w : List ℕ) (gone : ℕ → Bool) (wanted : ℕ) (x : ℕ → ℕ) where
+  -- how many rows of m that remain are closer than a bound
   abbrev nearer : (ℕ → ℕ) → ℕ → ℕ
-  nearer m b = found (spaceOf w) x m b
+  nearer m b = found (spaceOf w gone) x m b
 
   -- how many fewer than w are closer than an item's bound
   abbrev lack : (ℕ → ℕ) → IndexItem → ℕ
@@ -23,9 +25,10 @@ module _ (w : List ℕ) (wanted : ℕ) (x : ℕ → ℕ) where
 
   -- no fewer are closer than a greater bound, of more rows
   nearer-up : (m m′ : ℕ → ℕ) (b b′ : ℕ) → ((r : ℕ) → m r ≤ m′ r) → b ≤ b′ → nearer m b ≤ nearer m′ b′
-  nearer-up m m′ b b′ h l = closer-le (n# w) (both m (λ (r : ℕ). 1)) (both m′ (λ (r : ℕ). 1)) x b b′ (λ r. omega (arith, h r)) l
+  nearer-up m m′ b b′ h l = closer-le (n# w) (both m (liveOf gone)) (both m′ (liveOf gone)) x b b′ (λ r. omega (arith, h r)) l
 
-  module _ (q : List IndexItem) (m : ℕ → ℕ) (R : RunSoFar w wanted x q m) (item : IndexItem) (others : List IndexItem) (bag : SameBag q (item ∷ others))
+  module _ (q : List IndexItem) (m : ℕ → ℕ) (R : RunSoFar w gone wanted x q m) (item : IndexItem) (others : List IndexItem)
+      (bag : SameBag q (item ∷ others))
       (least : total (λ (j : IndexItem). boundOf item - boundOf j) others ≡ 0) where
     -- an item is taken of all, those left out among them
     pub all-bag : SameBag (q ++ R .left) (item ∷ (others ++ R .left))
@@ -48,7 +51,7 @@ module _ (w : List ℕ) (wanted : ℕ) (x : ℕ → ℕ) where
           (λ j z p. omega (arith, nearer-up m m′ (boundOf j) (boundOf j) (λ r. omega (arith, marked r)) (omega arith))) (R .beyond)
 
       -- A ROUND GOES ON, where w measured rows are closer than the bound of each that is left out
-      pub leaves : Ended (spaceOf w) wanted x out m′ → RunSoFar w wanted x q′ m′
+      pub leaves : Ended (spaceOf w gone) wanted x out m′ → RunSoFar w gone wanted x q′ m′
       leaves e = record {
         left = out ++ R .left;
         run = record {
@@ -80,7 +83,7 @@ module _ (w : List ℕ) (wanted : ℕ) (x : ℕ → ℕ) where
               )
 
     -- THE END: w measured rows are closer than the bound of the first that waits
-    pub leaves-off : wanted ≤ nearer m (boundOf item) → RunToEnd w wanted x m
+    pub leaves-off : wanted ≤ nearer m (boundOf item) → RunToEnd w gone wanted x m
     leaves-off far = record {
       waiting = q ++ R .left;
       run = R .run;

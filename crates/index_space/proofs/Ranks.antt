@@ -1,21 +1,26 @@
--- The distance D of the last of k answers: fewer than k rows are closer than D, and k are at most at D. Assumes nothing.
+-- The distance D of the last of w answers, among the rows that remain: fewer than w of them are closer than D, and w are at most at D. Assumes
+-- nothing.
 use Prim.Native.Nat.{_+_, _-_, _<_, _≤_, min, suc, zero, ℕ}
 use Rattle.best_first.proofs.Keeps.{closer-le}
 use Rattle.best_first.specs.Search.{rowsCloser}
+use Rattle.index_space.proofs.Laws.{live-bit}
+use Rattle.index_space.specs.Items.{leftOf, liveOf}
+use Rattle.index_space.specs.Run.{allRows}
 use Rattle.laws.proofs.Bags.{total-map, total-range}
 use Rattle.laws.proofs.Every.{every-of}
+use Rattle.laws.proofs.Keeping.{total-keep}
 use Rattle.laws.proofs.Ones.{is-self}
 use Rattle.laws.proofs.Sums.{sum-add, sum-below-le, sum-below-same, sum-ones, sum-part}
 use Rattle.laws.specs.Bags.{is, total}
 use Rattle.laws.specs.Every.{Every}
-use Rattle.laws.specs.Lists.{range}
+use Rattle.laws.specs.Lists.{keep, range}
 use Rattle.laws.specs.Upto.{sumTo}
 use Rattle.tree.proofs.Sorted.{Le, Sorted, sort-sorted}
 use Rattle.tree.specs.Nearest.{answers, before, candidates, insert, lastDistance, passes, sort}
 use borrow.Author.Tests.{leb-false, leb-true, ltb-false, ltb-true}
 use lib.Dec.{leb, ltb}
-use lib.ListN.{take}
-use mathlib.Core.Bool.{Bool, _||_, cond, false, true}
+use lib.ListN.{length, take}
+use mathlib.Core.Bool.{Bool, _||_, cond, false, not, true}
 use mathlib.Core.List.{List, [], _∷_}
 use mathlib.Core.Logic.{_↔_}
 use mathlib.Core.Path.{_∙_, _≡_, ap, refl, subst, sym}
@@ -68,95 +73,128 @@ many-sorted (a ∷ s) zero h l = omega arith
 many-sorted (a ∷ []) (suc k) h l = absurd (omega arith)
 many-sorted (a ∷ b ∷ s) (suc k) h l = omega (arith, h .0 .0 .0, up-last b s k (h .1), many-sorted (b ∷ s) k (h .1) (omega arith))
 
--- ---- among the rows
-module _ (x : ℕ → ℕ) (n : ℕ) where
-  -- how many of the n rows are closer than k
-  abbrev pub nearerThan : ℕ → ℕ
-  nearerThan k = rowsCloser n (λ (r : ℕ). 1) x k
+-- a list's length is a total
+length-total : (l : List (ℕ × ℕ)) → length l ≡ total (λ (a : ℕ × ℕ). 1) l
+length-total [] = refl
+length-total (a ∷ l) = omega (arith, length-total l)
 
-  -- a total over the candidates is one over the rows
-  pub over-rows : (f : ℕ × ℕ → ℕ) → total f (candidates x n) ≡ sumTo (λ (i : ℕ). f (i, x i)) n
+-- a total over all rows, with their distances
+pub over-all : (x : ℕ → ℕ) (n : ℕ) (f : ℕ × ℕ → ℕ) → total f (allRows x n) ≡ sumTo (λ (i : ℕ). f (i, x i)) n
+over-all x n f =
+    let z : (i : ℕ) → 0 + i ≡ i = λ i. omega arith in
+    total-map f (λ i. (i, x i)) (range 0 n) ∙ total-range (λ (i : ℕ). f (i, x i)) 0 n
+    ∙ sum-below-same (λ (i : ℕ). f (0 + i, x (0 + i))) (λ (i : ℕ). f (i, x i)) n (λ i l. ap (λ (z : ℕ). f (z, x z)) (z i))
+
+-- ---- among the rows that remain
+module _ (x : ℕ → ℕ) (gone : ℕ → Bool) (n : ℕ) where
+  -- how many of the rows that remain are closer than k
+  abbrev pub nearerThan : ℕ → ℕ
+  nearerThan k = rowsCloser n (liveOf gone) x k
+
+  -- a total over the candidates is one over the rows that remain
+  pub over-rows : (f : ℕ × ℕ → ℕ) → total f (candidates x gone n) ≡ sumTo (λ (i : ℕ). leftOf gone (λ (i : ℕ). f (i, x i)) i) n
   over-rows f =
       let z : (i : ℕ) → 0 + i ≡ i = λ i. omega arith in
-      total-map f (λ i. (i, x i)) (range 0 n) ∙ total-range (λ (i : ℕ). f (i, x i)) 0 n
-      ∙ sum-below-same (λ (i : ℕ). f (0 + i, x (0 + i))) (λ (i : ℕ). f (i, x i)) n (λ i l. ap (λ (z : ℕ). f (z, x z)) (z i))
+      total-map f (λ i. (i, x i)) (keep (λ i. not (gone i)) (range 0 n))
+      ∙ total-keep (λ (i : ℕ). f (i, x i)) (λ i. not (gone i)) (range 0 n)
+      ∙ total-range (λ (i : ℕ). cond (not (gone i)) (f (i, x i)) 0) 0 n
+      ∙ sum-below-same (λ (i : ℕ). cond (not (gone (0 + i))) (f (0 + i, x (0 + i))) 0) (λ (i : ℕ). cond (gone i) 0 (f (i, x i))) n
+      (λ i l. ap (λ (z : ℕ). cond (not (gone z)) (f (z, x z)) 0) (z i) ∙ turn (gone i) (f (i, x i)))
+    where
+      turn : (b : Bool) (v : ℕ) → cond (not b) v 0 ≡ cond b 0 v
+      turn true v = refl
+      turn false v = refl
 
   -- and so is one over the candidates sorted
-  sorted-rows : (f : ℕ × ℕ → ℕ) → total f (sort (candidates x n)) ≡ sumTo (λ (i : ℕ). f (i, x i)) n
-  sorted-rows f = total-sort f (candidates x n) ∙ over-rows f
+  sorted-rows : (f : ℕ × ℕ → ℕ) → total f (sort (candidates x gone n)) ≡ sumTo (λ (i : ℕ). leftOf gone (λ (i : ℕ). f (i, x i)) i) n
+  sorted-rows f = total-sort f (candidates x gone n) ∙ over-rows f
 
-  -- there are as many candidates as rows
-  enough : (k : ℕ) → k ≤ n → k ≤ total (λ (a : ℕ × ℕ). 1) (sort (candidates x n))
-  enough k h = omega (arith, sorted-rows (λ (a : ℕ × ℕ). 1), sum-ones n)
+  -- those closer than k
+  nearer-rows : (k : ℕ) → total (nearer k) (sort (candidates x gone n)) ≡ nearerThan k
+  nearer-rows k =
+      sorted-rows (nearer k)
+      ∙ sum-below-same (λ (i : ℕ). cond (gone i) 0 (min 1 (k - x i))) (λ (i : ℕ). min (liveOf gone i) (k - x i)) n (λ i l. at (gone i) (k - x i))
+    where
+      at : (b : Bool) (v : ℕ) → cond b 0 (min 1 v) ≡ min (cond b 0 1) v
+      at true v = omega arith
+      at false v = refl
 
-  -- FEWER THAN k ROWS ARE CLOSER THAN D, the distance of the k-th
-  few-rowsCloser : (k : ℕ) → 1 ≤ k → k ≤ n → nearerThan (lastDistance (take k (sort (candidates x n)))) < k
-  few-rowsCloser zero l h = absurd (omega arith)
-  few-rowsCloser (suc k) l h =
-      let D : ℕ = lastDistance (take (suc k) (sort (candidates x n))) in
-      subst (λ (z : ℕ). z < suc k) (sorted-rows (nearer D)) (few-sorted (sort (candidates x n)) k (sort-sorted (candidates x n)) (enough (suc k) h))
+  -- there are as many candidates as rows remain
+  pub remain : length (candidates x gone n) ≡ total (λ (a : ℕ × ℕ). 1) (sort (candidates x gone n))
+  remain = length-total (candidates x gone n) ∙ sym (total-sort (λ (a : ℕ × ℕ). 1) (candidates x gone n))
 
-  -- AND k ARE AT MOST AT D
-  many-within : (k : ℕ) → 1 ≤ k → k ≤ n → k ≤ nearerThan (lastDistance (take k (sort (candidates x n))) + 1)
-  many-within zero l h = absurd (omega arith)
-  many-within (suc k) l h =
-      let D : ℕ = lastDistance (take (suc k) (sort (candidates x n))) in
-      subst (λ (z : ℕ). suc k ≤ z) (sorted-rows (nearer (D + 1)))
-      (many-sorted (sort (candidates x n)) k (sort-sorted (candidates x n)) (enough (suc k) h))
+  -- no more are closer than remain
+  nearer-most : (k : ℕ) → nearerThan k ≤ length (candidates x gone n)
+  nearer-most k =
+      omega (
+        arith,
+        sum-below-le (λ (s : ℕ). min (liveOf gone s) (k - x s)) (liveOf gone) n (λ s l. omega arith),
+        remain,
+        sorted-rows (λ (a : ℕ × ℕ). 1),
+      )
 
-  -- ---- which bounds pass
   -- no fewer are closer than a greater distance
   nearer-up : (k k′ : ℕ) → k ≤ k′ → nearerThan k ≤ nearerThan k′
-  nearer-up k k′ h = closer-le n (λ (r : ℕ). 1) (λ (r : ℕ). 1) x k k′ (λ r. omega arith) h
+  nearer-up k k′ h = closer-le n (liveOf gone) (liveOf gone) x k k′ (λ r. omega arith) h
 
-  -- no more are closer than there are
-  nearer-most : (k : ℕ) → nearerThan k ≤ n
-  nearer-most k = omega (arith, sum-below-le (λ (s : ℕ). min 1 (k - x s)) (λ (s : ℕ). 1) n (λ s l. omega arith), sum-ones n)
+  -- FEWER THAN w OF THEM ARE CLOSER THAN D, the distance of the w-th
+  few-rowsCloser : (w : ℕ) → 1 ≤ w → w ≤ length (candidates x gone n) → nearerThan (lastDistance (take w (sort (candidates x gone n)))) < w
+  few-rowsCloser zero l h = absurd (omega arith)
+  few-rowsCloser (suc w) l h =
+      let D : ℕ = lastDistance (take (suc w) (sort (candidates x gone n))) in
+      subst (λ (z : ℕ). z < suc w) (nearer-rows D)
+      (few-sorted (sort (candidates x gone n)) w (sort-sorted (candidates x gone n)) (omega (arith, remain)))
+
+  -- AND w ARE AT MOST AT D
+  many-within : (w : ℕ) → 1 ≤ w → w ≤ length (candidates x gone n) → w ≤ nearerThan (lastDistance (take w (sort (candidates x gone n))) + 1)
+  many-within zero l h = absurd (omega arith)
+  many-within (suc w) l h =
+      let D : ℕ = lastDistance (take (suc w) (sort (candidates x gone n))) in
+      subst (λ (z : ℕ). suc w ≤ z) (nearer-rows (D + 1))
+      (many-sorted (sort (candidates x gone n)) w (sort-sorted (candidates x gone n)) (omega (arith, remain)))
 
   module _ (wanted : ℕ) where
     -- the distance of the last answer
     abbrev pub lastAt : ℕ
-    lastAt = lastDistance (take (min wanted n) (sort (candidates x n)))
+    lastAt = lastDistance (take wanted (sort (candidates x gone n)))
 
-    -- a bound passes where more are wanted than there are rows, or it is at most that distance
-    pub passes-is : (b : ℕ) → passes x n wanted b ≡ (ltb n wanted || leb b lastAt)
+    -- a bound passes where more are wanted than remain, or it is at most that distance
+    pub passes-is : (b : ℕ) → passes x gone n wanted b ≡ (ltb (length (candidates x gone n)) wanted || leb b lastAt)
     unfolding passes answers
     passes-is b = refl
 
-    -- A BOUND PASSES EXACTLY IF FEWER THAN w ROWS ARE CLOSER
-    pub due-passes : 1 ≤ wanted → (b : ℕ) → (nearerThan b < wanted) ↔ (passes x n wanted b ≡ true)
-    due-passes some b = subst (λ (p : Bool). (nearerThan b < wanted) ↔ (p ≡ true)) (sym (passes-is b)) (go (ltb n wanted) refl)
+    -- A BOUND PASSES EXACTLY IF FEWER THAN w OF THE ROWS THAT REMAIN ARE CLOSER
+    pub due-passes : 1 ≤ wanted → (b : ℕ) → (nearerThan b < wanted) ↔ (passes x gone n wanted b ≡ true)
+    due-passes some b =
+        subst (λ (p : Bool). (nearerThan b < wanted) ↔ (p ≡ true)) (sym (passes-is b)) (go (ltb (length (candidates x gone n)) wanted) refl)
       where
-        go : (a : Bool) → ltb n wanted ≡ a → (nearerThan b < wanted) ↔ ((a || leb b lastAt) ≡ true)
-        go true e = (λ h. refl, λ h. omega (arith, ltb-true n wanted e, nearer-most b))
+        go : (a : Bool) → ltb (length (candidates x gone n)) wanted ≡ a → (nearerThan b < wanted) ↔ ((a || leb b lastAt) ≡ true)
+        go true e = (λ h. refl, λ h. omega (arith, ltb-true (length (candidates x gone n)) wanted e, nearer-most b))
         go false e = (λ h. to h (leb b lastAt) refl, λ h. from (leb-true b lastAt h))
           where
-            fewer : nearerThan lastAt < wanted
-            fewer = omega (arith, few-rowsCloser (min wanted n) (omega (arith, ltb-false n wanted e)) (omega arith))
-
-            more : wanted ≤ nearerThan (lastAt + 1)
-            more = omega (arith, ltb-false n wanted e, many-within (min wanted n) (omega (arith, ltb-false n wanted e)) (omega arith))
+            enough : wanted ≤ length (candidates x gone n)
+            enough = ltb-false (length (candidates x gone n)) wanted e
 
             to : nearerThan b < wanted → (c : Bool) → leb b lastAt ≡ c → c ≡ true
             to h true q = refl
-            to h false q = absurd (omega (arith, more, nearer-up (lastAt + 1) b (omega (arith, leb-false b lastAt q))))
+            to h false q = absurd (omega (arith, many-within wanted some enough, nearer-up (lastAt + 1) b (omega (arith, leb-false b lastAt q))))
 
             from : b ≤ lastAt → nearerThan b < wanted
-            from h = omega (arith, fewer, nearer-up b lastAt h)
+            from h = omega (arith, few-rowsCloser wanted some enough, nearer-up b lastAt h)
 
-  -- a bound that some row is no closer than passes where all rows are wanted
-  pub all-pass : (b r : ℕ) → r < n → b ≤ x r → passes x n n b ≡ true
+  -- a bound that some row is no closer than passes where as many are wanted as there are rows
+  pub all-pass : (b r : ℕ) → r < n → b ≤ x r → passes x gone n n b ≡ true
   all-pass b r h l =
       due-passes n (omega arith) b .0
       (omega (
         arith,
-        sum-below-le (λ (s : ℕ). min 1 (b - x s) + is r s) (λ (s : ℕ). 1) n (λ s q. each s (ℕ-discrete s r)),
-        sum-add (λ (s : ℕ). min 1 (b - x s)) (is r) n,
+        sum-below-le (λ (s : ℕ). min (liveOf gone s) (b - x s) + is r s) (λ (s : ℕ). 1) n (λ s q. each s (ℕ-discrete s r)),
+        sum-add (λ (s : ℕ). min (liveOf gone s) (b - x s)) (is r) n,
         sum-part (is r) n r h,
         is-self r,
         sum-ones n,
       ))
     where
-      each : (s : ℕ) → Dec (s ≡ r) → min 1 (b - x s) + is r s ≤ 1
+      each : (s : ℕ) → Dec (s ≡ r) → min (liveOf gone s) (b - x s) + is r s ≤ 1
       each s (yes e) = omega (arith, ap x e)
-      each s (no e) = omega arith
+      each s (no e) = omega (arith, live-bit gone s)

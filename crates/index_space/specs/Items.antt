@@ -8,6 +8,7 @@ use Rattle.laws.specs.Upto.{sumTo}
 use Rattle.tree.specs.Grove.{reach#}
 use Rattle.tree.specs.Homes.{childBound}
 use Rattle.words.specs.Words.{child#, count#, dist#, first#, m#, n#, row#, start#}
+use mathlib.Core.Bool.{Bool, cond}
 use mathlib.Core.List.{List, []}
 
 -- What waits: node k under the bound b, with its first at x; or position p of an opened leaf under its own bound b.
@@ -28,6 +29,14 @@ greatestWord = 4_294_967_295
 abbrev pub leastTo : (ℕ → ℕ) → ℕ → ℕ
 leastTo f zero = f 0
 leastTo f (suc c) = min (leastTo f c) (f (suc c))
+
+-- of the rows that g counts, those that remain
+abbrev pub leftOf : (ℕ → Bool) → (ℕ → ℕ) → ℕ → ℕ
+leftOf gone g r = cond (gone r) 0 (g r)
+
+-- 1 for a row that remains, 0 for one that is withdrawn
+abbrev pub liveOf : (ℕ → Bool) → ℕ → ℕ
+liveOf gone r = cond (gone r) 0 1
 
 module _ (w : List ℕ) where
   -- ---- an inner node's children, from number q on, where its first is at x and the other rows are at d
@@ -74,9 +83,9 @@ module _ (w : List ℕ) where
   openedBy d (node k b x) = opensAt d (child# w k) k b x
   openedBy d (place p b) = []
 
-  -- the space: no row is withdrawn
-  abbrev pub spaceOf : SearchSpace IndexItem
-  spaceOf = record { bound = boundOf; measures = measuredBy; opens = openedBy; rows = n# w; live = λ (r : ℕ). 1 }
+  -- the space, where the rows of `gone` are withdrawn: they stand where they stood, and do not count
+  abbrev pub spaceOf : (ℕ → Bool) → SearchSpace IndexItem
+  spaceOf gone = record { bound = boundOf; measures = measuredBy; opens = openedBy; rows = n# w; live = liveOf gone }
 
   -- how often row r is still to be measured under node k: its members but the first
   abbrev pub waitsNode : ℕ → ℕ → ℕ

@@ -10,7 +10,7 @@ use Rattle.queue.specs.Queue.{Queue, entries}
 use Rattle.rounds.specs.Stretch.{stretch}
 use Rattle.split.specs.Runs.{laid, rows}
 use Rattle.words.specs.InShape.{InShape}
-use Rattle.words.specs.Words.{N#, count#, l#, n#, row#, run#, start#}
+use Rattle.words.specs.Words.{N#, circles#, count#, l#, n#, row#, run#, start#}
 use lib.Dec.{eqb, leb}
 use lib.ListN.{drop, length, take}
 use mathlib.Core.Bool.{Bool, _||_, cond}
@@ -58,11 +58,11 @@ pub record Over (d : ℕ → ℕ → ℕ) (w : List ℕ) (v : ℕ) (run work wor
 
 -- the rows of leaf v in their order, and row z behind them
 abbrev pub Stored : List ℕ → ℕ → List ℕ → ℕ → ℕ → List ℕ → List ℕ → Type 0
-Stored t c w v z work work′ = Over (between t c) w v (withRow w v z) work work′
+Stored t c w v z work work′ = Over (between t c (circles# w)) w v (withRow w v z) work work′
 
 -- leaf v's first, and its other rows and row z ascending
 abbrev pub Sorted : List ℕ → ℕ → List ℕ → ℕ → ℕ → List ℕ → List ℕ → Type 0
-Sorted t c w v z work work′ = Over (between t c) w v (orderly (withRow w v z)) work work′
+Sorted t c w v z work work′ = Over (between t c (circles# w)) w v (orderly (withRow w v z)) work work′
 
 -- the rows behind node v's first, and row z, are a queue in the second half; the first half is as it was
 pub record Lined (w : List ℕ) (v z : ℕ) (work work′ : List ℕ) : Type 0 where
@@ -84,7 +84,7 @@ pub record Ordered (part : List ℕ) : Type 0 where
 -- WHAT IS LAID: whether the leaf is not split, and its run where it starts; the rest of the first half is as it was
 pub record Lays (t : List ℕ) (c : ℕ) (w : List ℕ) (v left z : ℕ) (work work′ : List ℕ) (r : Bool) : Type 0 where
   pub said : r ≡ unsplit w v left z
-  pub run : stretch work′ (3 * start# w v) (3 * start# w v + 3 * (count# w v + 1)) ≡ laid (between t c) (ready w v left z)
+  pub run : stretch work′ (3 * start# w v) (3 * start# w v + 3 * (count# w v + 1)) ≡ laid (between t c (circles# w)) (ready w v left z)
   pub before : take (3 * start# w v) work′ ≡ take (3 * start# w v) work
   pub behind : stretch work′ (3 * start# w v + 3 * (count# w v + 1)) (half w) ≡ stretch work (3 * start# w v + 3 * (count# w v + 1)) (half w)
   pub long : length work′ ≡ length work

@@ -10,12 +10,12 @@ use Rattle.limits.specs.Limits.{maxColumns}
 use Rattle.measure.proofs.Rows.{row-ends}
 use Rattle.measure.specs.Table.{between}
 use Rattle.words.specs.Shape.{inner}
-use Rattle.words.specs.Words.{N#, child#, first#, m#, n#}
+use Rattle.words.specs.Words.{N#, child#, circles#, first#, m#, n#}
 use lib.ListN.{getD, length, length-map}
 use mathlib.Core.Bool.{true}
 use mathlib.Core.List.{List, map}
 use mathlib.Core.Logic.{by-cases}
-use mathlib.Core.Path.{_∙_, _≡_, ap}
+use mathlib.Core.Path.{_∙_, _≡_, ap, ap₂}
 use native.Mathlib.Decide.{decLt}
 use native.Mathlib.Nat.{zero-add}
 use native.Mathlib.Omega.{arith}
@@ -73,13 +73,14 @@ module _ (f : ℕ → ℕ) where
 
 -- ---- the children of node k
 -- of the first j children of node k the one at the place `at` is the closest to row z
-pub record Choosing (t : List ℕ) (c : ℕ) (w : List ℕ) (k z child m at least j : ℕ) : Type 0 where
+pub record Choosing (t : List ℕ) (c : ℕ) (w : List ℕ) (k z child m o at least j : ℕ) : Type 0 where
   pub lent : Lent t c w z
   pub inside : child + m ≤ N# w
   pub first : child ≡ child# w k
   pub all : m ≡ m# w
+  pub set : o ≡ circles# w
   pub upto : j ≤ m
-  pub low : Least (toKid (between t c) w z k) j at least
+  pub low : Least (toKid (between t c (circles# w)) w z k) j at least
 
 module _ {t : List ℕ} {c : ℕ} {w : List ℕ} {z : ℕ} (L : Lent t c w z) where
   -- two rows can be measured, one of the index and the new one
@@ -91,9 +92,9 @@ module _ {t : List ℕ} {c : ℕ} {w : List ℕ} {z : ℕ} (L : Lent t c w z) wh
   kids-there {k} h e ec em = (omega (arith, L .shape .node k h .kids e .inside), omega (arith, L .shape .whole .fan .0))
 
   -- the first child
-  pub choosing-start : {k child m f x : ℕ} → k < N# w → inner w k ≡ true → child ≡ child# w k → m ≡ m# w → f ≡ first# w child
-      → x ≡ between t c f z → Choosing t c w k z child m 0 x 1
-  choosing-start {k} {child} {m} {f} {x} h e ec em ef ex =
+  pub choosing-start : {k child m o f x : ℕ} → k < N# w → inner w k ≡ true → child ≡ child# w k → m ≡ m# w → o ≡ circles# w → f ≡ first# w child
+      → x ≡ between t c o f z → Choosing t c w k z child m o 0 x 1
+  choosing-start {k} {child} {m} {o} {f} {x} h e ec em eo ef ex =
       let K = kids-there h e ec em in
       let at : child ≡ child# w k + 0 = omega arith in
       record {
@@ -101,43 +102,46 @@ module _ {t : List ℕ} {c : ℕ} {w : List ℕ} {z : ℕ} (L : Lent t c w z) wh
         inside = K .0;
         first = ec;
         all = em;
+        set = eo;
         upto = omega (arith, K .1);
-        low = least-start (toKid (between t c) w z k) (ex ∙ ap (λ (i : ℕ). between t c i z) (ef ∙ ap (first# w) at));
+        low = least-start (toKid (between t c (circles# w)) w z k) (ex ∙ ap₂ (λ (o i : ℕ). between t c o i z) eo (ef ∙ ap (first# w) at));
       }
 
-module _ {t : List ℕ} {c : ℕ} {w : List ℕ} {k z child m at least j : ℕ} (C : Choosing t c w k z child m at least j) where
+module _ {t : List ℕ} {c : ℕ} {w : List ℕ} {k z child m o at least j : ℕ} (C : Choosing t c w k z child m o at least j) where
   -- how far the next child's centre is
-  next-is : {f x : ℕ} → f ≡ first# w (child + j) → x ≡ between t c f z → x ≡ toKid (between t c) w z k j
-  next-is ef ex = ex ∙ ap (λ (i : ℕ). between t c i z) (ef ∙ ap (λ (i : ℕ). first# w (i + j)) (C .first))
+  next-is : {f x : ℕ} → f ≡ first# w (child + j) → x ≡ between t c o f z → x ≡ toKid (between t c (circles# w)) w z k j
+  next-is ef ex = ex ∙ ap₂ (λ (o i : ℕ). between t c o i z) (C .set) (ef ∙ ap (λ (i : ℕ). first# w (i + j)) (C .first))
 
   -- it is not closer
-  pub choosing-stays : {f x : ℕ} → j < m → f ≡ first# w (child + j) → x ≡ between t c f z → least ≤ x
-      → Choosing t c w k z child m at least (j + 1)
+  pub choosing-stays : {f x : ℕ} → j < m → f ≡ first# w (child + j) → x ≡ between t c o f z → least ≤ x
+      → Choosing t c w k z child m o at least (j + 1)
   choosing-stays h ef ex q = record {
     lent = C .lent;
     inside = C .inside;
     first = C .first;
     all = C .all;
+    set = C .set;
     upto = omega arith;
-    low = least-stays (toKid (between t c) w z k) (C .low) (next-is ef ex) q;
+    low = least-stays (toKid (between t c (circles# w)) w z k) (C .low) (next-is ef ex) q;
   }
 
   -- it is
-  pub choosing-moves : {f x : ℕ} → j < m → f ≡ first# w (child + j) → x ≡ between t c f z → x < least
-      → Choosing t c w k z child m j x (j + 1)
+  pub choosing-moves : {f x : ℕ} → j < m → f ≡ first# w (child + j) → x ≡ between t c o f z → x < least
+      → Choosing t c w k z child m o j x (j + 1)
   choosing-moves h ef ex q = record {
     lent = C .lent;
     inside = C .inside;
     first = C .first;
     all = C .all;
+    set = C .set;
     upto = omega arith;
-    low = least-moves (toKid (between t c) w z k) (C .low) (next-is ef ex) q;
+    low = least-moves (toKid (between t c (circles# w)) w z k) (C .low) (next-is ef ex) q;
   }
 
   -- all children are seen
-  pub choosing-done : m ≤ j → (at ≡ closestKid (between t c) w z k) × (at < m# w)
+  pub choosing-done : m ≤ j → (at ≡ closestKid (between t c (circles# w)) w z k) × (at < m# w)
   unfolding closestKid
   choosing-done h =
       let e : j ≡ m# w = omega (arith, C .upto, C .all) in
-      let f : ℕ → ℕ = toKid (between t c) w z k in
+      let f : ℕ → ℕ = toKid (between t c (circles# w)) w z k in
       (least-done f (C .low) ∙ ap (λ (i : ℕ). lowestAt (map f (range 0 i))) e, omega (arith, C .low .inside))

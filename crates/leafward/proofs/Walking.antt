@@ -7,7 +7,7 @@ use Rattle.words.proofs.InShape.{left-root}
 use Rattle.words.proofs.Levels.{inner-is}
 use Rattle.words.specs.InShape.{Kids, Left}
 use Rattle.words.specs.Shape.{inner}
-use Rattle.words.specs.Words.{N#, child#, m#}
+use Rattle.words.specs.Words.{N#, child#, circles#, m#}
 use borrow.Author.Tests.{eq-eqb}
 use mathlib.Core.Bool.{false, not, true}
 use mathlib.Core.List.{List}
@@ -35,8 +35,8 @@ pub record Walking (t : List ℕ) (c : ℕ) (w : List ℕ) (z node left child : 
   pub there : node < N# w
   pub first : child ≡ child# w node
   pub below : Left w left node
-  pub way : wayTo (between t c) w z maxDepth 0 ≡ wayTo (between t c) w z left node
-  pub levels : leftAt (between t c) w z maxDepth 0 ≡ leftAt (between t c) w z left node
+  pub way : wayTo (between t c (circles# w)) w z maxDepth 0 ≡ wayTo (between t c (circles# w)) w z left node
+  pub levels : leftAt (between t c (circles# w)) w z maxDepth 0 ≡ leftAt (between t c (circles# w)) w z left node
 
 -- at the root
 pub walking-start : {t : List ℕ} {c : ℕ} {w : List ℕ} {z child : ℕ} → Lent t c w z → 1 ≤ N# w → child ≡ child# w 0
@@ -61,13 +61,13 @@ module _ {t : List ℕ} {c : ℕ} {w : List ℕ} {z node left child : ℕ} (W : 
   walking-later h q = (omega (arith, kids h .inside, W .first), omega (arith, kids h .later, W .first))
 
   -- one step down
-  pub walking-step : {r next : ℕ} → (child ≡ 0 → ⊥) → (r ≡ closestKid (between t c) w z node) × (r < m# w) → next ≡ child# w (child + r)
+  pub walking-step : {r next : ℕ} → (child ≡ 0 → ⊥) → (r ≡ closestKid (between t c (circles# w)) w z node) × (r < m# w) → next ≡ child# w (child + r)
       → Walking t c w z (child + r) (left - 1) next
   walking-step {r} {next} h q e =
       go left refl
     where
       d : ℕ → ℕ → ℕ
-      d = between t c
+      d = between t c (circles# w)
 
       here : child + r ≡ child# w node + closestKid d w z node
       here = ap₂ _+_ (W .first) (q .0)
@@ -87,8 +87,8 @@ module _ {t : List ℕ} {c : ℕ} {w : List ℕ} {z node left child : ℕ} (W : 
           }
 
   -- a node with no child is the leaf
-  pub walking-done : child ≡ 0 → Found (between t c) w z node left
+  pub walking-done : child ≡ 0 → Found (between t c (circles# w)) w z node left
   walking-done h =
       let e : inner w node ≡ false = ap not (eq-eqb (child# w node) 0 (sym (W .first) ∙ h)) in
-      let s = way-end (between t c) w z left node e in
+      let s = way-end (between t c (circles# w)) w z left node e in
       record { node = sym (W .way ∙ s .0); levels = sym (W .levels ∙ s .1); there = W .there; leaf = e }

@@ -3,12 +3,13 @@ ghost use Prim.Native.Nat.{_<_, _≤_};
 ghost use Rattle.leafward.specs.Way.{Found, Lent, closestKid};
 ghost use Rattle.measure.specs.Table.{between};
 ghost use Rattle.words.specs.Shape.{inner};
-ghost use Rattle.words.specs.Words.{N#, m#};
+ghost use Rattle.words.specs.Words.{N#, circles#, m#};
 ghost use mathlib.Core.Bool.{true};
 ghost use mathlib.Core.Path.{_≡_};
 use limits::Params;
 use measure::row_distance;
 use words::places::centres;
+use words::places::circles;
 use words::places::node_child;
 use words::places::node_first;
 
@@ -22,15 +23,17 @@ pub struct Leaf {
 pub fn closest_child(table: &[u16], c: usize, index: &[u32], k: usize, z: usize) -> usize
     requires { ⌜ Lent (now table) c (now index) z ⌝ }
     requires { ⌜ (k < N# (now index)) × (inner (now index) k ≡ true) ⌝ }
-    ensures { λ r. ⌜ (r ≡ closestKid (between (now (table .entry)) c) (now (index .entry)) z k) × (r < m# (now (index .entry))) ⌝ }
+    ensures { λ r. ⌜ (r ≡ closestKid (between (now (table .entry)) c (circles# (now (index .entry)))) (now (index .entry)) z k)
+        × (r < m# (now (index .entry))) ⌝ }
 {
     let child = node_child(index, k);
     let m = centres(index);
+    let set = circles(index);
     let mut at = 0;
-    let mut least = row_distance(table, c, node_first(index, child), z);
+    let mut least = row_distance(table, c, set, node_first(index, child), z);
     let mut j = 1;
     while j < m {
-        let d = row_distance(table, c, node_first(index, child + j), z);
+        let d = row_distance(table, c, set, node_first(index, child + j), z);
         let here = j;
         j += 1;
         if d < least {
@@ -45,7 +48,7 @@ pub fn closest_child(table: &[u16], c: usize, index: &[u32], k: usize, z: usize)
 pub fn leaf_for(table: &[u16], c: usize, index: &[u32], z: usize) -> Leaf
     requires { ⌜ Lent (now table) c (now index) z ⌝ }
     requires { ⌜ 1 ≤ N# (now index) ⌝ }
-    ensures { λ r. ⌜ Found (between (now (table .entry)) c) (now (index .entry)) z (r .node) (r .left) ⌝ }
+    ensures { λ r. ⌜ Found (between (now (table .entry)) c (circles# (now (index .entry)))) (now (index .entry)) z (r .node) (r .left) ⌝ }
 {
     let mut node = 0;
     let mut left = Params::MOST_DEPTH;

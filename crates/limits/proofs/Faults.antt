@@ -2,6 +2,7 @@
 use Prim.Native.Nat.{_≤_, ℕ}
 use Rattle.laws.proofs.Every.{every-of}
 use Rattle.laws.specs.Every.{Every}
+use Rattle.limits.specs.Limits.{within}
 use Rattle.limits.specs.Said.{Said, fault, said}
 use mathlib.Core.Bool.{Bool, false, true}
 use mathlib.Core.List.{List, [], _++_, _∷_}
@@ -61,25 +62,25 @@ fault-not k true h z = absurd (omega arith)
 fault-not k false h z = refl
 
 -- ---- what refuses a call before its work
--- its number is one of 1 to 9, and it names no place
+-- its number is none of 10 to 13, which say what a full check found, and it names no place
 pub record Early (s : Said) : Type 0 where
   pub some : 1 ≤ s .0
-  pub low : s .0 ≤ 9
+  pub unfound : within 10 13 (s .0) ≡ false
   pub placeless : (s .1 ≡ 0) × (s .2 ≡ 0)
 
 -- a fault with such a number
-pub fault-early : (k : ℕ) (b : Bool) → 1 ≤ k → k ≤ 9 → Every Early (fault k b)
-fault-early k true h q = (record { some = h; low = q; placeless = (refl, refl) }, tt)
+pub fault-early : (k : ℕ) (b : Bool) → 1 ≤ k → within 10 13 k ≡ false → Every Early (fault k b)
+fault-early k true h q = (record { some = h; unfound = q; placeless = (refl, refl) }, tt)
 fault-early k false h q = tt
 
 -- none of them has the number 0
 pub early-numbered : (fs : List Said) → Every Early fs → Numbered fs
 early-numbered fs h = every-of Early (λ f. 1 ≤ f .0) (λ f e. e .some) fs h
 
--- what they say is at most 9
-pub early-low : (fs : List Said) → Every Early fs → said fs .0 ≤ 9
-early-low [] h = omega arith
-early-low (f ∷ fs) h = h .0 .low
+-- what they say is none of these
+pub early-unfound : (fs : List Said) → Every Early fs → within 10 13 (said fs .0) ≡ false
+early-unfound [] h = refl
+early-unfound (f ∷ fs) h = h .0 .unfound
 
 -- and has no place
 pub early-placeless : (fs : List Said) → Every Early fs → (said fs .1 ≡ 0) × (said fs .2 ≡ 0)

@@ -66,17 +66,17 @@ module _ (a : Asked) where
   from1 = refl
 
   -- ---- all of them
-  -- each is one of 1 to 9 and names no place
+  -- each is early: it names no place, and no pass of a full check finds it
   pub numbers-early : Every Early (numberFaults a)
   unfolding numberFaults
   numbers-early =
-      let e1 = fault-early 1 (not (columnsOk (a .columns))) (omega arith) (omega arith) in
-      let e2 = fault-early 2 (a .unfit) (omega arith) (omega arith) in
-      let e3 = fault-early 3 (not (eqb (a .length % a .columns) 0)) (omega arith) (omega arith) in
-      let e4 = fault-early 4 (ltb maxRows (a .length / a .columns)) (omega arith) (omega arith) in
-      let e5 = fault-early 5 (a .short) (omega arith) (omega arith) in
-      let e6 = fault-early 6 (a .unlike) (omega arith) (omega arith) in
-      let e7 = fault-early 7 (a .none) (omega arith) (omega arith) in
+      let e1 = fault-early 1 (not (columnsOk (a .columns))) (omega arith) refl in
+      let e2 = fault-early 2 (a .unfit) (omega arith) refl in
+      let e3 = fault-early 3 (not (eqb (a .length % a .columns) 0)) (omega arith) refl in
+      let e4 = fault-early 4 (ltb maxRows (a .length / a .columns)) (omega arith) refl in
+      let e5 = fault-early 5 (a .short) (omega arith) refl in
+      let e6 = fault-early 6 (a .unlike) (omega arith) refl in
+      let e7 = fault-early 7 (a .none) (omega arith) refl in
       both 1 (not (columnsOk (a .columns))) from2 e1
       (both 2 (a .unfit) from3 e2
       (both 3 (not (eqb (a .length % a .columns) 0)) from4 e3

@@ -1,11 +1,13 @@
 -- Numbers in range: the tests of the limits, read as bounds. Assumes nothing.
-use Prim.Native.Nat.{_≤_, ℕ}
+use Prim.Native.Nat.{_/_, _<_, _^_, _≤_, ℕ}
 use Rattle.laws.proofs.Tests.{and-l, and-r, holds, is-true}
-use Rattle.limits.specs.Limits.{columnsOk, maxColumns, shareOk, within}
-use borrow.Author.Tests.{le-leb}
+use Rattle.limits.specs.Limits.{circlesOk, columnsOk, maxColumns, shareOk, within}
+use borrow.Author.Tests.{eq-eqb, le-leb}
 use lib.Dec.{leb, leb→le}
 use mathlib.Core.Bool.{true}
-use mathlib.Core.Path.{_≡_}
+use mathlib.Core.Path.{_≡_, sym}
+use native.Mathlib.Nat.{div-eq-of-lt, le-trans, pow-le-pow-right}
+use native.Mathlib.Omega.{arith}
 
 module _ (low high x : ℕ) where
   -- a number in range lies between the bounds
@@ -21,6 +23,12 @@ module _ (low high x : ℕ) where
 -- columns that are right are 1 to 16
 pub columns-are : (c : ℕ) → columnsOk c ≡ true → (1 ≤ c) × (c ≤ maxColumns)
 columns-are c e = within-both 1 maxColumns c e
+
+-- a set of 32 bits has none at or above 32
+pub no-bit-above : (c o : ℕ) → 32 ≤ c → o < 4294967296 → true ≡ circlesOk c o
+no-bit-above c o h k =
+    let p : 2 ^ 32 ≤ 2 ^ c = pow-le-pow-right (omega arith) {i = 32} {j = c} h in
+    sym (eq-eqb (o / 2 ^ c) 0 (div-eq-of-lt (le-trans k p)))
 
 -- m centres, 2 to 64, and a leaf size l, m to 1,024
 pub record Shared (m l : ℕ) : Type 0 where

@@ -1,6 +1,6 @@
 -- The fixed limits of the index kind. Assumes nothing.
-use Prim.Native.Nat.{ℕ}
-use lib.Dec.{leb}
+use Prim.Native.Nat.{_/_, _^_, ℕ}
+use lib.Dec.{eqb, leb}
 use mathlib.Core.Bool.{Bool, _&&_}
 
 -- 01, What the library holds: at most this many columns
@@ -41,6 +41,10 @@ columnsOk c = within 1 maxColumns c
 -- 01, What the library holds: an inner node may have m centres and a leaf l rows
 abbrev pub shareOk : ℕ → ℕ → Bool
 shareOk m l = within minCentres maxCentres m && within m maxLeaf l
+
+-- 02, R-1: of the set of circles, no bit at or above the number of columns is on
+abbrev pub circlesOk : ℕ → ℕ → Bool
+circlesOk c o = eqb (o / 2 ^ c) 0
 
 -- the two editions that a card may be of; edition 2 has the inner reach (02, R-4)
 abbrev pub editionOk : ℕ → Bool

@@ -2,14 +2,15 @@
 ghost use Prim.Native.Nat.{_*_, _/_, _≤_};
 ghost use lib.Dec.{ltb};
 ghost use Rattle.limits.specs.Chosen.{chosen, told};
-ghost use Rattle.limits.specs.Limits.{columnsOk, editionOk, shareOk, within};
+ghost use Rattle.limits.specs.Limits.{circlesOk, columnsOk, editionOk, shareOk, within};
 ghost use Rattle.limits.specs.Said.{numberFaults, said};
 ghost use mathlib.Core.Path.{_≡_};
 
-// What an index is built with: the centres of an inner node, and the rows that a leaf may have.
+// What an index is built with: the centres of an inner node, the rows that a leaf may have, and the columns that are circles, a bit for each.
 pub struct Params {
     pub centres: usize,
     pub leaf: usize,
+    pub circles: u32,
 }
 
 // What the constructor answers.
@@ -37,15 +38,22 @@ impl Params {
 
     pub const LAST_EDITION: usize = 2;
 
-    // Centres and leaf size, where both are in range and the edition is the one that is built.
-    pub fn new(centres: usize, leaf: usize, edition: usize) -> Chosen
-        ensures { λ r. ⌜ told r ≡ chosen centres leaf edition ⌝ }
+    // Centres, leaf size and circles, where they are in range and the edition is the one that is built.
+    pub fn new(columns: usize, centres: usize, leaf: usize, circles: u32, edition: usize) -> Chosen
+        ensures { λ r. ⌜ told r ≡ chosen columns centres leaf circles edition ⌝ }
     {
         if !share_ok(centres, leaf) {
             return Chosen::Refused;
         }
+        if !circles_ok(columns, circles) {
+            return Chosen::Refused;
+        }
         if edition == Params::LAST_EDITION {
-            return Chosen::Taken(Params { centres, leaf });
+            return Chosen::Taken(Params {
+                centres,
+                leaf,
+                circles,
+            });
         }
         Chosen::Refused
     }
@@ -78,6 +86,16 @@ pub fn share_ok(centres: usize, leaf: usize) -> bool
     is_within(centres, Params::MOST_LEAF, leaf)
 }
 
+// A table of c columns may have these circles: no bit at or above c is on. (A set has 32 bits.)
+pub fn circles_ok(c: usize, circles: u32) -> bool
+    ensures { λ r. ⌜ r ≡ circlesOk c circles ⌝ }
+{
+    if 32 <= c {
+        return true;
+    }
+    circles >> c == 0
+}
+
 // An index on a card may be of this edition.
 pub fn edition_ok(edition: usize) -> bool
     ensures { λ r. ⌜ r ≡ editionOk edition ⌝ }
@@ -91,7 +109,7 @@ pub fn edition_ok(edition: usize) -> bool
 pub struct Asked {
     pub length: usize,
     pub columns: usize,
-    // 2: m, l or the edition is out of range
+    // 2: m, l, the circles or the edition is out of range
     pub unfit: bool,
     // 5: a lent room is too short
     pub short: bool,

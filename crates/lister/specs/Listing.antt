@@ -6,11 +6,11 @@ use lib.ListN.{drop, getD, length, take}
 use mathlib.Core.List.{List}
 use mathlib.Core.Path.{_≡_}
 
--- the numbers ns are c, m and l, and then a table: its index is built in edition 2, and the number is the build's
+-- the numbers ns are c, m and l, and then a table: its index is built in edition 2 with no circle, and the number is the build's
 pub record Lists (ns room room′ work work′ : List ℕ) (number : ℕ) : Type 0 where
   pub words : ℕ
   pub nodes : ℕ
-  pub built : Builds (drop 3 ns) (getD ns 0 0) 2 (getD ns 1 0) (getD ns 2 0) room work room′ work′ number words nodes
+  pub built : Builds (drop 3 ns) (getD ns 0 0) 0 2 (getD ns 1 0) (getD ns 2 0) room work room′ work′ number words nodes
 
 -- the first `kept` bytes of the text are what is read, as numbers
 pub record Runs (text numbers numbers′ room room′ work work′ : List ℕ) (number : ℕ) : Type 0 where

@@ -16,6 +16,9 @@ const WIDTH: usize = 5;
 
 const LISTED: usize = 4;
 
+// No column of a listed table is a circle.
+const NO_CIRCLE: u32 = 0;
+
 // One byte more than the longest readable text has, so that a text which fills it is unreadable whatever comes after.
 const TEXT: usize = 6_163;
 
@@ -97,7 +100,16 @@ fn list(numbers: &[u16], room: &mut [u32], work: &mut [u32]) -> u32
     let c = wide(numbers[0]);
     let m = wide(numbers[1]);
     let l = wide(numbers[2]);
-    let built = build::build(&numbers[3..], c, m, l, Params::LAST_EDITION, room, work);
+    let built = build::build(
+        &numbers[3..],
+        c,
+        m,
+        l,
+        NO_CIRCLE,
+        Params::LAST_EDITION,
+        room,
+        work,
+    );
     let number = built.number;
     if number != 0 {
         print_refused(number);

@@ -1,5 +1,5 @@
 -- The rows of whole entries, read one by one, and entries of rows at one centre, cut. Assumes nothing.
-use Prim.Native.Nat.{_%_, _*_, _+_, _<_, _≤_, suc, zero, ℕ}
+use Prim.Native.Nat.{_%_, _*_, _<_, _≤_, suc, zero, ℕ}
 use Rattle.split.proofs.Laid.{under}
 use Rattle.split.specs.Runs.{rows}
 use lib.ListN.{drop, getD, length, take}

@@ -1,14 +1,13 @@
 -- A leaf's entries laid one by one: as they are stored, and measured with the rows that it takes. Assumes nothing.
 use Prim.Native.Nat.{_%_, _*_, _+_, _-_, _/_, _<_, _≤_, suc, zero, ℕ}
 use Rattle.laws.proofs.Joins.{each-append}
-use Rattle.laws.proofs.Ranges.{getD-range, range-append, range-length}
-use Rattle.laws.specs.Every.{Every}
-use Rattle.laws.specs.Lists.{each, head, range}
 use Rattle.laws.proofs.Parts.{put-more}
+use Rattle.laws.proofs.Ranges.{getD-range, range-append, range-length}
+use Rattle.laws.specs.Lists.{each, head, range}
 use Rattle.laying.proofs.Ordering.{every-place}
 use Rattle.limits.specs.Limits.{maxColumns, maxRows}
 use Rattle.lodging.proofs.Entries.{rows-count, rows-read}
-use Rattle.lodging.specs.Standing.{New, Takes, keptWords, leafRun, newRows, rowOf}
+use Rattle.lodging.specs.Standing.{Takes, keptWords, leafRun, newRows, rowOf}
 use Rattle.measure.proofs.Rows.{row-ends}
 use Rattle.measure.specs.Table.{between}
 use Rattle.rounds.proofs.Parts.{mid-end}
@@ -16,7 +15,7 @@ use Rattle.rounds.specs.Entries.{InTable}
 use Rattle.split.proofs.Laid.{under, under-append, under-long}
 use Rattle.split.specs.Runs.{laid}
 use Rattle.words.specs.InShape.{InShape}
-use Rattle.words.specs.Words.{N#, at, c#, count#, dist#, first#, n#, pairAt, row#, run#, start#}
+use Rattle.words.specs.Words.{N#, at, circles#, count#, dist#, first#, n#, pairAt, row#, run#, start#}
 use borrow.Author.Tests.{le-ltb, lt-ltb, ltb-false, ltb-true}
 use borrow.Rule.Slice.PartMut.{midOf, putMid}
 use lib.Dec.{ltb}
@@ -217,7 +216,7 @@ module _ {t : List ℕ} {c : ℕ} {w : List ℕ} {o : ℕ} {part₀ : List ℕ} 
     pub firsts : first ≡ first# w o
     pub counts : count ≡ length run
     pub upto : i ≤ count
-    pub words : part ≡ under (between t c first) first (take i run) ++ drop (3 * i) part₀
+    pub words : part ≡ under (between t c (circles# w) first) first (take i run) ++ drop (3 * i) part₀
 
   -- none is
   pub measuring-start : {first : ℕ} → first ≡ first# w o → Measuring first (length part₀ / 3) part₀ 0
@@ -225,8 +224,8 @@ module _ {t : List ℕ} {c : ℕ} {w : List ℕ} {o : ℕ} {part₀ : List ℕ} 
 
   module _ {first count : ℕ} {part : List ℕ} {i : ℕ} (inv : Measuring first count part i) where
     -- their words
-    front-size : length (under (between t c first) first (take i run)) ≡ 3 * i
-    front-size = under-long (between t c first) first (take i run) ∙ ap (λ (k : ℕ). 3 * k) (length-take-le i run (omega (arith, inv .upto, inv .counts)))
+    front-size : length (under (between t c (circles# w) first) first (take i run)) ≡ 3 * i
+    front-size = under-long (between t c (circles# w) first) first (take i run) ∙ ap (λ (k : ℕ). 3 * k) (length-take-le i run (omega (arith, inv .upto, inv .counts)))
 
     -- as long as it was
     pub measuring-long : length part ≡ length part₀
@@ -234,7 +233,7 @@ module _ {t : List ℕ} {c : ℕ} {w : List ℕ} {o : ℕ} {part₀ : List ℕ} 
         ap length (inv .words)
         ∙ omega (
           arith,
-          length-append (under (between t c first) first (take i run)) (drop (3 * i) part₀),
+          length-append (under (between t c (circles# w) first) first (take i run)) (drop (3 * i) part₀),
           front-size,
           length-drop (3 * i) part₀,
           run-count,
@@ -250,7 +249,7 @@ module _ {t : List ℕ} {c : ℕ} {w : List ℕ} {o : ℕ} {part₀ : List ℕ} 
     pub measuring-row : {row : ℕ} → i < count → row ≡ rowOf w o part i → row ≡ getD run i 0
     measuring-row h e =
         e ∙ read-row part i (omega (arith, inv .counts))
-        (ap (drop (3 * i)) (inv .words) ∙ drop-at (under (between t c first) first (take i run)) (drop (3 * i) part₀) (3 * i) front-size)
+        (ap (drop (3 * i)) (inv .words) ∙ drop-at (under (between t c (circles# w) first) first (take i run)) (drop (3 * i) part₀) (3 * i) front-size)
 
     -- it and the first are in the table
     pub measuring-ready : {row : ℕ} → i < count → row ≡ rowOf w o part i
@@ -272,11 +271,11 @@ module _ {t : List ℕ} {c : ℕ} {w : List ℕ} {o : ℕ} {part₀ : List ℕ} 
         )
 
     -- it is laid
-    pub measuring-step : (new : List ℕ) {row : ℕ} → i < count → row ≡ rowOf w o part i
-        → new ≡ row ∷ between t c first row ∷ first ∷ drop 3 (midOf (3 * i) (length part - 3 * i) part)
+    pub measuring-step : (new : List ℕ) {row set : ℕ} → i < count → row ≡ rowOf w o part i → set ≡ circles# w
+        → new ≡ row ∷ between t c set first row ∷ first ∷ drop 3 (midOf (3 * i) (length part - 3 * i) part)
         → Measuring first count (putMid (3 * i) (length part - 3 * i) part new) (i + 1)
-    measuring-step new {row} h er e =
-        let f : ℕ → ℕ = between t c first in
+    measuring-step new {row} h er es e =
+        let f : ℕ → ℕ = between t c (circles# w) first in
         let up : 3 * (i + 1) ≡ 3 * i + 3 = omega arith in
         let one : i + 1 ≡ suc i = omega arith in
         let more : under f first (take i run) ++ (row ∷ f row ∷ first ∷ []) ≡ under f first (take (i + 1) run) =
@@ -289,17 +288,18 @@ module _ {t : List ℕ} {c : ℕ} {w : List ℕ} {o : ℕ} {part₀ : List ℕ} 
           upto = omega arith;
           words =
               put-more (under f first (take i run)) (row ∷ f row ∷ first ∷ []) part₀ part new (3 * i) 3 front-size
-              (omega (arith, measuring-fits h .0)) (inv .words) e
+              (omega (arith, measuring-fits h .0)) (inv .words)
+              (e ∙ ap (λ (x : ℕ). row ∷ between t c x first row ∷ first ∷ drop 3 (midOf (3 * i) (length part - 3 * i) part)) es)
               ∙ ap₂ (λ (x : List ℕ) (k : ℕ). x ++ drop k part₀) more (sym up);
         }
 
     -- all are
-    pub measuring-done : count ≤ i → part ≡ laid (between t c) (leafRun w o (newRows w o part₀))
+    pub measuring-done : count ≤ i → part ≡ laid (between t c (circles# w)) (leafRun w o (newRows w o part₀))
     measuring-done h =
         let z : i ≡ length run = omega (arith, inv .upto, inv .counts) in
         let a : first ≡ head run = inv .firsts ∙ sym run-head in
         inv .words
-        ∙ ap₂ (λ (x y : List ℕ). under (between t c first) first x ++ y) (take-all i run (omega arith))
+        ∙ ap₂ (λ (x y : List ℕ). under (between t c (circles# w) first) first x ++ y) (take-all i run (omega arith))
         (drop-of-length-le part₀ {i = 3 * i} (omega (arith, run-count)))
-        ∙ append-nil (under (between t c first) first run)
-        ∙ ap (λ (x : ℕ). under (between t c x) x run) a
+        ∙ append-nil (under (between t c (circles# w) first) first run)
+        ∙ ap (λ (x : ℕ). under (between t c (circles# w) x) x run) a

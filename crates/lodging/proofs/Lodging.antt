@@ -1,11 +1,11 @@
 -- A leaf is laid as its piece says: as it is stored, measured, or in order where it is to be split. Assumes nothing.
-use Prim.Native.Nat.{_%_, _*_, _+_, _-_, _/_, _<_, _≤_, suc, zero, ℕ}
+use Prim.Native.Nat.{_%_, _*_, _+_, _-_, _/_, _<_, _≤_, ℕ}
 use Rattle.appending.proofs.Lowest.{orderly-ascends, orderly-length, orderly-tally, twice-same}
-use Rattle.appending.specs.Append.{Ascends, enter, orderly, twice}
+use Rattle.appending.specs.Append.{Ascends, orderly, twice}
 use Rattle.build.specs.Filled.{pairsIn}
+use Rattle.laws.proofs.Every.{every-map}
 use Rattle.laws.proofs.Lists.{paired}
 use Rattle.laws.proofs.Ranges.{range-every, range-length}
-use Rattle.laws.proofs.Every.{every-map}
 use Rattle.laws.specs.Every.{Every}
 use Rattle.laws.specs.Lists.{each, head, range, rest}
 use Rattle.laying.specs.Lay.{Ordered}
@@ -16,19 +16,19 @@ use Rattle.lodging.specs.Sorts.{Sorts}
 use Rattle.lodging.specs.Standing.{Lodges, New, Stands, Takes, keptWords, leafRun, markOf, newRows}
 use Rattle.measure.specs.Table.{between}
 use Rattle.rounds.proofs.Parts.{mid-end, put-end}
-use Rattle.split.proofs.Laid.{laid-long, under, under-long, under-rows}
+use Rattle.split.proofs.Laid.{laid-long, under, under-rows}
 use Rattle.split.specs.Runs.{laid, rows}
 use Rattle.swelling.specs.Pieces.{Piece, grown, leafPiece, settled}
 use Rattle.swelling.specs.Swell.{reachTaking}
 use Rattle.tree.specs.Encode.{pairWords}
 use Rattle.tree.specs.Grove.{Reach, members#, reach#}
-use Rattle.words.specs.Words.{count#, dist#, l#, n#, row#, run#, start#}
+use Rattle.words.specs.Words.{circles#, count#, dist#, l#, n#, row#, run#, start#}
 use borrow.Rule.Slice.PartMut.{midOf, putMid}
 use lib.Dec.{eqb, leb}
 use lib.ListN.{drop, length, length-append, length-drop, length-map, take}
 use lib.Seq.{drop-at}
 use mathlib.Core.Bool.{Bool, _||_, cond, false, true}
-use mathlib.Core.List.{List, [], _++_, _∷_, append-nil, foldr, map}
+use mathlib.Core.List.{List, [], _++_, _∷_, map}
 use mathlib.Core.Path.{_∙_, _≡_, ap, ap₂, refl, subst, sym}
 use native.Mathlib.Omega.{arith}
 
@@ -53,7 +53,7 @@ kept-size w (p ∷ ps) = omega (arith, kept-size w ps)
 module _ {t : List ℕ} {c : ℕ} {w : List ℕ} {o : ℕ} {part₀ : List ℕ} (T : Takes t c w o part₀) where
   -- how far two rows are apart
   abbrev d : ℕ → ℕ → ℕ
-  d = between t c
+  d = between t c (circles# w)
 
   -- the rows that it takes
   abbrev zs : List ℕ
@@ -147,7 +147,7 @@ module _ {t : List ℕ} {c : ℕ} {w : List ℕ} {o : ℕ} {part₀ : List ℕ} 
         }
 
     -- it is not to be split, however that may be
-    pub lodge-measured : part′ ≡ laid (between t c) (leafRun w o (newRows w o part₀)) → {k : ℕ} → k ≡ l# w → (last || leb (length part₀ / 3) k) ≡ true
+    pub lodge-measured : part′ ≡ laid (between t c (circles# w)) (leafRun w o (newRows w o part₀)) → {k : ℕ} → k ≡ l# w → (last || leb (length part₀ / 3) k) ≡ true
         → mark ≡ 0 → Lodges t c w o last part₀ part′ mark
     lodge-measured e {k} ek st em = by-piece (λ s R. stand s R (twice all)) (λ s R. marks s R (twice all))
       where
@@ -163,14 +163,14 @@ module _ {t : List ℕ} {c : ℕ} {w : List ℕ} {o : ℕ} {part₀ : List ℕ} 
         marks s R false = em
 
     -- a row stands twice
-    pub lodge-twice : part′ ≡ laid (between t c) (leafRun w o (newRows w o part₀)) → {k : ℕ} → k ≡ l# w → (last || leb (length part₀ / 3) k) ≡ false
+    pub lodge-twice : part′ ≡ laid (between t c (circles# w)) (leafRun w o (newRows w o part₀)) → {k : ℕ} → k ≡ l# w → (last || leb (length part₀ / 3) k) ≡ false
         → twice (leafRun w o (newRows w o part₀)) ≡ true → mark ≡ 4294967295 → Lodges t c w o last part₀ part′ mark
     lodge-twice e {k} ek st tw em =
         by-piece (λ s R. rw tw (members-stand last e s R))
         (λ s R. rw tw (em ∙ ap (λ (b : Bool). cond b 0 4294967295) (sym (sym (members-size last k ek) ∙ st))))
 
     -- none does, and its rows are in order
-    pub lodge-ordered : part′ ≡ laid (between t c) (orderly (leafRun w o (newRows w o part₀))) → {k : ℕ} → k ≡ l# w
+    pub lodge-ordered : part′ ≡ laid (between t c (circles# w)) (orderly (leafRun w o (newRows w o part₀))) → {k : ℕ} → k ≡ l# w
         → (last || leb (length part₀ / 3) k) ≡ false → twice (leafRun w o (newRows w o part₀)) ≡ false → mark ≡ 0 → Lodges t c w o last part₀ part′ mark
     lodge-ordered e {k} ek st tw em =
         let many : (last || leb (length all) (l# w)) ≡ false = ap₂ (λ (i j : ℕ). last || leb i j) all-long (sym ek) ∙ st in
@@ -181,7 +181,7 @@ module _ {t : List ℕ} {c : ℕ} {w : List ℕ} {o : ℕ} {part₀ : List ℕ} 
   all-some : 1 ≤ length all
   all-some = omega (arith, length-append own zs, own-long, T .shape .node o (T .there) .some)
 
-  module _ {part₁ : List ℕ} (measured : part₁ ≡ laid (between t c) (leafRun w o (newRows w o part₀))) where
+  module _ {part₁ : List ℕ} (measured : part₁ ≡ laid (between t c (circles# w)) (leafRun w o (newRows w o part₀))) where
     -- its words are whole entries
     measured-long : length part₁ ≡ 3 * length all
     measured-long = ap length measured ∙ laid-long d all
@@ -193,7 +193,7 @@ module _ {t : List ℕ} {c : ℕ} {w : List ℕ} {o : ℕ} {part₀ : List ℕ} 
 
     module _ {new : List ℕ} (sorts : Sorts (midOf 3 (length part₁ - 3) part₁) new) where
       -- they are those of the run in order
-      pub sort-done : putMid 3 (length part₁ - 3) part₁ new ≡ laid (between t c) (orderly (leafRun w o (newRows w o part₀)))
+      pub sort-done : putMid 3 (length part₁ - 3) part₁ new ≡ laid (between t c (circles# w)) (orderly (leafRun w o (newRows w o part₀)))
       sort-done = put-end 3 part₁ new ∙ ap (λ (l : List ℕ). take 3 l ++ new) measured ∙ go all all-some measured
         where
           go : (xs : List ℕ) → 1 ≤ length xs → part₁ ≡ laid d xs → take 3 (laid d xs) ++ new ≡ laid d (orderly xs)
@@ -202,7 +202,7 @@ module _ {t : List ℕ} {c : ℕ} {w : List ℕ} {o : ℕ} {part₀ : List ℕ} 
               ap (λ (l : List ℕ). x ∷ d x x ∷ x ∷ l)
               (sorts (d x) x xs (mid-end 3 part₁ ∙ ap (drop 3) e))
 
-  module _ {part₂ : List ℕ} (sorted : part₂ ≡ laid (between t c) (orderly (leafRun w o (newRows w o part₀)))) where
+  module _ {part₂ : List ℕ} (sorted : part₂ ≡ laid (between t c (circles# w)) (orderly (leafRun w o (newRows w o part₀)))) where
     -- its rows
     ordered-rows : rows part₂ ≡ orderly all
     ordered-rows = ap rows sorted ∙ under-rows (d (head (orderly all))) (head (orderly all)) (orderly all)
@@ -241,9 +241,9 @@ module _ {t : List ℕ} {c : ℕ} {w : List ℕ} {o : ℕ} {part₀ : List ℕ} 
         ∙ drop-at (orderly own) zs k (orderly-length own (omega (arith, own-long, T .shape .node o (T .there) .some)) ∙ own-long)
 
     -- measured again it is as it was
-    pub again-is : {part₃ : List ℕ} → part₃ ≡ laid (between t c) (leafRun w o (newRows w o part₂))
-        → part₃ ≡ laid (between t c) (leafRun w o (newRows w o part₀))
-    again-is e = e ∙ ap (λ (l : List ℕ). laid (between t c) (leafRun w o l)) rows-stay
+    pub again-is : {part₃ : List ℕ} → part₃ ≡ laid (between t c (circles# w)) (leafRun w o (newRows w o part₂))
+        → part₃ ≡ laid (between t c (circles# w)) (leafRun w o (newRows w o part₀))
+    again-is e = e ∙ ap (λ (l : List ℕ). laid (between t c (circles# w)) (leafRun w o l)) rows-stay
 
     -- so it can be measured again
     pub takes-again : Takes t c w o part₂

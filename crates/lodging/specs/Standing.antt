@@ -11,7 +11,7 @@ use Rattle.split.specs.Runs.{laid, rows}
 use Rattle.swelling.specs.Pieces.{Piece, grown, leafPiece, old, settled}
 use Rattle.tree.specs.Encode.{pairWords}
 use Rattle.words.specs.InShape.{InShape}
-use Rattle.words.specs.Words.{N#, at, c#, count#, dist#, l#, n#, row#, run#, start#}
+use Rattle.words.specs.Words.{N#, at, c#, circles#, count#, dist#, l#, n#, row#, run#, start#}
 use lib.Dec.{leb, ltb}
 use lib.ListN.{drop, length}
 use mathlib.Core.Bool.{Bool, _||_, cond}
@@ -58,7 +58,7 @@ module _ (t : List ℕ) (c : ℕ) (w : List ℕ) (last : Bool) where
   -- the words of a piece; `last` says that there is no level below it. Of an old inner node only its new rows are known
   abbrev pub Stands : Piece → List ℕ → Type 0
   Stands (old s o zs) ws = (length ws ≡ 3 * (count# w o + length zs)) × (newRows w o ws ≡ zs)
-  Stands (grown s R run) ws = ws ≡ laid (between t c) (cond (last || leb (length run) (l# w)) run (orderly run))
+  Stands (grown s R run) ws = ws ≡ laid (between t c (circles# w)) (cond (last || leb (length run) (l# w)) run (orderly run))
   Stands (settled s R es) ws = (length ws ≡ 3 * length es) × (pairsIn ws ≡ each pairWords es)
 
   -- its mark while it waits: 0 for a run, and for a leaf that nobody would split
@@ -69,5 +69,5 @@ module _ (t : List ℕ) (c : ℕ) (w : List ℕ) (last : Bool) where
 
 -- WHAT A LEAF IS LAID AS: its piece, wherever it starts
 pub record Lodges (t : List ℕ) (c : ℕ) (w : List ℕ) (o : ℕ) (last : Bool) (part part′ : List ℕ) (mark : ℕ) : Type 0 where
-  pub stands : (s : ℕ) → Stands t c w last (leafPiece (between t c) w s o (newRows w o part)) part′
-  pub marked : (s : ℕ) → mark ≡ markOf t c w last (leafPiece (between t c) w s o (newRows w o part))
+  pub stands : (s : ℕ) → Stands t c w last (leafPiece (between t c (circles# w)) w s o (newRows w o part)) part′
+  pub marked : (s : ℕ) → mark ≡ markOf t c w last (leafPiece (between t c (circles# w)) w s o (newRows w o part))

@@ -6,12 +6,14 @@ ghost use Rattle.marking.specs.Lent.{Lent};
 ghost use Rattle.marking.specs.Marks.{Distances, centreAt, firstAt};
 ghost use Rattle.marking.specs.Written.{marked};
 ghost use Rattle.measure.specs.Table.{from};
-ghost use Rattle.words.specs.Words.{N#, m#};
+ghost use Rattle.rowset.specs.Sets.{isIn};
+ghost use Rattle.words.specs.Words.{N#, circles#, m#};
 ghost use lib.ListN.{getD, take};
 ghost use mathlib.Core.Path.{_≡_};
 use crate::row::measure_row;
 use limits::Params;
 use words::places::centres;
+use words::places::circles;
 use words::places::node_start;
 use words::places::pair_at;
 use words::places::word;
@@ -26,21 +28,23 @@ pub fn open_inner(
     ch: usize,
     x: u32,
     r: u32,
+    withdrawn: &[u32],
     how: &mut [u8],
 ) -> [u32; Params::MOST_CENTRES]
     requires { ⌜ Lent (now index) (now table) c (now query) (now how) ⌝ }
-    requires { ⌜ (ch + m# (now index) ≤ N# (now index)) × (x ≤ maxDistance) × (x ≡ firstAt (from (now table) c (now query)) (now index) ch) ⌝ }
-    ensures marks { λ _. ⌜ now (how .exit) ≡ marked (λ (j : ℕ). centreAt (from (now (table .entry)) c (now (query .entry))) r (now (index .entry)) (ch + j))
-        1 (m# (now (index .entry))) (now (how .entry)) ⌝ }
-    ensures distances { λ ds. ⌜ Distances (from (now (table .entry)) c (now (query .entry))) (now (index .entry)) ch ds ⌝ }
+    requires { ⌜ (ch + m# (now index) ≤ N# (now index)) × (x ≤ maxDistance) × (x ≡ firstAt (from (now table) c (circles# (now index)) (now query)) (now index) ch) ⌝ }
+    ensures marks { λ _. ⌜ now (how .exit) ≡ marked (isIn (now (withdrawn .entry)))
+        (λ (j : ℕ). centreAt (from (now (table .entry)) c (circles# (now (index .entry))) (now (query .entry))) r (now (index .entry)) (ch + j)) 1 (m# (now (index .entry))) (now (how .entry)) ⌝ }
+    ensures distances { λ ds. ⌜ Distances (from (now (table .entry)) c (circles# (now (index .entry))) (now (query .entry))) (now (index .entry)) ch ds ⌝ }
 {
     let m = centres(index);
     let base = pair_at(index, 0);
+    let round = circles(index);
     let mut ds = [x; Params::MOST_CENTRES];
     let mut j = 1;
     while j < m {
         let row = word(index, base + 2 * node_start(index, ch + j));
-        let d = measure_row(table, c, query, row, r, how);
+        let d = measure_row(table, c, round, query, row, r, withdrawn, how);
         ds[j] = d;
         j += 1;
     }

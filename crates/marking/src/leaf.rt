@@ -4,11 +4,14 @@ ghost use Rattle.limits.specs.Limits.{maxDistance};
 ghost use Rattle.measure.specs.Table.{from};
 ghost use Rattle.marking.specs.Marks.{decision, leafAt, leafMark};
 ghost use Rattle.marking.specs.Lent.{Lent};
-ghost use Rattle.marking.specs.Written.{byte, marked};
-ghost use Rattle.words.specs.Words.{N#, count#, n#, pairAt, row#, start#};
+ghost use Rattle.marking.specs.Written.{mark, marked};
+ghost use Rattle.rowset.specs.Sets.{isIn};
+ghost use Rattle.words.specs.Words.{N#, circles#, count#, n#, pairAt, row#, start#};
 ghost use mathlib.Core.Path.{_≡_};
-use crate::row::measure_row;
+use crate::row::measure_to;
 use numbers::apart;
+use rowset::is_in;
+use words::places::circles;
 use words::places::node_count;
 use words::places::node_start;
 use words::places::pair_at;
@@ -40,28 +43,32 @@ fn decide(x: u32, s: u32, r: u32) -> Verdict
 fn leaf_row(
     table: &[u16],
     c: usize,
+    circles: u32,
     index: &[u32],
     query: &[u16],
     base: usize,
     p: usize,
     x: u32,
     r: u32,
+    withdrawn: &[u32],
     how: &mut [u8],
 )
     requires { ⌜ Lent (now index) (now table) c (now query) (now how) ⌝ }
     requires { ⌜ (p < n# (now index)) × (x ≤ maxDistance) × (base ≡ pairAt (now index) 0) ⌝ }
-    ensures { λ _. ⌜ now (how .exit) ≡ byte (row# (now (index .entry)) p)
-        (leafMark (from (now (table .entry)) c (now (query .entry))) r (now (index .entry)) x p) (now (how .entry)) ⌝ }
+    ensures { λ _. ⌜ now (how .exit) ≡ mark (isIn (now (withdrawn .entry))) (row# (now (index .entry)) p)
+        (leafMark (from (now (table .entry)) c circles (now (query .entry))) r (now (index .entry)) x p) (now (how .entry)) ⌝ }
 {
     let row = word(index, base + 2 * p);
     let verdict = decide(x, index[base + 2 * p + 1], r);
     let Verdict::Measure = verdict else {
         if let Verdict::In = verdict {
-            how[row] = 2;
+            if !is_in(withdrawn, row) {
+                how[row] = 2;
+            }
         }
         return;
     };
-    measure_row(table, c, query, row, r, how);
+    measure_to(table, c, circles, query, row, r, withdrawn, how);
 }
 
 // An opened leaf, node k, whose first is at x: each row but its first.
@@ -73,19 +80,22 @@ pub fn open_leaf(
     k: usize,
     x: u32,
     r: u32,
+    withdrawn: &[u32],
     how: &mut [u8],
 )
     requires { ⌜ Lent (now index) (now table) c (now query) (now how) ⌝ }
     requires { ⌜ (k < N# (now index)) × (x ≤ maxDistance) ⌝ }
-    ensures { λ _. ⌜ now (how .exit) ≡ marked (leafAt (from (now (table .entry)) c (now (query .entry))) r (now (index .entry)) x)
+    ensures { λ _. ⌜ now (how .exit) ≡ marked (isIn (now (withdrawn .entry)))
+        (leafAt (from (now (table .entry)) c (circles# (now (index .entry))) (now (query .entry))) r (now (index .entry)) x)
         (start# (now (index .entry)) k + 1) (start# (now (index .entry)) k + count# (now (index .entry)) k) (now (how .entry)) ⌝ }
 {
     let start = node_start(index, k);
     let end = start + node_count(index, k);
     let base = pair_at(index, 0);
+    let round = circles(index);
     let mut p = start + 1;
     while p < end {
-        leaf_row(table, c, index, query, base, p, x, r, how);
+        leaf_row(table, c, round, index, query, base, p, x, r, withdrawn, how);
         p += 1;
     }
 }

@@ -1,3 +1,4 @@
+pub mod Circles
 pub mod Depths
 pub mod Plainly
 pub mod Meaning

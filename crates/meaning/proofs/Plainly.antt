@@ -5,8 +5,9 @@ use Rattle.laws.proofs.Ranges.{at-every}
 use Rattle.laws.proofs.Tests.{and-l, and-of, and-r, eq-test, holds, is-true}
 use Rattle.laws.specs.Lists.{all, range}
 use Rattle.limits.proofs.Ranges.{both-within, within-both}
-use Rattle.limits.specs.Limits.{columnsOk, editionOk, maxColumns, maxDepth, maxDistance, maxRows, shareOk}
+use Rattle.limits.specs.Limits.{circlesOk, columnsOk, editionOk, maxColumns, maxDepth, maxDistance, maxRows, shareOk}
 use Rattle.tree.proofs.Alike.{born-some}
+use Rattle.meaning.proofs.Circles.{circles-plain, circles-test}
 use Rattle.meaning.proofs.Depths.{Born, born-numbered, depth-level, numbered-born, numbered-child, stood}
 use Rattle.meaning.specs.Conditions.{Numbered, Possible, Ruled, Shaped, Tiled}
 use Rattle.words.proofs.Headers.{good-header, good-whole}
@@ -16,7 +17,8 @@ use Rattle.words.proofs.Nodes.{closed, node-at, node-ok, root-ok, root-some}
 use Rattle.words.proofs.Positions.{position-is}
 use Rattle.words.proofs.Tiles.{tile-head, tile-none, tile-tail}
 use Rattle.words.specs.Shape.{born, level, nodeOk, positionOk, rootFits, rootOk, shapeOk, tile, treeFits}
-use Rattle.words.specs.Words.{N#, c#, cardOk, child#, count#, dist#, edition#, inner#, kind#, l#, last#, m#, n#, nodesOk, radius#, row#, start#, wholeOk, wordsOf}
+use Rattle.words.specs.Words.{N#, c#, cardOk, child#, circles#, count#, dist#, edition#, inner#, kind#, l#, m#, n#, nodesOk}
+use Rattle.words.specs.Words.{radius#, row#, start#, wholeOk, wordsOf}
 use borrow.Author.Tests.{eq-eqb, le-leb, leb-false, leb-true, lt-leb}
 use lib.Dec.{T, eqb, eqb→eq, leb, le→leb, ltb, lt→ltb}
 use lib.ListN.{length}
@@ -38,17 +40,17 @@ nodes-test : (n N : ℕ) → (1 ≤ n → (1 ≤ N) × (N ≤ 2 * n - 1)) → (n
 nodes-test zero N f g = eq-eqb N 0 (g refl)
 nodes-test (suc n) N f g = let p = f (omega arith) in both-within 1 (2 * suc n - 1) N (p .0) (p .1)
 
--- the last three parts of a possible header: the node count, the distance kind and the last word
-header-ends : (w : List ℕ) → cardOk w ≡ true → T (nodesOk (n# w) (N# w)) × (kind# w ≡ 1) × (last# w ≡ 0)
+-- the last three parts of a possible header: the node count, the distance kind and the circles
+header-ends : (w : List ℕ) → cardOk w ≡ true → T (nodesOk (n# w) (N# w)) × (kind# w ≡ 1) × T (circlesOk (c# w) (circles# w))
 unfolding cardOk
 header-ends w e =
     let a = editionOk (edition# w) && leb (n# w) maxRows && columnsOk (c# w) && shareOk (m# w) (l# w) in
     let k = nodesOk (n# w) (N# w) in
     let x = eqb (kind# w) 1 in
-    let y = eqb (last# w) 0 in
+    let y = circlesOk (c# w) (circles# w) in
     let t = holds (a && k && x && y) e in
     let u = and-l (a && k && x) y t in
-    (and-r a k (and-l (a && k) x u), eqb→eq (kind# w) 1 (and-r (a && k) x u), eqb→eq (last# w) 0 (and-r (a && k && x) y t))
+    (and-r a k (and-l (a && k) x u), eqb→eq (kind# w) 1 (and-r (a && k) x u), and-r (a && k && x) y t)
 
 -- WORDS THAT PASS ARE POSSIBLE
 pub words-plain : (w : List ℕ) → wholeOk w ≡ true → Possible w
@@ -67,7 +69,7 @@ words-plain w e =
       nodes = k .0;
       none = k .1;
       kind = h .1;
-      last = h .2;
+      circles = λ j q. circles-plain (circles# w) (c# w) (h .2) j (omega (arith, q));
     }
 
 -- AND POSSIBLE WORDS PASS
@@ -78,7 +80,7 @@ plain-words w P =
     let f = both-within 2 64 (m# w) (P .fan .0) (P .fan .1) in
     let s : shareOk (m# w) (l# w) ≡ true = rw f (both-within (m# w) 1_024 (l# w) (P .leaf .0) (P .leaf .1)) in
     let k = nodes-test (n# w) (N# w) (P .nodes) (P .none) in
-    let h = sym (good-header w a (P .rows) c s k (P .kind)) ∙ eq-eqb (last# w) 0 (P .last) in
+    let h = sym (good-header w a (P .rows) c s k (P .kind)) ∙ circles-test (circles# w) (c# w) (λ j q. P .circles j (omega (arith, q))) in
     sym (good-whole w (P .header) h) ∙ le-leb (wordsOf w) (length w) (P .whole)
 
 -- ---- the shape
@@ -93,7 +95,8 @@ module _ (w : List ℕ) where
   unfolding tile
   plain-tile j zero s e t = eq-test s e t
   plain-tile j (suc k) s e t =
-      and-of (eqb (start# w j) s) (tile w (suc j) k (s + count# w j) e) (eq-test (start# w j) s (t .0)) (plain-tile (suc j) k (s + count# w j) e (t .1))
+      and-of (eqb (start# w j) s) (tile w (suc j) k (s + count# w j) e) (eq-test (start# w j) s (t .0))
+      (plain-tile (suc j) k (s + count# w j) e (t .1))
 
   -- node k's children's runs tile its own
   abbrev tiles : ℕ → Bool
@@ -135,7 +138,8 @@ module _ (w : List ℕ) where
         other = λ q r.
             let a : few ≡ false = lt-leb (count# w k) (l# w) q in
             let b : deep ≡ false = lt-leb (level w maxDepth) k (omega (arith, D .1, level-le w (suc (S .depth)) maxDepth r)) in
-            let u : T (eqb (child# w k) (born w k) && tiles k) = subst (λ (z : Bool). T (byCase k false z)) b (subst (λ (z : Bool). T (byCase k z deep)) a c) in
+            let u : T (eqb (child# w k) (born w k) && tiles k) =
+            subst (λ (z : Bool). T (byCase k false z)) b (subst (λ (z : Bool). T (byCase k z deep)) a c) in
             let e = eqb→eq (child# w k) (born w k) (and-l (eqb (child# w k) (born w k)) (tiles k) u) in (
               omega (arith, e, born-some w k),
               tile-plain (child# w k) (m# w) (start# w k) (start# w k + count# w k) (and-r (eqb (child# w k) (born w k)) (tiles k) u),
@@ -153,12 +157,13 @@ module _ (w : List ℕ) where
       (and-of (leb 1 (count# w k)) (leb (radius# w k) maxDistance) (le→leb 1 (count# w k) (R .some)) (le→leb (radius# w k) maxDistance (R .far)))
       (le→leb (inner# w k) maxDistance (R .near))) (go D few deep refl refl))
     where
-      go : (level w (R .depth) ≤ k) × (k < level w (suc (R .depth))) → (few deep : Bool) → leb (count# w k) (l# w) ≡ few → leb (level w maxDepth) k ≡ deep
-          → T (byCase k few deep)
+      go : (level w (R .depth) ≤ k) × (k < level w (suc (R .depth))) → (few deep : Bool) → leb (count# w k) (l# w) ≡ few
+          → leb (level w maxDepth) k ≡ deep → T (byCase k few deep)
       go D true deep p q = eq-test (child# w k) 0 (R .few (leb-true (count# w k) (l# w) p))
       go D false true p q =
           eq-test (child# w k) 0 (by-cases (decLt (R .depth) maxDepth)
-          (λ l. absurd (omega (arith, D .1, level-le w (suc (R .depth)) maxDepth l, leb-true (level w maxDepth) k q))) (λ l. R .deepest (omega arith)))
+          (λ l. absurd (omega (arith, D .1, level-le w (suc (R .depth)) maxDepth l, leb-true (level w maxDepth) k q)))
+          (λ l. R .deepest (omega arith)))
       go D false false p q =
           by-cases (decLt (R .depth) maxDepth)
           (λ l.

@@ -1,8 +1,9 @@
--- What the full check asks of an index, in 01's words (The tree, Index words, Shape, full check), as facts of numbers: no test, no list of faults.
--- The check accepts exactly the indexes that meet these (`accepted-means`, proofs/Meaning). Over the distance d between rows. Assumes nothing.
-use Prim.Native.Nat.{_*_, _+_, _-_, _<_, _≤_, suc, zero, ℕ}
+-- What the full check asks of an index, in 01's words (The tree, Index words, Shape, full check) and 02's, as facts of numbers: no test, no list of
+-- faults. The check accepts exactly the indexes that meet these (`accepted-means`, proofs/Meaning). Over the distance d between rows.
+-- Assumes nothing.
+use Prim.Native.Nat.{_%_, _*_, _+_, _-_, _/_, _<_, _^_, _≤_, suc, zero, ℕ}
 use Rattle.limits.specs.Limits.{maxColumns, maxDepth, maxDistance, maxRows}
-use Rattle.words.specs.Words.{N#, c#, child#, count#, dist#, edition#, first#, inner#, kind#, l#, last#, m#, n#, radius#, row#, start#, wordsOf}
+use Rattle.words.specs.Words.{N#, c#, child#, circles#, count#, dist#, edition#, first#, inner#, kind#, l#, m#, n#, radius#, row#, start#, wordsOf}
 use lib.ListN.{length}
 use mathlib.Core.List.{List}
 use mathlib.Core.Path.{_≡_}
@@ -20,7 +21,8 @@ pub record Possible (w : List ℕ) : Type 0 where
   pub nodes : 1 ≤ n# w → (1 ≤ N# w) × (N# w ≤ 2 * n# w - 1)
   pub none : n# w ≡ 0 → N# w ≡ 0
   pub kind : kind# w ≡ 1
-  pub last : last# w ≡ 0
+  -- 02, R-1: of the set of circles no bit at or above the number of columns is on
+  pub circles : (j : ℕ) → c# w ≤ j → circles# w / 2 ^ j % 2 ≡ 0
 
 -- ---- 01, Shape
 -- node k stands at depth e: the root at 0, a child one deeper than its parent

@@ -1,2 +1,4 @@
 pub mod Metric
 pub mod Rows
+pub mod OnCircle
+pub mod Capped

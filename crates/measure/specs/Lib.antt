@@ -1,3 +1,4 @@
 pub mod Distance
 pub mod Table
 pub mod Space
+pub mod Turns

@@ -1,10 +1,17 @@
 // A row of the lent table, and the distance of two rows measured where they stand.
-ghost use Prim.Native.Nat.{_*_, _+_, _≤_};
+ghost use Prim.Native.Nat.{_*_, _+_, _-_, _<_, _≤_, min};
+ghost use Rattle.laws.specs.Lists.{gap};
 ghost use Rattle.limits.specs.Limits.{maxColumns, maxDistance};
-ghost use Rattle.measure.specs.Distance.{apart, l1};
+ghost use Rattle.measure.specs.Distance.{capped, l1};
 ghost use Rattle.measure.specs.Table.{between, from, row};
+ghost use Rattle.measure.specs.Turns.{turnOf};
 ghost use lib.ListN.{length};
 ghost use mathlib.Core.Path.{_≡_};
+use limits::Params;
+use numbers::less;
+use numbers::smaller;
+
+pub mod circles;
 
 // Row i of a table of c columns: the part of the caller's table that it is.
 pub fn row_of(table: &[u16], c: usize, i: usize) -> &[u16]
@@ -16,9 +23,11 @@ pub fn row_of(table: &[u16], c: usize, i: usize) -> &[u16]
     &table[start..end]
 }
 
-// How far two numbers of one column are apart.
-fn column(x: u16, y: u16) -> u32
-    ensures { λ r. ⌜ (r ≡ apart x y) × (r ≤ 65535) ⌝ }
+// ---- columns
+
+// How much two numbers differ.
+fn differ(x: u16, y: u16) -> u32
+    ensures { λ r. ⌜ (r ≡ gap x y) × (r ≤ 65535) ⌝ }
 {
     if x < y {
         (y - x) as u32
@@ -27,26 +36,60 @@ fn column(x: u16, y: u16) -> u32
     }
 }
 
-// The distance of two rows over their first c columns, from that over the first `from`.
+// How far two numbers are apart, the shorter way round, where so many go round.
+fn shorter(turn: u32, x: u16, y: u16) -> u32
+    ensures { λ r. ⌜ (r ≡ min (gap x y) (turn - gap x y)) × (r ≤ 65535) ⌝ }
+{
+    let d = differ(x, y);
+    smaller(d, less(turn, d))
+}
+
+// How many go round in column j. A column that is no circle has so wide a turn that the way round is never the shorter: one sum serves both kinds of
+// column, without a branch.
+fn turn(circles: u32, j: usize) -> u32
+    requires { ⌜ j < maxColumns ⌝ }
+    ensures { λ r. ⌜ r ≡ turnOf circles j ⌝ }
+{
+    131_070 - 127_470 * ((circles >> j) % 2)
+}
+
+// ---- two rows
+
+// The distance of two rows over their first c columns, from that over the first `from`, where none is a circle.
 fn columns(a: &[u16], b: &[u16], before: u32, from: usize, c: usize) -> u32
     requires { ⌜ (c ≤ length (now a)) × (c ≤ length (now b)) × (c ≤ maxColumns) ⌝ }
-    requires { ⌜ (from ≤ c) × (before ≤ 65535 * from) × (before ≡ l1 from (now a) (now b)) ⌝ }
-    ensures { λ r. ⌜ (r ≡ l1 c (now (a .entry)) (now (b .entry))) × (r ≤ 65535 * c) ⌝ }
+    requires { ⌜ (from ≤ c) × (before ≤ 65535 * from) × (before ≡ l1 from 0 (now a) (now b)) ⌝ }
+    ensures { λ r. ⌜ (r ≡ l1 c 0 (now (a .entry)) (now (b .entry))) × (r ≤ 65535 * c) ⌝ }
 {
     let mut sum = before;
     let mut i = from;
     while i < c {
-        sum += column(a[i], b[i]);
+        sum += differ(a[i], b[i]);
         i += 1;
     }
     sum
 }
 
-// The distance of two rows. Four to six columns, which questions about a minute have, come first: a loop to a constant is compiled
-// without a loop. Each takes the sum of the one before, so that all of it is small enough to stand where it is called.
-pub fn distance(a: &[u16], b: &[u16]) -> u32
+// The same by the set of the columns that are circles.
+fn round_columns(a: &[u16], b: &[u16], circles: u32, before: u32, from: usize, c: usize) -> u32
+    requires { ⌜ (c ≤ length (now a)) × (c ≤ length (now b)) × (c ≤ maxColumns) ⌝ }
+    requires { ⌜ (from ≤ c) × (before ≤ 65535 * from) × (before ≡ l1 from circles (now a) (now b)) ⌝ }
+    ensures { λ r. ⌜ (r ≡ l1 c circles (now (a .entry)) (now (b .entry))) × (r ≤ 65535 * c) ⌝ }
+{
+    let mut sum = before;
+    let mut i = from;
+    while i < c {
+        sum += shorter(turn(circles, i), a[i], b[i]);
+        i += 1;
+    }
+    sum
+}
+
+// The distance of two rows that have no circle. Four to six columns, which questions about a minute have, come first: a loop to a constant is
+// compiled without a loop. Each takes the sum of the one before, so that all of it is small enough to stand where it is called.
+fn plain(a: &[u16], b: &[u16]) -> u32
     requires { ⌜ (length (now a) ≡ length (now b)) × (length (now a) ≤ maxColumns) ⌝ }
-    ensures { λ r. ⌜ (r ≡ l1 (length (now (a .entry))) (now (a .entry)) (now (b .entry))) × (r ≤ maxDistance) ⌝ }
+    ensures { λ r. ⌜ (r ≡ l1 (length (now (a .entry))) 0 (now (a .entry)) (now (b .entry))) × (r ≤ maxDistance) ⌝ }
 {
     let c = a.len();
     if 4 <= c {
@@ -66,10 +109,10 @@ pub fn distance(a: &[u16], b: &[u16]) -> u32
 }
 
 // The same for more than six columns. Sixteen, the most there can be, are compiled without a loop too. That is too large to stand where
-// it is called, so that the two calls below share it, and neither is in the way of the few columns' code.
+// it is called, and so it is not in the way of the few columns' code.
 fn many(a: &[u16], b: &[u16]) -> u32
     requires { ⌜ (length (now a) ≡ length (now b)) × (length (now a) ≤ maxColumns) ⌝ }
-    ensures { λ r. ⌜ (r ≡ l1 (length (now (a .entry))) (now (a .entry)) (now (b .entry))) × (r ≤ maxDistance) ⌝ }
+    ensures { λ r. ⌜ (r ≡ l1 (length (now (a .entry))) 0 (now (a .entry)) (now (b .entry))) × (r ≤ maxDistance) ⌝ }
 {
     let c = a.len();
     if c == 16 {
@@ -78,27 +121,102 @@ fn many(a: &[u16], b: &[u16]) -> u32
     columns(a, b, 0, 0, c)
 }
 
+// The distance of two rows by the set of their circles. Six columns, the analyst's own, are compiled without a loop.
+fn rounded(a: &[u16], b: &[u16], circles: u32) -> u32
+    requires { ⌜ (length (now a) ≡ length (now b)) × (length (now a) ≤ maxColumns) ⌝ }
+    ensures { λ r. ⌜ (r ≡ l1 (length (now (a .entry))) circles (now (a .entry)) (now (b .entry))) × (r ≤ maxDistance) ⌝ }
+{
+    let c = a.len();
+    if c == 6 {
+        return round_columns(a, b, circles, 0, 0, 6);
+    }
+    round_columns(a, b, circles, 0, 0, c)
+}
+
+// The distance of two rows.
+pub fn distance(a: &[u16], b: &[u16], circles: u32) -> u32
+    requires { ⌜ (length (now a) ≡ length (now b)) × (length (now a) ≤ maxColumns) ⌝ }
+    ensures { λ r. ⌜ (r ≡ l1 (length (now (a .entry))) circles (now (a .entry)) (now (b .entry))) × (r ≤ maxDistance) ⌝ }
+{
+    if circles != 0 {
+        return rounded(a, b, circles);
+    }
+    if 6 < a.len() {
+        return many(a, b);
+    }
+    plain(a, b)
+}
+
+// ---- rows of a table
+
 // The distance of rows i and j.
-pub fn row_distance(table: &[u16], c: usize, i: usize, j: usize) -> u32
+pub fn row_distance(table: &[u16], c: usize, circles: u32, i: usize, j: usize) -> u32
     requires { ⌜ (c ≤ maxColumns) × (c * i + c ≤ length (now table)) × (c * j + c ≤ length (now table)) ⌝ }
-    ensures { λ r. ⌜ (r ≡ between (now (table .entry)) c i j) × (r ≤ maxDistance) ⌝ }
+    ensures { λ r. ⌜ (r ≡ between (now (table .entry)) c circles i j) × (r ≤ maxDistance) ⌝ }
 {
     let a = row_of(table, c, i);
     let b = row_of(table, c, j);
-    if 6 < c {
-        return many(a, b);
-    }
-    distance(a, b)
+    distance(a, b, circles)
 }
 
 // The distance of a query from row i.
-pub fn query_distance(table: &[u16], c: usize, query: &[u16], i: usize) -> u32
+pub fn query_distance(table: &[u16], c: usize, circles: u32, query: &[u16], i: usize) -> u32
     requires { ⌜ (c ≤ maxColumns) × (c * i + c ≤ length (now table)) × (length (now query) ≡ c) ⌝ }
-    ensures { λ r. ⌜ (r ≡ from (now (table .entry)) c (now (query .entry)) i) × (r ≤ maxDistance) ⌝ }
+    ensures { λ r. ⌜ (r ≡ from (now (table .entry)) c circles (now (query .entry)) i) × (r ≤ maxDistance) ⌝ }
 {
     let b = row_of(table, c, i);
-    if 6 < c {
-        return many(query, b);
+    distance(query, b, circles)
+}
+
+// ---- with a ceiling
+
+// The distance of two rows over columns `from` to c, by the set of their circles.
+fn part(a: &[u16], b: &[u16], circles: u32, before: u32, from: usize, c: usize) -> u32
+    requires { ⌜ (c ≤ length (now a)) × (c ≤ length (now b)) × (c ≤ maxColumns) ⌝ }
+    requires { ⌜ (from ≤ c) × (before ≤ 65535 * from) × (before ≡ l1 from circles (now a) (now b)) ⌝ }
+    ensures { λ r. ⌜ (r ≡ l1 c circles (now (a .entry)) (now (b .entry))) × (r ≤ 65535 * c) ⌝ }
+{
+    if circles == 0 {
+        return columns(a, b, before, from, c);
     }
-    distance(query, b)
+    round_columns(a, b, circles, before, from, c)
+}
+
+// The distance of two rows of more than eight columns where it is at most `top`, else one more than that. After eight columns it looks whether it is
+// too far already, and then adds no more: a look after each column would cost more than it saves.
+fn many_to(a: &[u16], b: &[u16], circles: u32, top: u32) -> u32
+    requires { ⌜ (length (now a) ≡ length (now b)) × (length (now a) ≤ maxColumns) × (8 < length (now a)) × (top ≤ maxDistance) ⌝ }
+    ensures { λ r. ⌜ r ≡ min (l1 (length (now (a .entry))) circles (now (a .entry)) (now (b .entry))) (top + 1) ⌝ }
+{
+    let c = a.len();
+    let eight = part(a, b, circles, 0, 0, 8);
+    if top < eight {
+        return top + 1;
+    }
+    if c == 16 {
+        return smaller(part(a, b, circles, eight, 8, 16), top + 1);
+    }
+    smaller(part(a, b, circles, eight, 8, c), top + 1)
+}
+
+// The distance of a query from row i where it is at most the ceiling, else one more than the ceiling; a ceiling above the greatest distance counts as
+// that.
+pub fn query_distance_to(
+    table: &[u16],
+    c: usize,
+    circles: u32,
+    query: &[u16],
+    i: usize,
+    ceiling: u32,
+) -> u32
+    requires { ⌜ (c ≤ maxColumns) × (c * i + c ≤ length (now table)) × (length (now query) ≡ c) ⌝ }
+    ensures given { λ r. ⌜ r ≡ capped ceiling (from (now (table .entry)) c circles (now (query .entry)) i) ⌝ }
+    ensures few { λ _. ⌜ from (now (table .entry)) c circles (now (query .entry)) i ≤ maxDistance ⌝ }
+{
+    let top = smaller(ceiling, Params::MOST_DISTANCE);
+    if c <= 8 {
+        return smaller(query_distance(table, c, circles, query, i), top + 1);
+    }
+    let b = row_of(table, c, i);
+    many_to(query, b, circles, top)
 }

@@ -1,22 +1,24 @@
--- A row is among the answers exactly if fewer rows come before it than are wanted. Assumes nothing.
-use Prim.Native.Nat.{_+_, _<_, _≤_, min, suc, zero, ℕ}
+-- A row that remains is among the answers exactly if fewer of those that remain come before it than are wanted. Assumes nothing.
+use Prim.Native.Nat.{_+_, _<_, _≤_, suc, zero, ℕ}
 use Rattle.index_space.proofs.Ranks.{over-rows, total-sort}
+use Rattle.index_space.specs.Items.{leftOf}
 use Rattle.laws.proofs.Bags.{total-map}
-use Rattle.laws.proofs.Every.{every-both, every-map, every-of}
-use Rattle.laws.proofs.Ones.{is-bit, is-not, is-self}
+use Rattle.laws.proofs.Every.{every-both, every-keep, every-map, every-of, every-take, has-every}
+use Rattle.laws.proofs.Keeping.{keep-every}
+use Rattle.laws.proofs.Ones.{is-not, is-self}
 use Rattle.laws.proofs.Ranges.{at-every}
-use Rattle.laws.proofs.Sums.{sum-add, sum-below-le, sum-ones, sum-part}
+use Rattle.laws.proofs.Sums.{sum-part}
 use Rattle.laws.proofs.Tests.{holds, or-l}
 use Rattle.laws.specs.Bags.{is, total}
 use Rattle.laws.specs.Every.{Every}
-use Rattle.laws.specs.Lists.{has, range, tally}
+use Rattle.laws.specs.Lists.{has, keep, range, tally}
 use Rattle.nearest.specs.Ranked.{ahead}
 use Rattle.tree.proofs.Sorted.{Le, Sorted, sort-every, sort-sorted}
 use Rattle.tree.specs.Nearest.{answers, candidates, sort}
-use borrow.Author.Tests.{eq-eqb, eqb-true, le-ltb, lt-ltb, ltb-false, ne-eqb}
+use borrow.Author.Tests.{eq-eqb, eqb-true, le-ltb, lt-ltb, ltb-false, ne-eqb, not-true}
 use lib.Dec.{T, eqb, ltb}
 use lib.ListN.{take}
-use mathlib.Core.Bool.{Bool, _&&_, _||_, cond, false, true}
+use mathlib.Core.Bool.{Bool, _&&_, _||_, cond, false, not, true}
 use mathlib.Core.List.{List, [], _∷_, map}
 use mathlib.Core.Logic.{_↔_}
 use mathlib.Core.Path.{_∙_, _≡_, ap, refl, subst, sym}
@@ -98,55 +100,60 @@ ranked i d (b ∷ s) o e p (suc k) = go (ℕ-discrete (b .0) i) (λ p. ranked i 
         let same = ap (λ (a : Bool). a || has i (map (λ a. a .0) (take k s))) (ne-eqb i (b .0) ne) in
         (λ t. omega (arith, one, r .0 (subst T same t)), λ h. subst T (sym same) (r .1 (omega (arith, one))))
 
--- ---- among n rows at x
--- how many pass, as a total
-tally-total : (f : ℕ → Bool) (xs : List ℕ) → tally f xs ≡ total (λ (j : ℕ). cond {A = ℕ} (f j) 1 0) xs
-tally-total f [] = refl
-tally-total f (j ∷ xs) = omega (arith, tally-total f xs)
+-- ---- among the rows that remain of n rows at x
+-- how many are kept and pass, as a total over those kept
+tally-kept : (p t : ℕ → Bool) (is : List ℕ) → total (λ (j : ℕ). cond {A = ℕ} (t j) 1 0) (keep p is) ≡ tally (λ j. p j && t j) is
+tally-kept p t [] = refl
+tally-kept p t (i ∷ is) = go (p i) (t i) refl (tally-kept p t is)
+  where
+    go : (a b : Bool) → t i ≡ b → total (λ (j : ℕ). cond {A = ℕ} (t j) 1 0) (keep p is) ≡ tally (λ j. p j && t j) is
+        → total (λ (j : ℕ). cond {A = ℕ} (t j) 1 0) (cond a (i ∷ keep p is) (keep p is)) ≡ cond {A = ℕ} (a && b) 1 0 + tally (λ j. p j && t j) is
+    go true b e ih = omega (arith, ih, ap (λ (b : Bool). cond {A = ℕ} b 1 0) e)
+    go false b e ih = omega (arith, ih)
 
--- one that passes counts one
-bit-low : (b : Bool) → cond {A = ℕ} b 1 0 ≤ 1
-bit-low true = omega arith
-bit-low false = omega arith
+-- NO ANSWER IS WITHDRAWN
+pub answers-remain : (x : ℕ → ℕ) (gone : ℕ → Bool) (n wanted i : ℕ) → has i (map (λ a. a .0) (answers x gone n wanted)) ≡ true → gone i ≡ false
+unfolding answers
+answers-remain x gone n wanted i e =
+    let all : List (ℕ × ℕ) = sort (candidates x gone n) in
+    has-every (λ i. gone i ≡ false) i (map (λ a. a .0) (take wanted all))
+    (every-map (λ i. gone i ≡ false) (λ a. a .0) (take wanted all)
+    (every-take (λ a. gone (a .0) ≡ false) wanted all
+    (sort-every (λ a. gone (a .0) ≡ false) (candidates x gone n)
+    (every-map (λ a. gone (a .0) ≡ false) (λ i. (i, x i)) (keep (λ i. not (gone i)) (range 0 n))
+    (keep-every (λ i. not (gone i)) (λ i. gone i ≡ false) (range 0 n)
+    (at-every (λ i. not (gone i) ≡ true → gone i ≡ false) n (λ i l. not-true (gone i))))))))
+    e
 
-module _ (x : ℕ → ℕ) (n i : ℕ) (low : i < n) where
-  -- all rows in order
+module _ (x : ℕ → ℕ) (gone : ℕ → Bool) (n i : ℕ) (low : i < n) (stays : gone i ≡ false) where
+  -- all that remain in order
   abbrev all : List (ℕ × ℕ)
-  all = sort (candidates x n)
+  all = sort (candidates x gone n)
 
   -- as many of them come before row i as of the rows
-  count-ahead : total (earlier i (x i)) all ≡ ahead x n i
+  count-ahead : total (earlier i (x i)) all ≡ ahead x gone n i
   count-ahead =
-      total-sort (earlier i (x i)) (candidates x n) ∙ total-map (earlier i (x i)) (λ j. (j, x j)) (range 0 n)
-      ∙ sym (tally-total (λ j. ltb (x j) (x i) || (eqb (x j) (x i) && ltb j i)) (range 0 n))
+      total-sort (earlier i (x i)) (candidates x gone n)
+      ∙ total-map (earlier i (x i)) (λ j. (j, x j)) (keep (λ j. not (gone j)) (range 0 n))
+      ∙ tally-kept (λ j. not (gone j)) (λ j. ltb (x j) (x i) || (eqb (x j) (x i) && ltb j i)) (range 0 n)
 
-  -- fewer than all come before it, since it does not itself
-  few-ahead : total (earlier i (x i)) all < n
-  few-ahead =
-      let f : ℕ → ℕ = λ (j : ℕ). earlier i (x i) (j, x j) in
-      omega (
-        arith,
-        total-sort (earlier i (x i)) (candidates x n),
-        over-rows x n (earlier i (x i)),
-        sum-add f (is i) n,
-        sum-below-le (λ (j : ℕ). f j + is i j) (λ (j : ℕ). 1) n (λ j l. each j (ℕ-discrete j i)),
-        sum-ones n,
-        sum-part (is i) n i low,
-        is-self i,
-      )
-    where
-      each : (j : ℕ) → Dec (j ≡ i) → earlier i (x i) (j, x j) + is i j ≤ 1
-      each j (yes e) = omega (arith, not-earlier i (x i) (j, x j) (omega (arith, ap x e), λ h. omega arith), is-bit i j)
-      each j (no e) = omega (arith, bit-low (ltb (x j) (x i) || (eqb (x j) (x i) && ltb j i)), is-not i j (λ z. e (sym z)))
-
-  -- A ROW IS AMONG THE ANSWERS EXACTLY IF FEWER ROWS COME BEFORE IT THAN ARE WANTED
-  pub answers-ranked : (wanted : ℕ) → T (has i (map (λ a. a .0) (answers x n wanted))) ↔ (ahead x n i < wanted)
+  -- A ROW THAT REMAINS IS AMONG THE ANSWERS EXACTLY IF FEWER COME BEFORE IT THAN ARE WANTED
+  pub answers-ranked : (wanted : ℕ) → T (has i (map (λ a. a .0) (answers x gone n wanted))) ↔ (ahead x gone n i < wanted)
   unfolding answers
   answers-ranked wanted =
       let g : ℕ × ℕ → ℕ = λ (b : ℕ × ℕ). is i (b .0) in
-      let there : 0 < total g all = omega (arith, total-sort g (candidates x n), over-rows x n g, sum-part (is i) n i low, is-self i) in
+      let there : 0 < total g all =
+      omega (
+        arith,
+        total-sort g (candidates x gone n),
+        over-rows x gone n g,
+        sum-part (leftOf gone (is i)) n i low,
+        ap (λ (b : Bool). cond b 0 (is i i)) stays,
+        is-self i,
+      ) in
       let at : Every (λ b. b .0 ≡ i → b .1 ≡ x i) all =
-      sort-every (λ b. b .0 ≡ i → b .1 ≡ x i) (candidates x n)
-      (every-map (λ b. b .0 ≡ i → b .1 ≡ x i) (λ j. (j, x j)) (range 0 n) (at-every (λ j. j ≡ i → x j ≡ x i) n (λ j l e. ap x e))) in
-      let r = ranked i (x i) all (sort-sorted (candidates x n)) at there (min wanted n) in
-      (λ t. omega (arith, r .0 t, count-ahead), λ h. r .1 (omega (arith, count-ahead, few-ahead)))
+      sort-every (λ b. b .0 ≡ i → b .1 ≡ x i) (candidates x gone n)
+      (every-map (λ b. b .0 ≡ i → b .1 ≡ x i) (λ j. (j, x j)) (keep (λ j. not (gone j)) (range 0 n))
+      (every-keep (λ j. j ≡ i → x j ≡ x i) (λ j. not (gone j)) (range 0 n) (at-every (λ j. j ≡ i → x j ≡ x i) n (λ j l e. ap x e)))) in
+      let r = ranked i (x i) all (sort-sorted (candidates x gone n)) at there wanted in
+      (λ t. omega (arith, r .0 t, count-ahead), λ h. r .1 (omega (arith, count-ahead)))

@@ -1,13 +1,14 @@
 -- What a nearest search says: 01, Numbers given back. Assumes nothing.
 use Prim.Native.Nat.{_*_, min, ℕ}
-use Rattle.limits.specs.Said.{Said, said}
+use Rattle.limits.specs.Said.{Said, fault, said}
 use Rattle.limits.specs.declared.Asked.{Asked}
 use Rattle.measure.specs.Table.{rowsOf}
-use Rattle.words.specs.Index.{callFaults}
+use Rattle.refusals.specs.Refused.{callFaults}
+use Rattle.rowset.specs.Sets.{setBad}
 use lib.Dec.{eqb, ltb}
 use lib.ListN.{length}
 use mathlib.Core.Bool.{Bool, _||_, false, not}
-use mathlib.Core.List.{List}
+use mathlib.Core.List.{List, _++_}
 
 -- 5, with n rows: the room for answers, the how-bytes or the workspace is too short
 abbrev pub nearestShort : ℕ → ℕ → ℕ → ℕ → ℕ → Bool
@@ -25,6 +26,6 @@ nearestAsks T c q wanted room how work =
       none = eqb wanted 0;
     }
 
--- nearest: 1, 3, 4, 5, 6, 7, 8, 9
-unfoldable pub saidNearest : List ℕ → ℕ → List ℕ → List ℕ → ℕ → ℕ → ℕ → ℕ → Said
-saidNearest T c w q wanted room how work = said (callFaults (nearestAsks T c q wanted room how work) w)
+-- nearest: 1, 3, 4, 5, 6, 7, 8, 9, 19, and 20 of the set of rows that are withdrawn
+unfoldable pub saidNearest : List ℕ → ℕ → List ℕ → List ℕ → ℕ → List ℕ → ℕ → ℕ → ℕ → Said
+saidNearest T c w q wanted s room how work = said (callFaults (nearestAsks T c q wanted room how work) T w q ++ fault 20 (setBad s (rowsOf T c)))

@@ -9,6 +9,7 @@ use limits::Asked;
 use limits::is_short;
 use limits::rows_in;
 use nearest_search::find;
+use rowset::set_bad;
 use tallies::tally;
 
 // What a call gives: 0 or why it was refused; on success how many answers, and how many rows were measured.
@@ -32,11 +33,13 @@ fn refusal(
     index: &[u32],
     query: &[u16],
     wanted: usize,
+    withdrawn: &[u32],
     room: usize,
     how: usize,
     work: usize,
 ) -> u32
-    ensures { λ r. ⌜ r ≡ saidNearest (now (table .entry)) c (now (index .entry)) (now (query .entry)) wanted room how work .0 ⌝ }
+    ensures { λ r. ⌜ r ≡ saidNearest (now (table .entry)) c (now (index .entry)) (now (query .entry)) wanted
+        (now (withdrawn .entry)) room how work .0 ⌝ }
 {
     let n = rows_in(table.len(), c);
     let asked = Asked {
@@ -47,7 +50,14 @@ fn refusal(
         unlike: query.len() != c,
         none: wanted == 0,
     };
-    words::index::refusal(asked, index)
+    let number = refusals::refusal(asked, table, index, query);
+    if number != 0 {
+        return number;
+    }
+    if set_bad(withdrawn, n) {
+        return 20;
+    }
+    0
 }
 
 // The rows nearest to the query, as `nearest` gives them, where there is room for so many.
@@ -57,6 +67,7 @@ fn answer(
     index: &[u32],
     query: &[u16],
     wanted: usize,
+    withdrawn: &[u32],
     room: usize,
     rows: &mut [u32],
     distances: &mut [u32],
@@ -64,11 +75,21 @@ fn answer(
     work: &mut [u32],
 ) -> Given
     requires { ⌜ (room ≤ length (now rows)) × (room ≤ length (now distances)) ⌝ }
-    ensures { λ g. ⌜ Answered (asks (now (table .entry)) c (now (index .entry)) (now (query .entry)) wanted) room
+    ensures { λ g. ⌜ Answered (asks (now (table .entry)) c (now (index .entry)) (now (query .entry)) wanted (now (withdrawn .entry))) room
         (lends (now (rows .entry)) (now (distances .entry)) (now (how .entry)) (now (work .entry)))
         (lends (now (rows .exit)) (now (distances .exit)) (now (how .exit)) (now (work .exit))) (g .number) (g .given) (g .measured) ⌝ }
 {
-    let number = refusal(table, c, index, query, wanted, room, how.len(), work.len());
+    let number = refusal(
+        table,
+        c,
+        index,
+        query,
+        wanted,
+        withdrawn,
+        room,
+        how.len(),
+        work.len(),
+    );
     if number != 0 {
         return Given {
             number: number,
@@ -83,6 +104,7 @@ fn answer(
         index,
         query,
         least(wanted, n),
+        withdrawn,
         rows,
         distances,
         how,
@@ -96,20 +118,22 @@ fn answer(
     }
 }
 
-// The rows nearest to the query, so many as are wanted or there are, by the index: each a row number and its distance, ordered by distance, then
-// row number. Of the first n how-bytes each says whether its row was measured (1, 3), and whether it is an answer (3).
+// The rows nearest to the query, so many as are wanted or remain, by the index: each a row number and its distance, ordered by distance, then row
+// number. Rows that are in the set of bits are withdrawn: they are no answers. Of the first n how-bytes each says whether its row was measured (1,
+// 3), and whether it is an answer (3).
 pub fn nearest(
     table: &[u16],
     c: usize,
     index: &[u32],
     query: &[u16],
     wanted: usize,
+    withdrawn: &[u32],
     rows: &mut [u32],
     distances: &mut [u32],
     how: &mut [u8],
     work: &mut [u32],
 ) -> Given
-    ensures { λ g. ⌜ Answered (asks (now (table .entry)) c (now (index .entry)) (now (query .entry)) wanted)
+    ensures { λ g. ⌜ Answered (asks (now (table .entry)) c (now (index .entry)) (now (query .entry)) wanted (now (withdrawn .entry)))
         (min (length (now (rows .entry))) (length (now (distances .entry))))
         (lends (now (rows .entry)) (now (distances .entry)) (now (how .entry)) (now (work .entry)))
         (lends (now (rows .exit)) (now (distances .exit)) (now (how .exit)) (now (work .exit))) (g .number) (g .given) (g .measured) ⌝ }
@@ -121,6 +145,7 @@ pub fn nearest(
         index,
         query,
         wanted,
+        withdrawn,
         room,
         rows,
         distances,
@@ -136,13 +161,14 @@ pub fn within(
     index: &[u32],
     query: &[u16],
     wanted: usize,
+    withdrawn: &[u32],
     own: usize,
     rows: &mut [u32],
     distances: &mut [u32],
     how: &mut [u8],
     work: &mut [u32],
 ) -> Given
-    ensures { λ g. ⌜ Answered (asks (now (table .entry)) c (now (index .entry)) (now (query .entry)) wanted)
+    ensures { λ g. ⌜ Answered (asks (now (table .entry)) c (now (index .entry)) (now (query .entry)) wanted (now (withdrawn .entry)))
         (min own (min (length (now (rows .entry))) (length (now (distances .entry)))))
         (lends (now (rows .entry)) (now (distances .entry)) (now (how .entry)) (now (work .entry)))
         (lends (now (rows .exit)) (now (distances .exit)) (now (how .exit)) (now (work .exit))) (g .number) (g .given) (g .measured) ⌝ }
@@ -154,6 +180,7 @@ pub fn within(
         index,
         query,
         wanted,
+        withdrawn,
         room,
         rows,
         distances,

@@ -1,4 +1,5 @@
-// The nearest call, run. A line for each case: its number, how many answers there are, how many rows were measured; six row numbers, which are 9
+// The nearest call, run. A line for each case: its number in two digits, how many answers there are, how many rows were measured; six row numbers,
+// which are 9
 // before; six distances, which are 99 before; eight how-bytes, which are 9 before; and words 0, 29 and 30 of the workspace, which are 9 before.
 ghost use lib.ListN.{length};
 ghost use mathlib.Core.Path.{_≡_};
@@ -49,7 +50,8 @@ fn byte(h: u8) -> u8 {
 
 fn numbers(found: Given, rows: [u32; 6]) {
     let text = [
-        digit(found.number),
+        digit(found.number / 10),
+        digit(found.number % 10),
         b' ',
         count(found.given),
         b' ',
@@ -101,7 +103,7 @@ fn line(found: Given, rows: [u32; 6], distances: [u32; 6], how: [u8; 8], work: [
     bytes(how, work);
 }
 
-fn show(table: &[u16], c: usize, index: &[u32], query: &[u16], wanted: usize) {
+fn show(table: &[u16], c: usize, index: &[u32], query: &[u16], wanted: usize, withdrawn: &[u32]) {
     let mut rows = [9u32; 6];
     let mut distances = [99u32; 6];
     let mut how = [9u8; 8];
@@ -112,6 +114,7 @@ fn show(table: &[u16], c: usize, index: &[u32], query: &[u16], wanted: usize) {
         index,
         query,
         wanted,
+        withdrawn,
         &mut rows,
         &mut distances,
         &mut how,
@@ -120,54 +123,97 @@ fn show(table: &[u16], c: usize, index: &[u32], query: &[u16], wanted: usize) {
     line(found, rows, distances, how, work);
 }
 
-fn five(query: u16, wanted: usize) {
+fn five(query: u16, wanted: usize, withdrawn: &[u32]) {
     let index = five_index();
     let table = FIVE_ROWS;
-    show(&table, 1, &index, &[query], wanted);
+    show(&table, 1, &index, &[query], wanted, withdrawn);
 }
 
 // The four cases of 01 that are proved; a home bound equal to D; a tie; all rows; a far query.
 fn five_rows() {
-    five(9, 1);
-    five(9, 2);
-    five(5, 2);
-    five(9, 9);
-    five(6, 2);
-    five(0, 5);
-    five(30, 3);
+    five(9, 1, &[0]);
+    five(9, 2, &[0]);
+    five(5, 2, &[0]);
+    five(9, 9, &[0]);
+    five(6, 2, &[0]);
+    five(0, 5, &[0]);
+    five(30, 3, &[0]);
+}
+
+// Row 2 is withdrawn, row 0, and all of them: the next best are given, and all rows are measured where fewer remain than are wanted.
+fn withdrawn_rows() {
+    five(9, 1, &[4]);
+    five(9, 9, &[4]);
+    five(5, 2, &[1]);
+    five(9, 1, &[31]);
+}
+
+// 20: no word, two words, and the bit of row 5.
+fn wrong_sets() {
+    five(9, 1, &[]);
+    five(9, 1, &[0, 0]);
+    five(9, 1, &[32]);
 }
 
 // Rows on which a search that rounds (x - y)/2 down would measure one more.
 fn odd_rows() {
     let index = odd_index();
-    show(&[6, 9, 5, 3, 0], 1, &index, &[10], 1);
+    show(&[6, 9, 5, 3, 0], 1, &index, &[10], 1, &[0]);
 }
 
 // Equal rows: ties go to the lower row.
 fn equal_rows(wanted: usize) {
     let index = sevens_index();
-    show(&[7, 7, 7, 7], 1, &index, &[9], wanted);
+    show(&[7, 7, 7, 7], 1, &index, &[9], wanted, &[0]);
 }
 
 fn two_columns() {
     let index = pairs_index();
-    show(&[1, 2, 3, 4, 10, 10], 2, &index, &[3, 3], 1);
+    show(&[1, 2, 3, 4, 10, 10], 2, &index, &[3, 3], 1, &[0]);
+}
+
+// The rows 3595, 5 and 1800 of one column that is a circle, all in one leaf. 19: a query of 3600, and no set.
+fn round_rows() {
+    let index = [
+        2,
+        3,
+        1,
+        2,
+        4,
+        1,
+        1,
+        1,
+        0,
+        3,
+        0,
+        1795,
+        10,
+        0,
+        0,
+        1,
+        10,
+        2,
+        1795,
+    ];
+    let table = [3595, 5, 1800];
+    show(&table, 1, &index, &[3590], 2, &[0]);
+    show(&table, 1, &index, &[3600], 2, &[]);
 }
 
 fn no_row() {
-    show(&[], 1, &[2, 0, 1, 2, 2, 0, 1, 0], &[3], 7);
+    show(&[], 1, &[2, 0, 1, 2, 2, 0, 1, 0], &[3], 7, &[]);
 }
 
 // 1: no column, and too many. 3: the length is odd. Each with later ones wrong too.
 fn wrong_columns(c: usize) {
     let table = FIVE_ROWS;
-    show(&table, c, &[], &[9], 0);
+    show(&table, c, &[], &[9], 0, &[]);
 }
 
 // 4: a row too many.
 fn too_many() {
     let table = many();
-    show(&table, 1, &[], &[], 0);
+    show(&table, 1, &[], &[], 0, &[]);
 }
 
 // 5: room for one answer of two, and a query of two columns.
@@ -184,6 +230,7 @@ fn short_answers() {
         &index,
         &[9, 9],
         2,
+        &[],
         &mut rows[..1],
         &mut distances,
         &mut how,
@@ -206,6 +253,7 @@ fn short_bytes() {
         &index,
         &[9, 9],
         2,
+        &[],
         &mut rows,
         &mut distances,
         &mut how[..4],
@@ -228,6 +276,7 @@ fn short_work() {
         &index,
         &[9],
         2,
+        &[],
         &mut rows,
         &mut distances,
         &mut how,
@@ -239,15 +288,15 @@ fn short_work() {
 // 6: a query of two columns, and none wanted. 7: none wanted, and no index. 8: no index.
 fn wrong_call() {
     let table = FIVE_ROWS;
-    show(&table, 1, &[], &[9, 9], 0);
-    show(&table, 1, &[], &[9], 0);
-    show(&table, 1, &[], &[9], 1);
+    show(&table, 1, &[], &[9, 9], 0, &[]);
+    show(&table, 1, &[], &[9], 0, &[]);
+    show(&table, 1, &[], &[9], 1, &[]);
 }
 
 // 8: another n.
 fn other_table() {
     let index = five_index();
-    show(&[0, 1, 10, 11], 1, &index, &[9], 1);
+    show(&[0, 1, 10, 11], 1, &index, &[9], 1, &[]);
 }
 
 // The five-row table with one word of its index changed.
@@ -256,7 +305,7 @@ fn changed(at: usize, word: u32) {
     let table = FIVE_ROWS;
     if at < 43 {
         index[at] = word;
-        show(&table, 1, &index, &[9], 2);
+        show(&table, 1, &index, &[9], 2, &[]);
     }
 }
 
@@ -268,9 +317,10 @@ fn wrong_index() {
     changed(33, 5);
 }
 
-// 0: row 1 stands twice and row 4 not at all, which no table fits. Shown is what is settled even so: the number, that two are given, what lies beyond,
-// and the zero workspace.
-fn row_twice() {
+// 0: row 1 stands twice and row 4 not at all, which no table fits. Shown is what is settled even so: the number, how many are given, what lies
+// beyond,
+// and the zero workspace. With row 1 withdrawn there are three positions whose rows remain, though four rows do.
+fn row_twice(wanted: usize, withdrawn: u32) {
     let mut index = five_index();
     let table = FIVE_ROWS;
     index[39] = 1;
@@ -283,18 +333,20 @@ fn row_twice() {
         1,
         &index,
         &[9],
-        2,
+        wanted,
+        &[withdrawn],
         &mut rows,
         &mut distances,
         &mut how,
         &mut work,
     );
     let text = [
-        digit(found.number),
+        digit(found.number / 10),
+        digit(found.number % 10),
         b' ',
         count(found.given),
         b' ',
-        digit(rows[2]),
+        digit(rows[5]),
         byte(how[5]),
         b' ',
         digit(work[0]),
@@ -307,10 +359,12 @@ fn row_twice() {
 
 fn main() {
     five_rows();
+    withdrawn_rows();
     odd_rows();
     equal_rows(1);
     equal_rows(3);
     two_columns();
+    round_rows();
     no_row();
     wrong_columns(0);
     wrong_columns(17);
@@ -322,5 +376,7 @@ fn main() {
     wrong_call();
     other_table();
     wrong_index();
-    row_twice();
+    wrong_sets();
+    row_twice(2, 0);
+    row_twice(9, 2);
 }

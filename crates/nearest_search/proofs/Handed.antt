@@ -55,17 +55,26 @@ three : (b : Bool) (v v′ : ℕ) → v ≤ 1 → v′ ≡ cond b 3 v → ((v′
 three true v v′ h e = ((λ z. tt, λ t. e), λ n. absurd (n e))
 three false v v′ h e = ((λ z. absurd (omega arith), λ t. absurd t), λ n. omega arith)
 
--- ---- the entries l are handed out, each that of a row, none less than those after it
-module _ (x : ℕ → ℕ) (n k : ℕ) (l : List ℕ) (long : length l ≡ k) (own : total (stray x n) l ≡ 0) (fall : Falling l) where
+-- a test that counts nothing fails
+not-gone : (b : Bool) → cond {A = ℕ} b 1 0 ≡ 0 → b ≡ false
+not-gone true e = absurd (omega arith)
+not-gone false e = refl
+
+-- ---- the entries l are handed out, each that of a row that remains, none less than those after it
+module _ (x : ℕ → ℕ) (gone : ℕ → Bool) (n k : ℕ) (l : List ℕ) (long : length l ≡ k) (own : total (stray x n) l ≡ 0)
+    (remain : total (λ (e : ℕ). cond (gone (rowOf e)) 1 0) l ≡ 0) (fall : Falling l) where
   -- WHAT IS HANDED OUT IS SOUND: rows with their distances, in order, and their how-bytes 3
-  pub sound-of : (wanted : ℕ) (b b′ : NearestLent) → k ≡ min wanted n
+  pub sound-of : (left wanted : ℕ) (b b′ : NearestLent) → k ≡ min wanted left
       → b′ .rows ≡ map rowOf l ++ drop k (b .rows) → b′ .distances ≡ map distanceOf l ++ drop k (b .distances)
-      → ((i : ℕ) → i < n → at (b .how) i ≤ 1) → ((i : ℕ) → at (b′ .how) i ≡ cond (has i (map rowOf l)) 3 (at (b .how) i)) → SoundAnswers x n wanted b′ k
-  sound-of wanted b b′ count er ed bits marked = record {
+      → ((i : ℕ) → i < n → at (b .how) i ≤ 1) → ((i : ℕ) → at (b′ .how) i ≡ cond (has i (map rowOf l)) 3 (at (b .how) i))
+      → SoundAnswers x gone n left wanted b′ k
+  sound-of left wanted b b′ count er ed bits marked = record {
     count = count;
     own = λ j h.
         let o = entry-own x n (getD l j 0) (none-at (stray x n) l j (omega arith) own) in
         (subst (λ (r : ℕ). r < n) (sym (row-at j h)) (o .0), distance-at j h ∙ o .1 ∙ ap x (sym (row-at j h)));
+    remain = λ j h.
+        ap gone (row-at j h) ∙ not-gone (gone (rowOf (getD l j 0))) (none-at (λ (e : ℕ). cond (gone (rowOf e)) 1 0) l j (omega arith) remain);
     order = λ i j h p.
         let before : i < k = omega arith in
         order-is (distance-at i before) (distance-at j p) (row-at i before) (row-at j p)

@@ -10,7 +10,7 @@ use Rattle.words.specs.Words.{at, n#}
 use lib.Dec.{ltb}
 use lib.ListN.{List·getD-append, drop, getD, getD-replicate, length, length-append, length-drop, length-map, length-replicate, replicate}
 use lib.Seq.{ext-getD, getD-append-add, getD-drop}
-use mathlib.Core.Bool.{cond}
+use mathlib.Core.Bool.{Bool, cond}
 use mathlib.Core.List.{List, map}
 use mathlib.Core.Path.{_∙_, _≡_, ap, ap₂, refl, subst, sym}
 use native.Mathlib.Omega.{arith}
@@ -51,8 +51,8 @@ bit-is (suc zero) h = refl
 bit-is (suc (suc v)) h = absurd (omega arith)
 
 -- there are n how-bytes
-pub near-length : (x : ℕ → ℕ) (n : ℕ) (g : Grove) (wanted : ℕ) → length (nearHow x n g wanted) ≡ n
+pub near-length : (x : ℕ → ℕ) (gone : ℕ → Bool) (n : ℕ) (g : Grove) (wanted : ℕ) → length (nearHow x gone n g wanted) ≡ n
 unfolding nearHow
-near-length x n g wanted =
-    length-map (range 0 n) (λ i. cond (has i (map (λ a. a .0) (answers x n wanted))) 3 (cond (passes x n wanted (look i (homes x g))) 1 0))
+near-length x gone n g wanted =
+    length-map (range 0 n) (λ i. cond (has i (map (λ a. a .0) (answers x gone n wanted))) 3 (cond (passes x gone n wanted (look i (homes x g))) 1 0))
     ∙ range-length 0 n

@@ -1,21 +1,25 @@
--- One row measured: its distance is kept, it is marked, and it is entered among the answers. Assumes nothing.
-use Prim.Native.Nat.{_*_, _+_, _<_, _≤_, ℕ}
-use Rattle.answers_held.proofs.Entering.{enter-most, enter-none, enter-one}
-use Rattle.answers_held.proofs.Holding.{enter-held}
-use Rattle.answers_held.proofs.RowEntries.{own-entry}
-use Rattle.answers_held.specs.Answers.{BestHeld, Entered, HeldQueue, stray, turned}
+-- One row measured: it is marked and entered among the answers, unless it is withdrawn; of a centre the distance is kept besides. Assumes nothing.
+use Prim.Native.Nat.{_*_, _+_, _<_, _≤_, min, ℕ}
+use Rattle.answers_held.proofs.Entering.{enter-most, enter-none, enter-one, enter-up}
+use Rattle.answers_held.proofs.Holding.{enter-held, held-as}
+use Rattle.answers_held.proofs.RowEntries.{own-entry, row-turned}
+use Rattle.answers_held.specs.Answers.{BestHeld, Entered, HeldQueue, rowOf, stray, turned}
+use Rattle.best_first.specs.Search.{both}
 use Rattle.frontier.specs.Workspace.{kept}
-use Rattle.laws.proofs.Ones.{is-same, is-self}
+use Rattle.index_space.specs.Items.{leftOf, liveOf}
+use Rattle.laws.proofs.Ones.{is-bit, is-not, is-same, is-self}
+use Rattle.laws.proofs.Outside.{outside-same}
 use Rattle.laws.specs.Bags.{is, total}
+use Rattle.laws.specs.Outside.{Outside}
 use Rattle.limits.specs.Limits.{maxDistance}
-use Rattle.nearest_search.proofs.Filling.{sum-one}
-use Rattle.nearest_search.proofs.Staying.{answers-stay, held-stay}
-use Rattle.nearest_search.specs.Standing.{GrewAlone, Stands}
-use Rattle.queue.proofs.Queued.{queue-stays}
-use Rattle.queue.specs.Queue.{Queue}
+use Rattle.nearest_search.proofs.Filling.{left-zero, sum-one}
+use Rattle.nearest_search.proofs.Staying.{held-stay, stands-stay}
+use Rattle.nearest_search.specs.Standing.{GrewAlone, GrewCentres, Stands, metOf}
+use Rattle.queue.specs.Queue.{Queue, entries}
 use Rattle.words.specs.Words.{at}
 use lib.ListN.{getD, length, length-set, set}
 use lib.Seq.{getD-set-other, getD-set-same}
+use mathlib.Core.Bool.{Bool, cond, false, true}
 use mathlib.Core.List.{List}
 use mathlib.Core.Logic.{_≢_}
 use mathlib.Core.Path.{_∙_, _≡_, ap, subst, sym}
@@ -30,36 +34,91 @@ byte-more how r s h z = go (ℕ-discrete s r)
     go (yes e) = subst (λ (s : ℕ). at (set how r 1) s ≡ at how s + is s r) (sym e) (omega (arith, getD-set-same how r 1 0 h))
     go (no e) = omega (arith, getD-set-other how r s 1 0 e)
 
-module _ (x : ℕ → ℕ) (n w : ℕ) (how work : List ℕ) (held : ℕ) (St : Stands x n w how work held) (r : ℕ) (row : r < n) where
-  -- ---- its distance is written
-  module _ (work₁ : List ℕ) (d : ℕ) (ew : work₁ ≡ set work (2 * n + r) d) where
-    -- the other words stay
-    other : (i : ℕ) → i ≢ 2 * n + r → getD work₁ i 0 ≡ getD work i 0
-    other i ne = ap (λ (l : List ℕ). getD l i 0) ew ∙ getD-set-other work (2 * n + r) i d 0 ne
+-- ---- what becomes of the answers as row r is measured
+-- at most it is entered, and where it remains and fewer than w are held even then, it is; where it is new, the best are held again
+pub record Handled (x : ℕ → ℕ) (gone : ℕ → Bool) (n w r : ℕ) (work work′ : List ℕ) (held held′ : ℕ) : Type 0 where
+  pub queue : Queue work′ (3 * n) held′
+  pub most : held′ ≤ w
+  pub own : total (stray x n) (entries work′ (3 * n) held′) ≡ 0
+  pub remain : total (λ (e : ℕ). cond (gone (rowOf e)) 1 0) (entries work′ (3 * n) held′) ≡ 0
+  pub outside : Outside work work′ (3 * n) (3 * n + (w + w))
+  pub up : held′ ≤ held + liveOf gone r
+  pub more : held′ < w → held′ ≡ held + liveOf gone r
+  pub best : (m m′ : ℕ → ℕ) → BestHeld x m n work (3 * n) w held → m r ≡ 0 → ((s : ℕ) → m′ s ≡ m s + leftOf gone (λ (s : ℕ). is s r) s)
+      → BestHeld x m′ n work′ (3 * n) w held′
 
-    -- the workspace is as long as it was
-    long : length work₁ ≡ length work
-    long = ap length ew ∙ length-set work (2 * n + r) d
+-- a row that remains counts itself
+left-live : (gone : ℕ → Bool) (r s : ℕ) → gone r ≡ false → leftOf gone (λ (s : ℕ). is s r) s ≡ is s r
+left-live gone r s e = go (ℕ-discrete s r)
+  where
+    go : Dec (s ≡ r) → leftOf gone (λ (s : ℕ). is s r) s ≡ is s r
+    go (yes f) = ap (λ (b : Bool). cond b 0 (is s r)) (ap gone f ∙ e)
+    go (no f) = left-zero gone (λ (s : ℕ). is s r) s (is-not s r f) ∙ sym (is-not s r f)
 
-    -- the answers are a queue as they were
-    queue₁ : Queue work₁ (3 * n) held
-    queue₁ = queue-stays work work₁ (3 * n) held (λ i lo hi. other i (omega arith)) long (St .queue)
+-- a row that is withdrawn counts nothing
+left-gone : (gone : ℕ → Bool) (r s : ℕ) → gone r ≡ true → leftOf gone (λ (s : ℕ). is s r) s ≡ 0
+left-gone gone r s e = go (ℕ-discrete s r)
+  where
+    go : Dec (s ≡ r) → leftOf gone (λ (s : ℕ). is s r) s ≡ 0
+    go (yes f) = ap (λ (b : Bool). cond b 0 (is s r)) (ap gone f ∙ e)
+    go (no f) = left-zero gone (λ (s : ℕ). is s r) s (is-not s r f)
 
-    -- the words of the answers stay
-    beyond : (i : ℕ) → 3 * n ≤ i → getD work₁ i 0 ≡ getD work i 0
-    beyond i l = other i (omega arith)
+-- a row that is new and measured is one more of those measured that remain, where it remains
+met-more : (gone : ℕ → Bool) (h h′ : ℕ → ℕ) (r s : ℕ) → h r ≡ 0 → h′ s ≡ h s + is s r
+    → both h′ (liveOf gone) s ≡ both h (liveOf gone) s + leftOf gone (λ (s : ℕ). is s r) s
+met-more gone h h′ r s z e = ap (λ (v : ℕ). min v (liveOf gone s)) e ∙ at (gone s) (ℕ-discrete s r)
+  where
+    at : (b : Bool) → Dec (s ≡ r) → min (h s + is s r) (cond b 0 1) ≡ min (h s) (cond b 0 1) + cond b 0 (is s r)
+    at true d = omega arith
+    at false (yes f) = omega (arith, ap h f, is-bit s r)
+    at false (no f) = omega (arith, is-not s r f)
 
-    -- the row can be entered among the answers
-    pub room-to-enter : HeldQueue work₁ (3 * n) w held
-    room-to-enter = record { queue = queue₁; most = St .most; some = St .wanted .0; room = omega (arith, long, St .room, St .wanted .1) }
+module _ (x : ℕ → ℕ) (gone : ℕ → Bool) (n w : ℕ) (how work : List ℕ) (held : ℕ) (St : Stands x gone n w how work held) (r : ℕ) (row : r < n) where
+  -- the row can be entered among the answers
+  pub room-to-enter : HeldQueue work (3 * n) w held
+  room-to-enter = record { queue = St .queue; most = St .most; some = St .wanted .0; room = omega (arith, St .room, St .wanted .1) }
 
-    -- ---- and it is marked and entered
-    module _ (how′ work′ : List ℕ) (held′ v : ℕ) (e : d ≡ x r) (near : d ≤ maxDistance) (eh : how′ ≡ set how r 1) (ev : v ≡ turned r d)
-        (entered : Entered work₁ work′ (3 * n) w held v held′) where
-      -- it is entered at the distance d
-      E : Entered work₁ work′ (3 * n) w held (turned r d) held′
-      E = subst (λ (v : ℕ). Entered work₁ work′ (3 * n) w held v held′) ev entered
+  -- ---- it is at d
+  module _ (d : ℕ) (e : d ≡ x r) (near : d ≤ maxDistance) where
+    -- A ROW THAT IS WITHDRAWN IS NOT ENTERED: the answers are as they were
+    pub passed-by : gone r ≡ true → Handled x gone n w r work work held held
+    passed-by g =
+        let none : liveOf gone r ≡ 0 = ap (λ (b : Bool). cond {A = ℕ} b 0 1) g in
+        record {
+          queue = St .queue;
+          most = St .most;
+          own = St .own;
+          remain = St .remain;
+          outside = outside-same work (3 * n) (3 * n + (w + w));
+          up = omega arith;
+          more = λ l. omega (arith, none);
+          best = λ m m′ H z grown. held-as x m m′ n work (3 * n) w held (λ s. omega (arith, grown s, left-gone gone r s g)) H;
+        }
 
+    -- ONE THAT REMAINS IS
+    pub entered : gone r ≡ false → (work′ : List ℕ) (held′ v : ℕ) → v ≡ turned r d → Entered work work′ (3 * n) w held v held′
+        → Handled x gone n w r work work′ held held′
+    entered g work′ held′ v ev E₀ =
+        let E : Entered work work′ (3 * n) w held (turned r d) held′ = subst (λ (v : ℕ). Entered work work′ (3 * n) w held v held′) ev E₀ in
+        let one : liveOf gone r ≡ 1 = ap (λ (b : Bool). cond {A = ℕ} b 0 1) g in
+        record {
+          queue = E .queue;
+          most = enter-most work work′ (3 * n) w held (turned r d) held′ E (St .most);
+          own = enter-none work work′ (3 * n) w held (turned r d) held′ E (stray x n)
+              (ap (λ (z : ℕ). stray x n (turned r z)) e ∙ own-entry x n r (St .small) row (omega arith)) (St .own);
+          remain = enter-none work work′ (3 * n) w held (turned r d) held′ E (λ (e : ℕ). cond (gone (rowOf e)) 1 0)
+              (ap (λ (b : Bool). cond {A = ℕ} b 1 0) (ap gone (row-turned r d (omega (arith, St .small))) ∙ g)) (St .remain);
+          outside = E .outside;
+          up = omega (arith, one, enter-up work work′ (3 * n) w held (turned r d) held′ E);
+          more = λ l. omega (arith, one, enter-one work work′ (3 * n) w held (turned r d) held′ E (St .most) l);
+          best = λ m m′ H z grown.
+              enter-held x m n work (3 * n) w held (St .queue) H (St .small) m′ r row z
+              (λ s. omega (arith, grown s, left-live gone r s g)) work′ held′
+              (St .wanted .0) (St .most) (subst (λ (d : ℕ). Entered work work′ (3 * n) w held (turned r d) held′) e E);
+        }
+
+    -- ---- and it is marked
+    module _ (how′ work′ : List ℕ) (held′ : ℕ) (eh : how′ ≡ set how r 1) (K : Handled x gone n w r work work′ held held′) where
       -- its how-byte is 1
       byte : at how′ r ≡ 1
       byte = ap (λ (l : List ℕ). at l r) eh ∙ getD-set-same how r 1 0 (omega (arith, St .bytes))
@@ -68,17 +127,10 @@ module _ (x : ℕ → ℕ) (n w : ℕ) (how work : List ℕ) (held : ℕ) (St : 
       byte-other : (s : ℕ) → s ≢ r → at how′ s ≡ at how s
       byte-other s ne = ap (λ (l : List ℕ). at l s) eh ∙ getD-set-other how r s 1 0 ne
 
-      -- the distance of every measured row is kept, its own among them
-      far : (s : ℕ) → s < n → 0 < at how′ s → Dec (s ≡ r) → (kept work′ n s ≡ x s) × (x s ≤ maxDistance)
-      far s h p (yes f) =
-          subst (λ (s : ℕ). (kept work′ n s ≡ x s) × (x s ≤ maxDistance)) (sym f) (
-            E .outside .under (2 * n + r) (omega arith) ∙ ap (λ (l : List ℕ). getD l (2 * n + r) 0) ew
-                ∙ getD-set-same work (2 * n + r) d 0 (omega (arith, St .room)) ∙ e,
-            omega arith,
-          )
-      far s h p (no f) =
-          let k = St .far s h (omega (arith, byte-other s f)) in
-          (E .outside .under (2 * n + s) (omega arith) ∙ other (2 * n + s) (omega arith) ∙ k .0, k .1)
+      -- no measured row is farther than a distance can be
+      near-all : (s : ℕ) → s < n → 0 < at how′ s → Dec (s ≡ r) → x s ≤ maxDistance
+      near-all s h p (yes f) = omega (arith, ap x f)
+      near-all s h p (no f) = St .near s h (omega (arith, byte-other s f))
 
       -- every how-byte is 0 or 1, its own 1
       bit : (s : ℕ) → s < n → Dec (s ≡ r) → at how′ s ≤ 1
@@ -86,56 +138,90 @@ module _ (x : ℕ → ℕ) (n w : ℕ) (how work : List ℕ) (held : ℕ) (St : 
       bit s h (no f) = omega (arith, byte-other s f, St .bits s h)
 
       -- what the search then knows
-      after : Stands x n w how′ work′ held′
+      after : Stands x gone n w how′ work′ held′
       after = record {
-        queue = E .queue;
-        most = enter-most work₁ work′ (3 * n) w held (turned r d) held′ E (St .most);
-        own = enter-none work₁ work′ (3 * n) w held (turned r d) held′ E (stray x n)
-            (ap (λ (z : ℕ). stray x n (turned r z)) e ∙ own-entry x n r (St .small) row (omega arith))
-            (ap (total (stray x n)) (answers-stay n work work₁ beyond held) ∙ St .own);
-        far = λ s h p. far s h p (ℕ-discrete s r);
+        queue = K .queue;
+        most = K .most;
+        own = K .own;
+        remain = K .remain;
+        near = λ s h p. near-all s h p (ℕ-discrete s r);
         bits = λ s h. bit s h (ℕ-discrete s r);
         bytes = omega (arith, ap length eh, length-set how r 1, St .bytes);
-        room = omega (arith, St .room, E .outside .same, long);
+        room = omega (arith, St .room, K .outside .same);
         wanted = St .wanted;
         small = St .small;
       }
 
       -- where the best were held and the row is new, the best are held again
-      best : BestHeld x (at how) n work (3 * n) w held → ((s : ℕ) → s < n → at how s + is s r ≤ 1)
-          → BestHeld x (at how′) n work′ (3 * n) w held′ × ((s : ℕ) → at how′ s ≡ at how s + is s r)
+      best : BestHeld x (metOf gone how) n work (3 * n) w held → ((s : ℕ) → s < n → at how s + is s r ≤ 1)
+          → BestHeld x (metOf gone how′) n work′ (3 * n) w held′ × ((s : ℕ) → at how′ s ≡ at how s + is s r)
       best H new =
           let zero : at how r ≡ 0 = omega (arith, new r row, is-self r) in
           let more : (s : ℕ) → at how′ s ≡ at how s + is s r =
-          λ s. ap (λ (l : List ℕ). at l s) eh ∙ byte-more how r s (omega (arith, St .bytes)) zero in
-          let H₁ : BestHeld x (at how) n work₁ (3 * n) w held = held-stay n work work₁ beyond x (at how) w held H in (
-            enter-held x (at how) n work₁ (3 * n) w held queue₁ H₁ (St .small) (at how′) r row zero more work′ held′ (St .wanted .0) (St .most)
-                (subst (λ (d : ℕ). Entered work₁ work′ (3 * n) w held (turned r d) held′) e E),
+          λ s. ap (λ (l : List ℕ). at l s) eh ∙ byte-more how r s (omega (arith, St .bytes)) zero in (
+            K .best (metOf gone how) (metOf gone how′) H (omega (arith, zero)) (λ s. met-more gone (at how) (at how′) r s zero (more s)),
             more,
           )
 
       -- THE ROW IS MEASURED
-      pub took : GrewAlone x n w how how′ work work′ held held′ (λ (s : ℕ). is s r)
+      pub took : GrewAlone x gone n w how how′ work work′ held held′ (λ (s : ℕ). is s r)
       took = record {
         grew = record {
           stands = after;
-          grown = λ s p. grown s p (ℕ-discrete s r);
-          seen = λ s p. seen s (is-same s r p);
+          keeps = λ s h f. K .outside .under (2 * n + s) (omega arith) ∙ f;
           since = record {
             bytes = ap length eh ∙ length-set how r 1;
-            words = E .outside .same ∙ long;
+            words = K .outside .same;
             past = λ i h. byte-other i (omega arith);
-            over = λ i h. E .outside .over i (omega (arith, St .wanted .1)) ∙ other i (omega arith);
+            over = λ i h. K .outside .over i (omega (arith, St .wanted .1));
           };
-          more = λ l. omega (arith, enter-one work₁ work′ (3 * n) w held (turned r d) held′ E (St .most) l, sum-one n r row);
+          most = omega (arith, K .up, sum-one gone n r row);
+          more = λ l. omega (arith, K .more l, sum-one gone n r row);
           best = best;
         };
-        front = λ i h. E .outside .under i (omega arith) ∙ other i (omega arith);
+        front = λ i h. K .outside .under i (omega arith);
       }
-        where
-          seen : (s : ℕ) → s ≡ r → 0 < at how′ s
-          seen s f = subst (λ (s : ℕ). 0 < at how′ s) (sym f) (omega (arith, byte))
 
-          grown : (s : ℕ) → 0 < at how s → Dec (s ≡ r) → 0 < at how′ s
-          grown s p (yes f) = seen s f
-          grown s p (no f) = omega (arith, byte-other s f)
+-- ---- a row that is a centre: its distance is kept besides
+module _ (x : ℕ → ℕ) (gone : ℕ → Bool) (n w : ℕ) (how how′ work work₁ work₂ : List ℕ) (held held′ r d : ℕ) (row : r < n)
+    (K : GrewAlone x gone n w how how′ work work₁ held held′ (λ (s : ℕ). is s r)) (e : d ≡ x r) (ew : work₂ ≡ set work₁ (2 * n + r) d) where
+  -- the other words stay
+  other : (i : ℕ) → i ≢ 2 * n + r → getD work₂ i 0 ≡ getD work₁ i 0
+  other i ne = ap (λ (l : List ℕ). getD l i 0) ew ∙ getD-set-other work₁ (2 * n + r) i d 0 ne
+
+  -- the workspace is as long as it was
+  pub long : length work₂ ≡ length work₁
+  long = ap length ew ∙ length-set work₁ (2 * n + r) d
+
+  -- it is kept
+  own-kept : kept work₂ n r ≡ x r
+  own-kept = ap (λ (l : List ℕ). getD l (2 * n + r) 0) ew ∙ getD-set-same work₁ (2 * n + r) d 0 (omega (arith, K .grew .stands .room)) ∙ e
+
+  -- and so is every distance that was
+  keeps : (s : ℕ) → s < n → kept work n s ≡ x s → Dec (s ≡ r) → kept work₂ n s ≡ x s
+  keeps s h f (yes q) = subst (λ (s : ℕ). kept work₂ n s ≡ x s) (sym q) own-kept
+  keeps s h f (no q) = other (2 * n + s) (omega arith) ∙ K .grew .keeps s h f
+
+  -- THE CENTRE IS MEASURED
+  pub centred : GrewCentres x gone n w how how′ work work₂ held held′ (λ (s : ℕ). is s r)
+  centred = record {
+    alone = record {
+      grew = record {
+        stands = stands-stay n work₁ work₂ (λ i l. other i (omega arith)) long x gone w how′ held′ (K .grew .stands);
+        keeps = λ s h f. keeps s h f (ℕ-discrete s r);
+        since = record {
+          bytes = K .grew .since .bytes;
+          words = long ∙ K .grew .since .words;
+          past = K .grew .since .past;
+          over = λ i h. other i (omega arith) ∙ K .grew .since .over i h;
+        };
+        most = K .grew .most;
+        more = K .grew .more;
+        best = λ H new.
+            let b = K .grew .best H new in
+            (held-stay n work₁ work₂ (λ i l. other i (omega arith)) x (metOf gone how′) w held′ (b .0), b .1);
+      };
+      front = λ i h. other i (omega arith) ∙ K .front i h;
+    };
+    seen = λ s h p. subst (λ (s : ℕ). kept work₂ n s ≡ x s) (sym (is-same s r p)) own-kept;
+  }

@@ -1,5 +1,5 @@
 -- The search, round by round: what a round keeps, and how it ends. Assumes nothing.
-use Prim.Native.Nat.{_*_, _+_, _-_, _<_, _≤_, suc, ℕ}
+use Prim.Native.Nat.{_*_, _+_, _-_, _<_, _≤_, min, suc, ℕ}
 use Rattle.answers_held.proofs.LastOf.{last-room}
 use Rattle.answers_held.proofs.Stopping.{goes-on}
 use Rattle.answers_held.specs.Answers.{BestHeld, lastOf}
@@ -7,6 +7,7 @@ use Rattle.best_first.specs.Search.{Ended, found}
 use Rattle.frontier.proofs.Beyond.{above, above-last, parts-above}
 use Rattle.frontier.proofs.Reading.{item-bound}
 use Rattle.frontier.specs.Waiting.{atMost, itemOf, items}
+use Rattle.frontier.specs.Workspace.{kept}
 use Rattle.index_space.proofs.Exact.{taken-new}
 use Rattle.index_space.proofs.Leaving.{all-bag, leaves, leaves-off}
 use Rattle.index_space.specs.Fits.{IndexFits}
@@ -18,14 +19,15 @@ use Rattle.measure.specs.Table.{from}
 use Rattle.nearest_search.proofs.Filling.{still-split}
 use Rattle.nearest_search.proofs.Staying.{held-stay, ready-on, since-then, since-work, stands-stay}
 use Rattle.nearest_search.proofs.Weights.{amiss-on, cost, opened-amiss, opened-cost, opened-weight, some-weight}
-use Rattle.nearest_search.specs.Asked.{asks}
+use Rattle.nearest_search.specs.Asked.{asks, positionsLeft}
 use Rattle.nearest_search.specs.Rounds.{CanTake, SearchEnd, SearchState, Taken, amiss, still}
-use Rattle.nearest_search.specs.Standing.{Since, Stands}
+use Rattle.nearest_search.specs.Standing.{Since, Stands, metOf}
 use Rattle.queue.proofs.Queued.{entries-count}
 use Rattle.queue.specs.Entry.{keyOf}
 use Rattle.queue.specs.Queue.{Popped, entries}
+use Rattle.rowset.specs.Sets.{isIn}
 use Rattle.words.specs.InShape.{InShape}
-use Rattle.words.specs.Words.{at, edition#, n#}
+use Rattle.words.specs.Words.{at, circles#, edition#, n#}
 use lib.ListN.{getD}
 use mathlib.Core.List.{List, _++_, _∷_}
 use mathlib.Core.Logic.{_↔_}
@@ -33,39 +35,45 @@ use mathlib.Core.Path.{_∙_, _≡_, ap, refl, subst, sym}
 use native.Mathlib.Decide.{decLt}
 use native.Mathlib.Omega.{arith}
 
-module _ (t : List ℕ) (c : ℕ) (q w : List ℕ) (wanted : ℕ) (S : InShape w) where
+module _ (t : List ℕ) (c : ℕ) (q w : List ℕ) (wanted : ℕ) (struck : List ℕ) (S : InShape w) where
   -- how far the query is from a row
   abbrev x : ℕ → ℕ
-  x = from t c q
+  x = from t c (circles# w) q
 
   -- A BOUND IS AT MOST THE LAST DISTANCE EXACTLY WHERE FEWER MEASURED ROWS ARE CLOSER THAN ARE WANTED
-  due-at : (how work : List ℕ) (held b : ℕ) → Stands x (n# w) wanted how work held → BestHeld x (at how) (n# w) work (3 * n# w) wanted held
-      → b ≤ greatestWord → (b ≤ lastOf work (3 * n# w) wanted held) ↔ (found (spaceOf w) x (at how) b < wanted)
+  due-at : (how work : List ℕ) (held b : ℕ) → Stands x (isIn struck) (n# w) wanted how work held
+      → BestHeld x (metOf (isIn struck) how) (n# w) work (3 * n# w) wanted held
+      → b ≤ greatestWord → (b ≤ lastOf work (3 * n# w) wanted held) ↔ (found (spaceOf w (isIn struck)) x (at how) b < wanted)
   due-at how work held b K H =
-      goes-on x (at how) (n# w) work (3 * n# w) wanted held (K .small) (K .queue) H (λ r l p. K .far r l p .1) b (K .wanted .0) (K .most)
+      goes-on x (metOf (isIn struck) how) (n# w) work (3 * n# w) wanted held (K .small) (K .queue) H (λ r l. omega (arith, K .bits r l))
+      (λ r l p. K .near r l (omega arith)) b (K .wanted .0) (K .most)
 
   -- as many items wait as the frontier has entries
   items-count : (work : List ℕ) (len : ℕ) → total (λ (i : IndexItem). 1) (items w x work len) ≡ len
   items-count work len = total-map (λ (i : IndexItem). 1) (itemOf w x) (entries work 0 len) ∙ entries-count work 0 len
 
-  module _ (how work : List ℕ) (len held : ℕ) (St : SearchState (asks t c w q wanted) how work len held) where
+  module _ (how work : List ℕ) (len held : ℕ) (St : SearchState (asks t c w q wanted struck) how work len held) where
     -- THERE IS ROOM: no more wait than there are positions
     state-room : len ≤ n# w
     state-room =
         omega (
           arith,
           items-count work len,
-          total-le (λ (i : IndexItem). 1) (weight w) (amiss w how) (items w x work len) (some-weight w S how) (St .sound),
+          total-le (λ (i : IndexItem). 1) (weight w) (amiss w x work) (items w x work len) (some-weight w S x work) (St .sound),
           St .room,
         )
 
-    -- as many are held as are wanted, where not fewer are
-    held-all : (held < wanted → ⊥) → held ≡ wanted
+    -- how many positions hold a row that remains
+    abbrev left : ℕ
+    left = positionsLeft (asks t c w q wanted struck)
+
+    -- as many are held as are wanted, or as positions hold a row that remains, where fewer are held only if no more do
+    held-all : (held < wanted → left ≤ held) → held ≡ min wanted left
     held-all none = go (decLt held wanted)
       where
-        go : Dec (held < wanted) → held ≡ wanted
-        go (yes l) = absurd (none l)
-        go (no l) = omega (arith, St .ready .stands .most)
+        go : Dec (held < wanted) → held ≡ min wanted left
+        go (yes l) = omega (arith, none l, St .most)
+        go (no l) = omega (arith, St .ready .stands .most, St .most)
 
     -- ---- an entry is taken out of the frontier
     module _ (work₁ : List ℕ) (v : ℕ) (P : Popped work work₁ 0 len v) (some : 0 < len) where
@@ -86,12 +94,14 @@ module _ (t : List ℕ) (c : ℕ) (q w : List ℕ) (wanted : ℕ) (S : InShape w
       beyond i h = P .outside .over i (omega (arith, state-room))
 
       -- what the search knows stays
-      popped-stands : Stands x (n# w) wanted how work₁ held
-      popped-stands = stands-stay (n# w) work work₁ beyond (P .outside .same) x wanted how held (St .ready .stands)
+      popped-stands : Stands x (isIn struck) (n# w) wanted how work₁ held
+      popped-stands = stands-stay (n# w) work work₁ (λ i l. beyond i (omega arith)) (P .outside .same) x (isIn struck) wanted how held
+          (St .ready .stands)
 
       -- the best that were held are held
-      popped-held : BestHeld x (at how) (n# w) work (3 * n# w) wanted held → BestHeld x (at how) (n# w) work₁ (3 * n# w) wanted held
-      popped-held H = held-stay (n# w) work work₁ (λ i l. beyond i (omega arith)) x (at how) wanted held H
+      popped-held : BestHeld x (metOf (isIn struck) how) (n# w) work (3 * n# w) wanted held
+          → BestHeld x (metOf (isIn struck) how) (n# w) work₁ (3 * n# w) wanted held
+      popped-held H = held-stay (n# w) work work₁ (λ i l. beyond i (omega arith)) x (metOf (isIn struck) how) wanted held H
 
       -- what lies beyond stays
       popped-since : (how₀ work₀ : List ℕ) → Since (n# w) how₀ how work₀ work → Since (n# w) how₀ how work₀ work₁
@@ -99,18 +109,24 @@ module _ (t : List ℕ) (c : ℕ) (q w : List ℕ) (wanted : ℕ) (S : InShape w
           since-then (n# w) how₀ how how work₀ work work₁ since
           (since-work (n# w) how work work₁ 0 (0 + (len + len)) (omega (arith, state-room)) (P .outside))
 
+      -- no distance that was kept is lost
+      popped-keeps : (r : ℕ) → r < n# w → kept work (n# w) r ≡ x r → kept work₁ (n# w) r ≡ x r
+      popped-keeps r l e = beyond (2 * n# w + r) (omega arith) ∙ e
+
       -- the item is sound
-      item-sound : amiss w how item ≡ 0
-      item-sound = omega (arith, bag (amiss w how), St .sound)
+      item-sound : amiss w x work₁ item ≡ 0
+      item-sound = amiss-on w S x work work₁ popped-keeps item (omega (arith, bag (amiss w x work), St .sound))
 
       -- so are the others
-      others-sound : total (amiss w how) others ≡ 0
-      others-sound = omega (arith, bag (amiss w how), St .sound)
+      others-sound : total (amiss w x work₁) others ≡ 0
+      others-sound =
+          total-none (amiss w x work₁) (amiss w x work) others (λ i z p. omega (arith, amiss-on w S x work work₁ popped-keeps i z))
+          (omega (arith, bag (amiss w x work), St .sound))
 
       -- THE ITEM CAN BE TAKEN
-      pub takes : edition# w ≡ 2 → CanTake (asks t c w q wanted) how work₁ (len - 1) held (itemOf w (from t c q) v)
+      pub takes : edition# w ≡ 2 → CanTake (asks t c w q wanted struck) how work₁ (len - 1) held (itemOf w (from t c (circles# w) q) v)
       takes two = record {
-        ready = ready-on t c q (n# w) wanted how how work work₁ held held (St .ready) popped-stands;
+        ready = ready-on t c (circles# w) q (isIn struck) (n# w) wanted how how work work₁ held held (St .ready) popped-stands;
         room = record {
           shape = S;
           edition = two;
@@ -119,7 +135,7 @@ module _ (t : List ℕ) (c : ℕ) (q w : List ℕ) (wanted : ℕ) (S : InShape w
           fits = omega (
             arith,
             items-count work₁ (len - 1),
-            total-le (λ (i : IndexItem). 1) (weight w) (amiss w how) others (some-weight w S how) others-sound,
+            total-le (λ (i : IndexItem). 1) (weight w) (amiss w x work₁) others (some-weight w S x work₁) others-sound,
             bag (weight w),
             St .room,
           );
@@ -140,7 +156,8 @@ module _ (t : List ℕ) (c : ℕ) (q w : List ℕ) (wanted : ℕ) (S : InShape w
 
       -- it is due exactly where its key is at most the last distance, as the code asks it
       due-is : (n d key : ℕ) → n ≡ n# w → d ≡ lastOf work₁ (3 * n) wanted held → key ≡ keyOf v → key ≤ greatestWord
-          → BestHeld x (at how) (n# w) work (3 * n# w) wanted held → (key ≤ d) ↔ (found (spaceOf w) x (at how) (boundOf item) < wanted)
+          → BestHeld x (metOf (isIn struck) how) (n# w) work (3 * n# w) wanted held → (key ≤ d)
+          ↔ (found (spaceOf w (isIn struck)) x (at how) (boundOf item) < wanted)
       due-is n d key en ed ek word H =
           let same : boundOf item ≡ key = item-bound w x v ∙ sym ek in
           let this : d ≡ lastOf work₁ (3 * n# w) wanted held = ed ∙ ap (λ (n : ℕ). lastOf work₁ (3 * n) wanted held) en in
@@ -149,7 +166,8 @@ module _ (t : List ℕ) (c : ℕ) (q w : List ℕ) (wanted : ℕ) (S : InShape w
 
       -- ---- the item is taken
       module _ (how′ work₂ : List ℕ) (len′ held′ : ℕ)
-          (D : Taken w (from t c q) wanted how how′ work₁ work₂ (len - 1) len′ held held′ (itemOf w (from t c q) v)) where
+          (D : Taken w (from t c (circles# w) q) (isIn struck) wanted how how′ work₁ work₂ (len - 1) len′ held held′
+          (itemOf w (from t c (circles# w) q) v)) where
         -- what it opens
         abbrev opened : List IndexItem
         opened = openedBy w x item
@@ -173,53 +191,70 @@ module _ (t : List ℕ) (c : ℕ) (q w : List ℕ) (wanted : ℕ) (S : InShape w
             (omega (arith, D .small, parts-above boundOf last′ (λ (j : IndexItem). boundOf j - greatestWord) opened))
 
         -- w measured rows are closer than the bound of what is left out
-        out-beyond : BestHeld x (at how′) (n# w) work₂ (3 * n# w) wanted held′ → Ended (spaceOf w) wanted x out (at how′)
+        out-beyond : BestHeld x (metOf (isIn struck) how′) (n# w) work₂ (3 * n# w) wanted held′
+            → Ended (spaceOf w (isIn struck)) wanted x out (at how′)
         out-beyond H =
-            total-none (λ (j : IndexItem). wanted - found (spaceOf w) x (at how′) (boundOf j))
+            total-none (λ (j : IndexItem). wanted - found (spaceOf w (isIn struck)) x (at how′) (boundOf j))
             (λ (j : IndexItem). (suc last′ - boundOf j) + (boundOf j - greatestWord)) out
             (λ j z p. omega (arith, due-at how′ work₂ held′ (boundOf j) (D .grew .stands) H (omega arith) .1 (omega arith))) out-far
 
-        -- where fewer are held than are wanted, nothing is left out, and all n positions are held or wait
-        short : held′ < wanted → n# w ≤ held′ + total (still w) (items w x work₂ len′)
+        -- no more are held or wait than did
+        most : held′ + total (still w (isIn struck)) (items w x work₂ len′) ≤ left
+        most =
+            omega (
+              arith,
+              D .grew .most,
+              St .most,
+              bag (still w (isIn struck)),
+              still-split w S x (isIn struck) work₁ item item-sound,
+              queued (still w (isIn struck)),
+            )
+
+        -- where fewer are held than are wanted, nothing is left out, and all are held or wait
+        short : held′ < wanted → left ≤ held′ + total (still w (isIn struck)) (items w x work₂ len′)
         short l =
             let e = D .grew .more l in
             omega (
               arith,
               e,
               St .short (omega arith),
-              bag (still w),
-              still-split w S x how item item-sound,
-              queued (still w),
-              total-none (still w) (λ (j : IndexItem). (suc last′ - boundOf j) + (boundOf j - greatestWord)) out
+              bag (still w (isIn struck)),
+              still-split w S x (isIn struck) work₁ item item-sound,
+              queued (still w (isIn struck)),
+              total-none (still w (isIn struck)) (λ (j : IndexItem). (suc last′ - boundOf j) + (boundOf j - greatestWord)) out
                   (λ j z p. omega (arith, last-room work₂ (3 * n# w) wanted held′ l)) out-far,
             )
 
         -- A ROUND: the state is kept
         pub round : 1 ≤ n# w → (n d key : ℕ) → n ≡ n# w → d ≡ lastOf work₁ (3 * n) wanted held → key ≡ keyOf v → key ≤ greatestWord → key ≤ d
-            → SearchState (asks t c w q wanted) how′ work₂ len′ held′
+            → SearchState (asks t c w q wanted struck) how′ work₂ len′ held′
         round filled n d key en ed ek word due = record {
-          ready = ready-on t c q (n# w) wanted how how′ work work₂ held held′ (St .ready) (D .grew .stands);
+          ready = ready-on t c (circles# w) q (isIn struck) (n# w) wanted how how′ work work₂ held held′ (St .ready) (D .grew .stands);
           queue = D .queue;
           sound = omega (
             arith,
-            queued (amiss w how′),
-            opened-amiss w S x how how′ item item-sound (D .grew .grown) (D .grew .seen),
-            total-none (amiss w how′) (amiss w how) others (λ i z p. omega (arith, amiss-on w how how′ (D .grew .grown) i z)) others-sound,
+            queued (amiss w x work₂),
+            opened-amiss w S x work₁ work₂ item item-sound (D .grew .keeps) (D .seen),
+            total-none (amiss w x work₂) (amiss w x work₁) others
+                (λ i z p. omega (arith, amiss-on w S x work₁ work₂ (D .grew .keeps) i z)) others-sound,
           );
-          room = omega (arith, queued (weight w), opened-weight w S x how item item-sound, bag (weight w), St .room);
+          room = omega (arith, queued (weight w), opened-weight w S x work₁ item item-sound, bag (weight w), St .room);
+          most = most;
           short = short;
           run = λ x′ F. run x′ F (St .run x′ F .0) (St .run x′ F .1);
         }
           where
-            run : (x′ : ℕ → ℕ) → IndexFits w wanted x x′ → BestHeld x (at how) (n# w) work (3 * n# w) wanted held
-                → RunSoFar w wanted x (items w x work len) (at how)
-                → BestHeld x (at how′) (n# w) work₂ (3 * n# w) wanted held′ × RunSoFar w wanted x (items w x work₂ len′) (at how′)
+            run : (x′ : ℕ → ℕ) → IndexFits w (isIn struck) wanted x x′ → BestHeld x (metOf (isIn struck) how) (n# w) work (3 * n# w) wanted held
+                → RunSoFar w (isIn struck) wanted x (items w x work len) (at how)
+                → BestHeld x (metOf (isIn struck) how′) (n# w) work₂ (3 * n# w) wanted held′
+                × RunSoFar w (isIn struck) wanted x (items w x work₂ len′) (at how′)
             run x′ F H R =
-                let new = taken-new w S filled wanted (St .ready .stands .wanted .0) x x′ F (items w x work len ++ R .left) (at how) (R .run) item
-                (others ++ R .left) (all-bag w wanted x (items w x work len) (at how) R item others bag least) in
+                let new = taken-new w S filled (isIn struck) wanted (St .ready .stands .wanted .0) x x′ F (items w x work len ++ R .left) (at how)
+                (R .run) item
+                (others ++ R .left) (all-bag w (isIn struck) wanted x (items w x work len) (at how) R item others bag least) in
                 let b = D .grew .best (popped-held H) new in (
                   b .0,
-                  leaves w wanted x (items w x work len) (at how) R item others bag least (due-is n d key en ed ek word H .0 due)
+                  leaves w (isIn struck) wanted x (items w x work len) (at how) R item others bag least (due-is n d key en ed ek word H .0 due)
                       (items w x work₂ len′) out (at how′) queued (b .1) (out-beyond (b .0)),
                 )
 
@@ -230,32 +265,34 @@ module _ (t : List ℕ) (c : ℕ) (q w : List ℕ) (wanted : ℕ) (S : InShape w
 
         -- what is left costs less
         pub round-less : total (cost w) (items w x work₂ len′) < total (cost w) (items w x work len)
-        round-less = omega (arith, queued (cost w), opened-cost w S x how item item-sound, bag (cost w))
+        round-less = omega (arith, queued (cost w), opened-cost w S x work₁ item item-sound, bag (cost w))
 
       -- THE END: the first that waits is not due
       pub stops : (n d key : ℕ) → n ≡ n# w → d ≡ lastOf work₁ (3 * n) wanted held → key ≡ keyOf v → key ≤ greatestWord → d < key
-          → (how₀ work₀ : List ℕ) → Since (n# w) how₀ how work₀ work → SearchEnd (asks t c w q wanted) how₀ how work₀ work₁ held
+          → (how₀ work₀ : List ℕ) → Since (n# w) how₀ how work₀ work → SearchEnd (asks t c w q wanted struck) how₀ how work₀ work₁ held
       stops n d key en ed ek word far how₀ work₀ since = record {
         stands = popped-stands;
-        full = held-all (λ l. omega (arith, ed, last-room work₁ (3 * n) wanted held l));
+        full = held-all (λ l. absurd (omega (arith, ed, last-room work₁ (3 * n) wanted held l)));
         since = popped-since how₀ work₀ since;
         ran = λ x′ F.
             let z = St .run x′ F in
-            (popped-held (z .0), leaves-off w wanted x (items w x work len) (at how) (z .1) item others bag least (enough (z .0)));
+            (popped-held (z .0), leaves-off w (isIn struck) wanted x (items w x work len) (at how) (z .1) item others bag least (enough (z .0)));
       }
         where
-          enough : BestHeld x (at how) (n# w) work (3 * n# w) wanted held → wanted ≤ found (spaceOf w) x (at how) (boundOf item)
-          enough H = at-least (decLt (found (spaceOf w) x (at how) (boundOf item)) wanted)
+          enough : BestHeld x (metOf (isIn struck) how) (n# w) work (3 * n# w) wanted held
+              → wanted ≤ found (spaceOf w (isIn struck)) x (at how) (boundOf item)
+          enough H = at-least (decLt (found (spaceOf w (isIn struck)) x (at how) (boundOf item)) wanted)
             where
-              at-least : Dec (found (spaceOf w) x (at how) (boundOf item) < wanted) → wanted ≤ found (spaceOf w) x (at how) (boundOf item)
+              at-least : Dec (found (spaceOf w (isIn struck)) x (at how) (boundOf item) < wanted)
+                  → wanted ≤ found (spaceOf w (isIn struck)) x (at how) (boundOf item)
               at-least (yes h) = absurd (omega (arith, due-is n d key en ed ek word H .1 h))
               at-least (no h) = omega arith
 
     -- THE END: nothing waits
-    pub ends : (how₀ work₀ : List ℕ) → Since (n# w) how₀ how work₀ work → len ≡ 0 → SearchEnd (asks t c w q wanted) how₀ how work₀ work held
+    pub ends : (how₀ work₀ : List ℕ) → Since (n# w) how₀ how work₀ work → len ≡ 0 → SearchEnd (asks t c w q wanted struck) how₀ how work₀ work held
     ends how₀ work₀ since z = record {
       stands = St .ready .stands;
-      full = held-all (λ l. omega (arith, St .short l, ap (λ (k : ℕ). total (still w) (items w x work k)) z, St .ready .stands .wanted .1));
+      full = held-all (λ l. omega (arith, St .short l, ap (λ (k : ℕ). total (still w (isIn struck)) (items w x work k)) z));
       since = since;
       ran = λ x′ F.
           let r = St .run x′ F in (
@@ -263,7 +300,7 @@ module _ (t : List ℕ) (c : ℕ) (q w : List ℕ) (wanted : ℕ) (S : InShape w
             record {
               waiting = items w x work len ++ r .1 .left;
               run = r .1 .run;
-              ended = subst (λ (k : ℕ). Ended (spaceOf w) wanted x (items w x work k ++ r .1 .left) (at how)) (sym z) (r .1 .beyond);
+              ended = subst (λ (k : ℕ). Ended (spaceOf w (isIn struck)) wanted x (items w x work k ++ r .1 .left) (at how)) (sym z) (r .1 .beyond);
             },
           );
     }

@@ -1,20 +1,20 @@
 -- What a search knows stays where the words that tell it stay, and what lies beyond its rooms stays always. Assumes nothing.
 use Prim.Native.Nat.{_*_, _+_, _<_, _≤_, ℕ}
-use Rattle.answers_held.specs.Answers.{BestHeld, distanceOf, lastOf, stray}
+use Rattle.answers_held.specs.Answers.{BestHeld, distanceOf, lastOf, rowOf, stray}
 use Rattle.index_space.specs.Items.{greatestWord}
 use Rattle.laws.proofs.Outside.{outside-more}
 use Rattle.laws.specs.Bags.{total}
 use Rattle.laws.specs.Outside.{Outside}
 use Rattle.measure.specs.Table.{from}
-use Rattle.nearest_search.specs.Standing.{Ready, Since, Stands}
+use Rattle.nearest_search.specs.Standing.{GrewAlone, GrewCentres, Ready, Since, Stands}
 use Rattle.queue.proofs.Entries.{entries-stay}
 use Rattle.queue.proofs.Queued.{queue-stays}
 use Rattle.queue.specs.Entry.{entryAt, packed}
 use Rattle.queue.specs.Queue.{Queue, entries}
-use Rattle.words.specs.Words.{n#}
+use Rattle.words.specs.Words.{circles#, n#}
 use lib.Dec.{ltb}
 use lib.ListN.{getD, length}
-use mathlib.Core.Bool.{cond}
+use mathlib.Core.Bool.{Bool, cond}
 use mathlib.Core.List.{List}
 use mathlib.Core.Path.{_∙_, _≡_, ap, ap₂, refl, subst, sym}
 use native.Mathlib.Omega.{arith}
@@ -36,21 +36,21 @@ module _ (n : ℕ) (work work′ : List ℕ) where
     last-stays w held =
         ap₂ (λ (a b : ℕ). cond (ltb held w) greatestWord (distanceOf (packed a b))) (same (3 * n + 1) (omega arith)) (same (3 * n) (omega arith))
 
-  -- ---- the words from 2n on stay
-  -- all that a search knows stays: the frontier alone has changed
-  pub stands-stay : ((i : ℕ) → 2 * n ≤ i → getD work′ i 0 ≡ getD work i 0) → length work′ ≡ length work
-      → (x : ℕ → ℕ) (w : ℕ) (how : List ℕ) (held : ℕ) → Stands x n w how work held → Stands x n w how work′ held
-  stands-stay same long x w how held St = record {
-    queue = queue-stays work work′ (3 * n) held (λ i lo hi. same i (omega arith)) long (St .queue);
-    most = St .most;
-    own = ap (total (stray x n)) (answers-stay (λ i l. same i (omega arith)) held) ∙ St .own;
-    far = λ r h p. (same (2 * n + r) (omega arith) ∙ St .far r h p .0, St .far r h p .1);
-    bits = St .bits;
-    bytes = St .bytes;
-    room = omega (arith, St .room);
-    wanted = St .wanted;
-    small = St .small;
-  }
+    -- all that a search knows stays
+    pub stands-stay : length work′ ≡ length work → (x : ℕ → ℕ) (gone : ℕ → Bool) (w : ℕ) (how : List ℕ) (held : ℕ) → Stands x gone n w how work held
+        → Stands x gone n w how work′ held
+    stands-stay long x gone w how held St = record {
+      queue = queue-stays work work′ (3 * n) held (λ i lo hi. same i lo) long (St .queue);
+      most = St .most;
+      own = ap (total (stray x n)) (answers-stay held) ∙ St .own;
+      remain = ap (total (λ (e : ℕ). cond (gone (rowOf e)) 1 0)) (answers-stay held) ∙ St .remain;
+      near = St .near;
+      bits = St .bits;
+      bytes = St .bytes;
+      room = omega (arith, St .room);
+      wanted = St .wanted;
+      small = St .small;
+    }
 
 -- where the frontier's words stay, so does the frontier
 pub frontier-stays : (n : ℕ) (work work′ : List ℕ) (len : ℕ) → len ≤ n → ((i : ℕ) → i < 2 * n → getD work′ i 0 ≡ getD work i 0)
@@ -91,11 +91,33 @@ since-work n how work work′ lo hi h O = record { bytes = refl; words = O .same
 
 -- ---- what measuring needs
 -- a row of the table can be measured, whatever is known by then
-pub ready-on : (t : List ℕ) (c : ℕ) (q : List ℕ) (n w : ℕ) (how how′ work work′ : List ℕ) (held held′ : ℕ) → Ready t c q n w how work held
-    → Stands (from t c q) n w how′ work′ held′ → Ready t c q n w how′ work′ held′
-ready-on t c q n w how how′ work work′ held held′ R St = record { stands = St; columns = R .columns; table = R .table; query = R .query }
+pub ready-on : (t : List ℕ) (c o : ℕ) (q : List ℕ) (gone : ℕ → Bool) (n w : ℕ) (how how′ work work′ : List ℕ) (held held′ : ℕ)
+    → Ready t c o q gone n w how work held → Stands (from t c o q) gone n w how′ work′ held′ → Ready t c o q gone n w how′ work′ held′
+ready-on t c o q gone n w how how′ work work′ held held′ R St =
+    record { stands = St; columns = R .columns; table = R .table; query = R .query }
 
--- the same for the number of rows as the code holds it
-pub ready-at : (t : List ℕ) (c : ℕ) (q w : List ℕ) (wanted : ℕ) (how work : List ℕ) (held n : ℕ) → n ≡ n# w
-    → Ready t c q (n# w) wanted how work held → Ready t c q n wanted how work held
-ready-at t c q w wanted how work held n e R = subst (λ (n : ℕ). Ready t c q n wanted how work held) (sym e) R
+-- the same for the circles as the code holds them
+pub ready-by : (t : List ℕ) (c : ℕ) (q w : List ℕ) (gone : ℕ → Bool) (n wanted : ℕ) (how work : List ℕ) (held o : ℕ) → o ≡ circles# w
+    → Ready t c (circles# w) q gone n wanted how work held → Ready t c o q gone n wanted how work held
+ready-by t c q w gone n wanted how work held o eo R = subst (λ (o : ℕ). Ready t c o q gone n wanted how work held) (sym eo) R
+
+-- and for the number of rows
+pub ready-at : (t : List ℕ) (c : ℕ) (q w : List ℕ) (gone : ℕ → Bool) (wanted : ℕ) (how work : List ℕ) (held n o : ℕ) → n ≡ n# w → o ≡ circles# w
+    → Ready t c (circles# w) q gone (n# w) wanted how work held → Ready t c o q gone n wanted how work held
+ready-at t c q w gone wanted how work held n o en eo R =
+    ready-by t c q w gone n wanted how work held o eo (subst (λ (n : ℕ). Ready t c (circles# w) q gone n wanted how work held) (sym en) R)
+
+-- what was measured by them, said by the index
+pub grew-by : (t : List ℕ) (c : ℕ) (q w : List ℕ) (gone : ℕ → Bool) (n wanted : ℕ) (how how′ work work′ : List ℕ) (held held′ : ℕ) (g : ℕ → ℕ) (o : ℕ)
+    → o ≡ circles# w → GrewAlone (from t c o q) gone n wanted how how′ work work′ held held′ g
+    → GrewAlone (from t c (circles# w) q) gone n wanted how how′ work work′ held held′ g
+grew-by t c q w gone n wanted how how′ work work′ held held′ g o eo K =
+    subst (λ (o : ℕ). GrewAlone (from t c o q) gone n wanted how how′ work work′ held held′ g) eo K
+
+-- and where centres were
+pub centres-by : (t : List ℕ) (c : ℕ) (q w : List ℕ) (gone : ℕ → Bool) (n wanted : ℕ) (how how′ work work′ : List ℕ) (held held′ : ℕ) (g : ℕ → ℕ)
+    (o : ℕ)
+    → o ≡ circles# w → GrewCentres (from t c o q) gone n wanted how how′ work work′ held held′ g
+    → GrewCentres (from t c (circles# w) q) gone n wanted how how′ work work′ held held′ g
+centres-by t c q w gone n wanted how how′ work work′ held held′ g o eo K =
+    subst (λ (o : ℕ). GrewCentres (from t c o q) gone n wanted how how′ work work′ held held′ g) eo K

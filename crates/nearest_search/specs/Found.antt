@@ -3,13 +3,14 @@ use Prim.Native.Nat.{_*_, _<_, _≤_, min, ℕ}
 use Rattle.frontier.specs.Workspace.{workWords}
 use Rattle.index_space.specs.Fits.{IndexFits}
 use Rattle.laws.specs.Lists.{has}
-use Rattle.nearest_search.specs.Asked.{NearestAsked, NearestLent, away, rowsIn}
+use Rattle.nearest_search.specs.Asked.{NearestAsked, NearestLent, away, gone, positionsLeft, rowsIn}
 use Rattle.tree.specs.Grove.{treeOf}
-use Rattle.tree.specs.Nearest.{answers, nearHow}
+use Rattle.tree.specs.Nearest.{answers, nearHow, remaining}
 use Rattle.tree.specs.Tested.{Tested}
 use Rattle.words.specs.Words.{at, n#}
 use lib.Dec.{T}
 use lib.ListN.{drop, length, replicate, take}
+use mathlib.Core.Bool.{Bool, false}
 use mathlib.Core.List.{List, _++_, map}
 use mathlib.Core.Logic.{_↔_}
 use mathlib.Core.Path.{_≡_}
@@ -24,19 +25,21 @@ pub record Searchable (a : NearestAsked) (b : NearestLent) : Type 0 where
   pub bytes : rowsIn a ≤ length (b .how)
   pub words : workWords (rowsIn a) ≤ length (b .work)
 
--- the answers for rows at x, with their how-bytes, before what stood beyond
-pub record Settled (x : ℕ → ℕ) (w : List ℕ) (wanted : ℕ) (b b′ : NearestLent) (given : ℕ) : Type 0 where
-  pub count : given ≡ min wanted (n# w)
-  pub rows : b′ .rows ≡ map (λ a. a .0) (answers x (n# w) wanted) ++ drop (min wanted (n# w)) (b .rows)
-  pub distances : b′ .distances ≡ map (λ a. a .1) (answers x (n# w) wanted) ++ drop (min wanted (n# w)) (b .distances)
-  pub bytes : b′ .how ≡ nearHow x (n# w) (treeOf w) wanted ++ drop (n# w) (b .how)
+-- the answers for rows at x, of those that are not withdrawn, with their how-bytes, before what stood beyond
+pub record Settled (x : ℕ → ℕ) (gone : ℕ → Bool) (w : List ℕ) (wanted : ℕ) (b b′ : NearestLent) (given : ℕ) : Type 0 where
+  pub count : given ≡ min wanted (remaining gone (n# w))
+  pub rows : b′ .rows ≡ map (λ a. a .0) (answers x gone (n# w) wanted) ++ drop given (b .rows)
+  pub distances : b′ .distances ≡ map (λ a. a .1) (answers x gone (n# w) wanted) ++ drop given (b .distances)
+  pub bytes : b′ .how ≡ nearHow x gone (n# w) (treeOf w) wanted ++ drop (n# w) (b .how)
 
--- the answers on every index in shape, whether or not it fits a table: the lent rows are n, at x
-pub record SoundAnswers (x : ℕ → ℕ) (n wanted : ℕ) (b′ : NearestLent) (given : ℕ) : Type 0 where
-  -- as many are given as are wanted, or as there are rows
-  pub count : given ≡ min wanted n
+-- the answers on every index in shape, whether or not it fits a table: the lent rows are n, at x, and `left` positions hold one that remains
+pub record SoundAnswers (x : ℕ → ℕ) (gone : ℕ → Bool) (n left wanted : ℕ) (b′ : NearestLent) (given : ℕ) : Type 0 where
+  -- as many are given as are wanted, or as positions hold a row that remains
+  pub count : given ≡ min wanted left
   -- each is a row, with its distance
   pub own : (j : ℕ) → j < given → (at (b′ .rows) j < n) × (at (b′ .distances) j ≡ x (at (b′ .rows) j))
+  -- none is withdrawn
+  pub remain : (j : ℕ) → j < given → gone (at (b′ .rows) j) ≡ false
   -- the nearer comes first, of equals the lower row
   pub order : (i j : ℕ) → i < j → j < given
       → (at (b′ .distances) i ≤ at (b′ .distances) j) × (at (b′ .distances) i ≡ at (b′ .distances) j → at (b′ .rows) i ≤ at (b′ .rows) j)
@@ -47,9 +50,9 @@ pub record SoundAnswers (x : ℕ → ℕ) (n wanted : ℕ) (b′ : NearestLent) 
 pub record FoundNearest (a : NearestAsked) (b b′ : NearestLent) (given : ℕ) : Type 0 where
   -- the workspace is cleared, and what lies beyond stays
   pub cleared : b′ .work ≡ replicate (6 * rowsIn a) 0 ++ drop (6 * rowsIn a) (b .work)
-  pub beyond : (drop (a .wanted) (b′ .rows) ≡ drop (a .wanted) (b .rows)) × (drop (a .wanted) (b′ .distances) ≡ drop (a .wanted) (b .distances))
+  pub beyond : (drop given (b′ .rows) ≡ drop given (b .rows)) × (drop given (b′ .distances) ≡ drop given (b .distances))
       × (drop (rowsIn a) (b′ .how) ≡ drop (rowsIn a) (b .how))
   pub bytes : length (b′ .how) ≡ length (b .how)
-  pub sound : SoundAnswers (away a) (rowsIn a) (a .wanted) b′ given
+  pub sound : SoundAnswers (away a) (gone a) (rowsIn a) (positionsLeft a) (a .wanted) b′ given
   -- for rows that the index fits, with which the lent ones agree where it counts, the answers and how-bytes are those of the definition
-  pub found : (x′ : ℕ → ℕ) → IndexFits (a .index) (a .wanted) (away a) x′ → Settled x′ (a .index) (a .wanted) b b′ given
+  pub found : (x′ : ℕ → ℕ) → IndexFits (a .index) (gone a) (a .wanted) (away a) x′ → Settled x′ (gone a) (a .index) (a .wanted) b b′ given

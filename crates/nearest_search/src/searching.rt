@@ -1,13 +1,14 @@
 // The search: best first, until what waits is farther than the last answer.
 ghost use Rattle.nearest_search.specs.Asked.{asks};
 ghost use Rattle.nearest_search.specs.Rounds.{SearchEnd, SearchStart};
-use crate::taking::measure_row;
+use crate::taking::measure_centre;
 use crate::taking::take_item;
 use answers_held::last;
 use frontier::workspace::ANSWERS;
 use queue::key_of;
 use queue::pop;
 use queue::push;
+use words::places::circles;
 use words::places::node_first;
 use words::places::pair_at;
 use words::places::rows;
@@ -19,17 +20,19 @@ pub fn search(
     query: &[u16],
     index: &[u32],
     w: usize,
+    withdrawn: &[u32],
     how: &mut [u8],
     work: &mut [u32],
 ) -> usize
-    requires { ⌜ SearchStart (asks (now table) c (now index) (now query) w) (now how) (now work) ⌝ }
-    ensures { λ k. ⌜ SearchEnd (asks (now (table .entry)) c (now (index .entry)) (now (query .entry)) w)
+    requires { ⌜ SearchStart (asks (now table) c (now index) (now query) w (now withdrawn)) (now how) (now work) ⌝ }
+    ensures { λ k. ⌜ SearchEnd (asks (now (table .entry)) c (now (index .entry)) (now (query .entry)) w (now (withdrawn .entry)))
         (now (how .entry)) (now (how .exit)) (now (work .entry)) (now (work .exit)) k ⌝ }
 {
     let n = rows(index);
     let base = pair_at(index, 0);
     let first = node_first(index, 0);
-    let mut held = measure_row(table, c, query, n, w, how, work, 0, first);
+    let o = circles(index);
+    let mut held = measure_centre(table, c, o, query, n, w, withdrawn, how, work, 0, first);
     push(work, 0, 0, 0);
     let mut len = 1;
     while 0 < len {
@@ -45,6 +48,7 @@ pub fn search(
             n,
             base,
             w,
+            withdrawn,
             how,
             work,
             len - 1,

@@ -7,9 +7,10 @@ ghost use Rattle.laws.specs.Upto.{sumTo};
 ghost use Rattle.measure.specs.Table.{from};
 ghost use Rattle.nearest_search.specs.Asked.{asks};
 ghost use Rattle.nearest_search.specs.Rounds.{CanTake, Taken};
-ghost use Rattle.nearest_search.specs.Standing.{GrewAlone, Ready};
+ghost use Rattle.nearest_search.specs.Standing.{GrewAlone, GrewCentres, Ready};
+ghost use Rattle.rowset.specs.Sets.{isIn};
 ghost use Rattle.words.specs.InShape.{InShape};
-ghost use Rattle.words.specs.Words.{N#, child#, first#, n#, pairAt};
+ghost use Rattle.words.specs.Words.{N#, child#, circles#, first#, n#, pairAt};
 ghost use mathlib.Core.Path.{_≡_};
 use answers_held::enter;
 use answers_held::last;
@@ -22,7 +23,9 @@ use frontier::workspace::DISTANCES;
 use measure::query_distance;
 use queue::id_of;
 use queue::key_of;
+use rowset::is_in;
 use words::places::centres;
+use words::places::circles;
 use words::places::node_child;
 use words::places::node_first;
 use words::places::word;
@@ -33,27 +36,81 @@ pub struct Sizes {
     pub held: usize,
 }
 
-// Measures row r, the only place that does: its distance is kept, it is marked, and it is entered among the answers.
-pub fn measure_row(
+// A row that is measured: how many answers are held then, and how far it is.
+pub struct Measured {
+    pub held: usize,
+    pub distance: u32,
+}
+
+// Measures row r, the only place that does: it is marked, and entered among the answers, unless it is withdrawn.
+fn measure_row(
     table: &[u16],
     c: usize,
+    circles: u32,
     query: &[u16],
     n: usize,
     w: usize,
+    withdrawn: &[u32],
+    how: &mut [u8],
+    work: &mut [u32],
+    held: usize,
+    r: usize,
+) -> Measured
+    requires { ⌜ Ready (now table) c circles (now query) (isIn (now withdrawn)) n w (now how) (now work) held ⌝ }
+    requires { ⌜ r < n ⌝ }
+    ensures { λ m. ⌜ GrewAlone (from (now (table .entry)) c circles (now (query .entry))) (isIn (now (withdrawn .entry))) n w
+        (now (how .entry)) (now (how .exit)) (now (work .entry)) (now (work .exit)) held (m .held) (λ (s : ℕ). is s r)
+        × (m .distance ≡ from (now (table .entry)) c circles (now (query .entry)) r) ⌝ }
+{
+    let d = query_distance(table, c, circles, query, r);
+    how[r] = 1;
+    if is_in(withdrawn, r) {
+        return Measured {
+            held: held,
+            distance: d,
+        };
+    }
+    let k = enter(work, ANSWERS * n, w, held, turn(r as u32, d));
+    Measured {
+        held: k,
+        distance: d,
+    }
+}
+
+// Measures row r, which is a centre: its distance is kept, for the bounds of its node and of what is below it.
+pub fn measure_centre(
+    table: &[u16],
+    c: usize,
+    circles: u32,
+    query: &[u16],
+    n: usize,
+    w: usize,
+    withdrawn: &[u32],
     how: &mut [u8],
     work: &mut [u32],
     held: usize,
     r: usize,
 ) -> usize
-    requires { ⌜ Ready (now table) c (now query) n w (now how) (now work) held ⌝ }
+    requires { ⌜ Ready (now table) c circles (now query) (isIn (now withdrawn)) n w (now how) (now work) held ⌝ }
     requires { ⌜ r < n ⌝ }
-    ensures { λ k. ⌜ GrewAlone (from (now (table .entry)) c (now (query .entry))) n w (now (how .entry)) (now (how .exit)) (now (work .entry))
-        (now (work .exit)) held k (λ (s : ℕ). is s r) ⌝ }
+    ensures { λ k. ⌜ GrewCentres (from (now (table .entry)) c circles (now (query .entry))) (isIn (now (withdrawn .entry))) n w
+        (now (how .entry)) (now (how .exit)) (now (work .entry)) (now (work .exit)) held k (λ (s : ℕ). is s r) ⌝ }
 {
-    let d = query_distance(table, c, query, r);
-    how[r] = 1;
-    work[DISTANCES * n + r] = d;
-    enter(work, ANSWERS * n, w, held, turn(r as u32, d))
+    let m = measure_row(
+        table,
+        c,
+        circles,
+        query,
+        n,
+        w,
+        withdrawn,
+        how,
+        work,
+        held,
+        r,
+    );
+    work[DISTANCES * n + r] = m.distance;
+    m.held
 }
 
 // Measures the firsts of the nodes from a + 1 up to e: the first child shares its parent's first, which is measured.
@@ -64,22 +121,26 @@ fn measure_centres(
     index: &[u32],
     n: usize,
     w: usize,
+    withdrawn: &[u32],
     how: &mut [u8],
     work: &mut [u32],
     held: usize,
     a: usize,
     e: usize,
 ) -> usize
-    requires { ⌜ Ready (now table) c (now query) n w (now how) (now work) held ⌝ }
+    requires { ⌜ Ready (now table) c (circles# (now index)) (now query) (isIn (now withdrawn)) n w (now how) (now work) held ⌝ }
     requires { ⌜ (InShape (now index)) × (n ≡ n# (now index)) × (a < e) × (e ≤ N# (now index)) ⌝ }
-    ensures { λ k. ⌜ GrewAlone (from (now (table .entry)) c (now (query .entry))) n w (now (how .entry)) (now (how .exit)) (now (work .entry))
-        (now (work .exit)) held k (λ (s : ℕ). sumTo (λ (i : ℕ). is s (first# (now (index .entry)) (a + suc i))) (e - (a + 1))) ⌝ }
+    ensures { λ k. ⌜ GrewCentres (from (now (table .entry)) c (circles# (now (index .entry))) (now (query .entry)))
+        (isIn (now (withdrawn .entry))) n w
+        (now (how .entry)) (now (how .exit)) (now (work .entry)) (now (work .exit)) held k
+        (λ (s : ℕ). sumTo (λ (i : ℕ). is s (first# (now (index .entry)) (a + suc i))) (e - (a + 1))) ⌝ }
 {
+    let o = circles(index);
     let mut k = held;
     let mut j = a + 1;
     while j < e {
         let r = node_first(index, j);
-        k = measure_row(table, c, query, n, w, how, work, k, r);
+        k = measure_centre(table, c, o, query, n, w, withdrawn, how, work, k, r);
         j += 1;
     }
     k
@@ -93,6 +154,7 @@ fn open_inner(
     index: &[u32],
     n: usize,
     w: usize,
+    withdrawn: &[u32],
     how: &mut [u8],
     work: &mut [u32],
     len: usize,
@@ -100,16 +162,31 @@ fn open_inner(
     k: usize,
     b: u32,
 ) -> Sizes
-    requires { ⌜ CanTake (asks (now table) c (now index) (now query) w) (now how) (now work) len held
-        (node k b (from (now table) c (now query) (first# (now index) k))) ⌝ }
+    requires { ⌜ CanTake (asks (now table) c (now index) (now query) w (now withdrawn)) (now how) (now work) len held
+        (node k b (from (now table) c (circles# (now index)) (now query) (first# (now index) k))) ⌝ }
     requires { ⌜ (n ≡ n# (now index)) × (0 < child# (now index) k) ⌝ }
-    ensures { λ s. ⌜ Taken (now (index .entry)) (from (now (table .entry)) c (now (query .entry))) w (now (how .entry)) (now (how .exit))
+    ensures { λ s. ⌜ Taken (now (index .entry)) (from (now (table .entry)) c (circles# (now (index .entry))) (now (query .entry)))
+        (isIn (now (withdrawn .entry))) w
+        (now (how .entry)) (now (how .exit))
         (now (work .entry)) (now (work .exit)) len (s .len) held (s .held)
-        (node k b (from (now (table .entry)) c (now (query .entry)) (first# (now (index .entry)) k))) ⌝ }
+        (node k b (from (now (table .entry)) c (circles# (now (index .entry))) (now (query .entry)) (first# (now (index .entry)) k))) ⌝ }
 {
     let a = node_child(index, k);
     let e = a + centres(index);
-    let now_held = measure_centres(table, c, query, index, n, w, how, work, held, a, e);
+    let now_held = measure_centres(
+        table,
+        c,
+        query,
+        index,
+        n,
+        w,
+        withdrawn,
+        how,
+        work,
+        held,
+        a,
+        e,
+    );
     let y = nearest_centre(index, work, n, a, e);
     let far = last(work, ANSWERS * n, w, now_held);
     let now_len = queue_children(index, work, n, len, a, e, b, y, far);
@@ -127,6 +204,7 @@ fn open_node(
     index: &[u32],
     n: usize,
     w: usize,
+    withdrawn: &[u32],
     how: &mut [u8],
     work: &mut [u32],
     len: usize,
@@ -134,12 +212,14 @@ fn open_node(
     k: usize,
     b: u32,
 ) -> Sizes
-    requires { ⌜ CanTake (asks (now table) c (now index) (now query) w) (now how) (now work) len held
-        (node k b (from (now table) c (now query) (first# (now index) k))) ⌝ }
+    requires { ⌜ CanTake (asks (now table) c (now index) (now query) w (now withdrawn)) (now how) (now work) len held
+        (node k b (from (now table) c (circles# (now index)) (now query) (first# (now index) k))) ⌝ }
     requires { ⌜ n ≡ n# (now index) ⌝ }
-    ensures { λ s. ⌜ Taken (now (index .entry)) (from (now (table .entry)) c (now (query .entry))) w (now (how .entry)) (now (how .exit))
+    ensures { λ s. ⌜ Taken (now (index .entry)) (from (now (table .entry)) c (circles# (now (index .entry))) (now (query .entry)))
+        (isIn (now (withdrawn .entry))) w
+        (now (how .entry)) (now (how .exit))
         (now (work .entry)) (now (work .exit)) len (s .len) held (s .held)
-        (node k b (from (now (table .entry)) c (now (query .entry)) (first# (now (index .entry)) k))) ⌝ }
+        (node k b (from (now (table .entry)) c (circles# (now (index .entry))) (now (query .entry)) (first# (now (index .entry)) k))) ⌝ }
 {
     if node_child(index, k) == 0 {
         let far = last(work, ANSWERS * n, w, held);
@@ -149,7 +229,21 @@ fn open_node(
             held: held,
         };
     }
-    open_inner(table, c, query, index, n, w, how, work, len, held, k, b)
+    open_inner(
+        table,
+        c,
+        query,
+        index,
+        n,
+        w,
+        withdrawn,
+        how,
+        work,
+        len,
+        held,
+        k,
+        b,
+    )
 }
 
 // Takes the item of the entry e, which is out of the frontier: a node is opened, a position's row is measured. The positions' words stand from
@@ -162,18 +256,21 @@ pub fn take_item(
     n: usize,
     base: usize,
     w: usize,
+    withdrawn: &[u32],
     how: &mut [u8],
     work: &mut [u32],
     len: usize,
     held: usize,
     e: u64,
 ) -> Sizes
-    requires { ⌜ CanTake (asks (now table) c (now index) (now query) w) (now how) (now work) len held
-        (itemOf (now index) (from (now table) c (now query)) e) ⌝ }
+    requires { ⌜ CanTake (asks (now table) c (now index) (now query) w (now withdrawn)) (now how) (now work) len held
+        (itemOf (now index) (from (now table) c (circles# (now index)) (now query)) e) ⌝ }
     requires { ⌜ (n ≡ n# (now index)) × (base ≡ pairAt (now index) 0) ⌝ }
-    ensures { λ s. ⌜ Taken (now (index .entry)) (from (now (table .entry)) c (now (query .entry))) w (now (how .entry)) (now (how .exit))
+    ensures { λ s. ⌜ Taken (now (index .entry)) (from (now (table .entry)) c (circles# (now (index .entry))) (now (query .entry)))
+        (isIn (now (withdrawn .entry))) w
+        (now (how .entry)) (now (how .exit))
         (now (work .entry)) (now (work .exit)) len (s .len) held (s .held)
-        (itemOf (now (index .entry)) (from (now (table .entry)) c (now (query .entry))) e) ⌝ }
+        (itemOf (now (index .entry)) (from (now (table .entry)) c (circles# (now (index .entry))) (now (query .entry))) e) ⌝ }
 {
     let id = id_of(e) as usize;
     if id < 2 * n {
@@ -184,6 +281,7 @@ pub fn take_item(
             index,
             n,
             w,
+            withdrawn,
             how,
             work,
             len,
@@ -193,9 +291,10 @@ pub fn take_item(
         );
     }
     let r = word(index, base + 2 * (id - 2 * n));
-    let now_held = measure_row(table, c, query, n, w, how, work, held, r);
+    let o = circles(index);
+    let m = measure_row(table, c, o, query, n, w, withdrawn, how, work, held, r);
     Sizes {
         len: len,
-        held: now_held,
+        held: m.held,
     }
 }

@@ -8,7 +8,7 @@ ghost use Rattle.tree.specs.Check.{strays};
 ghost use Rattle.tree.specs.Tested.{Tested};
 ghost use Rattle.words.specs.InShape.{InShape};
 ghost use Rattle.words.specs.Shape.{inner};
-ghost use Rattle.words.specs.Words.{N#, child#, m#, n#, row#};
+ghost use Rattle.words.specs.Words.{N#, child#, circles#, m#, n#, row#};
 ghost use lib.Dec.{ltb};
 ghost use mathlib.Core.Bool.{true};
 ghost use mathlib.Core.Path.{_≡_};
@@ -49,8 +49,8 @@ fn firsts(index: &[u32], child: usize) -> [usize; Params::MOST_CENTRES]
 // The row at p is closer to row f than to row g, from which it is x away. Row g is not measured again.
 fn is_closer(table: &[u16], c: usize, index: &[u32], f: usize, g: usize, x: u32, p: usize) -> bool
     requires { ⌜ Tested (now index) (now table) c ⌝ }
-    requires { ⌜ (f < n# (now index)) × (p < n# (now index)) × (x ≡ between (now table) c g (row# (now index) p)) ⌝ }
-    ensures { λ r. ⌜ r ≡ ltb (between (now (table .entry)) c f (row# (now (index .entry)) p)) x ⌝ }
+    requires { ⌜ (f < n# (now index)) × (p < n# (now index)) × (x ≡ between (now table) c (circles# (now index)) g (row# (now index) p)) ⌝ }
+    ensures { λ r. ⌜ r ≡ ltb (between (now (table .entry)) c (circles# (now (index .entry))) f (row# (now (index .entry)) p)) x ⌝ }
 {
     if f == g {
         return false;
@@ -70,8 +70,10 @@ fn closer_to_other(
     p: usize,
 ) -> bool
     requires { ⌜ Tested (now index) (now table) c ⌝ }
-    requires { ⌜ Firsts (now index) child (now fs) × (p < n# (now index)) × (x ≡ between (now table) c g (row# (now index) p)) ⌝ }
-    ensures { λ r. ⌜ r ≡ any (closer (between (now (table .entry)) c) (now (index .entry)) p x) (range child (m# (now (index .entry)))) ⌝ }
+    requires { ⌜ Firsts (now index) child (now fs) × (p < n# (now index))
+        × (x ≡ between (now table) c (circles# (now index)) g (row# (now index) p)) ⌝ }
+    ensures { λ r. ⌜ r ≡ any (closer (between (now (table .entry)) c (circles# (now (index .entry)))) (now (index .entry)) p x)
+        (range child (m# (now (index .entry)))) ⌝ }
 {
     let m = centres(index);
     let mut i = 0;
@@ -96,8 +98,8 @@ fn child_stray(
 ) -> usize
     requires { ⌜ Tested (now index) (now table) c ⌝ }
     requires { ⌜ (k < N# (now index)) × (inner (now index) k ≡ true) × (a < m# (now index)) × Firsts (now index) (child# (now index) k) (now fs) ⌝ }
-    ensures { λ r. ⌜ FirstIn (now (index .entry)) k (kidStrays (between (now (table .entry)) c) (now (index .entry)) k (child# (now (index .entry)) k + a))
-        r ⌝ }
+    ensures { λ r. ⌜ FirstIn (now (index .entry)) k (kidStrays (between (now (table .entry)) c (circles# (now (index .entry)))) (now (index .entry)) k
+        (child# (now (index .entry)) k + a)) r ⌝ }
 {
     let child = node_child(index, k);
     let j = child + a;
@@ -118,7 +120,8 @@ fn child_stray(
 fn first_stray(table: &[u16], c: usize, index: &[u32], k: usize) -> usize
     requires { ⌜ Tested (now index) (now table) c ⌝ }
     requires { ⌜ k < N# (now index) ⌝ }
-    ensures { λ r. ⌜ FirstIn (now (index .entry)) k (strays (between (now (table .entry)) c) (now (index .entry)) k) r ⌝ }
+    ensures { λ r. ⌜ FirstIn (now (index .entry)) k
+        (strays (between (now (table .entry)) c (circles# (now (index .entry)))) (now (index .entry)) k) r ⌝ }
 {
     let mut low = node_end(index, k);
     let child = node_child(index, k);
@@ -138,7 +141,7 @@ fn first_stray(table: &[u16], c: usize, index: &[u32], k: usize) -> usize
 // The first member that is closer to another centre: by node, then by position.
 pub fn closeness(table: &[u16], c: usize, index: &[u32]) -> Stray
     requires { ⌜ Tested (now index) (now table) c ⌝ }
-    ensures { λ r. ⌜ told r ≡ said (allStrays (between (now (table .entry)) c) (now (index .entry))) ⌝ }
+    ensures { λ r. ⌜ told r ≡ said (allStrays (between (now (table .entry)) c (circles# (now (index .entry)))) (now (index .entry))) ⌝ }
 {
     let total = nodes(index);
     let mut k = 0;

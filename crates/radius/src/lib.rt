@@ -5,6 +5,7 @@ ghost use mathlib.Core.Path.{_≡_};
 use descent::search;
 use limits::Asked;
 use limits::rows_in;
+use rowset::set_bad;
 use tallies::tally;
 use words::places::rows;
 
@@ -16,8 +17,15 @@ pub struct Found {
 }
 
 // Why a call is refused, or 0: of several, the lowest number. `room` is how many how-bytes are lent.
-fn refusal(table: &[u16], c: usize, index: &[u32], query: &[u16], room: usize) -> u32
-    ensures { λ r. ⌜ r ≡ saidRadius (now (table .entry)) c (now (index .entry)) (now (query .entry)) room .0 ⌝ }
+fn refusal(
+    table: &[u16],
+    c: usize,
+    index: &[u32],
+    query: &[u16],
+    withdrawn: &[u32],
+    room: usize,
+) -> u32
+    ensures { λ r. ⌜ r ≡ saidRadius (now (table .entry)) c (now (index .entry)) (now (query .entry)) (now (withdrawn .entry)) room .0 ⌝ }
 {
     let n = rows_in(table.len(), c);
     let asked = Asked {
@@ -28,23 +36,31 @@ fn refusal(table: &[u16], c: usize, index: &[u32], query: &[u16], room: usize) -
         unlike: query.len() != c,
         none: false,
     };
-    words::index::refusal(asked, index)
+    let early = refusals::refusal(asked, table, index, query);
+    if early != 0 {
+        return early;
+    }
+    if set_bad(withdrawn, n) {
+        return 20;
+    }
+    0
 }
 
-// Which rows of the table are within r of the query, by the index. Of the first n how-bytes each says whether its row is in (2, 3),
-// and whether it was measured (1, 3).
+// Which rows of the table are within r of the query, by the index, those withdrawn left out. Of the first n how-bytes each says whether its
+// row is in (2, 3), and whether it was measured (1, 3).
 pub fn radius(
     table: &[u16],
     c: usize,
     index: &[u32],
     query: &[u16],
     r: u32,
+    withdrawn: &[u32],
     how: &mut [u8],
 ) -> Found
-    ensures { λ f. ⌜ Searched (now (table .entry)) c (now (index .entry)) (now (query .entry)) r (now (how .entry)) (now (how .exit)) (f .number)
-        (f .inside) (f .measured) ⌝ }
+    ensures { λ f. ⌜ Searched (now (table .entry)) c (now (index .entry)) (now (query .entry)) r (now (withdrawn .entry))
+        (now (how .entry)) (now (how .exit)) (f .number) (f .inside) (f .measured) ⌝ }
 {
-    let number = refusal(table, c, index, query, how.len());
+    let number = refusal(table, c, index, query, withdrawn, how.len());
     if number != 0 {
         return Found {
             number,
@@ -52,7 +68,7 @@ pub fn radius(
             measured: 0,
         };
     }
-    search(table, c, index, query, r, how);
+    search(table, c, index, query, r, withdrawn, how);
     let counts = tally(how, rows(index));
     Found {
         number: 0,

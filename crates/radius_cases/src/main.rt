@@ -1,5 +1,5 @@
-// The radius call, run. A line for each case: its number, how many rows are in, how many were measured, and eight how-bytes, which are 9
-// before.
+// The radius call, run. A line for each case: its number in two digits, how many rows are in, how many were measured, and eight how-bytes,
+// which are 9 before.
 ghost use lib.ListN.{length};
 ghost use mathlib.Core.Path.{_≡_};
 use radius::Found;
@@ -32,7 +32,8 @@ fn byte(h: u8) -> u8 {
 
 fn line(found: Found, how: [u8; 8]) {
     let text = [
-        digit(found.number),
+        digit(found.number / 10),
+        digit(found.number % 10),
         b' ',
         count(found.inside),
         b' ',
@@ -51,16 +52,21 @@ fn line(found: Found, how: [u8; 8]) {
     io::write_all(1, &text);
 }
 
-fn show(table: &[u16], c: usize, index: &[u32], query: &[u16], r: u32) {
+fn show(table: &[u16], c: usize, index: &[u32], query: &[u16], r: u32, withdrawn: &[u32]) {
     let mut how = [9u8; 8];
-    let found = radius::radius(table, c, index, query, r, &mut how);
+    let found = radius::radius(table, c, index, query, r, withdrawn, &mut how);
     line(found, how);
 }
 
-fn five(query: u16, r: u32) {
+// A search of the five rows with this word as the set of those withdrawn.
+fn five_but(query: u16, r: u32, withdrawn: u32) {
     let index = five_index();
     let table = FIVE_ROWS;
-    show(&table, 1, &index, &[query], r);
+    show(&table, 1, &index, &[query], r, &[withdrawn]);
+}
+
+fn five(query: u16, r: u32) {
+    five_but(query, r, 0);
 }
 
 // The three cases of 01 that are proved; a lesser r that measures more; a row at exactly r, and one just beyond; a far query; r as large
@@ -77,31 +83,57 @@ fn five_rows() {
     five(9, 4294967295);
 }
 
+// Row 2 is withdrawn: it would be in measured, in swept, and out. So is row 0, the root's first, which stays a centre; so are all rows, for a
+// search that measures them and for one that sweeps them.
+fn withdrawn_rows() {
+    five_but(9, 1, 4);
+    five_but(0, 20, 4);
+    five_but(30, 9, 4);
+    five_but(0, 20, 1);
+    five_but(10, 5, 31);
+    five_but(0, 20, 31);
+}
+
+// 20: no word, a word too many, the bit of row 5, and the highest bit of the word.
+fn wrong_set() {
+    let index = five_index();
+    let table = FIVE_ROWS;
+    show(&table, 1, &index, &[9], 1, &[]);
+    show(&table, 1, &index, &[9], 1, &[0, 0]);
+    five_but(9, 1, 32);
+    five_but(9, 1, 2147483648);
+}
+
 // Rows on which (x - y)/2 rounded down would open one more leaf.
 fn odd_rows() {
     let index = odd_index();
-    show(&[4, 2, 2, 6, 7], 1, &index, &[6], 0);
+    show(&[4, 2, 2, 6, 7], 1, &index, &[6], 0, &[0]);
 }
 
 fn two_columns() {
     let index = pairs_index();
-    show(&[1, 2, 3, 4, 10, 10], 2, &index, &[3, 3], 2);
+    show(&[1, 2, 3, 4, 10, 10], 2, &index, &[3, 3], 2, &[0]);
 }
 
 fn no_row() {
-    show(&[], 1, &[2, 0, 1, 2, 2, 0, 1, 0], &[3], 7);
+    show(&[], 1, &[2, 0, 1, 2, 2, 0, 1, 0], &[3], 7, &[]);
 }
 
-// 1: no column, and too many. 3: the length is odd. Each with later ones wrong too.
+// 20: of no row there is no word.
+fn no_row_struck() {
+    show(&[], 1, &[2, 0, 1, 2, 2, 0, 1, 0], &[3], 7, &[0]);
+}
+
+// 1: no column, and too many. 3: the length is odd. Each with later ones wrong too, the set among them, which has no word.
 fn wrong_columns(c: usize) {
     let table = FIVE_ROWS;
-    show(&table, c, &[], &[9], 1);
+    show(&table, c, &[], &[9], 1, &[]);
 }
 
 // 6: a query of two columns, and no index.
 fn wrong_query() {
     let table = FIVE_ROWS;
-    show(&table, 1, &[], &[9, 9], 1);
+    show(&table, 1, &[], &[9, 9], 1, &[]);
 }
 
 // 5: four how-bytes for five rows, and a query of two columns.
@@ -109,38 +141,39 @@ fn short_room() {
     let index = five_index();
     let table = FIVE_ROWS;
     let mut how = [9u8; 4];
-    let found = radius::radius(&table, 1, &index, &[9, 9], 1, &mut how);
+    let found = radius::radius(&table, 1, &index, &[9, 9], 1, &[], &mut how);
     line(found, [how[0], how[1], how[2], how[3], 9, 9, 9, 9]);
 }
 
 // 8: another n, and another c.
 fn other_table() {
     let index = five_index();
-    show(&[0, 1, 10, 11], 1, &index, &[9], 1);
+    show(&[0, 1, 10, 11], 1, &index, &[9], 1, &[0]);
     show(
         &[0, 1, 10, 11, 20, 21, 22, 23, 24, 25],
         2,
         &index,
         &[9, 9],
         1,
+        &[0],
     );
 }
 
-// 8: a word missing at the end, and no word at all.
+// 8: a word missing at the end, and no word at all; the set has none either.
 fn missing_words() {
     let index = five_index();
     let table = FIVE_ROWS;
-    show(&table, 1, &index[0..42], &[9], 1);
-    show(&table, 1, &[], &[9], 1);
+    show(&table, 1, &index[0..42], &[9], 1, &[]);
+    show(&table, 1, &[], &[9], 1, &[]);
 }
 
-// The five-row table with one word of its index changed.
+// The five-row table with one word of its index changed, and a set of no word.
 fn changed(at: usize, word: u32) {
     let mut index = five_index();
     let table = FIVE_ROWS;
     if at < 43 {
         index[at] = word;
-        show(&table, 1, &index, &[9], 1);
+        show(&table, 1, &index, &[9], 1, &[]);
     }
 }
 
@@ -155,14 +188,16 @@ fn wrong_index() {
 // 4: a row too many.
 fn too_many() {
     let table = many();
-    show(&table, 1, &[], &[], 0);
+    show(&table, 1, &[], &[], 0, &[]);
 }
 
 fn main() {
     five_rows();
+    withdrawn_rows();
     odd_rows();
     two_columns();
     no_row();
+    no_row_struck();
     wrong_columns(0);
     wrong_columns(17);
     wrong_columns(2);
@@ -172,4 +207,5 @@ fn main() {
     other_table();
     missing_words();
     wrong_index();
+    wrong_set();
 }

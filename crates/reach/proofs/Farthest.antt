@@ -2,7 +2,6 @@
 use Prim.Native.Nat.{_+_, _-_, _<_, _≤_, max, min, suc, ℕ}
 use Rattle.laws.proofs.First.{range-on, range-over}
 use Rattle.laws.specs.Lists.{greatest, least, lowest, range, rest}
-use Rattle.measure.specs.Space.{Space}
 use Rattle.reach.specs.Runs.{Reaches, reachOf}
 use Rattle.tree.specs.Check.{nearest#}
 use Rattle.words.specs.Words.{count#, first#, row#, start#}
@@ -30,10 +29,10 @@ module _ (d : ℕ → ℕ → ℕ) (w : List ℕ) (k : ℕ) where
     pub inner : least near (left p) ≡ nearest# d w k
 
   -- a run of one row reaches nowhere: its first is at 0
-  pub reach-one : Space d → 1 ≤ count# w k → start# w k + count# w k ≤ start# w k + 1 → Reaches d w k 0 0
-  reach-one S some h =
+  pub reach-one : ((i : ℕ) → d i i ≡ 0) → 1 ≤ count# w k → start# w k + count# w k ≤ start# w k + 1 → Reaches d w k 0 0
+  reach-one self some h =
       let one : count# w k ≡ 1 = omega arith in
-      let zero : off (start# w k) ≡ 0 = S .self (first# w k) in
+      let zero : off (start# w k) ≡ 0 = self (first# w k) in
       let none : 0 ≡ max (off (start# w k)) 0 = omega (arith, zero) in
       record {
         outer = none ∙ ap (λ (n : ℕ). greatest (map off (range (start# w k) n))) (sym one);
@@ -41,9 +40,9 @@ module _ (d : ℕ → ℕ → ℕ) (w : List ℕ) (k : ℕ) where
       }
 
   -- at the second position p both are its distance a, measured from f
-  pub reach-two : Space d → {p f a : ℕ} → start# w k + 1 < start# w k + count# w k → p ≡ start# w k + 1 → f ≡ first# w k → a ≡ d f (row# w p)
-      → Reaching (p + 1) a a
-  reach-two S {p} {f} {a} h ep ef ea =
+  pub reach-two : ((i : ℕ) → d i i ≡ 0) → {p f a : ℕ} → start# w k + 1 < start# w k + count# w k → p ≡ start# w k + 1 → f ≡ first# w k
+      → a ≡ d f (row# w p) → Reaching (p + 1) a a
+  reach-two self {p} {f} {a} h ep ef ea =
       let s : ℕ = start# w k in
       let n : ℕ = count# w k - 2 in
       let two : count# w k ≡ suc (suc n) = omega arith in
@@ -53,7 +52,7 @@ module _ (d : ℕ → ℕ → ℕ) (w : List ℕ) (k : ℕ) where
       let here : a ≡ off (suc s) = ea ∙ ap₂ (λ f p. d f (row# w p)) ef second in
       let later : List ℕ = map off (range (suc (suc s)) n) in
       let tail : left (p + 1) ≡ later = ap₂ (λ a n. map off (range a n)) third long in
-      let zero : off s ≡ 0 = S .self (first# w k) in
+      let zero : off s ≡ 0 = self (first# w k) in
       let most : max (off (suc s)) (greatest later) ≡ max (off s) (max (off (suc s)) (greatest later)) = omega (arith, zero) in
       record {
         outer = ap₂ (λ (x : ℕ) (l : List ℕ). max x (greatest l)) here tail ∙ most

@@ -4,11 +4,12 @@ ghost use Rattle.measure.specs.Table.{between};
 ghost use Rattle.reach.specs.Runs.{Reaches};
 ghost use Rattle.tree.specs.Tested.{Tested};
 ghost use Rattle.words.specs.InShape.{Whole};
-ghost use Rattle.words.specs.Words.{N#, count#, n#, row#, start#};
+ghost use Rattle.words.specs.Words.{N#, circles#, count#, n#, row#, start#};
 ghost use mathlib.Core.Path.{_≡_};
 use measure::row_distance;
 use numbers::larger;
 use numbers::smaller;
+use words::places::circles;
 use words::places::node_count;
 use words::places::node_first;
 use words::places::node_start;
@@ -42,16 +43,16 @@ pub fn node_end(index: &[u32], k: usize) -> usize
 pub fn apart(table: &[u16], c: usize, index: &[u32], f: usize, p: usize) -> u32
     requires { ⌜ Tested (now index) (now table) c ⌝ }
     requires { ⌜ (f < n# (now index)) × (p < n# (now index)) ⌝ }
-    ensures { λ r. ⌜ r ≡ between (now (table .entry)) c f (row# (now (index .entry)) p) ⌝ }
+    ensures { λ r. ⌜ r ≡ between (now (table .entry)) c (circles# (now (index .entry))) f (row# (now (index .entry)) p) ⌝ }
 {
-    row_distance(table, c, f, row_at(index, p))
+    row_distance(table, c, circles(index), f, row_at(index, p))
 }
 
 // How far node k's members are from its first. Each member but the first, which is at 0, is measured once.
 pub fn reaches(table: &[u16], c: usize, index: &[u32], k: usize) -> Reached
     requires { ⌜ Tested (now index) (now table) c ⌝ }
     requires { ⌜ k < N# (now index) ⌝ }
-    ensures { λ r. ⌜ Reaches (between (now (table .entry)) c) (now (index .entry)) k (r .far) (r .near) ⌝ }
+    ensures { λ r. ⌜ Reaches (between (now (table .entry)) c (circles# (now (index .entry)))) (now (index .entry)) k (r .far) (r .near) ⌝ }
 {
     let f = node_first(index, k);
     let end = node_end(index, k);

@@ -20,7 +20,7 @@ use Rattle.tree.specs.Encode.{encode}
 use Rattle.tree.specs.Grove.{Grove, Reach, bare, fork, leaf, members#, treeOf}
 use Rattle.words.specs.InShape.{InShape}
 use Rattle.words.specs.Shape.{inner, treeFits}
-use Rattle.words.specs.Words.{N#, c#, child#, count#, edition#, l#, m#, n#, start#}
+use Rattle.words.specs.Words.{N#, c#, child#, circles#, count#, edition#, l#, m#, n#, start#}
 use borrow.Author.Tests.{le-leb, ne-eqb}
 use lib.Dec.{T, eqb}
 use lib.ListN.{length}
@@ -50,7 +50,7 @@ limitOf w v left z = cond (unsplit w v left z) maxRows (l# w)
 module _ (t w : List ℕ) (S : InShape w) (v left : ℕ) (there : v < N# w) (few : n# w + 1 ≤ maxRows) where
   -- how far two rows are apart
   abbrev d : ℕ → ℕ → ℕ
-  d = between t (c# w)
+  d = between t (c# w) (circles# w)
 
   -- the run that is laid
   abbrev run : List ℕ
@@ -88,7 +88,8 @@ module _ (t w : List ℕ) (S : InShape w) (v left : ℕ) (there : v < N# w) (few
 
   -- THE TREE GROWN ANEW FROM THE RUN THAT IS LAID IS THE TREE THAT TAKES THE NEW ROW
   pub regrown-joined : 1 ≤ N# w → Found d w (n# w) v left
-      → regrownOf t w v 1 (limitOf w v left (n# w)) (ready w v left (n# w)) ≡ join (between t (c# w)) (m# w) (l# w) (n# w) maxDepth 0 (treeOf w)
+      → regrownOf t w v 1 (limitOf w v left (n# w)) (ready w v left (n# w))
+      ≡ join (between t (c# w) (circles# w)) (m# w) (l# w) (n# w) maxDepth 0 (treeOf w)
   unfolding regrownOf
   regrown-joined some F =
       let R : ℕ → Reach = newReach d w v 1 in
@@ -101,7 +102,7 @@ module _ (t w : List ℕ) (S : InShape w) (v left : ℕ) (there : v < N# w) (few
       → regrownWords t w v 1 (limitOf w v left (n# w)) (ready w v left (n# w)) ≡ appended t (c# w) w
   unfolding appended
   regrown-appended some F =
-      let tree : Grove = join (between t (c# w)) (m# w) (l# w) (n# w) maxDepth 0 (treeOf w) in
-      ap (encode 2 (c# w) (m# w) (l# w)) (regrown-joined (S .root some .there) F)
-      ∙ sym (ap (λ (b : Bool). cond b (build t (c# w) 2 (m# w) (l# w)) (encode 2 (c# w) (m# w) (l# w) tree))
+      let tree : Grove = join (between t (c# w) (circles# w)) (m# w) (l# w) (n# w) maxDepth 0 (treeOf w) in
+      ap (encode 2 (c# w) (circles# w) (m# w) (l# w)) (regrown-joined (S .root some .there) F)
+      ∙ sym (ap (λ (b : Bool). cond b (build t (c# w) (circles# w) 2 (m# w) (l# w)) (encode 2 (c# w) (circles# w) (m# w) (l# w) tree))
       (ne-eqb (n# w) 0 (λ e. absurd (omega arith))))

@@ -24,7 +24,7 @@ use Rattle.words.proofs.Levels.{inner-is}
 use Rattle.words.proofs.Tiles.{tile-head, tile-le, tile-none, tile-part, tile-tail}
 use Rattle.words.specs.InShape.{InShape}
 use Rattle.words.specs.Shape.{inner, tile, treeFits}
-use Rattle.words.specs.Words.{N#, c#, child#, count#, dist#, l#, m#, n#, row#, start#}
+use Rattle.words.specs.Words.{N#, c#, child#, circles#, count#, dist#, l#, m#, n#, row#, start#}
 use borrow.Author.Tests.{eqb-false, eqb-true}
 use lib.Dec.{T, eqb}
 use lib.ListN.{length}
@@ -71,7 +71,7 @@ module _ (t w : List ℕ) (v added limit : ℕ) (run : List ℕ) (fits : T (tree
 
   -- how far each node reaches
   abbrev R : ℕ → Reach
-  R = newReach (between t (c# w)) w v added
+  R = newReach (between t (c# w) (circles# w)) w v added
 
   -- node v with `deep` levels below it, before the nodes g
   abbrev anew : ℕ → Grove → Grove
@@ -262,7 +262,7 @@ module _ (t w : List ℕ) (v added limit : ℕ) (run : List ℕ) (fits : T (tree
     -- THE POSITIONS: THE OLD ONES BEFORE THE RUN, ITS LEAVES' MEMBERS, AND THE OLD ONES BEHIND IT
     pub regrown-entries : due j maxDepth (piece j 0) ≡ (left, (j .copy v .0, run)) ∷ []
         → entries (regrownOf t w v added limit run)
-        ≡ held w 0 (start# w v) ++ (each (pairsOf (between t (c# w))) (leaves (between t (c# w)) (m# w) limit left run)
+        ≡ held w 0 (start# w v) ++ (each (pairsOf (between t (c# w) (circles# w))) (leaves (between t (c# w) (circles# w)) (m# w) limit left run)
         ++ held w (end# w v) (n# w - end# w v))
     unfolding regrownOf
     regrown-entries d =

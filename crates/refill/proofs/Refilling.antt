@@ -23,7 +23,7 @@ use Rattle.split.specs.Runs.{laid}
 use Rattle.tree.proofs.Written.{each-words}
 use Rattle.tree.specs.Encode.{Node, encode, nodeWords, numbered, pairWords}
 use Rattle.tree.specs.Grove.{Grove, entries}
-use Rattle.words.specs.Words.{c#, count#, dist#, l#, m#, n#, row#, start#}
+use Rattle.words.specs.Words.{c#, circles#, count#, dist#, l#, m#, n#, row#, start#}
 use borrow.Rule.Slice.PartMut.{midOf, putMid}
 use lib.ListN.{drop, length, length-append, length-drop, length-map, take}
 use lib.Seq.{drop-at, length-take-le}
@@ -55,7 +55,7 @@ module _ {t w : List ℕ} {v added limit : ℕ} {room work room₁ work₁ : Lis
   n = n# w + added
 
   abbrev d : ℕ → ℕ → ℕ
-  d = between t (c# w)
+  d = between t (c# w) (circles# w)
 
   -- the tree
   abbrev tree : Grove
@@ -150,41 +150,41 @@ module _ {t w : List ℕ} {v added limit : ℕ} {room work room₁ work₁ : Lis
   -- ---- the header before the nodes, the positions behind them
   -- the words before the positions
   abbrev front : List ℕ
-  front = headerOf n (c# w) (m# w) (l# w) made ++ each (nodeWords 2) (numbered tree)
+  front = headerOf n (c# w) (circles# w) (m# w) (l# w) made ++ each (nodeWords 2) (numbered tree)
 
   front-long : length front ≡ nodeAt made
   front-long =
-      length-append (headerOf n (c# w) (m# w) (l# w) made) (each (nodeWords 2) (numbered tree))
+      length-append (headerOf n (c# w) (circles# w) (m# w) (l# w) made) (each (nodeWords 2) (numbered tree))
       ∙ omega (arith, each-words 2 (numbered tree) (omega arith, omega arith), r .count)
 
   -- they are those of 01
-  front-are : front ++ each pairWords (entries tree) ≡ encode 2 (c# w) (m# w) (l# w) tree
+  front-are : front ++ each pairWords (entries tree) ≡ encode 2 (c# w) (circles# w) (m# w) (l# w) tree
   unfolding encode
   front-are =
-      append-assoc (headerOf n (c# w) (m# w) (l# w) made) (each (nodeWords 2) (numbered tree)) (each pairWords (entries tree))
-      ∙ ap₂ (λ (i k : ℕ). headerOf i (c# w) (m# w) (l# w) k ++ (each (nodeWords 2) (numbered tree) ++ each pairWords (entries tree)))
+      append-assoc (headerOf n (c# w) (circles# w) (m# w) (l# w) made) (each (nodeWords 2) (numbered tree)) (each pairWords (entries tree))
+      ∙ ap₂ (λ (i k : ℕ). headerOf i (c# w) (circles# w) (m# w) (l# w) k ++ (each (nodeWords 2) (numbered tree) ++ each pairWords (entries tree)))
       (sym entries-long) (r .count)
 
   -- THE WHOLE INDEX STANDS IN THE ROOM
-  pub refilled : {n0 c m l : ℕ} {room₂ ys : List ℕ} → n0 ≡ n → c ≡ c# w → m ≡ m# w → l ≡ l# w
-      → room₂ ≡ headerOf n0 c m l made ++ drop 8 room₁
+  pub refilled : {n0 c o m l : ℕ} {room₂ ys : List ℕ} → n0 ≡ n → c ≡ c# w → o ≡ circles# w → m ≡ m# w → l ≡ l# w
+      → room₂ ≡ headerOf n0 c o m l made ++ drop 8 room₁
       → ys ≡ pairsThen w v added work₁ ++ drop (2 * (n# w + added)) (midOf (nodeAt made) (length room₂ - nodeAt made) room₂)
       → Refilled t w v added limit (g .run) room work (putMid (nodeAt made) (length room₂ - nodeAt made) room₂ ys) work₁ made
-  refilled {n0} {c} {m} {l} {room₂} {ys} en ec em el e f =
+  refilled {n0} {c} {o} {m} {l} {room₂} {ys} en ec eo em el e f =
       let ns : List Node = numbered tree in
       let R : List ℕ = drop (nodeAt (length ns)) room in
       let kept : length room₁ ≡ length room =
       ap length (r .nodes) ∙ room-long room (omega (arith, g .space)) ns (omega (arith, r .count, r .few, g .space)) in
       let long : length room₂ ≡ length room =
-      ap length e ∙ omega (arith, length-append (headerOf n0 c m l made) (drop 8 room₁), length-drop 8 room₁, kept, g .space) in
+      ap length e ∙ omega (arith, length-append (headerOf n0 c o m l made) (drop 8 room₁), length-drop 8 room₁, kept, g .space) in
       let behind : drop 8 room₁ ≡ each (nodeWords 2) ns ++ R =
       ap (drop 8) (r .nodes) ∙ drop-at (take 8 room) (each (nodeWords 2) ns ++ R) 8 (length-take-le 8 room (omega (arith, g .space))) in
-      let head : headerOf n0 c m l made ≡ headerOf n (c# w) (m# w) (l# w) made = rw (en, ec, em, el) refl in
+      let head : headerOf n0 c o m l made ≡ headerOf n (c# w) (circles# w) (m# w) (l# w) made = rw (en, ec, eo, em, el) refl in
       let headed : room₂ ≡ front ++ drop (nodeAt made) room =
       e ∙ ap₂ (λ (x y : List ℕ). x ++ y) head (behind ∙ ap (λ (k : ℕ). each (nodeWords 2) ns ++ drop (nodeAt k) room) (sym (r .count)))
-      ∙ sym (append-assoc (headerOf n (c# w) (m# w) (l# w) made) (each (nodeWords 2) ns) (drop (nodeAt made) room)) in
-      let whole : nodeAt made + 2 * n ≡ length (encode 2 (c# w) (m# w) (l# w) tree) =
-      omega (arith, encode-words (c# w) (m# w) (l# w) tree, entries-long, r .count) in
+      ∙ sym (append-assoc (headerOf n (c# w) (circles# w) (m# w) (l# w) made) (each (nodeWords 2) ns) (drop (nodeAt made) room)) in
+      let whole : nodeAt made + 2 * n ≡ length (encode 2 (c# w) (circles# w) (m# w) (l# w) tree) =
+      omega (arith, encode-words (c# w) (circles# w) (m# w) (l# w) tree, entries-long, r .count) in
       record {
         index =
             put-more front (each pairWords (entries tree)) room room₂ ys (nodeAt made) (2 * n) front-long

@@ -6,7 +6,7 @@ use Rattle.limits.specs.Limits.{maxRows}
 use Rattle.regrow.specs.Calls.{Regrowable, regrownOf}
 use Rattle.rounds.specs.Stretch.{stretch}
 use Rattle.tree.specs.Encode.{encode, numbered}
-use Rattle.words.specs.Words.{N#, c#, count#, l#, m#, n#, pairAt, start#}
+use Rattle.words.specs.Words.{N#, c#, circles#, count#, l#, m#, n#, pairAt, start#}
 use lib.ListN.{drop, length, take}
 use mathlib.Core.List.{List, _++_}
 use mathlib.Core.Path.{_≡_}
@@ -27,7 +27,7 @@ pairsThen w v added work =
 
 -- the words of the tree that is grown anew, in edition 2
 abbrev pub regrownWords : List ℕ → List ℕ → ℕ → ℕ → ℕ → List ℕ → List ℕ
-regrownWords t w v added limit run = encode 2 (c# w) (m# w) (l# w) (regrownOf t w v added limit run)
+regrownWords t w v added limit run = encode 2 (c# w) (circles# w) (m# w) (l# w) (regrownOf t w v added limit run)
 
 -- The index stands in the room, as the room was beyond it; the workspace is as long as it was
 pub record Refilled (t w : List ℕ) (v added limit : ℕ) (run room work room′ work′ : List ℕ) (made : ℕ) : Type 0 where

@@ -13,6 +13,7 @@ use reach::node_end;
 use split::WIDTH;
 use words::places::HEADER;
 use words::places::centres;
+use words::places::circles;
 use words::places::columns;
 use words::places::leaf_size;
 use words::places::node_count;
@@ -61,8 +62,14 @@ pub fn refill(table: &[u16], index: &[u32], p: Growth, room: &mut [u32], work: &
     let made = regrow::regrow(table, index, p, room, work);
     let centres = centres(index);
     let leaf = leaf_size(index);
+    let circles = circles(index);
     let n = rows(index) + p.added;
-    build::put_header(room, n, columns(index), Params { centres, leaf }, made);
+    let params = Params {
+        centres,
+        leaf,
+        circles,
+    };
+    build::put_header(room, n, columns(index), params, made);
     let at = HEADER + WIDTH * made;
     put_pairs(index, p.node, p.added, &mut room[at..], work);
     made

@@ -11,7 +11,7 @@ use Rattle.regrow.specs.Pieces.{Job, fresh, kept, piece}
 use Rattle.tree.specs.Build.{grow}
 use Rattle.tree.specs.Grove.{Grove, Reach, bare, fork, leaf, members#}
 use Rattle.words.specs.Shape.{treeFits}
-use Rattle.words.specs.Words.{N#, c#, child#, m#, n#, start#}
+use Rattle.words.specs.Words.{N#, c#, child#, circles#, m#, n#, start#}
 use borrow.Author.Tests.{eqb-false, le-leb, leb-true}
 use lib.Dec.{T, eqb, leb}
 use mathlib.Core.Bool.{Bool, _&&_, cond, false, not, true}
@@ -26,11 +26,11 @@ module _ (t w : List ℕ) (v added limit : ℕ) (run : List ℕ) (fits : T (tree
 
   -- how far each node reaches
   abbrev R : ℕ → Reach
-  R = newReach (between t (c# w)) w v added
+  R = newReach (between t (c# w) (circles# w)) w v added
 
   -- node v, with `deep` levels below it, before the nodes g
   abbrev anew : ℕ → Grove → Grove
-  anew deep g = keepOwn (R v) (grow (between t (c# w)) (m# w) limit deep run g)
+  anew deep g = keepOwn (R v) (grow (between t (c# w) (circles# w)) (m# w) limit deep run g)
 
   -- THE TREE WITH NODE V GROWN ANEW IS THAT OF THE PIECES
   pub changed-pieces : (deep k : ℕ) (g : Grove) → changedAt w R v anew deep k g ≡ grown J (members# w) deep (piece J k) g

@@ -13,7 +13,7 @@ use Rattle.regrow.specs.Pieces.{Job, Piece, Sound, allNodes, due, jobOf,
 use Rattle.regrow.specs.Stages.{Layered, Level, Paved, Planted, Stage, Staged}
 use Rattle.split.specs.Runs.{laid}
 use Rattle.tree.specs.Encode.{Node}
-use Rattle.words.specs.Words.{N#, c#, m#, n#}
+use Rattle.words.specs.Words.{N#, c#, circles#, m#, n#}
 use lib.ListN.{length, length-append, length-map}
 use mathlib.Core.List.{List, [], _++_, _∷_, append-assoc, append-nil, cons≢nil, map}
 use mathlib.Core.Logic.{_⊎_, inl, inr}
@@ -40,7 +40,7 @@ module _ {t w : List ℕ} {v added limit : ℕ} {room₀ work₀ : List ℕ} (g 
 
   -- how far two rows are apart
   abbrev d : ℕ → ℕ → ℕ
-  d = between t (c# w)
+  d = between t (c# w) (circles# w)
 
   -- the run that is due
   abbrev due1 : Due

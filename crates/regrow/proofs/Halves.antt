@@ -14,7 +14,7 @@ use Rattle.regrow.specs.Pieces.{Job, Piece, Sound, jobOf, levelOut, next
 use Rattle.regrow.specs.Stages.{Level, Paved}
 use Rattle.split.specs.Places.{child#, count#, nodeAt, start#}
 use Rattle.tree.specs.Encode.{Node, nodeWords}
-use Rattle.words.specs.Words.{N#, c#, m#, n#}
+use Rattle.words.specs.Words.{N#, c#, circles#, m#, n#}
 use lib.ListN.{drop, length, length-append, length-map, set, take}
 use mathlib.Core.List.{List, [], _++_, _∷_, append-assoc, append-nil, map}
 use mathlib.Core.Path.{_∙_, _≡_, ap, ap₂, subst, sym}
@@ -35,7 +35,7 @@ module _ {t w : List ℕ} {v added limit : ℕ} {room₀ work₀ : List ℕ} {lo
 
   -- the tiles that took the place of others
   abbrev pub gone : List (List ℕ) → List (List ℕ)
-  gone past = each (opened (between t (c# w)) (m# w) limit) past
+  gone past = each (opened (between t (c# w) (circles# w)) (m# w) limit) past
 
   -- `done` are opened and `todo` are not; the tiles `past` gave way to their children's, `ahead` did not
   pub record Half (done todo : List Piece) (past ahead : List (List ℕ)) (room work : List ℕ) (made k : ℕ) : Type 0 where
@@ -44,7 +44,7 @@ module _ {t w : List ℕ} {v added limit : ℕ} {room₀ work₀ : List ℕ} {lo
     pub nodes : room ≡ withNodes (g .origin) (front done ++ behind done todo)
     pub count : made ≡ hi + length (nextLevel job done)
     pub here : k ≡ length (g .before) + length done
-    pub paved : Paved (between t (c# w)) limit (n# w + added) (g .base) (g .fore) (g .rear) work (gone past ++ ahead)
+    pub paved : Paved (between t (c# w) (circles# w)) limit (n# w + added) (g .base) (g .fore) (g .rear) work (gone past ++ ahead)
     pub wait : keep (waits limit) (runsOf todo) ≡ keep (waits limit) (placed (g .base + length (joined (gone past))) ahead)
 
   -- the nodes before k are opened
@@ -211,7 +211,7 @@ module _ {t w : List ℕ} {v added limit : ℕ} {room₀ work₀ : List ℕ} {lo
           → room′ ≡ take (nodeAt made) (set room (nodeAt k + 2) made)
           ++ (each (nodeWords 2) (map (pending job) kids) ++ drop (nodeAt (made + m)) (set room (nodeAt k + 2) made))
           → g .tiles ≡ past′ ++ ahead′
-          → Paved (between t (c# w)) limit (n# w + added) (g .base) (g .fore) (g .rear) work′ (gone past′ ++ ahead′)
+          → Paved (between t (c# w) (circles# w)) limit (n# w + added) (g .base) (g .fore) (g .rear) work′ (gone past′ ++ ahead′)
           → keep (waits limit) (runsOf rest) ≡ keep (waits limit) (placed (g .base + length (joined (gone past′))) ahead′)
           → Half (done ++ q ∷ []) rest past′ ahead′ room′ work′ r (k + 1)
       half-grows {m} {r} {room′} past′ ahead′ many er er′ runs paved wait =

@@ -5,7 +5,7 @@ use Rattle.growing.specs.Stages.{Openable, Opened}
 use Rattle.measure.specs.Table.{between}
 use Rattle.regrow.specs.Stages.{Openable′, Opened′}
 use Rattle.split.specs.Places.{child#, nodeAt}
-use Rattle.words.specs.Words.{N#, c#, m#, n#}
+use Rattle.words.specs.Words.{N#, c#, circles#, m#, n#}
 use lib.ListN.{length, length-set, set}
 use mathlib.Core.List.{List}
 use mathlib.Core.Path.{_∙_, _≡_, ap, refl, sym}
@@ -14,15 +14,15 @@ use native.Mathlib.Omega.{arith}
 module _ {t w : List ℕ} {v added limit : ℕ} {room work : List ℕ} {k made : ℕ} (asked : Openable′ t w v added limit room work k made) {x m : ℕ}
     (child : x ≡ child# room k) (share : m ≡ m# w) where
   -- ---- it has no child
-  module _ {c r : ℕ} (none : x ≡ 0) (columns : c ≡ c# w) (rows : r ≡ n# w) where
+  module _ {c o r : ℕ} (none : x ≡ 0) (columns : c ≡ c# w) (circles : o ≡ circles# w) (rows : r ≡ n# w) where
     -- what the build asks
-    pub splits-ready : Openable t c m limit (r + added) room work k made
-    splits-ready = rw (columns, share, rows) (asked .splits (sym child ∙ none))
+    pub splits-ready : Openable t c o m limit (r + added) room work k made
+    splits-ready = rw (columns, circles, share, rows) (asked .splits (sym child ∙ none))
 
     -- what it leaves
-    pub splits-done : {room′ work′ : List ℕ} {made′ : ℕ} → Opened t c m limit (r + added) room work k made room′ work′ made′
+    pub splits-done : {room′ work′ : List ℕ} {made′ : ℕ} → Opened t c o m limit (r + added) room work k made room′ work′ made′
         → Opened′ t w v added limit room work k made room′ work′ made′
-    splits-done got = record { splits = λ h. rw (columns, share, rows) at got; copies = λ h. absurd (h (sym child ∙ none)) }
+    splits-done got = record { splits = λ h. rw (columns, circles, share, rows) at got; copies = λ h. absurd (h (sym child ∙ none)) }
 
   -- ---- it has one in the old index
   module _ (some : x ≡ 0 → ⊥) where
@@ -34,7 +34,7 @@ module _ {t w : List ℕ} {v added limit : ℕ} {room work : List ℕ} {k made :
 
     -- they are copied
     pub copies-left : {room′ : List ℕ}
-        → room′ ≡ withCopies (copied (between t (c# w)) w v added) x (m# w) (set room (nodeAt k + 2) made) made
+        → room′ ≡ withCopies (copied (between t (c# w) (circles# w)) w v added) x (m# w) (set room (nodeAt k + 2) made) made
         → Opened′ t w v added limit room work k made room′ work (made + m)
     copies-left {room′} e =
         record {
@@ -42,6 +42,6 @@ module _ {t w : List ℕ} {v added limit : ℕ} {room work : List ℕ} {k made :
           copies = λ h. (
             omega arith,
             refl,
-            e ∙ ap (λ (o : ℕ). withCopies (copied (between t (c# w)) w v added) o (m# w) (set room (nodeAt k + 2) made) made) child,
+            e ∙ ap (λ (o : ℕ). withCopies (copied (between t (c# w) (circles# w)) w v added) o (m# w) (set room (nodeAt k + 2) made) made) child,
           );
         }

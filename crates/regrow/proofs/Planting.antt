@@ -18,7 +18,7 @@ use Rattle.rounds.specs.Stretch.{stretch}
 use Rattle.split.specs.Runs.{laid}
 use Rattle.tree.specs.Encode.{Node, numbered}
 use Rattle.tree.specs.Grove.{bare, members#}
-use Rattle.words.specs.Words.{N#, c#, count#, m#, n#, start#}
+use Rattle.words.specs.Words.{N#, c#, circles#, count#, m#, n#, start#}
 use lib.ListN.{drop, length, take}
 use lib.Seq.{drop-drop, length-take-le, take-add}
 use mathlib.Core.List.{List, [], _++_, _∷_, append-nil}
@@ -121,7 +121,7 @@ module _ {t w : List ℕ} {v added limit : ℕ} {room work : List ℕ} (g : Regr
                   record {
                     halves = g .halves;
                     words = three-parts work (3 * start# w v) (3 * length (g .run)) (3 * n) (omega (arith, inside))
-                        ∙ ap (λ (x : List ℕ). fore ++ (x ++ rear)) (g .stands ∙ sym (append-nil (laid (between t (c# w)) (g .run))));
+                        ∙ ap (λ (x : List ℕ). fore ++ (x ++ rear)) (g .stands ∙ sym (append-nil (laid (between t (c# w) (circles# w)) (g .run))));
                     lead = length-take-le (3 * start# w v) work (omega (arith, inside, g .halves)) ∙ omega (arith, at);
                     runs = (able, tt);
                     rows = (g .rows, tt);

@@ -22,7 +22,7 @@ use Rattle.tree.proofs.Grow.{split-length}
 use Rattle.tree.specs.Build.{split}
 use Rattle.tree.specs.Encode.{Node, nodeWords}
 use Rattle.tree.specs.Grove.{Reach}
-use Rattle.words.specs.Words.{N#, c#, m#, n#}
+use Rattle.words.specs.Words.{N#, c#, circles#, m#, n#}
 use borrow.Author.Tests.{eqb-false, eqb-true, leb-false, leb-true, lt-leb, ne-eqb}
 use lib.Dec.{eqb, leb}
 use lib.ListN.{drop, length, length-map, set, take}
@@ -34,7 +34,7 @@ use native.Mathlib.Omega.{arith}
 module _ {t w : List ℕ} {v added limit : ℕ} {room₀ work₀ : List ℕ} {lo hi : ℕ} (g : Level t w v added limit room₀ work₀ lo hi) where
   -- how far two rows are apart
   abbrev d : ℕ → ℕ → ℕ
-  d = between t (c# w)
+  d = between t (c# w) (circles# w)
 
   -- a node that is opened has a child
   one : 1 ≤ m# w
@@ -161,7 +161,7 @@ module _ {t w : List ℕ} {v added limit : ℕ} {room₀ work₀ : List ℕ} {lo
           length-map (placed s (split d (m# w) run)) (freshOf d) ∙ placed-long s (split d (m# w) run) ∙ kids-many
 
       -- it can be split
-      fresh-ready : Splittable t (c# w) (m# w) (n# w + added) room work (start# room k) (count# room k) made
+      fresh-ready : Splittable t (c# w) (circles# w) (m# w) (n# w + added) room work (start# room k) (count# room k) made
       fresh-ready =
           let read = paved-read front run (next .back) paved-cut in
           rw (start-at, count-is g half)
@@ -181,7 +181,8 @@ module _ {t w : List ℕ} {v added limit : ℕ} {room₀ work₀ : List ℕ} {lo
 
       -- ---- it is split
       module _ {room′ work′ : List ℕ} (same : length work′ ≡ length work)
-          (got : Splitted t (c# w) (m# w) (n# w + added) (set room (nodeAt k + 2) made) work (start# room k) (count# room k) made room′ work′) where
+          (got : Splitted t (c# w) (circles# w) (m# w) (n# w + added) (set room (nodeAt k + 2) made) work (start# room k) (count# room k) made room′
+          work′) where
         -- the run that is read is the tile
         read : runAt work (start# room k) (count# room k) ≡ run
         read = rw (start-at, count-is g half) (paved-read front run (next .back) paved-cut)
@@ -254,7 +255,7 @@ module _ {t w : List ℕ} {v added limit : ℕ} {room₀ work₀ : List ℕ} {lo
         → Levelling g room′ work′ r (k + 1)
     fresh-step {room′} {work′} {r} same got′ = go (leb (length run) limit) refl
       where
-        got : Opened t (c# w) (m# w) limit (n# w + added) room work k made room′ work′ r
+        got : Opened t (c# w) (circles# w) (m# w) limit (n# w + added) room work k made room′ work′ r
         got = got′ .splits (child-is g half)
 
         go : (b : Bool) → leb (length run) limit ≡ b → Levelling g room′ work′ r (k + 1)
@@ -285,7 +286,7 @@ module _ {t w : List ℕ} {v added limit : ℕ} {room₀ work₀ : List ℕ} {lo
   module _ {done rest : List Piece} {past ahead : List (List ℕ)} {room work : List ℕ} {made k : ℕ} where
     -- what splitting asks, where it has no child
     ready : (q : Piece) → Half g done (q ∷ rest) past ahead room work made k → child# room k ≡ 0 → limit < count# room k
-        → Splittable t (c# w) (m# w) (n# w + added) room work (start# room k) (count# room k) made
+        → Splittable t (c# w) (circles# w) (m# w) (n# w + added) room work (start# room k) (count# room k) made
     ready (kept o) half e h = absurd (omega (arith, kept-small half e))
     ready (fresh s R run) half e h = fresh-ready half (lt-leb (length run) limit (omega (arith, count-is g half)))
 

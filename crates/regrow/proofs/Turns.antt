@@ -15,7 +15,7 @@ use Rattle.regrow.specs.Pieces.{Job, Piece, Sound, fresh, freshOf, kept,
 use Rattle.regrow.specs.Stages.{Level, Openable′, Opened′, Paved, Stage}
 use Rattle.tree.specs.Build.{split}
 use Rattle.tree.specs.Encode.{Node}
-use Rattle.words.specs.Words.{N#, c#, m#, n#}
+use Rattle.words.specs.Words.{N#, c#, circles#, m#, n#}
 use borrow.Author.Tests.{eqb-false}
 use lib.Dec.{eqb, leb}
 use lib.ListN.{length, length-append}
@@ -124,8 +124,8 @@ module _ {t w : List ℕ} {v added limit : ℕ} {room₀ work₀ : List ℕ} {lo
             let e : g .items ≡ inv .done = f .all ∙ append-nil (inv .done) in
             let small = none-waiting limit (g .base + length (joined (gone g (inv .past)))) (inv .ahead) (f .wait) in
             let ts : gone g (inv .past) ++ inv .ahead ≡ gone g (g .tiles) =
-            sym (ap (gone g) (f .runs) ∙ each-append (opened (between t (c# w)) (m# w) limit) (inv .past) (inv .ahead)
-            ∙ ap (λ (x : List (List ℕ)). gone g (inv .past) ++ x) (small-opened (between t (c# w)) (m# w) limit (inv .ahead) small)) in
+            sym (ap (gone g) (f .runs) ∙ each-append (opened (between t (c# w) (circles# w)) (m# w) limit) (inv .past) (inv .ahead)
+            ∙ ap (λ (x : List (List ℕ)). gone g (inv .past) ++ x) (small-opened (between t (c# w) (circles# w)) (m# w) limit (inv .ahead) small)) in
             let out : length (front g (g .items)) ≡ length (g .before) + length (g .items) =
             length-append (g .before) (levelOut (job g) hi (g .items)) ∙ ap (λ (i : ℕ). length (g .before) + i) (out-long (job g) hi (g .items)) in
             let many : made ≡ hi + length (nextLevel (job g) (g .items)) =
@@ -139,5 +139,5 @@ module _ {t w : List ℕ} {v added limit : ℕ} {room₀ work₀ : List ℕ} {lo
               last = omega (arith, out, many, g .stage .last);
               few = rw many (omega (arith, out, g .stage .few, all-more (job g) (g .deep) hi (g .items)));
               sound = next-sound (job g) (N# w) (g .deep) (g .items) (g .stage .sound);
-              paved = subst (Paved (between t (c# w)) limit (n# w + added) (g .base) (g .fore) (g .rear) work) ts (f .paved);
+              paved = subst (Paved (between t (c# w) (circles# w)) limit (n# w + added) (g .base) (g .fore) (g .rear) work) ts (f .paved);
             }

@@ -18,7 +18,7 @@ use Rattle.build.specs.Numbers.{roomOf}
 use Rattle.tree.specs.Encode.{numbered}
 use Rattle.tree.specs.Grove.{Grove, Reach, bare}
 use Rattle.words.specs.Shape.{treeFits}
-use Rattle.words.specs.Words.{c#, count#, m#, n#, start#}
+use Rattle.words.specs.Words.{c#, circles#, count#, m#, n#, start#}
 use lib.Dec.{T}
 use lib.ListN.{length, take}
 use mathlib.Core.List.{List, [], _++_, _∷_}
@@ -27,8 +27,8 @@ use mathlib.Core.Path.{_≡_}
 -- the tree: as the index has it, but node v is grown from a run, and the nodes whose run holds its reach to the row that has come
 unfoldable pub regrownOf : List ℕ → List ℕ → ℕ → ℕ → ℕ → List ℕ → Grove
 regrownOf t w v added limit run =
-    let R : ℕ → Reach = newReach (between t (c# w)) w v added in
-    changedAt w R v (λ deep g. keepOwn (R v) (grow (between t (c# w)) (m# w) limit deep run g)) maxDepth 0 bare
+    let R : ℕ → Reach = newReach (between t (c# w) (circles# w)) w v added in
+    changedAt w R v (λ deep g. keepOwn (R v) (grow (between t (c# w) (circles# w)) (m# w) limit deep run g)) maxDepth 0 bare
 
 -- A run stands in the workspace where node v's run is to stand: `added` rows more than node v has, and no row twice if it is to be split. Room and
 -- workspace are a build's
@@ -39,7 +39,7 @@ pub record Regrowable (t w : List ℕ) (v added limit : ℕ) (room work : List �
   pub count : length run ≡ count# w v + added
   pub once : limit < length run → (i : ℕ) → times i run ≤ 1
   pub rows : Every (λ i. i < n# w + added) run
-  pub stands : stretch work (3 * start# w v) (3 * start# w v + 3 * length run) ≡ laid (between t (c# w)) run
+  pub stands : stretch work (3 * start# w v) (3 * start# w v + 3 * length run) ≡ laid (between t (c# w) (circles# w)) run
   pub halves : 6 * (n# w + added) ≤ length work
   pub space : roomOf (n# w + added) ≤ length room
 
@@ -51,7 +51,7 @@ pub record Regrown (t w : List ℕ) (v added limit : ℕ) (run room work room′
   pub left : ℕ
   pub level : due (jobOf t w v added limit run) maxDepth (piece (jobOf t w v added limit run) 0) ≡ (left, (start# w v, run)) ∷ []
   pub entries : take (3 * (n# w + added)) work′ ≡ take (3 * start# w v) work
-      ++ (each (laid (between t (c# w))) (leaves (between t (c# w)) (m# w) limit left run)
+      ++ (each (laid (between t (c# w) (circles# w))) (leaves (between t (c# w) (circles# w)) (m# w) limit left run)
       ++ stretch work (3 * start# w v + 3 * length run) (3 * (n# w + added)))
 
 -- they do, whatever the run

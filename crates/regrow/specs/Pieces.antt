@@ -9,7 +9,7 @@ use Rattle.measure.specs.Table.{between}
 use Rattle.tree.specs.Build.{reach, split}
 use Rattle.tree.specs.Encode.{Node}
 use Rattle.tree.specs.Grove.{Reach}
-use Rattle.words.specs.Words.{c#, m#}
+use Rattle.words.specs.Words.{c#, circles#, m#}
 use lib.Dec.{eqb, leb}
 use lib.ListN.{length}
 use mathlib.Core.Bool.{cond}
@@ -30,7 +30,7 @@ pub record Job : Type 0 where
 -- that of an index and a table
 abbrev pub jobOf : List ℕ → List ℕ → ℕ → ℕ → ℕ → List ℕ → Job
 jobOf t w v added limit run =
-    record { d = between t (c# w); m = m# w; limit = limit; copy = copied (between t (c# w)) w v added; v = v; run = run }
+    record { d = between t (c# w) (circles# w); m = m# w; limit = limit; copy = copied (between t (c# w) (circles# w)) w v added; v = v; run = run }
 
 -- ---- the pieces of a level
 -- a node of the old index that stays; or a run of the workspace, with its start and how far its node reaches

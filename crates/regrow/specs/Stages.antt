@@ -12,7 +12,7 @@ use Rattle.regrow.specs.Pieces.{Job, Piece, Sound, allNodes, due, jobOf,
 use Rattle.split.specs.Places.{child#, nodeAt}
 use Rattle.split.specs.Runs.{laid}
 use Rattle.tree.specs.Encode.{Node}
-use Rattle.words.specs.Words.{N#, c#, m#, n#}
+use Rattle.words.specs.Words.{N#, c#, circles#, m#, n#}
 use lib.ListN.{length, set, take}
 use mathlib.Core.List.{List, [], _++_, _∷_, map}
 use mathlib.Core.Path.{_≡_}
@@ -24,15 +24,15 @@ pub record Openable′ (t w : List ℕ) (v added limit : ℕ) (room work : List 
   pub old : k < made
   pub small : made ≤ 2097152
   pub there : nodeAt made ≤ length room
-  pub splits : child# room k ≡ 0 → Openable t (c# w) (m# w) limit (n# w + added) room work k made
+  pub splits : child# room k ≡ 0 → Openable t (c# w) (circles# w) (m# w) limit (n# w + added) room work k made
   pub copies : (child# room k ≡ 0 → ⊥) → (child# room k + m# w ≤ N# w) × (nodeAt (made + m# w) ≤ length room) × (made + m# w ≤ 2097152)
 
 -- as the build opens it; or its m old children are copied from `made` on
 pub record Opened′ (t w : List ℕ) (v added limit : ℕ) (room work : List ℕ) (k made : ℕ) (room′ work′ : List ℕ) (r : ℕ) : Type 0 where
-  pub splits : child# room k ≡ 0 → Opened t (c# w) (m# w) limit (n# w + added) room work k made room′ work′ r
+  pub splits : child# room k ≡ 0 → Opened t (c# w) (circles# w) (m# w) limit (n# w + added) room work k made room′ work′ r
   pub copies : (child# room k ≡ 0 → ⊥)
       → (r ≡ made + m# w) × (work′ ≡ work)
-      × (room′ ≡ withCopies (copied (between t (c# w)) w v added) (child# room k) (m# w) (set room (nodeAt k + 2) made) made)
+      × (room′ ≡ withCopies (copied (between t (c# w) (circles# w)) w v added) (child# room k) (m# w) (set room (nodeAt k + 2) made) made)
 
 -- ---- the workspace
 -- between `fore` and `rear` the first half of the workspace is runs that follow each other from position `base` on
@@ -84,7 +84,7 @@ Staged t w v added limit room work lo hi room′ work′ r =
     (g : Level t w v added limit room work lo hi)
     → Stage (jobOf t w v added limit (g .run)) (N# w) (n# w + added) (g .deep) (g .base) (g .most) (g .fore) (g .rear) (g .origin)
     (g .before ++ levelOut (jobOf t w v added limit (g .run)) hi (g .items)) (nextLevel (jobOf t w v added limit (g .run)) (g .items))
-    (each (opened (between t (c# w)) (m# w) limit) (g .tiles)) room′ work′ hi r
+    (each (opened (between t (c# w) (circles# w)) (m# w) limit) (g .tiles)) room′ work′ hi r
 
 -- ---- all levels
 -- The root's node stands alone in the room. Node v's run, which it comes to with `left` levels below it, is laid in the workspace

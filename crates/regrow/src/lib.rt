@@ -12,6 +12,7 @@ use limits::Params;
 use split::WIDTH;
 use words::places::HEADER;
 use words::places::centres;
+use words::places::circles;
 use words::places::columns;
 use words::places::rows;
 use words::places::word;
@@ -36,6 +37,7 @@ fn open_piece(
         return growing::open_node(
             table,
             columns(index),
+            circles(index),
             m,
             p.limit,
             rows(index) + p.added,

@@ -17,12 +17,12 @@ fn wide(x: u32) -> usize
 }
 
 // An entry's least distance and its centre, now that `centre` is one.
-fn nearer_one(table: &[u16], c: usize, centre: u32, entry: &mut [u32])
+fn nearer_one(table: &[u16], c: usize, circles: u32, centre: u32, entry: &mut [u32])
     requires { ⌜ (c ≤ maxColumns) × InTable (now table) c centre × (length (now entry) ≡ 3)
         × InTable (now table) c (getD (now entry) 0 0) ⌝ }
-    ensures { λ _. ⌜ now (entry .exit) ≡ nearAll (between (now (table .entry)) c) centre (now (entry .entry)) ⌝ }
+    ensures { λ _. ⌜ now (entry .exit) ≡ nearAll (between (now (table .entry)) c circles) centre (now (entry .entry)) ⌝ }
 {
-    let d = row_distance(table, c, wide(centre), wide(entry[0]));
+    let d = row_distance(table, c, circles, wide(centre), wide(entry[0]));
     if d < entry[1] {
         entry[1] = d;
         entry[2] = centre;
@@ -30,14 +30,14 @@ fn nearer_one(table: &[u16], c: usize, centre: u32, entry: &mut [u32])
 }
 
 // The same for every entry.
-pub fn nearer(table: &[u16], c: usize, centre: u32, part: &mut [u32])
+pub fn nearer(table: &[u16], c: usize, circles: u32, centre: u32, part: &mut [u32])
     requires { ⌜ (c ≤ maxColumns) × InTable (now table) c centre × Entries (InTable (now table) c) (now part) ⌝ }
-    ensures { λ _. ⌜ now (part .exit) ≡ nearAll (between (now (table .entry)) c) centre (now (part .entry)) ⌝ }
+    ensures { λ _. ⌜ now (part .exit) ≡ nearAll (between (now (table .entry)) c circles) centre (now (part .entry)) ⌝ }
 {
     let mut p = 0;
     while p < part.len() {
         let e = p + 3;
-        nearer_one(table, c, centre, &mut part[p..e]);
+        nearer_one(table, c, circles, centre, &mut part[p..e]);
         p = e;
     }
 }
@@ -96,27 +96,27 @@ fn shift(part: &mut [u32], b: usize)
 }
 
 // One round: the entry that is farthest from the centres becomes a centre and moves to the front; the others keep their order and learn of it.
-fn round(table: &[u16], c: usize, part: &mut [u32])
+fn round(table: &[u16], c: usize, circles: u32, part: &mut [u32])
     requires { ⌜ (c ≤ maxColumns) × (3 ≤ length (now part)) × Entries (InTable (now table) c) (now part) ⌝ }
-    ensures { λ _. ⌜ now (part .exit) ≡ roundOf (between (now (table .entry)) c) (now (part .entry)) ⌝ }
+    ensures { λ _. ⌜ now (part .exit) ≡ roundOf (between (now (table .entry)) c circles) (now (part .entry)) ⌝ }
 {
     let b = farthest(part);
     let row = part[b];
     shift(part, b);
     put_entry(part, row, 0, row);
-    nearer(table, c, row, &mut part[3..]);
+    nearer(table, c, circles, row, &mut part[3..]);
 }
 
 // The rounds that leave m centres at the front of a run whose first is at the front.
-pub fn choose(table: &[u16], c: usize, m: usize, run: &mut [u32])
+pub fn choose(table: &[u16], c: usize, circles: u32, m: usize, run: &mut [u32])
     requires { ⌜ (c ≤ maxColumns) × (1 ≤ m) × (3 * m ≤ length (now run)) × Entries (InTable (now table) c) (now run) ⌝ }
     ensures { λ _. ⌜ now (run .exit) ≡ take 3 (now (run .entry))
-        ++ roundsOf (between (now (table .entry)) c) (m - 1) (drop 3 (now (run .entry))) ⌝ }
+        ++ roundsOf (between (now (table .entry)) c circles) (m - 1) (drop 3 (now (run .entry))) ⌝ }
 {
     let mut r = 1;
     while r < m {
         let at = 3 * r;
-        round(table, c, &mut run[at..]);
+        round(table, c, circles, &mut run[at..]);
         r += 1;
     }
 }

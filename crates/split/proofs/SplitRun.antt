@@ -2,7 +2,6 @@
 use Prim.Native.Nat.{_*_, _+_, _-_, _<_, _≤_, suc, zero, ℕ}
 use Rattle.laws.proofs.Every.{every-drop, every-take}
 use Rattle.laws.specs.Lists.{each, head}
-use Rattle.measure.proofs.Metric.{metric}
 use Rattle.measure.proofs.Rows.{row-ends}
 use Rattle.measure.specs.Table.{between}
 use Rattle.rounds.proofs.Entries.{entries-append, rounds-entries}
@@ -13,7 +12,7 @@ use Rattle.split.proofs.Among.{among, among-all, among-is, among-long, 
 use Rattle.split.proofs.Closest.{held}
 use Rattle.split.proofs.Held.{chosen-words, unchosen}
 use Rattle.split.proofs.Informing.{learnt-long}
-use Rattle.split.proofs.Laid.{laid-long, under, under-append, under-entries, under-long}
+use Rattle.split.proofs.Laid.{laid-long, row-self, under, under-append, under-entries, under-long}
 use Rattle.split.proofs.Parted.{both-lent, both-put, part-lent}
 use Rattle.split.proofs.SplitWords.{group-nodes, group-words}
 use Rattle.split.specs.Learning.{centreRows, learnt}
@@ -44,11 +43,11 @@ informPart work s early count ys = midOf (3 * s) (3 * s + 3 * count - 3 * s) (pu
 abbrev pub withPart : List ℕ → ℕ → ℕ → List ℕ → List ℕ
 withPart work s count ys = putMid (3 * s) (3 * s + 3 * count - 3 * s) work ys
 
-module _ {t : List ℕ} {c m n : ℕ} {room work : List ℕ} {s count made : ℕ} (asked : Splittable t c m n room work s count made)
+module _ {t : List ℕ} {c o m n : ℕ} {room work : List ℕ} {s count made : ℕ} (asked : Splittable t c o m n room work s count made)
     {early : ℕ} (some : m ≤ early) (within : early ≤ count) where
   -- how far two rows are apart
   abbrev d : ℕ → ℕ → ℕ
-  d = between t c
+  d = between t c o
 
   -- the word where the run starts
   abbrev lo : ℕ
@@ -144,7 +143,7 @@ module _ {t : List ℕ} {c m n : ℕ} {room work : List ℕ} {s count made : ℕ
 
   -- ---- after the rounds
   module _ {ys : List ℕ} (long₁ : length ys ≡ length (earlyPart work s early))
-      (rounds : ys ≡ take 3 (earlyPart work s early) ++ roundsOf (between t c) (m - 1) (drop 3 (earlyPart work s early))) where
+      (rounds : ys ≡ take 3 (earlyPart work s early) ++ roundsOf (between t c o) (m - 1) (drop 3 (earlyPart work s early))) where
     -- the words of the early rows then
     abbrev W : List ℕ
     W = each own (among d m early run) ++ each (held d (among d m early run)) (unchosen d m (take early run))
@@ -153,7 +152,7 @@ module _ {t : List ℕ} {c m n : ℕ} {room work : List ℕ} {s count made : ℕ
     ys-are : ys ≡ W
     ys-are =
         rounds ∙ ap (λ (l : List ℕ). take 3 l ++ roundsOf d (m - 1) (drop 3 l)) early-lent
-        ∙ chosen-words d m (take early run) (asked .share) (omega (arith, early-long, some)) (metric t c .self (head (take early run)))
+        ∙ chosen-words d m (take early run) (asked .share) (omega (arith, early-long, some)) (row-self t c o (head (take early run)))
 
     -- as many words as before
     ys-long : length ys ≡ length E
@@ -177,7 +176,7 @@ module _ {t : List ℕ} {c m n : ℕ} {room work : List ℕ} {s count made : ℕ
 
     -- ---- after the others have learnt of the centres
     module _ {zs : List ℕ} (informed : zs ≡ take (3 * early) (informPart work s early count ys)
-        ++ learnt (between t c) (centreRows (informPart work s early count ys) (m - 1)) (drop (3 * early) (informPart work s early count ys))) where
+        ++ learnt (between t c o) (centreRows (informPart work s early count ys) (m - 1)) (drop (3 * early) (informPart work s early count ys))) where
       -- the workspace then
       abbrev after : List ℕ
       after = withPart work s count zs
@@ -250,14 +249,14 @@ module _ {t : List ℕ} {c m n : ℕ} {room work : List ℕ} {s count made : ℕ
       -- the groups are the children's runs
       groups-are : groupWords after m s count ≡ each (laid d) (splitAmong d m early run)
       groups-are =
-          group-words d (metric t c .self) after m s count (among d m early run) (other d m early run) (drop hi work) (asked .share) (asked .centred)
+          group-words d (row-self t c o) after m s count (among d m early run) (other d m early run) (drop hi work) (asked .share) (asked .centred)
           (among-long d m early run (asked .share) some (omega (arith, run-long, within))) after-here words-long
           ∙ ap (each (laid d)) (sym (among-is d m early run))
 
       -- and their nodes those of the runs
       nodes-are : groupNodes after m s count ≡ runNodes d s (splitAmong d m early run)
       nodes-are =
-          group-nodes d (metric t c .self) after m s count (among d m early run) (other d m early run) (drop hi work) (asked .share) (asked .centred)
+          group-nodes d (row-self t c o) after m s count (among d m early run) (other d m early run) (drop hi work) (asked .share) (asked .centred)
           (among-long d m early run (asked .share) some (omega (arith, run-long, within))) after-here words-long
           ∙ ap (runNodes d s) (sym (among-is d m early run))
 
@@ -338,7 +337,7 @@ module _ {t : List ℕ} {c m n : ℕ} {room work : List ℕ} {s count made : ℕ
             ∙ append-assoc (take lo work) G (stretch work₂ hi (3 * n)) ∙ ap (λ (x : List ℕ). take lo work ++ (G ++ x)) second-back
 
         -- THE SPLIT OF ONE RUN
-        pub split-done : SplitAmong t c m early n room work s count made room′ work₃
+        pub split-done : SplitAmong t c o m early n room work s count made room′ work₃
         split-done =
             record {
               words = third-half ∙ ap (λ (x : List ℕ). take lo work ++ (x ++ stretch work hi (3 * n))) groups-are;
@@ -346,13 +345,13 @@ module _ {t : List ℕ} {c m n : ℕ} {room work : List ℕ} {s count made : ℕ
             }
 
 -- WHERE ANY ROW MAY BECOME A CENTRE, THE RUNS ARE THOSE OF 01's SPLIT
-pub split-all : {t : List ℕ} {c m n : ℕ} {room work : List ℕ} {s count made : ℕ} → Splittable t c m n room work s count made
-    → {room′ work′ : List ℕ} → SplitAmong t c m count n room work s count made room′ work′ → Splitted t c m n room work s count made room′ work′
-split-all {t} {c} {m} {n} {room} {work} {s} {count} {made} asked got =
+pub split-all : {t : List ℕ} {c o m n : ℕ} {room work : List ℕ} {s count made : ℕ} → Splittable t c o m n room work s count made
+    → {room′ work′ : List ℕ} → SplitAmong t c o m count n room work s count made room′ work′ → Splitted t c o m n room work s count made room′ work′
+split-all {t} {c} {o} {m} {n} {room} {work} {s} {count} {made} asked got =
     let run : List ℕ = runAt work s count in
-    let same : splitAmong (between t c) m count run ≡ split (between t c) m run =
-    among-all (between t c) m count run (sym (run-long asked (asked .centred) (omega arith))) in
+    let same : splitAmong (between t c o) m count run ≡ split (between t c o) m run =
+    among-all (between t c o) m count run (sym (run-long asked (asked .centred) (omega arith))) in
     record {
-      words = got .words ∙ ap (λ (x : List (List ℕ)). take (3 * s) work ++ (each (laid (between t c)) x ++ stretch work (3 * s + 3 * count) (3 * n))) same;
-      nodes = got .nodes ∙ ap (λ (x : List (List ℕ)). take (nodeAt made) room ++ (runNodes (between t c) s x ++ drop (nodeAt (made + m)) room)) same;
+      words = got .words ∙ ap (λ (x : List (List ℕ)). take (3 * s) work ++ (each (laid (between t c o)) x ++ stretch work (3 * s + 3 * count) (3 * n))) same;
+      nodes = got .nodes ∙ ap (λ (x : List (List ℕ)). take (nodeAt made) room ++ (runNodes (between t c o) s x ++ drop (nodeAt (made + m)) room)) same;
     }

@@ -33,7 +33,7 @@ abbrev pub runAt : List ℕ → ℕ → ℕ → List ℕ
 runAt w s count = rows (stretch w (3 * s) (3 * s + 3 * count))
 
 -- the run's entries are laid, its rows are below n and none is there twice; there is room for m nodes more
-pub record Splittable (t : List ℕ) (c m n : ℕ) (room work : List ℕ) (s count made : ℕ) : Type 0 where
+pub record Splittable (t : List ℕ) (c o m n : ℕ) (room work : List ℕ) (s count made : ℕ) : Type 0 where
   pub columns : c ≤ maxColumns
   pub few : n ≤ maxRows
   pub table : c * n ≤ length t
@@ -42,7 +42,7 @@ pub record Splittable (t : List ℕ) (c m n : ℕ) (room work : List ℕ) (s cou
   pub inside : s + count ≤ n
   pub halves : 6 * n ≤ length work
   pub nodes : nodeAt (made + m) ≤ length room
-  pub known : stretch work (3 * s) (3 * s + 3 * count) ≡ laid (between t c) (runAt work s count)
+  pub known : stretch work (3 * s) (3 * s + 3 * count) ≡ laid (between t c o) (runAt work s count)
   pub rows : Every (λ i. i < n) (runAt work s count)
   pub once : (i : ℕ) → times i (runAt work s count) ≤ 1
 
@@ -54,17 +54,17 @@ splitAmong d m early run =
     map (λ a. a ∷ keep (λ i. eqb (closest d (p .0) i) a) (p .1 ++ drop early run)) (p .0)
 
 -- the run's words are now those of its children's runs, whose nodes stand from `made` on; the rest of the first half is as it was
-pub record SplitAmong (t : List ℕ) (c m early n : ℕ) (room work : List ℕ) (s count made : ℕ) (room′ work′ : List ℕ) : Type 0 where
+pub record SplitAmong (t : List ℕ) (c o m early n : ℕ) (room work : List ℕ) (s count made : ℕ) (room′ work′ : List ℕ) : Type 0 where
   pub words : take (3 * n) work′
       ≡ take (3 * s) work
-      ++ (each (laid (between t c)) (splitAmong (between t c) m early (runAt work s count)) ++ stretch work (3 * s + 3 * count) (3 * n))
+      ++ (each (laid (between t c o)) (splitAmong (between t c o) m early (runAt work s count)) ++ stretch work (3 * s + 3 * count) (3 * n))
   pub nodes : room′
       ≡ take (nodeAt made) room
-      ++ (runNodes (between t c) s (splitAmong (between t c) m early (runAt work s count)) ++ drop (nodeAt (made + m)) room)
+      ++ (runNodes (between t c o) s (splitAmong (between t c o) m early (runAt work s count)) ++ drop (nodeAt (made + m)) room)
 
 -- where they may be any of its rows: its words are now those of its children's runs, whose nodes stand from `made` on; the rest of the first half is as it was
-pub record Splitted (t : List ℕ) (c m n : ℕ) (room work : List ℕ) (s count made : ℕ) (room′ work′ : List ℕ) : Type 0 where
+pub record Splitted (t : List ℕ) (c o m n : ℕ) (room work : List ℕ) (s count made : ℕ) (room′ work′ : List ℕ) : Type 0 where
   pub words : take (3 * n) work′
-      ≡ take (3 * s) work ++ (each (laid (between t c)) (split (between t c) m (runAt work s count)) ++ stretch work (3 * s + 3 * count) (3 * n))
+      ≡ take (3 * s) work ++ (each (laid (between t c o)) (split (between t c o) m (runAt work s count)) ++ stretch work (3 * s + 3 * count) (3 * n))
   pub nodes : room′
-      ≡ take (nodeAt made) room ++ (runNodes (between t c) s (split (between t c) m (runAt work s count)) ++ drop (nodeAt (made + m)) room)
+      ≡ take (nodeAt made) room ++ (runNodes (between t c o) s (split (between t c o) m (runAt work s count)) ++ drop (nodeAt (made + m)) room)

@@ -20,16 +20,16 @@ use words::writing::put_node;
 pub const WIDTH: usize = 5;
 
 // The entries behind the first `early` learn of the m centres at the front of a run, but for the first, which they know.
-fn inform(table: &[u16], c: usize, m: usize, early: usize, run: &mut [u32])
+fn inform(table: &[u16], c: usize, circles: u32, m: usize, early: usize, run: &mut [u32])
     requires { ⌜ (c ≤ maxColumns) × (1 ≤ m) × (m ≤ early) × (3 * early ≤ length (now run)) × Entries (InTable (now table) c) (now run) ⌝ }
     ensures { λ _. ⌜ now (run .exit) ≡ take (3 * early) (now (run .entry))
-        ++ learnt (between (now (table .entry)) c) (centreRows (now (run .entry)) (m - 1)) (drop (3 * early) (now (run .entry))) ⌝ }
+        ++ learnt (between (now (table .entry)) c circles) (centreRows (now (run .entry)) (m - 1)) (drop (3 * early) (now (run .entry))) ⌝ }
 {
     let late = 3 * early;
     let mut r = 1;
     while r < m {
         let centre = run[3 * r];
-        nearer(table, c, centre, &mut run[late..]);
+        nearer(table, c, circles, centre, &mut run[late..]);
         r += 1;
     }
 }
@@ -83,6 +83,7 @@ fn share(
 pub fn split_run(
     table: &[u16],
     c: usize,
+    circles: u32,
     m: usize,
     early: usize,
     n: usize,
@@ -92,16 +93,16 @@ pub fn split_run(
     count: usize,
     made: usize,
 )
-    requires { ⌜ Splittable (now table) c m n (now room) (now work) s count made ⌝ }
+    requires { ⌜ Splittable (now table) c circles m n (now room) (now work) s count made ⌝ }
     requires { ⌜ (m ≤ early) × (early ≤ count) ⌝ }
-    ensures { λ _. ⌜ SplitAmong (now (table .entry)) c m early n (now (room .entry)) (now (work .entry)) s count made
+    ensures { λ _. ⌜ SplitAmong (now (table .entry)) c circles m early n (now (room .entry)) (now (work .entry)) s count made
         (now (room .exit)) (now (work .exit)) ⌝ }
 {
     let lo = 3 * s;
     let mid = lo + 3 * early;
     let hi = lo + 3 * count;
-    choose(table, c, m, &mut work[lo..mid]);
-    inform(table, c, m, early, &mut work[lo..hi]);
+    choose(table, c, circles, m, &mut work[lo..mid]);
+    inform(table, c, circles, m, early, &mut work[lo..hi]);
     share(room, work, n, m, s, count, made);
     copy_back(work, lo, hi, 3 * n);
 }

@@ -13,7 +13,7 @@ use Rattle.tree.specs.Encode.{encode}
 use Rattle.tree.specs.Grove.{treeOf}
 use Rattle.words.proofs.InShape.{in-shape}
 use Rattle.words.specs.Shape.{shapeOk}
-use Rattle.words.specs.Words.{l#, m#, n#, wholeOk}
+use Rattle.words.specs.Words.{circles#, l#, m#, n#, wholeOk}
 use mathlib.Core.Bool.{true}
 use mathlib.Core.List.{List}
 use mathlib.Core.Path.{_∙_, _≡_, ap}
@@ -21,9 +21,9 @@ use mathlib.Core.Path.{_∙_, _≡_, ap}
 -- THE WORDS OF ALL ROWS, WHERE THE INDEX HAS A ROW, ARE THOSE OF THE TREE THAT TAKES THEM AT ONCE
 pub rows-at-once : (T : List ℕ) (c : ℕ) (w : List ℕ) → wholeOk w ≡ true → shapeOk w ≡ true → 1 ≤ n# w
     → appendedRows T c w
-    ≡ encode 2 c (m# w) (l# w) (swollenTree (between T c) (m# w) (l# w) (range (n# w) (rowsOf T c - n# w)) (treeOf w))
+    ≡ encode 2 c (circles# w) (m# w) (l# w) (swollenTree (between T c (circles# w)) (m# w) (l# w) (range (n# w) (rowsOf T c - n# w)) (treeOf w))
 rows-at-once T c w whole shape h =
     let S = in-shape w whole shape in
     rows-some T c w h
-    ∙ ap (encode 2 c (m# w) (l# w)) (joins-swollen (between T c) (m# w) (l# w) (S .whole .fan .0) (S .whole .leaf .0) (n# w) (rowsOf T c - n# w) (treeOf w)
-    (fine-tree w S (tree-fits w shape)) (full-tree w S) (rows-low w S))
+    ∙ ap (encode 2 c (circles# w) (m# w) (l# w)) (joins-swollen (between T c (circles# w)) (m# w) (l# w) (S .whole .fan .0) (S .whole .leaf .0)
+    (n# w) (rowsOf T c - n# w) (treeOf w) (fine-tree w S (tree-fits w shape)) (full-tree w S) (rows-low w S))

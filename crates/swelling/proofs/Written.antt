@@ -18,7 +18,7 @@ use Rattle.tree.specs.Grove.{Grove, bare, entries, fork, leaf, treeOf}
 use Rattle.words.proofs.InShape.{in-shape}
 use Rattle.words.specs.InShape.{InShape}
 use Rattle.words.specs.Shape.{shapeOk}
-use Rattle.words.specs.Words.{l#, m#, n#, wholeOk}
+use Rattle.words.specs.Words.{circles#, l#, m#, n#, wholeOk}
 use borrow.Author.Tests.{leb-false}
 use lib.Dec.{leb}
 use lib.ListN.{length}
@@ -91,5 +91,5 @@ rows-written T c w whole shape h =
     let zs : List ℕ = range (n# w) (rowsOf T c - n# w) in
     let S : InShape w = in-shape w whole shape in
     rows-at-once T c w whole shape h
-    ∙ ap₂ (λ (ns : List Node) (ms : List (ℕ × ℕ)). written c (m# w) (l# w) ns ms) (rows-numbered (between T c) w S zs h)
-    (rows-members (between T c) w S zs h)
+    ∙ ap₂ (λ (ns : List Node) (ms : List (ℕ × ℕ)). written c (circles# w) (m# w) (l# w) ns ms) (rows-numbered (between T c (circles# w)) w S zs h)
+    (rows-members (between T c (circles# w)) w S zs h)

@@ -12,7 +12,7 @@ use Rattle.tree.specs.Build.{build, choose, grow, split}
 use Rattle.tree.specs.Cases.{five}
 use Rattle.tree.specs.Encode.{broods, encode, family, levelNodes, nodes, numbered}
 use Rattle.tree.specs.Grove.{treeAt, treeOf}
-use Rattle.words.specs.Words.{N#, l#, m#, n#, row#}
+use Rattle.words.specs.Words.{N#, circles#, l#, m#, n#, row#}
 use lib.Dec.{eqb}
 use lib.ListN.{length}
 use mathlib.Core.Bool.{Bool, _&&_}
@@ -30,12 +30,13 @@ pub data Case : Type 0 where
 
 -- the words of the tree that takes all rows at once
 abbrev pub atOnce : List ℕ → List ℕ → List ℕ
-atOnce T w = encode 2 1 (m# w) (l# w) (swollenTree (between T 1) (m# w) (l# w) (range (n# w) (rowsOf T 1 - n# w)) (treeOf w))
+atOnce T w =
+    encode 2 1 (circles# w) (m# w) (l# w) (swollenTree (between T 1 (circles# w)) (m# w) (l# w) (range (n# w) (rowsOf T 1 - n# w)) (treeOf w))
 
 -- the index of a table that is built
 unfoldable pub base : List ℕ → List ℕ
 unfolding sumTo l1 between treeAt treeOf family broods levelNodes nodes numbered encode choose split grow build
-base us = build us 1 2 2 2
+base us = build us 1 0 2 2 2
 
 -- a case comes out as it says
 unfoldable pub right : Case → Bool

@@ -10,7 +10,7 @@ use Rattle.tree.specs.Build.{reach}
 use Rattle.tree.specs.Encode.{Node, nodeWords, pairWords}
 use Rattle.tree.specs.Grove.{Reach, members#, reach#}
 use Rattle.words.specs.Shape.{inner}
-use Rattle.words.specs.Words.{child#, count#, first#, l#, m#, n#}
+use Rattle.words.specs.Words.{child#, circles#, count#, first#, l#, m#, n#}
 use lib.Dec.{eqb, leb}
 use lib.ListN.{length}
 use mathlib.Core.Bool.{cond}
@@ -106,12 +106,13 @@ module _ (d : ℕ → ℕ → ℕ) (w : List ℕ) where
       cond (leb (length run) (l# w)) (ownMembers (grown s R run)) below
 
 -- an index of c columns in edition 2, by its nodes and its members
-abbrev pub written : ℕ → ℕ → ℕ → List Node → List (ℕ × ℕ) → List ℕ
-written c m l ns ms =
-    (2 ∷ length ms ∷ c ∷ m ∷ l ∷ length ns ∷ 1 ∷ 0 ∷ []) ++ (each (nodeWords 2) ns ++ each pairWords ms)
+abbrev pub written : ℕ → ℕ → ℕ → ℕ → List Node → List (ℕ × ℕ) → List ℕ
+written c o m l ns ms =
+    (2 ∷ length ms ∷ c ∷ m ∷ l ∷ length ns ∷ 1 ∷ o ∷ []) ++ (each (nodeWords 2) ns ++ each pairWords ms)
 
 -- the words that a pass over the levels writes of the index w, which has a row, with all of the table's rows in it that it has not
 abbrev pub byLevels : List ℕ → ℕ → List ℕ → List ℕ
 byLevels T c w =
-    let root : Piece = pieceOf (between T c) w 0 0 (range (n# w) (rowsOf T c - n# w)) in
-    written c (m# w) (l# w) (levelsFrom (between T c) w maxDepth 1 (root ∷ [])) (membersFrom (between T c) w maxDepth root)
+    let root : Piece = pieceOf (between T c (circles# w)) w 0 0 (range (n# w) (rowsOf T c - n# w)) in
+    written c (circles# w) (m# w) (l# w) (levelsFrom (between T c (circles# w)) w maxDepth 1 (root ∷ []))
+    (membersFrom (between T c (circles# w)) w maxDepth root)

@@ -7,7 +7,7 @@ use Rattle.measure.specs.Table.{between, rowsOf}
 use Rattle.tree.specs.Build.{plant}
 use Rattle.tree.specs.Encode.{encode}
 use Rattle.tree.specs.Grove.{Grove, treeOf}
-use Rattle.words.specs.Words.{l#, m#, n#}
+use Rattle.words.specs.Words.{circles#, l#, m#, n#}
 use lib.Dec.{eqb}
 use lib.ListN.{take}
 use mathlib.Core.Bool.{cond}
@@ -23,8 +23,8 @@ joins d m l (z ∷ zs) t = joins d m l zs (join d m l z maxDepth 0 t)
 unfoldable pub appendedRows : List ℕ → ℕ → List ℕ → List ℕ
 appendedRows T c w =
     let had : ℕ = max (n# w) 1 in
-    let old : Grove = cond (eqb (n# w) 0) (plant (between T c) (m# w) (l# w) 1) (treeOf w) in
-    encode 2 c (m# w) (l# w) (joins (between T c) (m# w) (l# w) (range had (rowsOf T c - had)) old)
+    let old : Grove = cond (eqb (n# w) 0) (plant (between T c (circles# w)) (m# w) (l# w) 1) (treeOf w) in
+    encode 2 c (circles# w) (m# w) (l# w) (joins (between T c (circles# w)) (m# w) (l# w) (range had (rowsOf T c - had)) old)
 
 -- the table's first k rows
 abbrev pub firstRows : List ℕ → ℕ → ℕ → List ℕ

@@ -7,10 +7,10 @@ use Rattle.laws.proofs.Times.{every-same, range-times}
 use Rattle.laws.specs.Every.{Every}
 use Rattle.laws.specs.Lists.{head, range, tally}
 use Rattle.limits.proofs.Ranges.{columns-are, shared}
-use Rattle.limits.specs.Limits.{columnsOk, editionOk, maxDepth, maxDistance, maxRows, shareOk}
+use Rattle.limits.specs.Limits.{circlesOk, columnsOk, editionOk, maxDepth, maxDistance, maxRows, shareOk}
 use Rattle.measure.proofs.Metric.{between-most, metric}
 use Rattle.measure.specs.Space.{Space}
-use Rattle.measure.specs.Table.{between, rowsOf}
+use Rattle.measure.specs.Table.{Rounded, between, rowsOf}
 use Rattle.tree.proofs.Good.{Good, empty-accepted, encode-accepted}
 use Rattle.tree.proofs.Grow.{grown-even, grown-fine, grown-full, grown-span, grown-tally}
 use Rattle.tree.proofs.Grown.{grown-sound}
@@ -81,14 +81,14 @@ module _ (d : ℕ → ℕ → ℕ) (S : Space d) (D : (i j : ℕ) → d i j ≤ 
       )
 
 -- WHAT THE BUILD WRITES IS ACCEPTED
-pub build-accepted : (T : List ℕ) (c e m l : ℕ) → editionOk e ≡ true → columnsOk c ≡ true → shareOk m l ≡ true → rowsOf T c ≤ maxRows → Every (λ v. v ≤ 65535) T
-    → Accepted (between T c) (build T c e m l)
+pub build-accepted : (T : List ℕ) (c o e m l : ℕ) → editionOk e ≡ true → columnsOk c ≡ true → circlesOk c o ≡ true → shareOk m l ≡ true → rowsOf T c ≤ maxRows → Every (λ v. v ≤ 65535) T → Rounded T c o
+    → Accepted (between T c o) (build T c o e m l)
 unfolding build
-build-accepted T c e m l he hc hs hn small = go (rowsOf T c) hn
+build-accepted T c o e m l he hc ho hs hn small round = go (rowsOf T c) hn
   where
-    go : (n : ℕ) → n ≤ maxRows → Accepted (between T c) (encode e c m l (plant (between T c) m l n))
-    go zero h = empty-accepted (between T c) e c m l he hc hs
+    go : (n : ℕ) → n ≤ maxRows → Accepted (between T c o) (encode e c o m l (plant (between T c o) m l n))
+    go zero h = empty-accepted (between T c o) e c o m l he hc ho hs
     go (suc n) h =
         let s = shared m l hs in
-        let p = planted (between T c) (metric T c) (between-most T c (columns-are c hc .1) small) m l (omega (arith, s .two)) (s .leafy) n in
-        encode-accepted (between T c) e c m l (plant (between T c) m l (suc n)) he hc hs (omega (arith, p .0)) (p .1)
+        let p = planted (between T c o) (metric T c o round) (between-most T c o (columns-are c hc .1) small) m l (omega (arith, s .two)) (s .leafy) n in
+        encode-accepted (between T c o) e c o m l (plant (between T c o) m l (suc n)) he hc ho hs (omega (arith, p .0)) (p .1)

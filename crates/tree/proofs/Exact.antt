@@ -1,6 +1,6 @@
--- The radius search is exact on a tree that fits its table: a row's how-byte is 2 or 3 exactly if its distance is at most r.
+-- The radius search is exact on a tree that fits its table: a row's how-byte is 2 or 3 exactly if it is not gone and its distance is at most r.
 -- Assumes nothing.
-use Prim.Native.Nat.{_+_, _≤_, ℕ}
+use Prim.Native.Nat.{_%_, _+_, _≤_, ℕ}
 use Rattle.laws.proofs.Every.{every-all, every-append, every-map, every-of, every-rest}
 use Rattle.laws.proofs.Times.{lefts}
 use Rattle.laws.specs.Every.{Every}
@@ -10,11 +10,12 @@ use Rattle.tree.proofs.Full.{Full}
 use Rattle.tree.proofs.Sound.{Sound, Valid, valid-under, valid-zero}
 use Rattle.tree.specs.Grove.{Grove, Reach, bare, first, firsts, fork, leaf, rowsIn}
 use Rattle.tree.specs.Homes.{childBound, nearestOf}
-use Rattle.tree.specs.Radius.{byDistance, inLeaf, marks, marksIn, visit}
+use Rattle.tree.specs.Radius.{byDistance, inLeaf, marks, marksIn, shown, visit}
 use borrow.Author.Tests.{leb-false, leb-true, ltb-true}
 use lib.Dec.{leb, ltb}
-use mathlib.Core.Bool.{Bool, cond, false, true}
+use mathlib.Core.Bool.{Bool, cond, false, true, true≢false}
 use mathlib.Core.List.{List, _++_, map}
+use mathlib.Core.Logic.{_↔_}
 use mathlib.Core.Path.{_≡_, refl}
 use native.Mathlib.Omega.{arith}
 
@@ -22,6 +23,14 @@ module _ (x : ℕ → ℕ) (r : ℕ) where
   -- a mark is right: in exactly if the row's distance is at most r
   abbrev pub Exact : ℕ × ℕ → Type 0
   Exact m = (2 ≤ m .1 → x (m .0) ≤ r) × (x (m .0) ≤ r → 2 ≤ m .1)
+
+  -- and so it stays for a row that is not gone, while one that is gone is never in
+  pub shown-exact : (gone : ℕ → Bool) (m : ℕ × ℕ) → Exact m → (2 ≤ shown gone m .1) ↔ ((gone (m .0) ≡ false) × (x (m .0) ≤ r))
+  shown-exact gone m h = go (gone (m .0))
+    where
+      go : (b : Bool) → (2 ≤ cond b (m .1 % 2) (m .1)) ↔ ((b ≡ false) × (x (m .0) ≤ r))
+      go true = (λ k. absurd (omega arith), λ k. absurd (true≢false (k .0)))
+      go false = (λ k. (refl, h .0 k), λ k. h .1 (k .1))
 
   -- of a measured row
   distance-exact : (i : ℕ) → Exact (i, byDistance x r i)

@@ -5,7 +5,7 @@ use Rattle.laws.proofs.Tests.{and-of, holds, is-true}
 use Rattle.laws.specs.Every.{Every}
 use Rattle.laws.specs.Lists.{each, range, times}
 use Rattle.limits.proofs.Ranges.{shared, within-both}
-use Rattle.limits.specs.Limits.{columnsOk, editionOk, maxDepth, maxDistance, maxRows, shareOk}
+use Rattle.limits.specs.Limits.{circlesOk, columnsOk, editionOk, maxDepth, maxDistance, maxRows, shareOk}
 use Rattle.tree.proofs.Encode.{Even, level-length, nodes-length}
 use Rattle.tree.proofs.Faultless.{no-fault}
 use Rattle.tree.proofs.Full.{Full}
@@ -90,16 +90,16 @@ nodes-test zero N a b = absurd (omega arith)
 nodes-test (suc n) N a b = and-of (leb 1 N) (leb N (2 * suc n - 1)) (le→leb 1 N a) (le→leb N (2 * suc n - 1) (omega arith))
 
 -- the header that is written is possible
-header-ok : (e n c m l N : ℕ) → T (editionOk e) → n ≤ maxRows → T (columnsOk c) → T (shareOk m l) → 1 ≤ N → N + 1 ≤ 2 * n
-    → T (editionOk e && leb n maxRows && columnsOk c && shareOk m l && nodesOk n N && true && true)
-header-ok e n c m l N he hn hc hs a b =
+header-ok : (e n c o m l N : ℕ) → T (editionOk e) → n ≤ maxRows → T (columnsOk c) → T (circlesOk c o) → T (shareOk m l) → 1 ≤ N → N + 1 ≤ 2 * n
+    → T (editionOk e && leb n maxRows && columnsOk c && shareOk m l && nodesOk n N && true && circlesOk c o)
+header-ok e n c o m l N he hn hc ho hs a b =
     let q0 = editionOk e && leb n maxRows in
     let q1 = q0 && columnsOk c in
     let q2 = q1 && shareOk m l in
     let q3 = q2 && nodesOk n N in
-    and-of (q3 && true) true (and-of q3 true
+    and-of (q3 && true) (circlesOk c o) (and-of q3 true
     (and-of q2 (nodesOk n N) (and-of q1 (shareOk m l) (and-of q0 (columnsOk c) (and-of (editionOk e) (leb n maxRows) he (le→leb n maxRows hn)) hc) hs)
-    (nodes-test n N a b)) tt) tt
+    (nodes-test n N a b)) tt) ho
 
 -- two words for each position
 pub pairs-length : (es : List (ℕ × ℕ)) → length (each pairWords es) ≡ 2 * length es
@@ -107,10 +107,10 @@ pairs-length [] = refl
 pairs-length (e ∷ es) = omega (arith, pairs-length es)
 
 -- the words that the header asks for are there
-encode-words : (e c m l : ℕ) (t : Grove) → Edition e → T (cardOk (encode e c m l t)) → wholeOk (encode e c m l t) ≡ true
+encode-words : (e c o m l : ℕ) (t : Grove) → Edition e → T (cardOk (encode e c o m l t)) → wholeOk (encode e c o m l t) ≡ true
 unfolding encode wholeOk
-encode-words e c m l t ed h =
-    let w : List ℕ = encode e c m l t in
+encode-words e c o m l t ed h =
+    let w : List ℕ = encode e c o m l t in
     let B : List ℕ = each (nodeWords e) (numbered t) in
     let Z : List ℕ = each pairWords (entries t) in
     let len : length w ≡ wordsOf w = omega (arith, length-append B Z, each-words e (numbered t) ed, pairs-length (entries t)) in
@@ -119,14 +119,14 @@ encode-words e c m l t ed h =
     (and-of (leb 8 (length w)) (cardOk w) (le→leb 8 (length w) (omega arith)) h) (le→leb (wordsOf w) (length w) (omega arith)))
 
 -- A WELL-MADE TREE, NUMBERED AND WRITTEN, IS ACCEPTED
-pub encode-accepted : (d : ℕ → ℕ → ℕ) (e c m l : ℕ) (t : Grove) → editionOk e ≡ true → columnsOk c ≡ true → shareOk m l ≡ true → length (entries t) ≤ maxRows
-    → Good d m l t → Accepted d (encode e c m l t)
+pub encode-accepted : (d : ℕ → ℕ → ℕ) (e c o m l : ℕ) (t : Grove) → editionOk e ≡ true → columnsOk c ≡ true → circlesOk c o ≡ true → shareOk m l ≡ true → length (entries t) ≤ maxRows
+    → Good d m l t → Accepted d (encode e c o m l t)
 unfolding encode numbered cardOk
-encode-accepted d e c m l t he hc hs hn G =
+encode-accepted d e c o m l t he hc ho hs hn G =
     let ed : Edition e = within-both 1 2 e he in
-    let w : List ℕ = encode e c m l t in
+    let w : List ℕ = encode e c o m l t in
     let n : ℕ = length (entries t) in
-    let H : List ℕ = e ∷ n ∷ c ∷ m ∷ l ∷ length (numbered t) ∷ 1 ∷ 0 ∷ [] in
+    let H : List ℕ = e ∷ n ∷ c ∷ m ∷ l ∷ length (numbered t) ∷ 1 ∷ o ∷ [] in
     let B : List ℕ = each (nodeWords e) (numbered t) in
     let Z : List ℕ = each pairWords (entries t) in
     let m2 = shared m l hs .two in
@@ -138,9 +138,9 @@ encode-accepted d e c m l t he hc hs hn G =
     let rows : map (row# w) (range 0 n) ≡ rowsIn t = at-rows w 0 (entries t) held in
     record {
       words =
-          encode-words e c m l t ed (header-ok e n c m l (length (numbered t)) (holds (editionOk e) he) hn (holds (columnsOk c) hc) (holds (shareOk m l) hs)
+          encode-words e c o m l t ed (header-ok e n c o m l (length (numbered t)) (holds (editionOk e) he) hn (holds (columnsOk c) hc) (holds (circlesOk c o) ho) (holds (shareOk m l) hs)
           (omega (arith, broods-sizes 0 t, G .one)) (omega (arith, G .one)));
-      shape = is-true (shapeOk w) (encode-shape e m l ed t (G .one) (G .even) (G .fine) c
+      shape = is-true (shapeOk w) (encode-shape e m l ed t (G .one) (G .even) (G .fine) c o
           (every-both (λ e. e .0 < n) (λ e. e .1 ≤ maxDistance) (λ e. (e .0 < n) × (e .1 ≤ maxDistance)) (λ e a b. (a, b)) (entries t)
           (every-unmap (λ i. i < n) (λ e. e .0) (entries t) (G .rows)) (G .dists)));
       sound = no-fault d w (λ i. subst (λ is. times i is ≤ 1) (sym rows) (G .once i))
@@ -149,17 +149,17 @@ encode-accepted d e c m l t he hc hs hn G =
     }
 
 -- the tree of no rows
-pub empty-accepted : (d : ℕ → ℕ → ℕ) (e c m l : ℕ) → editionOk e ≡ true → columnsOk c ≡ true → shareOk m l ≡ true → Accepted d (encode e c m l bare)
+pub empty-accepted : (d : ℕ → ℕ → ℕ) (e c o m l : ℕ) → editionOk e ≡ true → columnsOk c ≡ true → circlesOk c o ≡ true → shareOk m l ≡ true → Accepted d (encode e c o m l bare)
 unfolding encode numbered nodes levelNodes family broods cardOk shapeOk faults
-empty-accepted d e c m l he hc hs =
+empty-accepted d e c o m l he hc ho hs =
     let E = editionOk e && true in
     let C = columnsOk c in
     let s = shareOk m l in
     record {
-      words = encode-words e c m l bare (within-both 1 2 e he)
-          (and-of (E && C && s && true && true) true (and-of (E && C && s && true) true
+      words = encode-words e c o m l bare (within-both 1 2 e he)
+          (and-of (E && C && s && true && true) (circlesOk c o) (and-of (E && C && s && true) true
           (and-of (E && C && s) true (and-of (E && C) s (and-of E C (and-of (editionOk e) true (holds (editionOk e) he) tt) (holds C hc)) (holds s hs))
-          tt) tt) tt);
+          tt) tt) (holds (circlesOk c o) ho));
       shape = refl;
       sound = refl;
     }

@@ -3,6 +3,7 @@ pub mod Full
 pub mod Homes
 pub mod Sound
 pub mod Exact
+pub mod Veiled
 pub mod Marks
 pub mod TwoRadius
 pub mod Sorted
@@ -30,4 +31,3 @@ pub mod Alike
 pub mod Widened
 pub mod WidenedBuild
 pub mod Theorems
-pub mod Tested

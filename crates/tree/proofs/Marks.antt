@@ -5,9 +5,10 @@ use Rattle.laws.proofs.Ranges.{getD-range}
 use Rattle.laws.proofs.Times.{lefts, tally-lefts, times-split}
 use Rattle.laws.specs.Lists.{look, rest, times}
 use Rattle.tree.proofs.Full.{Full, first-row}
+use Rattle.tree.proofs.Veiled.{look-veiled}
 use Rattle.tree.specs.Grove.{Grove, Reach, bare, entries, first, firsts, fork, leaf, rowsIn}
 use Rattle.tree.specs.Homes.{childBound, nearestOf}
-use Rattle.tree.specs.Radius.{byDistance, inLeaf, marks, marksIn, radiusHow, visit}
+use Rattle.tree.specs.Radius.{byDistance, inLeaf, marks, marksIn, radiusHow, shown, veiled, visit}
 use lib.Dec.{eqb, leb, ltb}
 use lib.ListN.{getD}
 use mathlib.Core.Bool.{Bool, cond, false, true}
@@ -74,7 +75,10 @@ module _ (x : ℕ → ℕ) (r : ℕ) where
   unfolding marks
   marks-rows i t w = simp (map-append, tally-append, paired, map-id) (omega (arith, marksIn-rows i (λ x R. 0) t w))
 
--- the how-byte of row i is its mark
-pub how-at : (x : ℕ → ℕ) (r n : ℕ) (t : Grove) (i : ℕ) → i < n → getD (radiusHow x r n t) i 0 ≡ look i (marks x r t)
+-- the how-byte of row i is its mark, as far as it is shown
+pub how-at : (x : ℕ → ℕ) (r : ℕ) (gone : ℕ → Bool) (n : ℕ) (t : Grove) (i : ℕ) → i < n
+    → getD (radiusHow x r gone n t) i 0 ≡ shown gone (i, look i (marks x r t)) .1
 unfolding radiusHow
-how-at x r n t i h = getD-range (λ i. look i (marks x r t)) 0 n i h ∙ ap (λ k. look k (marks x r t)) (omega arith)
+how-at x r gone n t i h =
+    getD-range (λ i. look i (veiled gone (marks x r t))) 0 n i h ∙ ap (λ k. look k (veiled gone (marks x r t))) (omega arith)
+    ∙ look-veiled gone i (marks x r t)

@@ -10,11 +10,11 @@ use Rattle.laws.specs.Lists.{gap, has, head, keep, least, look, range, rest, ti
 use Rattle.tree.proofs.TwoRadius.{all-firsts}
 use Rattle.tree.specs.Grove.{Grove, Reach, bare, first, firsts, fork, leaf}
 use Rattle.tree.specs.Homes.{childBound, homes, homesIn, nearestOf, rowBound}
-use Rattle.tree.specs.Nearest.{Own, best, lastDistance, rowsUpTo, sort, upTo}
+use Rattle.tree.specs.Nearest.{Own, best, candidates, lastDistance, rowsUpTo, sort, upTo}
 use borrow.Author.Tests.{leb-false, leb-true, lt-leb}
 use lib.Dec.{eqb, leb}
 use lib.ListN.{length, take}
-use mathlib.Core.Bool.{Bool, _||_, cond, false, true}
+use mathlib.Core.Bool.{Bool, _||_, cond, false, not, true}
 use mathlib.Core.List.{List, [], _++_, _∷_, map}
 use mathlib.Core.Path.{_∙_, _≡_, ap, ap₂, refl, sym}
 use native.Mathlib.Nat.{not-suc-le-zero}
@@ -139,16 +139,20 @@ module _ (x y : ℕ → ℕ) (D : ℕ) where
       go false e q = q
 
   -- TWO TABLES, nearest: the same rows are to be measured, the same are the best, and D is the second's own if it is the first's
-  pub same-best : (n : ℕ) (t : Grove) (w : ℕ) → Every (AgreeUpTo x y D) (homes x t) → best x n t w D ≡ best y n t w D
+  pub same-best : (gone : ℕ → Bool) (n : ℕ) (t : Grove) (w : ℕ) → Every (AgreeUpTo x y D) (homes x t) → best x gone n t w D ≡ best y gone n t w D
   unfolding best
-  same-best n t w h =
-      ap (λ l. take w (sort l)) (same-kept (rowsUpTo x t D) (range 0 n) (rows-agree (homes x t) h)
-      ∙ ap (λ hs. keep (λ (a : ℕ × ℕ). has (a .0) (map (λ h. h .0) hs)) (map (λ i. (i, y i)) (range 0 n))) (same-homes x y D t h))
+  same-best gone n t w h =
+      ap (λ l. take w (sort l)) (same-kept (rowsUpTo x t D) (keep (λ i. not (gone i)) (range 0 n)) (rows-agree (homes x t) h)
+      ∙ ap (λ hs. keep (λ (a : ℕ × ℕ). has (a .0) (map (λ h. h .0) hs)) (candidates y gone n)) (same-homes x y D t h))
 
   -- and D is its own for the second, if it is for the first
-  pub same-own : (n : ℕ) (t : Grove) (w : ℕ) → Every (AgreeUpTo x y D) (homes x t) → Own x n t w D → Own y n t w D
-  same-own n t w h O =
-      record { enough = ap length (sym (same-best n t w h)) ∙ O .enough; reached = ap (λ l. lastDistance l) (sym (same-best n t w h)) ∙ O .reached }
+  pub same-own : (gone : ℕ → Bool) (n : ℕ) (t : Grove) (w : ℕ) → Every (AgreeUpTo x y D) (homes x t) → Own x gone n t w D → Own y gone n t w D
+  same-own gone n t w h O =
+      record {
+        enough = ap length (sym (same-best gone n t w h)) ∙ O .enough;
+        reached = ap (λ l. lastDistance l) (sym (same-best gone n t w h))
+            ∙ O .reached;
+      }
 
 -- a row whose home bound is at most D is among the rows up to D
 pub in-upTo : (i D : ℕ) (hs : List (ℕ × ℕ)) → 1 ≤ times i (map (λ h. h .0) hs) → look i hs ≤ D → has i (map (λ h. h .0) (upTo D hs)) ≡ true

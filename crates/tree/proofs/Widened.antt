@@ -5,7 +5,7 @@ use Rattle.laws.proofs.Ranges.{every-at, range-length}
 use Rattle.laws.proofs.Tests.{and-l, and-of, and-r, holds, is-true}
 use Rattle.laws.specs.Every.{Every}
 use Rattle.laws.specs.Lists.{each, range}
-use Rattle.limits.specs.Limits.{columnsOk, editionOk, maxRows, shareOk}
+use Rattle.limits.specs.Limits.{circlesOk, columnsOk, editionOk, maxRows, shareOk}
 use Rattle.measure.specs.Space.{Point}
 use Rattle.tree.proofs.Alike.{Alike, alike-accepted}
 use Rattle.tree.proofs.Encode.{Holds}
@@ -18,7 +18,7 @@ use Rattle.tree.specs.Encode.{Node, nodeWords, pairWords}
 use Rattle.tree.specs.Grove.{treeOf}
 use Rattle.tree.specs.Radius.{radiusHow}
 use Rattle.tree.specs.Widen.{widen, widened}
-use Rattle.words.specs.Words.{N#, at, c#, dist#, edition#, cardOk, inner#, kept, kind#, l#, last#, m#, n#, nodesOk, row#, wordsOf, wholeOk}
+use Rattle.words.specs.Words.{N#, at, c#, circles#, dist#, edition#, cardOk, inner#, kept, kind#, l#, m#, n#, nodesOk, row#, wordsOf, wholeOk}
 use lib.Dec.{T, eqb, leb, le→leb}
 use lib.ListN.{getD, length, length-append, length-map}
 use mathlib.Core.Bool.{Bool, _&&_, false, true}
@@ -44,7 +44,7 @@ at-range w f a (suc n) h = ((h .0, h .1), at-range w f (suc a) n (h .2))
 module _ (d : ℕ → ℕ → ℕ) (w : List ℕ) where
   -- the widened index's parts
   abbrev top : List ℕ
-  top = 2 ∷ n# w ∷ c# w ∷ m# w ∷ l# w ∷ N# w ∷ kind# w ∷ last# w ∷ []
+  top = 2 ∷ n# w ∷ c# w ∷ m# w ∷ l# w ∷ N# w ∷ kind# w ∷ circles# w ∷ []
 
   abbrev ns : List Node
   ns = map (widened d w) (range 0 (N# w))
@@ -126,9 +126,9 @@ module _ (d : ℕ → ℕ → ℕ) (w : List ℕ) where
   widen-header e = go (editionOk (edition# w)) e
     where
       go : (a : Bool) → (a && leb (n# w) maxRows && columnsOk (c# w) && shareOk (m# w) (l# w) && nodesOk (n# w) (N# w) && eqb (kind# w) 1
-          && eqb (last# w) 0) ≡ true
+          && circlesOk (c# w) (circles# w)) ≡ true
           → (true && leb (n# w) maxRows && columnsOk (c# w) && shareOk (m# w) (l# w) && nodesOk (n# w) (N# w) && eqb (kind# w) 1
-          && eqb (last# w) 0) ≡ true
+          && circlesOk (c# w) (circles# w)) ≡ true
       go true e = e
       go false e = absurd (subst T (sym e) tt)
 
@@ -150,11 +150,11 @@ module _ (d : ℕ → ℕ → ℕ) (w : List ℕ) where
       alike-accepted d widen-reads C (widen-words (C .words))
       (λ k h. widen-inner k h ∙ sym (ap (λ e. kept e (nearest# d w k)) widen-edition))
 
-  -- A RADIUS SEARCH ON THE WIDENED INDEX MARKS THE SAME ROWS IN. (The answers of a nearest search do not depend on the index at all.)
-  pub widen-in : (x : ℕ → ℕ) → Point d x → Accepted d w → (r i : ℕ) → i < n# w
-      → (2 ≤ getD (radiusHow x r (n# w) (treeOf (widen d w))) i 0) ↔ (2 ≤ getD (radiusHow x r (n# w) (treeOf w)) i 0)
-  widen-in x P C r i h =
-      let new : (2 ≤ getD (radiusHow x r (n# w) (treeOf (widen d w))) i 0) ↔ (x i ≤ r) =
-      rw (widen-reads .rows) at (radius-exact d (widen d w) (widen-accepted C) x P r i (omega (arith, widen-reads .rows))) in
-      let old = radius-exact d w C x P r i h in
+  -- A RADIUS SEARCH ON THE WIDENED INDEX MARKS THE SAME ROWS IN, whichever are gone. (A nearest search's answers do not depend on the index at all.)
+  pub widen-in : (x : ℕ → ℕ) → Point d x → Accepted d w → (r : ℕ) (gone : ℕ → Bool) (i : ℕ) → i < n# w
+      → (2 ≤ getD (radiusHow x r gone (n# w) (treeOf (widen d w))) i 0) ↔ (2 ≤ getD (radiusHow x r gone (n# w) (treeOf w)) i 0)
+  widen-in x P C r gone i h =
+      let new : (2 ≤ getD (radiusHow x r gone (n# w) (treeOf (widen d w))) i 0) ↔ ((gone i ≡ false) × (x i ≤ r)) =
+      rw (widen-reads .rows) at (radius-exact d (widen d w) (widen-accepted C) x P r gone i (omega (arith, widen-reads .rows))) in
+      let old = radius-exact d w C x P r gone i h in
       (λ a. old .1 (new .0 a), λ a. new .1 (old .0 a))

@@ -3,8 +3,8 @@ use Prim.Native.Nat.{_+_, _<_, _≤_, suc, zero, ℕ}
 use Rattle.laws.proofs.Ranges.{every-at}
 use Rattle.laws.specs.Every.{Every}
 use Rattle.laws.specs.Lists.{each, range}
-use Rattle.limits.specs.Limits.{columnsOk, maxRows, shareOk}
-use Rattle.measure.specs.Table.{between, rowsOf}
+use Rattle.limits.specs.Limits.{circlesOk, columnsOk, maxRows, shareOk}
+use Rattle.measure.specs.Table.{Rounded, between, rowsOf}
 use Rattle.tree.proofs.Accepted.{shape-of}
 use Rattle.tree.proofs.Alike.{Alike, inner-is-nearest, nearest-same}
 use Rattle.tree.proofs.Built.{build-accepted}
@@ -26,21 +26,21 @@ use native.Mathlib.Nat.{mul-zero}
 use native.Mathlib.Omega.{arith}
 
 -- ---- a written tree is read back
-module _ (e c m l : ℕ) (ed : Edition e) (t : Grove) where
+module _ (e c o m l : ℕ) (ed : Edition e) (t : Grove) where
   -- its nodes
-  pub encode-nodes : Holds (encode e c m l t) 0 (numbered t)
+  pub encode-nodes : Holds (encode e c o m l t) 0 (numbered t)
   unfolding encode
   encode-nodes =
-      read-nodes e ed (numbered t) (e ∷ length (entries t) ∷ c ∷ m ∷ l ∷ length (numbered t) ∷ 1 ∷ 0 ∷ []) (each pairWords (entries t))
-      (encode e c m l t) 0 refl refl (omega (arith, mul-zero (width e)))
+      read-nodes e ed (numbered t) (e ∷ length (entries t) ∷ c ∷ m ∷ l ∷ length (numbered t) ∷ 1 ∷ o ∷ []) (each pairWords (entries t))
+      (encode e c o m l t) 0 refl refl (omega (arith, mul-zero (width e)))
 
   -- and its pairs
-  pub encode-pairs : At (encode e c m l t) 0 (entries t)
+  pub encode-pairs : At (encode e c o m l t) 0 (entries t)
   unfolding encode
   encode-pairs =
-      let H : List ℕ = e ∷ length (entries t) ∷ c ∷ m ∷ l ∷ length (numbered t) ∷ 1 ∷ 0 ∷ [] in
+      let H : List ℕ = e ∷ length (entries t) ∷ c ∷ m ∷ l ∷ length (numbered t) ∷ 1 ∷ o ∷ [] in
       let B : List ℕ = each (nodeWords e) (numbered t) in
-      read-at (entries t) (H ++ B) (encode e c m l t) 0 (append-assoc H B (each pairWords (entries t)))
+      read-at (entries t) (H ++ B) (encode e c o m l t) 0 (append-assoc H B (each pairWords (entries t)))
       (omega (arith, length-append H B, each-words e (numbered t) ed))
 
 -- ---- two indexes that hold the same
@@ -77,16 +77,16 @@ pairs-back w s [] h = refl
 pairs-back w s (e ∷ es) h = ap₂ (λ a as′. a ∷ as′) (ap₂ (λ a b. (a, b)) (h .0) (h .1)) (pairs-back w (suc s) es (h .2))
 
 -- A TREE THAT IS WRITTEN AND WIDENED IS THE TREE WRITTEN IN EDITION 2
-pub widen-encode : (d : ℕ → ℕ → ℕ) (c m l : ℕ) (t : Grove) → Accepted d (encode 1 c m l t) → Accepted d (encode 2 c m l t)
-    → widen d (encode 1 c m l t) ≡ encode 2 c m l t
+pub widen-encode : (d : ℕ → ℕ → ℕ) (c o m l : ℕ) (t : Grove) → Accepted d (encode 1 c o m l t) → Accepted d (encode 2 c o m l t)
+    → widen d (encode 1 c o m l t) ≡ encode 2 c o m l t
 unfolding widen encode
-widen-encode d c m l t A B =
-    let w : List ℕ = encode 1 c m l t in
-    let v : List ℕ = encode 2 c m l t in
-    let h = encode-nodes 1 c m l (omega arith, omega arith) t in
-    let g = encode-nodes 2 c m l (omega arith, omega arith) t in
-    let ph = encode-pairs 1 c m l (omega arith, omega arith) t in
-    let pg = encode-pairs 2 c m l (omega arith, omega arith) t in
+widen-encode d c o m l t A B =
+    let w : List ℕ = encode 1 c o m l t in
+    let v : List ℕ = encode 2 c o m l t in
+    let h = encode-nodes 1 c o m l (omega arith, omega arith) t in
+    let g = encode-nodes 2 c o m l (omega arith, omega arith) t in
+    let ph = encode-pairs 1 c o m l (omega arith, omega arith) t in
+    let pg = encode-pairs 2 c o m l (omega arith, omega arith) t in
     let N : ℕ = length (numbered t) in
     let n : ℕ = length (entries t) in
     let two = holds-two w v 0 (numbered t) h g in
@@ -107,13 +107,13 @@ widen-encode d c m l t A B =
       dist = λ p q. pair p q .1;
     } in
     let near : (k : ℕ) → k < N → nearest# d w k ≡ inner# v k = λ k q. sym (inner-is-nearest d v (no-faults d v (B .sound)) refl k q ∙ nearest-same L (shape-of d w A) d k q) in
-    ap₂ (λ (ns : List Node) (ps : List (ℕ × ℕ)). (2 ∷ n ∷ c ∷ m ∷ l ∷ N ∷ 1 ∷ 0 ∷ []) ++ (each (nodeWords 2) ns ++ each pairWords ps))
+    ap₂ (λ (ns : List Node) (ps : List (ℕ × ℕ)). (2 ∷ n ∷ c ∷ m ∷ l ∷ N ∷ 1 ∷ o ∷ []) ++ (each (nodeWords 2) ns ++ each pairWords ps))
     (nodes-back d w v 0 (numbered t) h g refl (λ k a b. near k (omega arith))) (pairs-back w 0 (entries t) ph)
 
 -- A BUILD IN EDITION 1, WIDENED, IS THE BUILD IN EDITION 2
-pub widen-build : (T : List ℕ) (c m l : ℕ) → columnsOk c ≡ true → shareOk m l ≡ true → rowsOf T c ≤ maxRows → Every (λ v. v ≤ 65535) T
-    → widen (between T c) (build T c 1 m l) ≡ build T c 2 m l
+pub widen-build : (T : List ℕ) (c o m l : ℕ) → columnsOk c ≡ true → circlesOk c o ≡ true → shareOk m l ≡ true → rowsOf T c ≤ maxRows → Every (λ v. v ≤ 65535) T
+    → Rounded T c o → widen (between T c o) (build T c o 1 m l) ≡ build T c o 2 m l
 unfolding build
-widen-build T c m l hc hs hn small =
-    widen-encode (between T c) c m l (plant (between T c) m l (rowsOf T c)) (build-accepted T c 1 m l refl hc hs hn small)
-    (build-accepted T c 2 m l refl hc hs hn small)
+widen-build T c o m l hc ho hs hn small round =
+    widen-encode (between T c o) c o m l (plant (between T c o) m l (rowsOf T c)) (build-accepted T c o 1 m l refl hc ho hs hn small round)
+    (build-accepted T c o 2 m l refl hc ho hs hn small round)

@@ -121,11 +121,11 @@ module _ (e m l : ℕ) (ed : Edition e) (t : Grove) (one : span t ≡ 1) (ev : E
       (all-of (positionOk w) (range 0 (n# w)) (subst (λ k. Every (λ p. T (positionOk w p)) (range 0 k)) (sym en) ps))
 
   -- WHAT ENCODE WRITES IS IN SHAPE
-  pub encode-shape : (c : ℕ) → Every (λ e. (e .0 < length (entries t)) × (e .1 ≤ maxDistance)) (entries t) → T (shapeOk (encode e c m l t))
+  pub encode-shape : (c o : ℕ) → Every (λ e. (e .0 < length (entries t)) × (e .1 ≤ maxDistance)) (entries t) → T (shapeOk (encode e c o m l t))
   unfolding encode
-  encode-shape c ok =
-      let w : List ℕ = encode e c m l t in
-      let H : List ℕ = e ∷ length (entries t) ∷ c ∷ m ∷ l ∷ length (numbered t) ∷ 1 ∷ 0 ∷ [] in
+  encode-shape c o ok =
+      let w : List ℕ = encode e c o m l t in
+      let H : List ℕ = e ∷ length (entries t) ∷ c ∷ m ∷ l ∷ length (numbered t) ∷ 1 ∷ o ∷ [] in
       let B : List ℕ = each (nodeWords e) (numbered t) in
       let Z : List ℕ = each pairWords (entries t) in
       written w refl refl refl refl (read-nodes e ed (numbered t) H Z w 0 refl refl (omega (arith, mul-zero (width e))))

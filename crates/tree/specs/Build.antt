@@ -81,6 +81,6 @@ abbrev pub plant : (ℕ → ℕ → ℕ) → ℕ → ℕ → ℕ → Grove
 plant d m l zero = bare
 plant d m l (suc n) = grow d m l maxDepth (range 0 (suc n)) bare
 
--- the index words, in edition e, of a table of c columns
-unfoldable pub build : List ℕ → ℕ → ℕ → ℕ → ℕ → List ℕ
-build T c e m l = encode e c m l (plant (between T c) m l (rowsOf T c))
+-- the index words, in edition e, of a table of c columns of which the set o are circles
+unfoldable pub build : List ℕ → ℕ → ℕ → ℕ → ℕ → ℕ → List ℕ
+build T c o e m l = encode e c o m l (plant (between T c o) m l (rowsOf T c))

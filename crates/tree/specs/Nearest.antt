@@ -1,11 +1,12 @@
--- The nearest search: 01, Which rows are measured, Nearest. Over the distance x of each of n rows from the query. Assumes nothing.
-use Prim.Native.Nat.{min, ℕ}
+-- The nearest search: 01, Which rows are measured, Nearest, read over the rows that are not withdrawn (02, R-5). Over the distance x of each of n
+-- rows from the query, and a test `gone` that a row passes which is withdrawn. Assumes nothing.
+use Prim.Native.Nat.{ℕ}
 use Rattle.laws.specs.Lists.{has, keep, last, look, range, tally}
 use Rattle.tree.specs.Grove.{Grove}
 use Rattle.tree.specs.Homes.{homes}
 use lib.Dec.{eqb, leb, ltb}
 use lib.ListN.{length, take}
-use mathlib.Core.Bool.{Bool, _&&_, _||_, cond}
+use mathlib.Core.Bool.{Bool, _&&_, _||_, cond, not}
 use mathlib.Core.List.{List, [], _∷_, foldr, map}
 use mathlib.Core.Path.{_≡_}
 
@@ -34,18 +35,22 @@ isMeasured h = eqb h 1 || eqb h 3
 abbrev pub measured : List ℕ → ℕ
 measured how = tally isMeasured how
 
-module _ (x : ℕ → ℕ) (n : ℕ) where
-  -- all rows with their distances
+-- how many of n rows remain: those that are not withdrawn
+abbrev pub remaining : (ℕ → Bool) → ℕ → ℕ
+remaining gone n = tally (λ i. not (gone i)) (range 0 n)
+
+module _ (x : ℕ → ℕ) (gone : ℕ → Bool) (n : ℕ) where
+  -- the rows that remain, with their distances
   abbrev pub candidates : List (ℕ × ℕ)
-  candidates = map (λ i. (i, x i)) (range 0 n)
+  candidates = map (λ i. (i, x i)) (keep (λ i. not (gone i)) (range 0 n))
 
-  -- the answers: the first w of all rows, or all of them where there are fewer
+  -- the answers: the first w of them, or all of them where there are fewer
   unfoldable pub answers : ℕ → List (ℕ × ℕ)
-  answers w = take (min w n) (sort candidates)
+  answers w = take w (sort candidates)
 
-  -- a row with the home bound b is measured
+  -- a row with the home bound b is measured, withdrawn or not: fewer than w remain, or b is at most D
   unfoldable pub passes : ℕ → ℕ → Bool
-  passes w b = ltb n w || leb b (lastDistance (answers w))
+  passes w b = ltb (length candidates) w || leb b (lastDistance (answers w))
 
   -- by row number: 3 an answer, else 1 measured, else 0
   unfoldable pub nearHow : Grove → ℕ → List ℕ
@@ -60,10 +65,10 @@ upTo D hs = keep (λ h. leb (h .1) D) hs
 abbrev pub rowsUpTo : (ℕ → ℕ) → Grove → ℕ → List ℕ
 rowsUpTo x t D = map (λ h. h .0) (upTo D (homes x t))
 
-module _ (x : ℕ → ℕ) (n : ℕ) where
-  -- the first w of these rows
+module _ (x : ℕ → ℕ) (gone : ℕ → Bool) (n : ℕ) where
+  -- the first w of these rows, of those that remain
   unfoldable pub best : Grove → ℕ → ℕ → List (ℕ × ℕ)
-  best t w D = take w (sort (keep (λ a. has (a .0) (rowsUpTo x t D)) (candidates x n)))
+  best t w D = take w (sort (keep (λ a. has (a .0) (rowsUpTo x t D)) (candidates x gone n)))
 
   -- D is its own: w of these are there, and the last of them is at D
   pub record Own (t : Grove) (w D : ℕ) : Type 0 where

@@ -1,11 +1,19 @@
--- The radius search: 01, Which rows are measured, Radius. Over the distance x of each row from the query. Assumes nothing.
-use Prim.Native.Nat.{_+_, ℕ}
+-- The radius search: 01, Which rows are measured, Radius, and 02, R-5. Over the distance x of each row from the query. Assumes nothing.
+use Prim.Native.Nat.{_%_, _+_, ℕ}
 use Rattle.laws.specs.Lists.{gap, head, look, range, rest, tally}
 use Rattle.tree.specs.Grove.{Grove, Reach, bare, first, firsts, fork, leaf, rowsIn}
 use Rattle.tree.specs.Homes.{childBound, nearestOf}
 use lib.Dec.{leb, ltb}
-use mathlib.Core.Bool.{cond}
+use mathlib.Core.Bool.{Bool, cond}
 use mathlib.Core.List.{List, [], _++_, map}
+
+-- 02, R-5: a row that is gone is never in: its how-byte is 1 if it was measured, else 0
+abbrev pub shown : (ℕ → Bool) → ℕ × ℕ → ℕ × ℕ
+shown gone m = (m .0, cond (gone (m .0)) (m .1 % 2) (m .1))
+
+-- the marks of a search that shows no row that is gone
+abbrev pub veiled : (ℕ → Bool) → List (ℕ × ℕ) → List (ℕ × ℕ)
+veiled gone ms = map (shown gone) ms
 
 module _ (x : ℕ → ℕ) (r : ℕ) where
   -- a measured row: 3 in, 1 out
@@ -38,9 +46,9 @@ module _ (x : ℕ → ℕ) (r : ℕ) where
   unfoldable pub marks : Grove → List (ℕ × ℕ)
   marks t = map (λ f. (f, byDistance f)) (firsts t) ++ marksIn (λ x R. 0) t
 
-  -- the how-bytes by row number
-  unfoldable pub radiusHow : ℕ → Grove → List ℕ
-  radiusHow n t = map (λ i. look i (marks t)) (range 0 n)
+  -- the how-bytes by row number; the rows that are gone are measured as any other, and never in
+  unfoldable pub radiusHow : (ℕ → Bool) → ℕ → Grove → List ℕ
+  radiusHow gone n t = map (λ i. look i (veiled gone (marks t))) (range 0 n)
 
 -- how many rows are in
 abbrev pub inside : List ℕ → ℕ

@@ -2,8 +2,8 @@
 use Prim.Native.Nat.{_*_, _+_, _-_, _<_, _≤_, suc, zero, ℕ}
 use Rattle.laws.proofs.Tests.{and-l, and-r, holds, is-true}
 use Rattle.limits.proofs.Ranges.{within-both}
-use Rattle.limits.specs.Limits.{columnsOk, editionOk, maxRows, shareOk, within}
-use Rattle.words.specs.Words.{N#, c#, cardOk, edition#, headerOk, kind#, l#, last#, m#, n#, nodesOk, wholeOk, width, wordsOf, wordsOk}
+use Rattle.limits.specs.Limits.{circlesOk, columnsOk, editionOk, maxRows, shareOk, within}
+use Rattle.words.specs.Words.{N#, c#, cardOk, circles#, edition#, headerOk, kind#, l#, m#, n#, nodesOk, wholeOk, width, wordsOf, wordsOk}
 use borrow.Author.Tests.{eq-eqb, le-leb, lt-leb, ne-eqb}
 use lib.Dec.{T, eqb, eqb→eq, leb}
 use lib.ListN.{length}
@@ -55,9 +55,9 @@ module _ (w : List ℕ) where
   unfolding cardOk
   bad-kind h = simp (ne-eqb (kind# w) 1 h, and-false)
 
-  -- all these are right: the last word decides
+  -- all these are right: the circles decide
   pub good-header : editionOk (edition# w) ≡ true → n# w ≤ maxRows → columnsOk (c# w) ≡ true → shareOk (m# w) (l# w) ≡ true → nodesOk (n# w) (N# w) ≡ true
-      → kind# w ≡ 1 → eqb (last# w) 0 ≡ cardOk w
+      → kind# w ≡ 1 → circlesOk (c# w) (circles# w) ≡ cardOk w
   unfolding cardOk
   good-header e h c s k d = simp (e, le-leb (n# w) maxRows h, c, s, k, eq-eqb (kind# w) 1 d)
 

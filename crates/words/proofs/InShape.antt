@@ -3,7 +3,7 @@ use Prim.Native.Nat.{_*_, _+_, _-_, _<_, _≤_, suc, zero, ℕ}
 use Rattle.laws.proofs.Tests.{and-l, and-r, holds, is-true}
 use Rattle.laws.specs.Lists.{all, range}
 use Rattle.limits.proofs.Ranges.{columns-are, shared, within-both}
-use Rattle.limits.specs.Limits.{columnsOk, editionOk, maxDepth, maxRows, shareOk}
+use Rattle.limits.specs.Limits.{circlesOk, columnsOk, editionOk, maxDepth, maxRows, shareOk}
 use Rattle.words.proofs.Headers.{words-whole}
 use Rattle.words.proofs.Levels.{born-le}
 use Rattle.words.proofs.Nodes.{closed, node-at, not-orphan, room-for, root-ok, root-some}
@@ -11,7 +11,7 @@ use Rattle.words.proofs.Positions.{position-is}
 use Rattle.words.proofs.Tiles.{tile-first, tile-part}
 use Rattle.words.specs.InShape.{InShape, Kids, Left, Node, Place, Whole}
 use Rattle.words.specs.Shape.{born, inner, level, positionOk, rootFits, shapeOk, treeFits}
-use Rattle.words.specs.Words.{N#, c#, cardOk, child#, count#, edition#, kind#, l#, last#, m#, n#, nodesOk, start#, wholeOk, wordsOf, wordsOk}
+use Rattle.words.specs.Words.{N#, c#, cardOk, child#, circles#, count#, edition#, kind#, l#, m#, n#, nodesOk, start#, wholeOk, wordsOf, wordsOk}
 use lib.Dec.{T, eqb, eqb→eq, leb, leb→le}
 use lib.ListN.{length}
 use mathlib.Core.Bool.{Bool, _&&_, cond, false, true}
@@ -39,10 +39,10 @@ whole w e =
     let d = columnsOk (c# w) in
     let s = shareOk (m# w) (l# w) in
     let k = nodesOk (n# w) (N# w) in
-    let h = a && b && d && s && k && eqb (kind# w) 1 && eqb (last# w) 0 in
+    let h = a && b && d && s && k && eqb (kind# w) 1 && circlesOk (c# w) (circles# w) in
     let g = holds (leb 8 (length w) && h && leb (wordsOf w) (length w)) e in
     let t : T (a && b && d && s && k) =
-    and-l (a && b && d && s && k) (eqb (kind# w) 1) (and-l (a && b && d && s && k && eqb (kind# w) 1) (eqb (last# w) 0)
+    and-l (a && b && d && s && k) (eqb (kind# w) 1) (and-l (a && b && d && s && k && eqb (kind# w) 1) (circlesOk (c# w) (circles# w))
     (and-r (leb 8 (length w)) h (and-l (leb 8 (length w) && h) (leb (wordsOf w) (length w)) g))) in
     let t4 = and-l (a && b && d && s) k t in
     let t3 = and-l (a && b && d) s t4 in

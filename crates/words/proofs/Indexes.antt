@@ -1,23 +1,18 @@
--- An index for a table: one law for each return of the code's test, what 0 says, and the same of a whole call. Assumes nothing.
-use Prim.Native.Nat.{_/_, _≤_, ℕ}
+-- An index for a table: one law for each return of the code's test, and what 0 says. Assumes nothing.
+use Prim.Native.Nat.{ℕ}
 use Rattle.laws.proofs.Every.{every-append}
 use Rattle.laws.proofs.Tests.{and-l, and-r, holds, is-true}
 use Rattle.laws.specs.Every.{Every}
-use Rattle.limits.proofs.Faults.{Early, early-numbered, fault-early, fault-first, fault-next, fault-none, fault-not, numberOf, says-first, says-next, says-none}
-use Rattle.limits.proofs.Numbers.{Passed, numbers-early, numbers-numbered, passed, passed-none}
-use Rattle.limits.specs.Said.{Said, fault, numberFaults, said}
-use Rattle.limits.specs.declared.Asked.{Asked}
-use Rattle.words.proofs.Headers.{words-whole}
-use Rattle.words.proofs.InShape.{in-shape}
-use Rattle.words.specs.InShape.{InShape, Over}
-use Rattle.words.specs.Index.{callFaults, fitFaults, indexFaults}
+use Rattle.limits.proofs.Faults.{Early, fault-early, fault-first, fault-next, fault-none, fault-not, numberOf}
+use Rattle.limits.specs.Said.{Said, fault, said}
+use Rattle.words.specs.Index.{fitFaults}
 use Rattle.words.specs.Shape.{shapeOk}
-use Rattle.words.specs.Words.{c#, edition#, n#, wordsOk}
+use Rattle.words.specs.Words.{c#, n#}
 use borrow.Author.Tests.{eq-eqb, ne-eqb, not-false}
 use lib.Dec.{eqb, eqb→eq}
 use mathlib.Core.Bool.{Bool, _&&_, and-false, false, not, true}
 use mathlib.Core.List.{List}
-use mathlib.Core.Path.{_∙_, _≡_, ap, ap₂, refl, sym}
+use mathlib.Core.Path.{_∙_, _≡_, ap, refl}
 use native.Mathlib.Omega.{arith}
 
 -- ---- 8 and 9
@@ -59,8 +54,8 @@ module _ (whole : Bool) (w : List ℕ) (n c : ℕ) where
   pub fit-early : Every Early (fitFaults whole w n c)
   unfolding fitFaults
   fit-early =
-      every-append Early (fault 8 (not fits)) shapeFault (fault-early 8 (not fits) (omega arith) (omega arith))
-      (fault-early 9 (not (shapeOk w)) (omega arith) (omega arith))
+      every-append Early (fault 8 (not fits)) shapeFault (fault-early 8 (not fits) (omega arith) refl)
+      (fault-early 9 (not (shapeOk w)) (omega arith) refl)
 
   -- with 0 every test is passed
   pub fit-tests : said (fitFaults whole w n c) .0 ≡ 0 → (whole ≡ true) × (n# w ≡ n) × (c# w ≡ c) × (shapeOk w ≡ true)
@@ -76,61 +71,3 @@ module _ (whole : Bool) (w : List ℕ) (n c : ℕ) where
         eqb→eq (c# w) c (and-r (whole && r) k t),
         not-false (shapeOk w) (fault-not 9 (not (shapeOk w)) (omega arith) (p .1)),
       )
-
--- ---- the whole call
--- NOTHING REFUSES THE CALL: not what numbers decide, nor what the index decides
-pub record Clear (a : Asked) (w : List ℕ) : Type 0 where
-  pub numbers : Passed a
-  pub whole : wordsOk w ≡ true
-  pub rows : n# w ≡ a .length / a .columns
-  pub columns : c# w ≡ a .columns
-  pub shape : shapeOk w ≡ true
-
-module _ (a : Asked) (w : List ℕ) where
-  -- the index's faults
-  abbrev last : List Said
-  last = indexFaults w (a .length / a .columns) (a .columns)
-
-  -- numbers refuse the call
-  pub by-numbers : {v : ℕ} → v ≡ said (numberFaults a) .0 → (v ≡ 0 → ⊥) → v ≡ said (callFaults a w) .0
-  unfolding callFaults
-  by-numbers e h = e ∙ ap numberOf (says-first (numberFaults a) last (λ z. h (e ∙ z)))
-
-  -- they do not, and the index decides
-  pub by-index : {v i n c : ℕ} → v ≡ said (numberFaults a) .0 → v ≡ 0 → n ≡ a .length / a .columns → c ≡ a .columns → i ≡ said (indexFaults w n c) .0
-      → i ≡ said (callFaults a w) .0
-  unfolding callFaults
-  by-index e z p q h =
-      h ∙ ap₂ (λ (n c : ℕ). said (indexFaults w n c) .0) p q ∙ ap numberOf (says-next (numberFaults a) last (numbers-numbered a) (sym e ∙ z))
-
-  -- all are one of 1 to 9, and name no place
-  pub call-early : Every Early (callFaults a w)
-  unfolding callFaults
-  call-early = every-append Early (numberFaults a) last (numbers-early a) (fit-early (wordsOk w) w (a .length / a .columns) (a .columns))
-
-  -- WITH 0 NOTHING REFUSES THE CALL
-  pub clear : said (callFaults a w) .0 ≡ 0 → Clear a w
-  unfolding callFaults
-  clear z =
-      let p = says-none (numberFaults a) last (numbers-numbered a) z in
-      let t = fit-tests (wordsOk w) w (a .length / a .columns) (a .columns) (p .1) in
-      record { numbers = passed a (p .0); whole = t .0; rows = t .1; columns = t .2; shape = t .3 }
-
-  -- AND WHERE NOTHING DOES 0 IS SAID
-  pub clear-none : Clear a w → 0 ≡ said (callFaults a w) .0
-  clear-none C =
-      by-index (passed-none a (C .numbers)) refl refl refl
-      (by-shape (wordsOk w) w (a .length / a .columns) (a .columns) (C .whole) (C .rows) (C .columns) (sym (C .shape)))
-
-  module _ (C : Clear a w) where
-    -- the index is in shape
-    pub clear-shape : InShape w
-    clear-shape = in-shape w (words-whole w (C .whole) .1) (C .shape)
-
-    -- of edition 2
-    pub clear-edition : edition# w ≡ 2
-    clear-edition = words-whole w (C .whole) .0
-
-    -- and the table's
-    pub clear-over : Over w (a .length / a .columns) (a .columns)
-    clear-over = record { shape = clear-shape; rows = C .rows; columns = C .columns }

@@ -1,7 +1,7 @@
 -- The index words: 01, The tree, Index words. Assumes nothing.
 use Prim.Native.Nat.{_*_, _+_, _-_, suc, zero, ℕ}
 use Rattle.laws.specs.Lists.{range}
-use Rattle.limits.specs.Limits.{columnsOk, editionOk, maxRows, shareOk, within}
+use Rattle.limits.specs.Limits.{circlesOk, columnsOk, editionOk, maxRows, shareOk, within}
 use lib.Dec.{eqb, leb}
 use lib.ListN.{getD, length}
 use mathlib.Core.Bool.{Bool, _&&_, cond}
@@ -11,7 +11,7 @@ use mathlib.Core.List.{List}
 abbrev pub at : List ℕ → ℕ → ℕ
 at w i = getD w i 0
 
--- ---- the header's eight words: edition, n, c, m, l, node count N, distance kind, and a last one
+-- ---- the header's eight words: edition, n, c, m, l, node count N, distance kind, and the set of circles
 -- how many they are
 abbrev pub headerWords : ℕ
 headerWords = 8
@@ -44,9 +44,9 @@ N# w = at w 5
 abbrev pub kind# : List ℕ → ℕ
 kind# w = at w 6
 
--- the last word, 0
-abbrev pub last# : List ℕ → ℕ
-last# w = at w 7
+-- 02, R-1: the columns that are circles, a bit for each
+abbrev pub circles# : List ℕ → ℕ
+circles# w = at w 7
 
 -- how many nodes n rows can have: none for none, else 1 to 2n - 1
 abbrev pub nodesOk : ℕ → ℕ → Bool
@@ -57,7 +57,7 @@ nodesOk (suc n) N = within 1 (2 * suc n - 1) N
 unfoldable pub cardOk : List ℕ → Bool
 cardOk w =
     editionOk (edition# w) && leb (n# w) maxRows && columnsOk (c# w) && shareOk (m# w) (l# w)
-    && nodesOk (n# w) (N# w) && eqb (kind# w) 1 && eqb (last# w) 0
+    && nodesOk (n# w) (N# w) && eqb (kind# w) 1 && circlesOk (c# w) (circles# w)
 
 -- the header is not impossible: edition 2, and possible on a card
 unfoldable pub headerOk : List ℕ → Bool

@@ -5,8 +5,10 @@ ghost use Rattle.words.specs.Words.{cardOk, headerOk, headerWords, nodes
 ghost use lib.ListN.{length};
 ghost use mathlib.Core.Path.{_≡_};
 use crate::places::HEADER;
+use crate::places::circles;
 use crate::places::word;
 use limits::Params;
+use limits::circles_ok;
 use limits::columns_ok;
 use limits::edition_ok;
 use limits::is_within;
@@ -47,7 +49,7 @@ pub fn card_ok(header: &[u32]) -> bool
     if word(header, 6) != 1 {
         return false;
     }
-    word(header, 7) == 0
+    circles_ok(word(header, 2), circles(header))
 }
 
 // The eight header words are possible.

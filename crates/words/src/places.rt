@@ -1,7 +1,7 @@
 // The index words by place.
 ghost use Prim.Native.Nat.{_*_, _+_, _<_, _≤_};
 ghost use Rattle.words.specs.InShape.{InShape, Whole};
-ghost use Rattle.words.specs.Words.{N#, at, c#, child#, count#, dist#, edition#, first#, headerWords, inner#, l#, m#, n#};
+ghost use Rattle.words.specs.Words.{N#, at, c#, child#, circles#, count#, dist#, edition#, first#, headerWords, inner#, l#, m#, n#};
 ghost use Rattle.words.specs.Words.{nodeAt, pairAt, radius#, row#, start#, width};
 ghost use lib.ListN.{length};
 ghost use mathlib.Core.Path.{_≡_};
@@ -39,6 +39,14 @@ pub fn columns(index: &[u32]) -> usize
     ensures { λ r. ⌜ (r ≡ c# (now (index .entry))) × (r < 4294967296) ⌝ }
 {
     word(index, 2)
+}
+
+// The columns that are circles, a bit for each.
+pub fn circles(index: &[u32]) -> u32
+    requires { ⌜ headerWords ≤ length (now index) ⌝ }
+    ensures { λ r. ⌜ r ≡ circles# (now (index .entry)) ⌝ }
+{
+    index[7]
 }
 
 // How many centres an inner node has.

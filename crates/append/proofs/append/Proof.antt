@@ -48,12 +48,16 @@ centres-requires c κs = header-there (none (c .before .before))
 leaf-size-requires : tie.Need-leaf-size-requires
 leaf-size-requires c κs = header-there (none (c .before .before .before))
 
+circles-requires : tie.Need-circles-requires
+circles-requires c κs = header-there (none (c .before .before .before .before))
+
 returns-2 : tie.Need-returns-2
 returns-2 c =
     let b = c .before .before .before .before in
-    let i = b .before .before .before .before .before in
-    built-appends (none (i .before .before)) (omega (arith, i .if2 .taken, i .before .rows .ensures)) (b .before .before .before .before .centres .ensures .0)
-    (b .before .before .before .leaf-size .ensures .0) (b .build .ensures)
+    let o = b .before .before .before in
+    let i = o .before .before .before in
+    built-appends (none (i .before .before)) (omega (arith, i .if2 .taken, i .before .rows .ensures)) (o .before .before .centres .ensures .0)
+    (o .before .leaf-size .ensures .0) (o .circles .ensures) (b .build .ensures)
 
 mul-used : tie.Need-mul-used
 mul-used c = omega (arith, few (c .before .before), c .before .rows .ensures)
@@ -90,6 +94,7 @@ append-spec =
     add-n
     centres-requires
     leaf-size-requires
+    circles-requires
     (λ c κs. search needs)
     (λ c. search needs)
     (λ c. search needs)

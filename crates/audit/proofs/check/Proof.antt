@@ -3,15 +3,18 @@
 use Rattle.audit.proofs.Contract.{refused, taken}
 use Rattle.audit.proofs.check.Statement.{statement}
 use Rattle.audit.proofs.check.Tie as tie
-use Rattle.audit.specs.Numbers.{checkAsks, refusals}
+use Rattle.audit.specs.Numbers.{checkAsks}
 use Prim.Native.Nat.{_*_}
 use Rattle.limits.specs.Said.{said}
+use Rattle.limits.specs.declared.Asked.{Asked}
 use Rattle.measure.specs.Table.{rowsOf}
-use Rattle.tree.proofs.Tested.{tested}
-use Rattle.words.proofs.Indexes.{Clear, clear}
+use Rattle.refusals.proofs.Refusals.{Clear, clear}
+use Rattle.refusals.proofs.Tested.{tested}
+use Rattle.refusals.specs.Refused.{callFaults}
 use borrow.Author.Needs.{needs}
 use borrow.Author.Tests.{ltb-false}
 use lib.ListN.{length}
+use mathlib.Core.List.{[]}
 use mathlib.Core.Path.{_∙_, _≡_, refl, sym}
 use native.Mathlib.Omega.{arith}
 
@@ -19,15 +22,17 @@ use native.Mathlib.Omega.{arith}
 abbrev start : tie.Else1 → tie.Start
 start c = c .before .before .before .before .before
 
+-- what the call asks of numbers
+abbrev asks : tie.Start → Asked
+asks s = checkAsks (s .args .table .now) (s .args .c) (length (s .args .work .now))
+
 -- there is no refusal in that branch
-none : (c : tie.Else1) → said (refusals (start c .args .table .now) (start c .args .c) (start c .args .index .now) (length (start c .args .work .now))) .0 ≡ 0
+none : (c : tie.Else1) → said (callFaults (asks (start c)) (start c .args .table .now) (start c .args .index .now) []) .0 ≡ 0
 none c = sym (c .before .refusal-of .ensures) ∙ c .if1 .left
 
 -- table, workspace and index are what the passes need
-going : (c : tie.Else1) → Clear (checkAsks (start c .args .table .now) (start c .args .c) (length (start c .args .work .now))) (start c .args .index .now)
-going c =
-    let a = start c .args in
-    clear (checkAsks (a .table .now) (a .c) (length (a .work .now))) (a .index .now) (none c)
+going : (c : tie.Else1) → Clear (asks (start c)) (start c .args .table .now) (start c .args .index .now) []
+going c = clear (asks (start c)) (start c .args .table .now) (start c .args .index .now) [] (none c)
 
 returns : tie.Need-returns
 returns c =
@@ -39,8 +44,7 @@ first-fault-requires c κs =
     let a = start (c .before) .args in
     let C = going (c .before) in
     let room = ltb-false (length (a .work .now)) (6 * rowsOf (a .table .now) (a .c)) (C .numbers .room) in
-    let asks = checkAsks (a .table .now) (a .c) (length (a .work .now)) in
-    (tested (a .table .now) (a .c) asks (a .index .now) refl refl C, omega (arith, room, C .rows))
+    (tested (a .table .now) (a .c) (asks (start (c .before))) (a .index .now) [] refl refl C, omega (arith, room, C .rows))
 
 returns-2 : tie.Need-returns-2
 returns-2 c =

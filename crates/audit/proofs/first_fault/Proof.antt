@@ -8,7 +8,7 @@ use Rattle.audit.proofs.first_fault.Tie as tie
 use Rattle.audit.specs.Workspace.{Clear}
 use Rattle.buffers.specs.Wiped.{wiped}
 use Rattle.measure.specs.Table.{between}
-use Rattle.words.specs.Words.{n#}
+use Rattle.words.specs.Words.{circles#, n#}
 use borrow.Author.Needs.{needs}
 use mathlib.Core.Path.{_∙_, _≡_, ap, subst, sym}
 use native.Mathlib.Omega.{arith}
@@ -20,6 +20,10 @@ start c = c .before .before .before .before .before .before
 -- the first wiping, seen from the second
 abbrev first : tie.After-clear-words2 → tie.After-clear-words
 first c = c .before .before .before .before .before .before .before .before
+
+-- the distance between the table's rows
+abbrev dist : tie.Start → ℕ → ℕ → ℕ
+dist s = between (s .args .table .now) (s .args .c) (circles# (s .args .index .now))
 
 -- before the marks the first n words of the workspace are zero
 before-marks : (c : tie.After-clear-words) → c .clear-words .last .0 ≡ wiped (n# (start c .args .index .now)) (start c .args .work .now)
@@ -44,7 +48,7 @@ returns c =
     let a = start (first l) .args in
     let p = l .before .before .before .before .first-again in
     let n = first l .before .before .rows .ensures .0 in
-    (again-found (between (a .table .now) (a .c)) (a .index .now) (p .result) (p .ensures .0) (omega (arith, n)), at-end l)
+    (again-found (dist (start (first l))) (a .index .now) (p .result) (p .ensures .0) (omega (arith, n)), at-end l)
 
 returns-2 : tie.Need-returns-2
 returns-2 c =
@@ -52,7 +56,7 @@ returns-2 c =
     let a = start (first l) .args in
     let p = l .before .before .before .before .first-again in
     let n = first l .before .before .rows .ensures .0 in
-    let none = again-none (between (a .table .now) (a .c)) (a .index .now) (p .result) (p .ensures .0) (omega (arith, n)) in
+    let none = again-none (dist (start (first l))) (a .index .now) (p .result) (p .ensures .0) (omega (arith, n)) in
     (c .measured-fault .ensures ∙ none, at-end l)
 
 pub first-fault-spec : {M : Type 1} → statement M

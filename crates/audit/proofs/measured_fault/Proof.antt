@@ -5,6 +5,7 @@ use Rattle.audit.proofs.Faults.{distance-found, radius-found, radius-no
 use Rattle.audit.proofs.measured_fault.Statement.{statement}
 use Rattle.audit.proofs.measured_fault.Tie as tie
 use Rattle.measure.specs.Table.{between}
+use Rattle.words.specs.Words.{circles#}
 use borrow.Author.Needs.{needs}
 use mathlib.Core.Path.{_∙_}
 use native.Mathlib.Omega.{arith}
@@ -19,7 +20,7 @@ earlier k = k .before .before .before
 
 -- the distance between the table's rows
 abbrev dist : tie.Start → ℕ → ℕ → ℕ
-dist s = between (s .args .table .now) (s .args .c)
+dist s = between (s .args .table .now) (s .args .c) (circles# (s .args .index .now))
 
 returns : tie.Need-returns
 returns c =

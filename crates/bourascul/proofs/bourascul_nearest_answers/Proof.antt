@@ -71,8 +71,8 @@ use types.Tokens.{lft-end, lft-new}
 abbrev stayed : Stays (outer.ended .signature .params) (outer.ended .kept)
 stayed =
     stay-none-slice (0 ∷ []) tt (plain (λ _. u16)) all-kept & stay-none (λ _. u32) all-kept & stay-none-slice (1 ∷ []) tt (plain (λ _. u32)) all-kept
-    & stay-none-slice (2 ∷ []) tt (plain (λ _. u16)) all-kept & stay-none (λ _. u32) all-kept & gave-slice (3 ∷ []) tt (plain (λ _. S.the-row)) & stay-slice (4 ∷ []) tt (plain (λ _. u32))
-    & stay-slice (5 ∷ []) tt (plain (λ _. u32)) & gave-slice (6 ∷ []) tt (plain (λ _. u8)) & gave-slice (7 ∷ []) tt (plain (λ _. u32)) & tt
+    & stay-none-slice (2 ∷ []) tt (plain (λ _. u16)) all-kept & stay-none (λ _. u32) all-kept & stay-none-slice (3 ∷ []) tt (plain (λ _. u32)) all-kept & gave-slice (4 ∷ []) tt (plain (λ _. S.the-row)) & stay-slice (5 ∷ []) tt (plain (λ _. u32))
+    & stay-slice (6 ∷ []) tt (plain (λ _. u32)) & gave-slice (7 ∷ []) tt (plain (λ _. u8)) & gave-slice (8 ∷ []) tt (plain (λ _. u32)) & tt
 
 module _ {M : Type 1} (𝓤 : URA M) (H : Heap 𝓤) (A : Atoms 𝓤) (mem : Memory → SProp 𝓤) (run : Routine → Fun 𝓤) where
   -- the two contracts that the proof cites
@@ -85,11 +85,11 @@ module _ {M : Type 1} (𝓤 : URA M) (H : Heap 𝓤) (A : Atoms 𝓤) (mem : Mem
 -- the parameters are numbered from 0 on: of each slice its lifetime κ, a share q of that lifetime's token, where it lies (b, o), the name γ that
 -- follows its value, its list c and that there is room for it; of each number n that it fits
 module _ {M : Type 1} (𝓤 : URA M) (H : Heap 𝓤) (A : Atoms 𝓤) (W : Given 𝓤 H A) (mem : Memory → SProp 𝓤) (run : Routine → Fun 𝓤)
-    (κ₀ κ₂ κ₃ κ₅ κ₆ κ₇ κ₈ κ₉ : Lft) (q₀ q₂ q₃ q₅ q₆ q₇ q₈ q₉ : Share) (b₀ o₀ b₂ o₂ b₃ o₃ b₅ o₅ b₆ o₆ b₇ o₇ b₈ o₈ b₉ o₉ : ℕ)
-    (γ₀ γ₂ γ₃ γ₅ γ₆ γ₇ γ₈ γ₉ : GName) (c₀ : List ℕ) (n₁ : ℕ) (c₂ : List ℕ) (c₃ : List ℕ) (n₄ : ℕ) (c₅ : List Answer) (c₆ : List ℕ) (c₇ : List ℕ)
-    (c₈ : List ℕ) (c₉ : List ℕ) (room₀ : Room u16 (length c₀)) (n₁-fits : n₁ < 2 ^ 32) (room₂ : Room u32 (length c₂)) (room₃ : Room u16 (length c₃))
-    (n₄-fits : n₄ < 2 ^ 32) (room₅ : Room S.the-row (length c₅)) (room₆ : Room u32 (length c₆)) (room₇ : Room u32 (length c₇))
-    (room₈ : Room u8 (length c₈)) (room₉ : Room u32 (length c₉)) where
+    (κ₀ κ₂ κ₃ κ₅ κ₆ κ₇ κ₈ κ₉ κ₁₀ : Lft) (q₀ q₂ q₃ q₅ q₆ q₇ q₈ q₉ q₁₀ : Share) (b₀ o₀ b₂ o₂ b₃ o₃ b₅ o₅ b₆ o₆ b₇ o₇ b₈ o₈ b₉ o₉ b₁₀ o₁₀ : ℕ)
+    (γ₀ γ₂ γ₃ γ₅ γ₆ γ₇ γ₈ γ₉ γ₁₀ : GName) (c₀ : List ℕ) (n₁ : ℕ) (c₂ : List ℕ) (c₃ : List ℕ) (n₄ : ℕ) (c₅ : List ℕ) (c₆ : List Answer) (c₇ : List ℕ) (c₈ : List ℕ)
+    (c₉ : List ℕ) (c₁₀ : List ℕ) (room₀ : Room u16 (length c₀)) (n₁-fits : n₁ < 2 ^ 32) (room₂ : Room u32 (length c₂)) (room₃ : Room u16 (length c₃))
+    (n₄-fits : n₄ < 2 ^ 32) (room₅ : Room u32 (length c₅)) (room₆ : Room S.the-row (length c₆)) (room₇ : Room u32 (length c₇)) (room₈ : Room u32 (length c₈))
+    (room₉ : Room u8 (length c₉)) (room₁₀ : Room u32 (length c₁₀)) where
   abbrev x₀ : RefT (List ℕ)
   x₀ = record { ptr = (b₀, o₀); name = γ₀; now = c₀ }
 
@@ -117,20 +117,23 @@ module _ {M : Type 1} (𝓤 : URA M) (H : Heap 𝓤) (A : Atoms 𝓤) (W : Given
   abbrev Own₃ : Fml
   Own₃ = ShrSlice (named 2) κ₃ u16 .own x₃ (s₃ ∷ [])
 
-  abbrev x₅ : RefT (List Answer)
+  abbrev x₅ : RefT (List ℕ)
   x₅ = record { ptr = (b₅, o₅); name = γ₅; now = c₅ }
 
   abbrev s₅ : Val
   s₅ = sliceVal (b₅, o₅) (length c₅)
 
   abbrev Own₅ : Fml
-  Own₅ = MutSlice (named 3) κ₅ S.the-row .own x₅ (s₅ ∷ [])
+  Own₅ = ShrSlice (named 3) κ₅ u32 .own x₅ (s₅ ∷ [])
 
-  abbrev x₆ : GName → List ℕ → RefT (List ℕ)
-  x₆ δ l = record { ptr = (b₆, o₆); name = δ; now = l }
+  abbrev x₆ : RefT (List Answer)
+  x₆ = record { ptr = (b₆, o₆); name = γ₆; now = c₆ }
 
   abbrev s₆ : Val
   s₆ = sliceVal (b₆, o₆) (length c₆)
+
+  abbrev Own₆ : Fml
+  Own₆ = MutSlice (named 4) κ₆ S.the-row .own x₆ (s₆ ∷ [])
 
   abbrev x₇ : GName → List ℕ → RefT (List ℕ)
   x₇ δ l = record { ptr = (b₇, o₇); name = δ; now = l }
@@ -150,235 +153,250 @@ module _ {M : Type 1} (𝓤 : URA M) (H : Heap 𝓤) (A : Atoms 𝓤) (W : Given
   abbrev s₉ : Val
   s₉ = sliceVal (b₉, o₉) (length c₉)
 
+  abbrev x₁₀ : GName → List ℕ → RefT (List ℕ)
+  x₁₀ δ l = record { ptr = (b₁₀, o₁₀); name = δ; now = l }
+
+  abbrev s₁₀ : Val
+  s₁₀ = sliceVal (b₁₀, o₁₀) (length c₁₀)
+
   abbrev Arg : Type 0
-  Arg = (RefT (List ℕ) × (ℕ × (RefT (List ℕ) × (RefT (List ℕ) × (ℕ × (RefT (List Answer) × (RefT (List ℕ) × (RefT (List ℕ) × (RefT (List ℕ) × (RefT (List ℕ) × Unit {0}))))))))))
+  Arg = (RefT (List ℕ) × (ℕ × (RefT (List ℕ) × (RefT (List ℕ) × (ℕ × (RefT (List ℕ) × (RefT (List Answer) × (RefT (List ℕ) × (RefT (List ℕ) × (RefT (List ℕ) × (RefT (List ℕ) × Unit {0})))))))))))
 
   abbrev a : Arg
-  a = (x₀, (n₁, (x₂, (x₃, (n₄, (x₅, ((x₆ γ₆ c₆), ((x₇ γ₇ c₇), ((x₈ γ₈ c₈), ((x₉ γ₉ c₉), tt))))))))))
+  a = (x₀, (n₁, (x₂, (x₃, (n₄, (x₅, (x₆, ((x₇ γ₇ c₇), ((x₈ γ₈ c₈), ((x₉ γ₉ c₉), ((x₁₀ γ₁₀ c₁₀), tt)))))))))))
 
-  abbrev vals : (List Val × (List Val × (List Val × (List Val × (List Val × (List Val × (List Val × (List Val × (List Val × (List Val × Unit {0}))))))))))
-  vals = (s₀ ∷ [], (vint w32 n₁ ∷ [], (s₂ ∷ [], (s₃ ∷ [], (vint w32 n₄ ∷ [], (s₅ ∷ [], (s₆ ∷ [], (s₇ ∷ [], (s₈ ∷ [], (s₉ ∷ [], tt))))))))))
+  abbrev vals : (List Val × (List Val × (List Val × (List Val × (List Val × (List Val × (List Val × (List Val × (List Val × (List Val × (List Val × Unit {0})))))))))))
+  vals = (s₀ ∷ [], (vint w32 n₁ ∷ [], (s₂ ∷ [], (s₃ ∷ [], (vint w32 n₄ ∷ [], (s₅ ∷ [], (s₆ ∷ [], (s₇ ∷ [], (s₈ ∷ [], (s₉ ∷ [], (s₁₀ ∷ [], tt)))))))))))
 
   -- the machine value of a result
   abbrev mach : Near → Val
   mach r = vstruct (vcons (vint w32 (r .number)) (vcons (vint w32 (r .given)) (vcons (vint w32 (r .measured)) vnil)))
 
   abbrev Post : Val → SProp 𝓤
-  Post = walkOf 𝓤 H A outer.ended stayed (outer.clauses 𝓤 H A mem run) .post (((κ₀, (κ₂, (κ₃, (κ₅, (κ₆, (κ₇, (κ₈, (κ₉, tt)))))))), (q₀, (q₂, (q₃, (q₅, (q₆, (q₇, (q₈, (q₉, tt)))))))), tt, a, vals), tt)
+  Post = walkOf 𝓤 H A outer.ended stayed (outer.clauses 𝓤 H A mem run) .post (((κ₀, (κ₂, (κ₃, (κ₅, (κ₆, (κ₇, (κ₈, (κ₉, (κ₁₀, tt))))))))), (q₀, (q₂, (q₃, (q₅, (q₆, (q₇, (q₈, (q₉, (q₁₀, tt))))))))), tt, a, vals), tt)
 
   -- ---- the search: what it is asked, by lifetimes ν and names δ of rows and distances
-  abbrev core-args : GName → GName → (RefT (List ℕ) × (ℕ × (RefT (List ℕ) × (RefT (List ℕ) × (ℕ × (ℕ × (RefT (List ℕ) × (RefT (List ℕ) × (RefT (List ℕ) × (RefT (List ℕ) × Unit {0}))))))))))
-  core-args δ₆ δ₇ = (x₀, (n₁, (x₂, (x₃, (n₄, (length c₅, ((x₆ δ₆ c₆), ((x₇ δ₇ c₇), ((x₈ γ₈ c₈), ((x₉ γ₉ c₉), tt))))))))))
+  abbrev core-args : GName → GName → (RefT (List ℕ) × (ℕ × (RefT (List ℕ) × (RefT (List ℕ) × (ℕ × (RefT (List ℕ) × (ℕ × (RefT (List ℕ) × (RefT (List ℕ) × (RefT (List ℕ) × (RefT (List ℕ) × Unit {0})))))))))))
+  core-args δ₇ δ₈ = (x₀, (n₁, (x₂, (x₃, (n₄, (x₅, (length c₆, ((x₇ δ₇ c₇), ((x₈ δ₈ c₈), ((x₉ γ₉ c₉), ((x₁₀ γ₁₀ c₁₀), tt)))))))))))
 
   abbrev to-core : ℕ → ℕ → GName → GName → Core 𝓤 H A mem run .Ghost
-  to-core ν₆ ν₇ δ₆ δ₇ =
-      (((κ₀, (κ₂, (κ₃, (ν₆ ∷ [], (ν₇ ∷ [], (κ₈, (κ₉, tt))))))), (q₀, (q₂, (q₃, (fullShare, (fullShare, (q₈, (q₉, tt))))))), tt, core-args δ₆ δ₇, (s₀ ∷ [], (vint w32 n₁ ∷ [], (s₂ ∷ [], (s₃ ∷ [], (vint w32 n₄ ∷ [], (vint w64 (length c₅) ∷ [], (s₆ ∷ [], (s₇ ∷ [], (s₈ ∷ [], (s₉ ∷ [], tt))))))))))), tt)
+  to-core ν₇ ν₈ δ₇ δ₈ =
+      (((κ₀, (κ₂, (κ₃, (κ₅, (ν₇ ∷ [], (ν₈ ∷ [], (κ₉, (κ₁₀, tt)))))))), (q₀, (q₂, (q₃, (q₅, (fullShare, (fullShare, (q₉, (q₁₀, tt)))))))), tt, core-args δ₇ δ₈, (s₀ ∷ [], (vint w32 n₁ ∷ [], (s₂ ∷ [], (s₃ ∷ [], (vint w32 n₄ ∷ [], (s₅ ∷ [], (vint w64 (length c₆) ∷ [], (s₇ ∷ [], (s₈ ∷ [], (s₉ ∷ [], (s₁₀ ∷ [], tt)))))))))))), tt)
 
   abbrev Asked : ℕ → ℕ → GName → GName → List (Item 𝓤)
-  Asked ν₆ ν₇ δ₆ δ₇ =
-      ‵ (flft κ₀ q₀) ∷ ‵ (flft κ₂ q₂) ∷ ‵ (flft κ₃ q₃) ∷ ‵ (flft (ν₆ ∷ []) fullShare) ∷ ‵ (flft (ν₇ ∷ []) fullShare) ∷ ‵ (flft κ₈ q₈) ∷ ‵ (flft κ₉ q₉)
+  Asked ν₇ ν₈ δ₇ δ₈ =
+      ‵ (flft κ₀ q₀) ∷ ‵ (flft κ₂ q₂) ∷ ‵ (flft κ₃ q₃) ∷ ‵ (flft κ₅ q₅) ∷ ‵ (flft (ν₇ ∷ []) fullShare) ∷ ‵ (flft (ν₈ ∷ []) fullShare) ∷ ‵ (flft κ₉ q₉) ∷ ‵ (flft κ₁₀ q₁₀)
       ∷ ‵ (ShrSlice (named 0) κ₀ u16 .own x₀ (s₀ ∷ [])) ∷ ‵ (ShrSlice (named 1) κ₂ u32 .own x₂ (s₂ ∷ [])) ∷ ‵ (ShrSlice (named 2) κ₃ u16 .own x₃ (s₃ ∷ []))
-      ∷ ‵ (MutSlice (named 3) (ν₆ ∷ []) u32 .own (x₆ δ₆ c₆) (s₆ ∷ [])) ∷ ‵ (MutSlice (named 4) (ν₇ ∷ []) u32 .own (x₇ δ₇ c₇) (s₇ ∷ []))
-      ∷ ‵ (MutSlice (named 5) κ₈ u8 .own (x₈ γ₈ c₈) (s₈ ∷ [])) ∷ ‵ (MutSlice (named 6) κ₉ u32 .own (x₉ γ₉ c₉) (s₉ ∷ [])) ∷ []
+      ∷ ‵ (ShrSlice (named 3) κ₅ u32 .own x₅ (s₅ ∷ [])) ∷ ‵ (MutSlice (named 4) (ν₇ ∷ []) u32 .own (x₇ δ₇ c₇) (s₇ ∷ [])) ∷ ‵ (MutSlice (named 5) (ν₈ ∷ []) u32 .own (x₈ δ₈ c₈) (s₈ ∷ []))
+      ∷ ‵ (MutSlice (named 6) κ₉ u8 .own (x₉ γ₉ c₉) (s₉ ∷ [])) ∷ ‵ (MutSlice (named 7) κ₁₀ u32 .own (x₁₀ γ₁₀ c₁₀) (s₁₀ ∷ [])) ∷ []
 
-  goes-core : (ν₆ ν₇ : ℕ) (δ₆ δ₇ : GName) → ent 𝓤 (⋆ 𝓤 H A (Asked ν₆ ν₇ δ₆ δ₇)) (Core 𝓤 H A mem run .pre (to-core ν₆ ν₇ δ₆ δ₇))
-  goes-core ν₆ ν₇ δ₆ δ₇ =
-      qed W (Asked ν₆ ν₇ δ₆ δ₇) ∵
-      nothing ! $ move ! (1 ∷ 2 ∷ 3 ∷ 4 ∷ 5 ∷ 6 ∷ 7 ∷ 0 ∷ []) $ group ! 8 $ nothing ! $ move ! (8 ∷ 0 ∷ []) $ fjoin ! $ move ! (7 ∷ 0 ∷ []) $ fjoin ! $ move ! (6 ∷ 0 ∷ []) $ fjoin ! $
-      move ! (5 ∷ 0 ∷ []) $ fjoin ! $ owned ! usize (Is usize) (uint-makes 𝓤 H A W w64) (length c₅) _ (refl, room₅ .0) $ fjoin ! $
+  goes-core : (ν₇ ν₈ : ℕ) (δ₇ δ₈ : GName) → ent 𝓤 (⋆ 𝓤 H A (Asked ν₇ ν₈ δ₇ δ₈)) (Core 𝓤 H A mem run .pre (to-core ν₇ ν₈ δ₇ δ₈))
+  goes-core ν₇ ν₈ δ₇ δ₈ =
+      qed W (Asked ν₇ ν₈ δ₇ δ₈) ∵
+      nothing ! $ move ! (1 ∷ 2 ∷ 3 ∷ 4 ∷ 5 ∷ 6 ∷ 7 ∷ 8 ∷ 0 ∷ []) $ group ! 9 $ nothing ! $ move ! (9 ∷ 0 ∷ []) $ fjoin ! $ move ! (8 ∷ 0 ∷ []) $ fjoin ! $ move ! (7 ∷ 0 ∷ []) $ fjoin ! $
+      move ! (6 ∷ 0 ∷ []) $ fjoin ! $ owned ! usize (Is usize) (uint-makes 𝓤 H A W w64) (length c₆) _ (refl, room₆ .0) $ fjoin ! $ move ! (5 ∷ 0 ∷ []) $ fjoin ! $
       owned ! u32 (Is u32) (uint-makes 𝓤 H A W w32) n₄ _ (refl, n₄-fits) $ fjoin ! $ move ! (4 ∷ 0 ∷ []) $ fjoin ! $ move ! (3 ∷ 0 ∷ []) $ fjoin ! $
       owned ! u32 (Is u32) (uint-makes 𝓤 H A W w32) n₁ _ (refl, n₁-fits) $ fjoin ! $ move ! (2 ∷ 0 ∷ []) $ fjoin ! $ move ! (1 ∷ 0 ∷ []) $ join ! $ frame ! $ done !
 
   -- ---- the records: what is asked, with the lists e that the search left, and k of them
   abbrev fill-args : GName → GName → List ℕ → List ℕ → ℕ → (RefT (List Answer) × (RefT (List ℕ) × (RefT (List ℕ) × (ℕ × Unit {0}))))
-  fill-args δ₆ δ₇ e₆ e₇ k = (x₅, ((x₆ δ₆ e₆), ((x₇ δ₇ e₇), (k, tt))))
+  fill-args δ₇ δ₈ e₇ e₈ k = (x₆, ((x₇ δ₇ e₇), ((x₈ δ₈ e₈), (k, tt))))
 
   abbrev to-fill : ℕ → ℕ → GName → GName → List ℕ → List ℕ → ℕ → Fill 𝓤 H A mem run .Ghost
-  to-fill ν₆ ν₇ δ₆ δ₇ e₆ e₇ k =
-      (((κ₅, (ν₆ ∷ [], (ν₇ ∷ [], tt))), (q₅, (fullShare, (fullShare, tt))), tt, fill-args δ₆ δ₇ e₆ e₇ k, (s₅ ∷ [], (s₆ ∷ [], (s₇ ∷ [], (vint w64 k ∷ [], tt))))), tt)
+  to-fill ν₇ ν₈ δ₇ δ₈ e₇ e₈ k =
+      (((κ₆, (ν₇ ∷ [], (ν₈ ∷ [], tt))), (q₆, (fullShare, (fullShare, tt))), tt, fill-args δ₇ δ₈ e₇ e₈ k, (s₆ ∷ [], (s₇ ∷ [], (s₈ ∷ [], (vint w64 k ∷ [], tt))))), tt)
 
   abbrev Lent : ℕ → ℕ → GName → GName → List ℕ → List ℕ → List (Item 𝓤)
-  Lent ν₆ ν₇ δ₆ δ₇ e₆ e₇ =
-      ‵ (flft κ₅ q₅) ∷ ‵ (flft (ν₆ ∷ []) fullShare) ∷ ‵ (flft (ν₇ ∷ []) fullShare) ∷ ‵ Own₅ ∷ ‵ (ShrSlice (named 1) (ν₆ ∷ []) u32 .own (x₆ δ₆ e₆) (s₆ ∷ []))
-      ∷ ‵ (ShrSlice (named 2) (ν₇ ∷ []) u32 .own (x₇ δ₇ e₇) (s₇ ∷ [])) ∷ []
+  Lent ν₇ ν₈ δ₇ δ₈ e₇ e₈ =
+      ‵ (flft κ₆ q₆) ∷ ‵ (flft (ν₇ ∷ []) fullShare) ∷ ‵ (flft (ν₈ ∷ []) fullShare) ∷ ‵ Own₆ ∷ ‵ (ShrSlice (named 1) (ν₇ ∷ []) u32 .own (x₇ δ₇ e₇) (s₇ ∷ []))
+      ∷ ‵ (ShrSlice (named 2) (ν₈ ∷ []) u32 .own (x₈ δ₈ e₈) (s₈ ∷ [])) ∷ []
 
-  goes-fill : (ν₆ ν₇ : ℕ) (δ₆ δ₇ : GName) (e₆ e₇ : List ℕ) (k : ℕ) → k < 2 ^ 64 → (k ≤ length c₅) × (k ≤ length e₆) × (k ≤ length e₇)
-      → ent 𝓤 (⋆ 𝓤 H A (Lent ν₆ ν₇ δ₆ δ₇ e₆ e₇)) (Fill 𝓤 H A mem run .pre (to-fill ν₆ ν₇ δ₆ δ₇ e₆ e₇ k))
-  goes-fill ν₆ ν₇ δ₆ δ₇ e₆ e₇ k k-fits within =
-      qed W (Lent ν₆ ν₇ δ₆ δ₇ e₆ e₇) ∵ says ! within $
+  goes-fill : (ν₇ ν₈ : ℕ) (δ₇ δ₈ : GName) (e₇ e₈ : List ℕ) (k : ℕ) → k < 2 ^ 64 → (k ≤ length c₆) × (k ≤ length e₇) × (k ≤ length e₈)
+      → ent 𝓤 (⋆ 𝓤 H A (Lent ν₇ ν₈ δ₇ δ₈ e₇ e₈)) (Fill 𝓤 H A mem run .pre (to-fill ν₇ ν₈ δ₇ δ₈ e₇ e₈ k))
+  goes-fill ν₇ ν₈ δ₇ δ₈ e₇ e₈ k k-fits within =
+      qed W (Lent ν₇ ν₈ δ₇ δ₈ e₇ e₈) ∵ says ! within $
       nothing ! $ move ! (1 ∷ 2 ∷ 3 ∷ 0 ∷ []) $ group ! 4 $ frame ! $ nothing ! $ owned ! usize (Is usize) (uint-makes 𝓤 H A W w64) k _ (refl, k-fits) $ fjoin ! $ move ! (3 ∷ 0 ∷ []) $ fjoin ! $
       move ! (2 ∷ 0 ∷ []) $ fjoin ! $ move ! (1 ∷ 0 ∷ []) $ fjoin ! $ done !
 
   -- ---- the exit, with the lists e and the records zs that were left
   abbrev Had : List ℕ → List ℕ → List ℕ → List ℕ → List Answer → List (Item 𝓤)
-  Had e₆ e₇ e₈ e₉ zs =
-      ‵ (flft κ₀ q₀) ∷ ‵ (flft κ₂ q₂) ∷ ‵ (flft κ₃ q₃) ∷ ‵ (flft κ₅ q₅) ∷ ‵ (flft κ₆ q₆) ∷ ‵ (flft κ₇ q₇) ∷ ‵ (flft κ₈ q₈) ∷ ‵ (flft κ₉ q₉)
+  Had e₇ e₈ e₉ e₁₀ zs =
+      ‵ (flft κ₀ q₀) ∷ ‵ (flft κ₂ q₂) ∷ ‵ (flft κ₃ q₃) ∷ ‵ (flft κ₅ q₅) ∷ ‵ (flft κ₆ q₆) ∷ ‵ (flft κ₇ q₇) ∷ ‵ (flft κ₈ q₈) ∷ ‵ (flft κ₉ q₉) ∷ ‵ (flft κ₁₀ q₁₀)
       ∷ ‵ (ShrSlice (named 0) κ₀ u16 .own x₀ (s₀ ∷ [])) ∷ ‵ (ShrSlice (named 1) κ₂ u32 .own x₂ (s₂ ∷ [])) ∷ ‵ (ShrSlice (named 2) κ₃ u16 .own x₃ (s₃ ∷ []))
-      ∷ ‵ (finally S.the-row γ₅ zs) ∷ ‵ (MutSlice (named 4) κ₆ u32 .own (x₆ γ₆ e₆) (s₆ ∷ [])) ∷ ‵ (MutSlice (named 5) κ₇ u32 .own (x₇ γ₇ e₇) (s₇ ∷ [])) ∷ ‵ (finally u8 γ₈ e₈)
-      ∷ ‵ (finally u32 γ₉ e₉) ∷ []
+      ∷ ‵ (ShrSlice (named 3) κ₅ u32 .own x₅ (s₅ ∷ [])) ∷ ‵ (finally S.the-row γ₆ zs) ∷ ‵ (MutSlice (named 5) κ₇ u32 .own (x₇ γ₇ e₇) (s₇ ∷ [])) ∷ ‵ (MutSlice (named 6) κ₈ u32 .own (x₈ γ₈ e₈) (s₈ ∷ [])) ∷ ‵ (finally u8 γ₉ e₉)
+      ∷ ‵ (finally u32 γ₁₀ e₁₀) ∷ []
 
-  exits : (r : Near) (e₆ e₇ e₈ e₉ : List ℕ) (zs : List Answer) → Is F.the-row r (mach r ∷ []) → length e₆ ≡ length c₆ → length e₇ ≡ length c₇ → length e₈ ≡ length c₈ → length e₉ ≡ length c₉ → length zs ≡ length c₅
-      → Recorded (asks c₀ n₁ c₂ c₃ n₄) c₅ zs (lends c₆ c₇ c₈ c₉) (lends e₆ e₇ e₈ e₉) (r .number) (r .given) (r .measured)
-      → ent 𝓤 (⋆ 𝓤 H A (Had e₆ e₇ e₈ e₉ zs)) (Post (mach r))
-  exits r e₆ e₇ e₈ e₉ zs is same₆ same₇ same₈ same₉ same₅ promised =
-      qed W (Had e₆ e₇ e₈ e₉ zs) ∵
-      suffices ! _ (ends-at 𝓤 H A outer.ended stayed (outer.clauses 𝓤 H A mem run) W (((κ₀, (κ₂, (κ₃, (κ₅, (κ₆, (κ₇, (κ₈, (κ₉, tt)))))))), (q₀, (q₂, (q₃, (q₅, (q₆, (q₇, (q₈, (q₉, tt)))))))), tt, a, vals), tt) (mach r) r
-      (tt, (tt, (tt, (tt, (tt, (zs, (e₆, (e₇, (e₈, (e₉, tt)))))))))) (tt, (tt, (tt, (tt, (tt, (same₅, (same₆, (same₇, (same₈, (same₉, tt))))))))))) $
+  exits : (r : Near) (e₇ e₈ e₉ e₁₀ : List ℕ) (zs : List Answer) → Is F.the-row r (mach r ∷ []) → length e₇ ≡ length c₇ → length e₈ ≡ length c₈ → length e₉ ≡ length c₉ → length e₁₀ ≡ length c₁₀ → length zs ≡ length c₆
+      → Recorded (asks c₀ n₁ c₂ c₃ n₄ c₅) c₆ zs (lends c₇ c₈ c₉ c₁₀) (lends e₇ e₈ e₉ e₁₀) (r .number) (r .given) (r .measured)
+      → ent 𝓤 (⋆ 𝓤 H A (Had e₇ e₈ e₉ e₁₀ zs)) (Post (mach r))
+  exits r e₇ e₈ e₉ e₁₀ zs is same₇ same₈ same₉ same₁₀ same₆ promised =
+      qed W (Had e₇ e₈ e₉ e₁₀ zs) ∵
+      suffices ! _ (ends-at 𝓤 H A outer.ended stayed (outer.clauses 𝓤 H A mem run) W (((κ₀, (κ₂, (κ₃, (κ₅, (κ₆, (κ₇, (κ₈, (κ₉, (κ₁₀, tt))))))))), (q₀, (q₂, (q₃, (q₅, (q₆, (q₇, (q₈, (q₉, (q₁₀, tt))))))))), tt, a, vals), tt) (mach r) r
+      (tt, (tt, (tt, (tt, (tt, (tt, (zs, (e₇, (e₈, (e₉, (e₁₀, tt))))))))))) (tt, (tt, (tt, (tt, (tt, (tt, (same₆, (same₇, (same₈, (same₉, (same₁₀, tt)))))))))))) $
       says ! promised $
-      nothing ! $ move ! (1 ∷ 2 ∷ 3 ∷ 4 ∷ 5 ∷ 6 ∷ 7 ∷ 8 ∷ 0 ∷ []) $ group ! 9 $ frame ! $ nothing ! $ move ! (8 ∷ 0 ∷ []) $ fjoin ! $ move ! (7 ∷ 0 ∷ []) $ fjoin ! $ move ! (6 ∷ 0 ∷ []) $
-      fjoin ! $ move ! (5 ∷ 0 ∷ []) $ fjoin ! $ move ! (4 ∷ 0 ∷ []) $ fjoin ! $ owned ! u32 (Is u32) (uint-makes 𝓤 H A W w32) n₄ _ (refl, n₄-fits) $ fjoin ! $ move ! (3 ∷ 0 ∷ []) $ fjoin ! $
+      nothing ! $ move ! (1 ∷ 2 ∷ 3 ∷ 4 ∷ 5 ∷ 6 ∷ 7 ∷ 8 ∷ 9 ∷ 0 ∷ []) $ group ! 10 $ frame ! $ nothing ! $ move ! (9 ∷ 0 ∷ []) $ fjoin ! $ move ! (8 ∷ 0 ∷ []) $ fjoin ! $ move ! (7 ∷ 0 ∷ []) $
+      fjoin ! $ move ! (6 ∷ 0 ∷ []) $ fjoin ! $ move ! (5 ∷ 0 ∷ []) $ fjoin ! $ move ! (4 ∷ 0 ∷ []) $ fjoin ! $ owned ! u32 (Is u32) (uint-makes 𝓤 H A W w32) n₄ _ (refl, n₄-fits) $ fjoin ! $ move ! (3 ∷ 0 ∷ []) $ fjoin ! $
       move ! (2 ∷ 0 ∷ []) $ fjoin ! $ owned ! u32 (Is u32) (uint-makes 𝓤 H A W w32) n₁ _ (refl, n₁-fits) $ fjoin ! $ move ! (1 ∷ 0 ∷ []) $ fjoin ! $
       owned ! F.the-row (Is F.the-row) (LL.makes F.the-type F′.the-plain 𝓤 H A) r _ is $ move ! (1 ∷ 0 ∷ []) $ done !
 
   -- ---- the walk
   module _ (C : Calls 𝓤 H) (Λ : Loops 𝓤 H) (fm : FmC 𝓤 H (W .laws) C) (known-core : Triple 𝓤 (C #core) (Core 𝓤 H A mem run))
       (known-fill : Triple 𝓤 (C #fill) (Fill 𝓤 H A mem run)) where
-    walk : ent 𝓤 (onEntry 𝓤 H A outer.signature (κ₀, (κ₂, (κ₃, (κ₅, (κ₆, (κ₇, (κ₈, (κ₉, tt)))))))) (q₀, (q₂, (q₃, (q₅, (q₆, (q₇, (q₈, (q₉, tt)))))))) a vals)
-        (WpFn 𝓤 H C Λ code.function (s₀ ∷ vint w32 n₁ ∷ s₂ ∷ s₃ ∷ vint w32 n₄ ∷ s₅ ∷ s₆ ∷ s₇ ∷ s₈ ∷ s₉ ∷ []) Post)
+    walk : ent 𝓤 (onEntry 𝓤 H A outer.signature (κ₀, (κ₂, (κ₃, (κ₅, (κ₆, (κ₇, (κ₈, (κ₉, (κ₁₀, tt))))))))) (q₀, (q₂, (q₃, (q₅, (q₆, (q₇, (q₈, (q₉, (q₁₀, tt))))))))) a vals)
+        (WpFn 𝓤 H C Λ code.function (s₀ ∷ vint w32 n₁ ∷ s₂ ∷ s₃ ∷ vint w32 n₄ ∷ s₅ ∷ s₆ ∷ s₇ ∷ s₈ ∷ s₉ ∷ s₁₀ ∷ []) Post)
     walk =
-        qed W ((‵ (flft κ₀ q₀) ⊛ ‵ (flft κ₂ q₂) ⊛ ‵ (flft κ₃ q₃) ⊛ ‵ (flft κ₅ q₅) ⊛ ‵ (flft κ₆ q₆) ⊛ ‵ (flft κ₇ q₇) ⊛ ‵ (flft κ₈ q₈) ⊛ ‵ (flft κ₉ q₉) ⊛ ‵ ftrue)
-        ∷ ‵ (owns (ShrSlice (named 0) κ₀ u16 ∷ u32 ∷ ShrSlice (named 1) κ₂ u32 ∷ ShrSlice (named 2) κ₃ u16 ∷ u32 ∷ MutSlice (named 3) κ₅ S.the-row ∷ MutSlice (named 4) κ₆ u32 ∷ MutSlice (named 5) κ₇ u32 ∷ MutSlice (named 6) κ₈ u8 ∷ MutSlice (named 7) κ₉ u32 ∷ []) a vals) ∷ []) ∵
-        enter ! C Λ code.function (s₀ ∷ vint w32 n₁ ∷ s₂ ∷ s₃ ∷ vint w32 n₄ ∷ s₅ ∷ s₆ ∷ s₇ ∷ s₈ ∷ s₉ ∷ []) _ $
+        qed W ((‵ (flft κ₀ q₀) ⊛ ‵ (flft κ₂ q₂) ⊛ ‵ (flft κ₃ q₃) ⊛ ‵ (flft κ₅ q₅) ⊛ ‵ (flft κ₆ q₆) ⊛ ‵ (flft κ₇ q₇) ⊛ ‵ (flft κ₈ q₈) ⊛ ‵ (flft κ₉ q₉) ⊛ ‵ (flft κ₁₀ q₁₀) ⊛ ‵ ftrue)
+        ∷ ‵ (owns (ShrSlice (named 0) κ₀ u16 ∷ u32 ∷ ShrSlice (named 1) κ₂ u32 ∷ ShrSlice (named 2) κ₃ u16 ∷ u32 ∷ ShrSlice (named 3) κ₅ u32 ∷ MutSlice (named 4) κ₆ S.the-row ∷ MutSlice (named 5) κ₇ u32 ∷ MutSlice (named 6) κ₈ u32 ∷ MutSlice (named 7) κ₉ u8 ∷ MutSlice (named 8) κ₁₀ u32 ∷ []) a vals) ∷ []) ∵
+        enter ! C Λ code.function (s₀ ∷ vint w32 n₁ ∷ s₂ ∷ s₃ ∷ vint w32 n₄ ∷ s₅ ∷ s₆ ∷ s₇ ∷ s₈ ∷ s₉ ∷ s₁₀ ∷ []) _ $
         alloc1 ! (λ l₀. alloc1 ! (λ l₁. alloc1 ! (λ l₂. alloc1 ! (λ l₃. alloc1 ! (λ l₄. alloc1 ! (λ l₅. alloc1 ! (λ l₆. alloc1 ! (λ l₇. alloc1 ! (λ l₈. alloc1 ! (λ l₉. alloc1 ! (λ l₁₀.
-        alloc1 ! (λ l₁₁. alloc1 ! (λ l₁₂. alloc1 ! (λ l₁₃. alloc1 ! (λ l₁₄. alloc1 ! (λ l₁₅. alloc1 ! (λ l₁₆. alloc1 ! (λ l₁₇. alloc1 ! (λ l₁₈. alloc1 ! (λ l₁₉. alloc1 ! (λ l₂₀. alloc1 ! (λ l₂₁.
-        alloc1 ! (λ l₂₂. alloc1 ! (λ l₂₃. alloc1 ! (λ l₂₄. alloc1 ! (λ l₂₅. alloc1 ! (λ l₂₆. alloc1 ! (λ l₂₇. alloc1 ! (λ l₂₈. alloc0 ! $ params1 ! $
-        pass1 ! (init ! 54 refl (tt, (tt, (record { fits = room₀ .0 }, tt)))) $ pass1 ! (init ! 52 refl (tt, record { fits = n₁-fits })) $
-        pass1 ! (init ! 50 refl (tt, (tt, (record { fits = room₂ .0 }, tt)))) $ pass1 ! (init ! 48 refl (tt, (tt, (record { fits = room₃ .0 }, tt)))) $
-        pass1 ! (init ! 46 refl (tt, record { fits = n₄-fits })) $ pass1 ! (init ! 44 refl (tt, (tt, (record { fits = room₅ .0 }, tt)))) $
-        pass1 ! (init ! 42 refl (tt, (tt, (record { fits = room₆ .0 }, tt)))) $ pass1 ! (init ! 40 refl (tt, (tt, (record { fits = room₇ .0 }, tt)))) $
-        pass1 ! (init ! 38 refl (tt, (tt, (record { fits = room₈ .0 }, tt)))) $ pass1 ! (init ! 36 refl (tt, (tt, (record { fits = room₉ .0 }, tt)))) $ pass0 ! $
+        alloc1 ! (λ l₁₁. alloc1 ! (λ l₁₂. alloc1 ! (λ l₁₃. alloc1 ! (λ l₁₄. alloc1 ! (λ l₁₅. alloc1 ! (λ l₁₆. alloc1 ! (λ l₁₇. alloc1 ! (λ l₁₈. alloc1 ! (λ l₁₉. alloc1 ! (λ l₂₀.
+        alloc1 ! (λ l₂₁. alloc1 ! (λ l₂₂. alloc1 ! (λ l₂₃. alloc1 ! (λ l₂₄. alloc1 ! (λ l₂₅. alloc1 ! (λ l₂₆. alloc1 ! (λ l₂₇. alloc1 ! (λ l₂₈. alloc1 ! (λ l₂₉. alloc0 ! $ params1 ! $
+        pass1 ! (init ! 56 refl (tt, (tt, (record { fits = room₀ .0 }, tt)))) $ pass1 ! (init ! 54 refl (tt, record { fits = n₁-fits })) $
+        pass1 ! (init ! 52 refl (tt, (tt, (record { fits = room₂ .0 }, tt)))) $ pass1 ! (init ! 50 refl (tt, (tt, (record { fits = room₃ .0 }, tt)))) $
+        pass1 ! (init ! 48 refl (tt, record { fits = n₄-fits })) $ pass1 ! (init ! 46 refl (tt, (tt, (record { fits = room₅ .0 }, tt)))) $
+        pass1 ! (init ! 44 refl (tt, (tt, (record { fits = room₆ .0 }, tt)))) $ pass1 ! (init ! 42 refl (tt, (tt, (record { fits = room₇ .0 }, tt)))) $
+        pass1 ! (init ! 40 refl (tt, (tt, (record { fits = room₈ .0 }, tt)))) $ pass1 ! (init ! 38 refl (tt, (tt, (record { fits = room₉ .0 }, tt)))) $
+        pass1 ! (init ! 36 refl (tt, (tt, (record { fits = room₁₀ .0 }, tt)))) $ pass0 ! $
         -- answers.len(), and the slices that the search writes
-        assigns ! (of-opd ! (load ! (from ! (fld ! refl (stop !))) (look-in ! 44 (sub ! 1 refl (whole !))))) (from ! (stop !)) (init ! 34 refl (tt, record { fits = room₅ .0 })) $
+        assigns ! (of-opd ! (load ! (from ! (fld ! refl (stop !))) (look-in ! 44 (sub ! 1 refl (whole !))))) (from ! (stop !)) (init ! 34 refl (tt, record { fits = room₆ .0 })) $
         assigns ! (addr ! (from ! (fld ! refl (hop ! (look-in ! 42 (sub ! 0 refl (whole !))) (stop !))))) (from ! (stop !)) (init ! 28 refl (tt, tt)) $
-        assigns ! (agg ! (and-then ! (load ! (from ! (stop !)) (look ! 28 refl)) (and-then ! (load ! (from ! (fld ! refl (stop !))) (look-in ! 42 (sub ! 1 refl (whole !)))) (no-more !)))) (from ! (stop !)) (init ! 26 refl (tt, (tt, (record { fits = room₆ .0 }, tt)))) $
+        assigns ! (agg ! (and-then ! (load ! (from ! (stop !)) (look ! 28 refl)) (and-then ! (load ! (from ! (fld ! refl (stop !))) (look-in ! 42 (sub ! 1 refl (whole !)))) (no-more !)))) (from ! (stop !)) (init ! 26 refl (tt, (tt, (record { fits = room₇ .0 }, tt)))) $
         assigns ! (addr ! (from ! (fld ! refl (hop ! (look-in ! 40 (sub ! 0 refl (whole !))) (stop !))))) (from ! (stop !)) (init ! 24 refl (tt, tt)) $
-        assigns ! (agg ! (and-then ! (load ! (from ! (stop !)) (look ! 24 refl)) (and-then ! (load ! (from ! (fld ! refl (stop !))) (look-in ! 40 (sub ! 1 refl (whole !)))) (no-more !)))) (from ! (stop !)) (init ! 22 refl (tt, (tt, (record { fits = room₇ .0 }, tt)))) $
+        assigns ! (agg ! (and-then ! (load ! (from ! (stop !)) (look ! 24 refl)) (and-then ! (load ! (from ! (fld ! refl (stop !))) (look-in ! 40 (sub ! 1 refl (whole !)))) (no-more !)))) (from ! (stop !)) (init ! 22 refl (tt, (tt, (record { fits = room₈ .0 }, tt)))) $
         assigns ! (addr ! (from ! (fld ! refl (hop ! (look-in ! 38 (sub ! 0 refl (whole !))) (stop !))))) (from ! (stop !)) (init ! 20 refl (tt, tt)) $
-        assigns ! (agg ! (and-then ! (load ! (from ! (stop !)) (look ! 20 refl)) (and-then ! (load ! (from ! (fld ! refl (stop !))) (look-in ! 38 (sub ! 1 refl (whole !)))) (no-more !)))) (from ! (stop !)) (init ! 18 refl (tt, (tt, (record { fits = room₈ .0 }, tt)))) $
+        assigns ! (agg ! (and-then ! (load ! (from ! (stop !)) (look ! 20 refl)) (and-then ! (load ! (from ! (fld ! refl (stop !))) (look-in ! 38 (sub ! 1 refl (whole !)))) (no-more !)))) (from ! (stop !)) (init ! 18 refl (tt, (tt, (record { fits = room₉ .0 }, tt)))) $
         assigns ! (addr ! (from ! (fld ! refl (hop ! (look-in ! 36 (sub ! 0 refl (whole !))) (stop !))))) (from ! (stop !)) (init ! 16 refl (tt, tt)) $
-        assigns ! (agg ! (and-then ! (load ! (from ! (stop !)) (look ! 16 refl)) (and-then ! (load ! (from ! (fld ! refl (stop !))) (look-in ! 36 (sub ! 1 refl (whole !)))) (no-more !)))) (from ! (stop !)) (init ! 14 refl (tt, (tt, (record { fits = room₉ .0 }, tt)))) $
+        assigns ! (agg ! (and-then ! (load ! (from ! (stop !)) (look ! 16 refl)) (and-then ! (load ! (from ! (fld ! refl (stop !))) (look-in ! 36 (sub ! 1 refl (whole !)))) (no-more !)))) (from ! (stop !)) (init ! 14 refl (tt, (tt, (record { fits = room₁₀ .0 }, tt)))) $
         -- what is owned, and the tokens, one by one; of a `&` slice there are two copies from here on
-        move ! (59 ∷ []) $ fsplit ! $ use1 W (‵ Own₀ ⊛ ‵ Own₀) (shr-slice-copy 𝓤 H A W (named 0) κ₀ u16 .twice x₀ (s₀ ∷ [])) $ split ! $ move ! (2 ∷ []) $ fsplit ! $ lose ! $ fsplit ! $
+        move ! (61 ∷ []) $ fsplit ! $ use1 W (‵ Own₀ ⊛ ‵ Own₀) (shr-slice-copy 𝓤 H A W (named 0) κ₀ u16 .twice x₀ (s₀ ∷ [])) $ split ! $ move ! (2 ∷ []) $ fsplit ! $ lose ! $ fsplit ! $
         use1 W (‵ Own₂ ⊛ ‵ Own₂) (shr-slice-copy 𝓤 H A W (named 1) κ₂ u32 .twice x₂ (s₂ ∷ [])) $ split ! $ move ! (2 ∷ []) $ fsplit ! $
-        use1 W (‵ Own₃ ⊛ ‵ Own₃) (shr-slice-copy 𝓤 H A W (named 2) κ₃ u16 .twice x₃ (s₃ ∷ [])) $ split ! $ move ! (2 ∷ []) $ fsplit ! $ lose ! $ fsplit ! $ move ! (1 ∷ []) $ fsplit ! $
-        move ! (1 ∷ []) $ fsplit ! $ move ! (1 ∷ []) $ fsplit ! $ move ! (1 ∷ []) $ fsplit ! $ move ! (1 ∷ []) $ lose ! $ move ! (69 ∷ []) $ split ! $ move ! (1 ∷ []) $ split ! $ move ! (1 ∷ []) $
-        split ! $ move ! (1 ∷ []) $ split ! $ move ! (1 ∷ []) $ split ! $ move ! (1 ∷ []) $ split ! $ move ! (1 ∷ []) $ split ! $ move ! (1 ∷ []) $ split ! $ move ! (1 ∷ []) $ lose ! $
-        -- [token of work; token of how; token of distances; token of rows; token of answers; token of query; token of index; token of table; work; how;
-        -- distances; rows; answers; query; copy of query; index; copy of index; table; copy of table; then the locals, the last first, each before that it
-        -- dies]
-        -- rows and distances are lent on, each for a lifetime of its own
-        lft-new ! tt (λ ν₁. move ! (12 ∷ 4 ∷ []) $
-        use2 W (later (some (λ (δ : GName). ‵ (fsep (MutSlice (named 3) (ν₁ ∷ []) u32 .own (x₆ δ c₆) (s₆ ∷ [])) (LentOn u32 b₆ o₆ (length c₆) κ₆ q₆ γ₆ (ν₁ ∷ []) δ c₆))))) (lends-on u32 b₆ o₆ (length c₆) κ₆ q₆ γ₆ (ν₁ ∷ []) 𝓤 H A W (named 4) (named 3) c₆ room₆ refl) $
-        await ! tt $ pick ! (λ δ₁. fsplit ! $ lft-new ! tt (λ ν₂. move ! (13 ∷ 6 ∷ []) $
-        use2 W (later (some (λ (δ : GName). ‵ (fsep (MutSlice (named 4) (ν₂ ∷ []) u32 .own (x₇ δ c₇) (s₇ ∷ [])) (LentOn u32 b₇ o₇ (length c₇) κ₇ q₇ γ₇ (ν₂ ∷ []) δ c₇))))) (lends-on u32 b₇ o₇ (length c₇) κ₇ q₇ γ₇ (ν₂ ∷ []) 𝓤 H A W (named 5) (named 4) c₇ room₇ refl) $
-        await ! tt $ pick ! (λ δ₂. fsplit ! $
-        -- [distances; what is kept of distances; life of the loan of distances; rows; what is kept of rows; life of the loan of rows; token of work; token of
-        -- how; token of answers; token of query; token of index; token of table; work; how; answers; query; copy of query; index; copy of index; table; copy
+        use1 W (‵ Own₃ ⊛ ‵ Own₃) (shr-slice-copy 𝓤 H A W (named 2) κ₃ u16 .twice x₃ (s₃ ∷ [])) $ split ! $ move ! (2 ∷ []) $ fsplit ! $ lose ! $ fsplit ! $
+        use1 W (‵ Own₅ ⊛ ‵ Own₅) (shr-slice-copy 𝓤 H A W (named 3) κ₅ u32 .twice x₅ (s₅ ∷ [])) $ split ! $ move ! (2 ∷ []) $ fsplit ! $ move ! (1 ∷ []) $ fsplit ! $ move ! (1 ∷ []) $
+        fsplit ! $ move ! (1 ∷ []) $ fsplit ! $ move ! (1 ∷ []) $ fsplit ! $ move ! (1 ∷ []) $ lose ! $ move ! (73 ∷ []) $ split ! $ move ! (1 ∷ []) $ split ! $ move ! (1 ∷ []) $ split ! $
+        move ! (1 ∷ []) $ split ! $ move ! (1 ∷ []) $ split ! $ move ! (1 ∷ []) $ split ! $ move ! (1 ∷ []) $ split ! $ move ! (1 ∷ []) $ split ! $ move ! (1 ∷ []) $ split ! $
+        move ! (1 ∷ []) $ lose ! $
+        -- [token of work; token of how; token of distances; token of rows; token of answers; token of withdrawn; token of query; token of index;
+        -- token of table; work; how; distances; rows; answers; withdrawn; copy of withdrawn; query; copy of query; index; copy of index; table; copy
         -- of table; then the locals, the last first, each before that it dies]
+        -- rows and distances are lent on, each for a lifetime of its own
+        lft-new ! tt (λ ν₁. move ! (13 ∷ 4 ∷ []) $
+        use2 W (later (some (λ (δ : GName). ‵ (fsep (MutSlice (named 4) (ν₁ ∷ []) u32 .own (x₇ δ c₇) (s₇ ∷ [])) (LentOn u32 b₇ o₇ (length c₇) κ₇ q₇ γ₇ (ν₁ ∷ []) δ c₇))))) (lends-on u32 b₇ o₇ (length c₇) κ₇ q₇ γ₇ (ν₁ ∷ []) 𝓤 H A W (named 5) (named 4) c₇ room₇ refl) $
+        await ! tt $ pick ! (λ δ₁. fsplit ! $ lft-new ! tt (λ ν₂. move ! (14 ∷ 6 ∷ []) $
+        use2 W (later (some (λ (δ : GName). ‵ (fsep (MutSlice (named 5) (ν₂ ∷ []) u32 .own (x₈ δ c₈) (s₈ ∷ [])) (LentOn u32 b₈ o₈ (length c₈) κ₈ q₈ γ₈ (ν₂ ∷ []) δ c₈))))) (lends-on u32 b₈ o₈ (length c₈) κ₈ q₈ γ₈ (ν₂ ∷ []) 𝓤 H A W (named 6) (named 5) c₈ room₈ refl) $
+        await ! tt $ pick ! (λ δ₂. fsplit ! $
+        -- [distances; what is kept of distances; life of the loan of distances; rows; what is kept of rows; life of the loan of rows; token of work;
+        -- token of how; token of answers; token of withdrawn; token of query; token of index; token of table; work; how; answers; withdrawn; copy of
+        -- withdrawn; query; copy of query; index; copy of index; table; copy of table; then the locals, the last first, each before that it dies]
         -- the search
-        move ! (11 ∷ 10 ∷ 9 ∷ 5 ∷ 2 ∷ 7 ∷ 6 ∷ 20 ∷ 18 ∷ 16 ∷ 3 ∷ 0 ∷ 13 ∷ 12 ∷ []) $ group ! 14 $ use1 W (raw (Core 𝓤 H A mem run .pre (to-core ν₁ ν₂ δ₁ δ₂))) (goes-core ν₁ ν₂ δ₁ δ₂) $
-        calls-at ! fm (Core 𝓤 H A mem run) known-core (to-core ν₁ ν₂ δ₁ δ₂) (and-then ! (load ! (from ! (stop !)) (look ! 62 refl)) (and-then ! (load ! (from ! (stop !)) (look ! 60 refl)) (and-then ! (load ! (from ! (stop !)) (look ! 58 refl)) (and-then ! (load ! (from ! (stop !)) (look ! 56 refl)) (and-then ! (load ! (from ! (stop !)) (look ! 54 refl)) (and-then ! (load ! (from ! (stop !)) (look ! 42 refl)) (and-then ! (load ! (from ! (stop !)) (look ! 34 refl)) (and-then ! (load ! (from ! (stop !)) (look ! 30 refl)) (and-then ! (load ! (from ! (stop !)) (look ! 26 refl)) (and-then ! (load ! (from ! (stop !)) (look ! 22 refl)) (no-more !))))))))))) (λ v.
+        move ! (12 ∷ 11 ∷ 10 ∷ 9 ∷ 5 ∷ 2 ∷ 7 ∷ 6 ∷ 23 ∷ 21 ∷ 19 ∷ 17 ∷ 3 ∷ 0 ∷ 14 ∷ 13 ∷ []) $ group ! 16 $
+        use1 W (raw (Core 𝓤 H A mem run .pre (to-core ν₁ ν₂ δ₁ δ₂))) (goes-core ν₁ ν₂ δ₁ δ₂) $
+        calls-at ! fm (Core 𝓤 H A mem run) known-core (to-core ν₁ ν₂ δ₁ δ₂) (and-then ! (load ! (from ! (stop !)) (look ! 65 refl)) (and-then ! (load ! (from ! (stop !)) (look ! 63 refl)) (and-then ! (load ! (from ! (stop !)) (look ! 61 refl)) (and-then ! (load ! (from ! (stop !)) (look ! 59 refl)) (and-then ! (load ! (from ! (stop !)) (look ! 57 refl)) (and-then ! (load ! (from ! (stop !)) (look ! 55 refl)) (and-then ! (load ! (from ! (stop !)) (look ! 43 refl)) (and-then ! (load ! (from ! (stop !)) (look ! 35 refl)) (and-then ! (load ! (from ! (stop !)) (look ! 31 refl)) (and-then ! (load ! (from ! (stop !)) (look ! 27 refl)) (and-then ! (load ! (from ! (stop !)) (look ! 23 refl)) (no-more !)))))))))))) (λ v.
         -- what it gives: the tokens, the result, the last values and what is known of them
-        use1 W (later (some (λ (r : Near). ((‵ (flft κ₀ q₀) ⊛ ‵ (flft κ₂ q₂) ⊛ ‵ (flft κ₃ q₃) ⊛ ‵ (flft (ν₁ ∷ []) fullShare) ⊛ ‵ (flft (ν₂ ∷ []) fullShare) ⊛ ‵ (flft κ₈ q₈) ⊛ ‵ (flft κ₉ q₉) ⊛ ‵ ftrue) ⊛ ‵ (F.the-row .own r (v ∷ []))) ⊛ raw (ensured 𝓤 H A core.ended (core.clauses 𝓤 H A mem run) (κ₀, (κ₂, (κ₃, (ν₁ ∷ [], (ν₂ ∷ [], (κ₈, (κ₉, tt))))))) (core-args δ₁ δ₂) tt r)))) (id⊢ 𝓤 _) $
+        use1 W (later (some (λ (r : Near). ((‵ (flft κ₀ q₀) ⊛ ‵ (flft κ₂ q₂) ⊛ ‵ (flft κ₃ q₃) ⊛ ‵ (flft κ₅ q₅) ⊛ ‵ (flft (ν₁ ∷ []) fullShare) ⊛ ‵ (flft (ν₂ ∷ []) fullShare) ⊛ ‵ (flft κ₉ q₉) ⊛ ‵ (flft κ₁₀ q₁₀) ⊛ ‵ ftrue) ⊛ ‵ (F.the-row .own r (v ∷ []))) ⊛ raw (ensured 𝓤 H A core.ended (core.clauses 𝓤 H A mem run) (κ₀, (κ₂, (κ₃, (κ₅, (ν₁ ∷ [], (ν₂ ∷ [], (κ₉, (κ₁₀, tt)))))))) (core-args δ₁ δ₂) tt r)))) (id⊢ 𝓤 _) $
         await ! tt $ pick ! (λ r. split ! $ move ! (1 ∷ []) $
-        use1 W (some (λ (us : (Unit {0} × (Unit {0} × (Unit {0} × (Unit {0} × (Unit {0} × (Unit {0} × (List ℕ × (List ℕ × (List ℕ × (List ℕ × Unit {0}))))))))))). ‵ (lasts core.ended (κ₀, (κ₂, (κ₃, (ν₁ ∷ [], (ν₂ ∷ [], (κ₈, (κ₉, tt))))))) (core-args δ₁ δ₂) us) ⊛ raw (fact 𝓤 (Answered (asks c₀ n₁ c₂ c₃ n₄) (min (length c₅) (min (length c₆) (length c₇))) (lends c₆ c₇ c₈ c₉) (lends (us .1 .1 .1 .1 .1 .1 .0) (us .1 .1 .1 .1 .1 .1 .1 .0) (us .1 .1 .1 .1 .1 .1 .1 .1 .0) (us .1 .1 .1 .1 .1 .1 .1 .1 .1 .0)) (r .number) (r .given) (r .measured))))) (id⊢ 𝓤 _) $
-        pick ! (λ us. let e₆ : List ℕ = us .1 .1 .1 .1 .1 .1 .0 in let e₇ : List ℕ = us .1 .1 .1 .1 .1 .1 .1 .0 in let e₈ : List ℕ = us .1 .1 .1 .1 .1 .1 .1 .1 .0 in
-        let e₉ : List ℕ = us .1 .1 .1 .1 .1 .1 .1 .1 .1 .0 in split ! $ move ! (1 ∷ []) $
-        heard ! (Answered (asks c₀ n₁ c₂ c₃ n₄) (min (length c₅) (min (length c₆) (length c₇))) (lends c₆ c₇ c₈ c₉) (lends e₆ e₇ e₈ e₉) (r .number) (r .given) (r .measured)) (λ tells. fsplit ! $ lose ! $ fsplit ! $
-        lose ! $ fsplit ! $ lose ! $ fsplit ! $ lose ! $ fsplit ! $ lose ! $ fsplit ! $ lose ! $ fsplit ! $ fsplit ! $ move ! (1 ∷ []) $ feqL ! (λ same₆. move ! (1 ∷ []) $ fsplit ! $ fsplit ! $
-        move ! (1 ∷ []) $ feqL ! (λ same₇. move ! (1 ∷ []) $ fsplit ! $ fsplit ! $ move ! (1 ∷ []) $ feqL ! (λ same₈. move ! (1 ∷ []) $ fsplit ! $ fsplit ! $ move ! (1 ∷ []) $ feqL ! (λ same₉.
-        move ! (1 ∷ []) $ lose ! $ move ! (4 ∷ []) $ split ! $ move ! (1 ∷ []) $ peeks ! F.the-row (Is F.the-row) (shows 𝓤 H A F.the-row) r (v ∷ []) (λ is₀.
-        land ! (from ! (stop !)) (init ! 45 refl (LL.lawful F.the-type F′.the-laws 𝓤 H A W .typed r _ is₀ .0)) $
-        rewrite ! 45 (λ (u : Val). ‵ (fat fullShare F′.mir l₁₂ 0 u)) (ap only (LL.tells F.the-type F′.the-laws r _ is₀)) refl $
-        let is : Is F.the-row r (mach r ∷ []) = subst (Is F.the-row r) (LL.tells F.the-type F′.the-laws r _ is₀) is₀ in
-        let n-fits : r .given < 2 ^ 64 = widens (r .given) (LL.owed F.the-type F′.the-laws r _ is .1 .0 .1) in lose ! $ split ! $ move ! (1 ∷ []) $ split ! $ move ! (1 ∷ []) $ split ! $
-        move ! (1 ∷ []) $ split ! $ move ! (1 ∷ []) $ split ! $ move ! (1 ∷ []) $ split ! $ move ! (1 ∷ []) $ split ! $ move ! (1 ∷ []) $ lose ! $
+        use1 W (some (λ (us : (Unit {0} × (Unit {0} × (Unit {0} × (Unit {0} × (Unit {0} × (Unit {0} × (Unit {0} × (List ℕ × (List ℕ × (List ℕ × (List ℕ × Unit {0})))))))))))). ‵ (lasts core.ended (κ₀, (κ₂, (κ₃, (κ₅, (ν₁ ∷ [], (ν₂ ∷ [], (κ₉, (κ₁₀, tt)))))))) (core-args δ₁ δ₂) us) ⊛ raw (fact 𝓤 (Answered (asks c₀ n₁ c₂ c₃ n₄ c₅) (min (length c₆) (min (length c₇) (length c₈))) (lends c₇ c₈ c₉ c₁₀) (lends (us .1 .1 .1 .1 .1 .1 .1 .0) (us .1 .1 .1 .1 .1 .1 .1 .1 .0) (us .1 .1 .1 .1 .1 .1 .1 .1 .1 .0) (us .1 .1 .1 .1 .1 .1 .1 .1 .1 .1 .0)) (r .number) (r .given) (r .measured))))) (id⊢ 𝓤 _) $
+        pick ! (λ us. let e₇ : List ℕ = us .1 .1 .1 .1 .1 .1 .1 .0 in let e₈ : List ℕ = us .1 .1 .1 .1 .1 .1 .1 .1 .0 in let e₉ : List ℕ = us .1 .1 .1 .1 .1 .1 .1 .1 .1 .0 in let e₁₀ : List ℕ = us .1 .1 .1 .1 .1 .1 .1 .1 .1 .1 .0 in split ! $
+        move ! (1 ∷ []) $
+        heard ! (Answered (asks c₀ n₁ c₂ c₃ n₄ c₅) (min (length c₆) (min (length c₇) (length c₈))) (lends c₇ c₈ c₉ c₁₀) (lends e₇ e₈ e₉ e₁₀) (r .number) (r .given) (r .measured)) (λ tells. fsplit ! $
+        lose ! $ fsplit ! $ lose ! $ fsplit ! $ lose ! $ fsplit ! $ lose ! $ fsplit ! $ lose ! $ fsplit ! $ lose ! $ fsplit ! $ lose ! $ fsplit ! $ fsplit ! $ move ! (1 ∷ []) $
+        feqL ! (λ same₇. move ! (1 ∷ []) $ fsplit ! $ fsplit ! $ move ! (1 ∷ []) $ feqL ! (λ same₈. move ! (1 ∷ []) $ fsplit ! $ fsplit ! $ move ! (1 ∷ []) $
+        feqL ! (λ same₉. move ! (1 ∷ []) $ fsplit ! $ fsplit ! $ move ! (1 ∷ []) $ feqL ! (λ same₁₀. move ! (1 ∷ []) $ lose ! $ move ! (4 ∷ []) $ split ! $ move ! (1 ∷ []) $
+        peeks ! F.the-row (Is F.the-row) (shows 𝓤 H A F.the-row) r (v ∷ []) (λ is₀. land ! (from ! (stop !)) (init ! 46 refl (LL.lawful F.the-type F′.the-laws 𝓤 H A W .typed r _ is₀ .0)) $
+        rewrite ! 46 (λ (u : Val). ‵ (fat fullShare F′.mir l₁₃ 0 u)) (ap only (LL.tells F.the-type F′.the-laws r _ is₀)) refl $
+        let is : Is F.the-row r (mach r ∷ []) = subst (Is F.the-row r) (LL.tells F.the-type F′.the-laws r _ is₀) is₀ in let n-fits : r .given < 2 ^ 64 = widens (r .given) (LL.owed F.the-type F′.the-laws r _ is .1 .0 .1) in lose ! $
+        split ! $ move ! (1 ∷ []) $ split ! $ move ! (1 ∷ []) $ split ! $ move ! (1 ∷ []) $ split ! $ move ! (1 ∷ []) $ split ! $ move ! (1 ∷ []) $ split ! $ move ! (1 ∷ []) $ split ! $
+        move ! (1 ∷ []) $ split ! $ move ! (1 ∷ []) $ lose ! $
         -- rows and distances come back
-        move ! (3 ∷ []) $ lft-end ! tt $ move ! (0 ∷ 12 ∷ 10 ∷ []) $
-        use3 W (later (‵ (MutSlice (named 4) κ₆ u32 .own (x₆ γ₆ e₆) (s₆ ∷ [])) ⊛ ‵ (flft κ₆ q₆))) (on-back u32 b₆ o₆ (length c₆) κ₆ q₆ γ₆ (ν₁ ∷ []) 𝓤 H A W (named 4) (named 3) c₆ room₆ refl δ₁ e₆ same₆) $
-        await ! tt $ split ! $ move ! (4 ∷ []) $ lft-end ! tt $ move ! (0 ∷ 11 ∷ 10 ∷ []) $
-        use3 W (later (‵ (MutSlice (named 5) κ₇ u32 .own (x₇ γ₇ e₇) (s₇ ∷ [])) ⊛ ‵ (flft κ₇ q₇))) (on-back u32 b₇ o₇ (length c₇) κ₇ q₇ γ₇ (ν₂ ∷ []) 𝓤 H A W (named 5) (named 4) c₇ room₇ refl δ₂ e₇ same₇) $
+        move ! (3 ∷ []) $ lft-end ! tt $ move ! (0 ∷ 13 ∷ 11 ∷ []) $
+        use3 W (later (‵ (MutSlice (named 5) κ₇ u32 .own (x₇ γ₇ e₇) (s₇ ∷ [])) ⊛ ‵ (flft κ₇ q₇))) (on-back u32 b₇ o₇ (length c₇) κ₇ q₇ γ₇ (ν₁ ∷ []) 𝓤 H A W (named 5) (named 4) c₇ room₇ refl δ₁ e₇ same₇) $
+        await ! tt $ split ! $ move ! (4 ∷ []) $ lft-end ! tt $ move ! (0 ∷ 12 ∷ 11 ∷ []) $
+        use3 W (later (‵ (MutSlice (named 6) κ₈ u32 .own (x₈ γ₈ e₈) (s₈ ∷ [])) ⊛ ‵ (flft κ₈ q₈))) (on-back u32 b₈ o₈ (length c₈) κ₈ q₈ γ₈ (ν₂ ∷ []) 𝓤 H A W (named 6) (named 5) c₈ room₈ refl δ₂ e₈ same₈) $
         await ! tt $ split ! $
-        -- [distances; token of distances; rows; token of rows; token of work; token of how; token of query; token of index; token of table; last value of
-        -- work; last value of how; token of answers; answers; query; index; table; then the locals, the last first, each before that it dies]
+        -- [distances; token of distances; rows; token of rows; token of work; token of how; token of withdrawn; token of query; token of index; token
+        -- of table; last value of work; last value of how; token of answers; answers; withdrawn; query; index; table; then the locals, the last
+        -- first, each before that it dies]
         -- how many there are, and the slices that the records are made of
-        assigns ! (un ! (load ! (from ! (fld ! refl (stop !))) (look-in ! 48 (sub ! 1 refl (whole !)))) (record { fits = n-fits })) (from ! (stop !)) (init ! 46 refl (tt, record { fits = n-fits })) $
-        assigns ! (addr ! (from ! (fld ! refl (hop ! (look-in ! 60 (sub ! 0 refl (whole !))) (stop !))))) (from ! (stop !)) (init ! 26 refl (tt, tt)) $
-        assigns ! (agg ! (and-then ! (load ! (from ! (stop !)) (look ! 26 refl)) (and-then ! (load ! (from ! (fld ! refl (stop !))) (look-in ! 60 (sub ! 1 refl (whole !)))) (no-more !)))) (from ! (stop !)) (init ! 24 refl (tt, (tt, (record { fits = room₅ .0 }, tt)))) $
-        assigns ! (addr ! (from ! (fld ! refl (hop ! (look-in ! 58 (sub ! 0 refl (whole !))) (stop !))))) (from ! (stop !)) (init ! 22 refl (tt, tt)) $
-        assigns ! (agg ! (and-then ! (load ! (from ! (stop !)) (look ! 22 refl)) (and-then ! (load ! (from ! (fld ! refl (stop !))) (look-in ! 58 (sub ! 1 refl (whole !)))) (no-more !)))) (from ! (stop !)) (init ! 20 refl (tt, (tt, (record { fits = room₆ .0 }, tt)))) $
-        assigns ! (addr ! (from ! (fld ! refl (hop ! (look-in ! 56 (sub ! 0 refl (whole !))) (stop !))))) (from ! (stop !)) (init ! 18 refl (tt, tt)) $
-        assigns ! (agg ! (and-then ! (load ! (from ! (stop !)) (look ! 18 refl)) (and-then ! (load ! (from ! (fld ! refl (stop !))) (look-in ! 56 (sub ! 1 refl (whole !)))) (no-more !)))) (from ! (stop !)) (init ! 16 refl (tt, (tt, (record { fits = room₇ .0 }, tt)))) $
+        assigns ! (un ! (load ! (from ! (fld ! refl (stop !))) (look-in ! 50 (sub ! 1 refl (whole !)))) (record { fits = n-fits })) (from ! (stop !)) (init ! 48 refl (tt, record { fits = n-fits })) $
+        assigns ! (addr ! (from ! (fld ! refl (hop ! (look-in ! 62 (sub ! 0 refl (whole !))) (stop !))))) (from ! (stop !)) (init ! 28 refl (tt, tt)) $
+        assigns ! (agg ! (and-then ! (load ! (from ! (stop !)) (look ! 28 refl)) (and-then ! (load ! (from ! (fld ! refl (stop !))) (look-in ! 62 (sub ! 1 refl (whole !)))) (no-more !)))) (from ! (stop !)) (init ! 26 refl (tt, (tt, (record { fits = room₆ .0 }, tt)))) $
+        assigns ! (addr ! (from ! (fld ! refl (hop ! (look-in ! 60 (sub ! 0 refl (whole !))) (stop !))))) (from ! (stop !)) (init ! 24 refl (tt, tt)) $
+        assigns ! (agg ! (and-then ! (load ! (from ! (stop !)) (look ! 24 refl)) (and-then ! (load ! (from ! (fld ! refl (stop !))) (look-in ! 60 (sub ! 1 refl (whole !)))) (no-more !)))) (from ! (stop !)) (init ! 22 refl (tt, (tt, (record { fits = room₇ .0 }, tt)))) $
+        assigns ! (addr ! (from ! (fld ! refl (hop ! (look-in ! 58 (sub ! 0 refl (whole !))) (stop !))))) (from ! (stop !)) (init ! 20 refl (tt, tt)) $
+        assigns ! (agg ! (and-then ! (load ! (from ! (stop !)) (look ! 20 refl)) (and-then ! (load ! (from ! (fld ! refl (stop !))) (look-in ! 58 (sub ! 1 refl (whole !)))) (no-more !)))) (from ! (stop !)) (init ! 18 refl (tt, (tt, (record { fits = room₈ .0 }, tt)))) $
         -- rows and distances are lent out to be read, each for a lifetime of its own
         lft-new ! tt (λ ν₃. move ! (3 ∷ 4 ∷ []) $
-        use2 W (later (some (λ (δ : GName). ‵ (fsep (ShrSlice (named 1) (ν₃ ∷ []) u32 .own (x₆ δ e₆) (s₆ ∷ [])) (LentOut u32 b₆ o₆ (length c₆) κ₆ q₆ γ₆ (ν₃ ∷ []) e₆))))) (lends-out u32 b₆ o₆ (length c₆) κ₆ q₆ γ₆ (ν₃ ∷ []) 𝓤 H A W (named 4) (named 1) e₆ room₆ same₆) $
+        use2 W (later (some (λ (δ : GName). ‵ (fsep (ShrSlice (named 1) (ν₃ ∷ []) u32 .own (x₇ δ e₇) (s₇ ∷ [])) (LentOut u32 b₇ o₇ (length c₇) κ₇ q₇ γ₇ (ν₃ ∷ []) e₇))))) (lends-out u32 b₇ o₇ (length c₇) κ₇ q₇ γ₇ (ν₃ ∷ []) 𝓤 H A W (named 5) (named 1) e₇ room₇ same₇) $
         await ! tt $ pick ! (λ δ₃. fsplit ! $ lft-new ! tt (λ ν₄. move ! (4 ∷ 5 ∷ []) $
-        use2 W (later (some (λ (δ : GName). ‵ (fsep (ShrSlice (named 2) (ν₄ ∷ []) u32 .own (x₇ δ e₇) (s₇ ∷ [])) (LentOut u32 b₇ o₇ (length c₇) κ₇ q₇ γ₇ (ν₄ ∷ []) e₇))))) (lends-out u32 b₇ o₇ (length c₇) κ₇ q₇ γ₇ (ν₄ ∷ []) 𝓤 H A W (named 5) (named 2) e₇ room₇ same₇) $
+        use2 W (later (some (λ (δ : GName). ‵ (fsep (ShrSlice (named 2) (ν₄ ∷ []) u32 .own (x₈ δ e₈) (s₈ ∷ [])) (LentOut u32 b₈ o₈ (length c₈) κ₈ q₈ γ₈ (ν₄ ∷ []) e₈))))) (lends-out u32 b₈ o₈ (length c₈) κ₈ q₈ γ₈ (ν₄ ∷ []) 𝓤 H A W (named 6) (named 2) e₈ room₈ same₈) $
         await ! tt $ pick ! (λ δ₄. fsplit ! $
-        -- [distances; what is kept of distances; life of the loan of distances; rows; what is kept of rows; life of the loan of rows; token of work; token of
-        -- how; token of query; token of index; token of table; last value of work; last value of how; token of answers; answers; query; index; table; then
-        -- the locals, the last first, each before that it dies]
+        -- [distances; what is kept of distances; life of the loan of distances; rows; what is kept of rows; life of the loan of rows; token of work;
+        -- token of how; token of withdrawn; token of query; token of index; token of table; last value of work; last value of how; token of answers;
+        -- answers; withdrawn; query; index; table; then the locals, the last first, each before that it dies]
         -- the records are made
-        move ! (13 ∷ 5 ∷ 2 ∷ 14 ∷ 3 ∷ 0 ∷ []) $
-        group ! 6 $ use1 W (raw (Fill 𝓤 H A mem run .pre (to-fill ν₃ ν₄ δ₃ δ₄ e₆ e₇ (r .given)))) (goes-fill ν₃ ν₄ δ₃ δ₄ e₆ e₇ (r .given) n-fits (given-each tells same₆ same₇)) $
-        calls-at ! fm (Fill 𝓤 H A mem run) known-fill (to-fill ν₃ ν₄ δ₃ δ₄ e₆ e₇ (r .given)) (and-then ! (load ! (from ! (stop !)) (look ! 21 refl)) (and-then ! (load ! (from ! (stop !)) (look ! 17 refl)) (and-then ! (load ! (from ! (stop !)) (look ! 13 refl)) (and-then ! (load ! (from ! (stop !)) (look ! 43 refl)) (no-more !))))) (λ v′.
-        use1 W (later (some (λ (u : Unit {0}). ((‵ (flft κ₅ q₅) ⊛ ‵ (flft (ν₃ ∷ []) fullShare) ⊛ ‵ (flft (ν₄ ∷ []) fullShare) ⊛ ‵ ftrue) ⊛ ‵ (unit .own u (v′ ∷ []))) ⊛ raw (ensured 𝓤 H A fill.ended (fill.clauses 𝓤 H A mem run) (κ₅, (ν₃ ∷ [], (ν₄ ∷ [], tt))) (fill-args δ₃ δ₄ e₆ e₇ (r .given)) tt u)))) (id⊢ 𝓤 _) $
+        move ! (14 ∷ 5 ∷ 2 ∷ 15 ∷ 3 ∷ 0 ∷ []) $ group ! 6 $
+        use1 W (raw (Fill 𝓤 H A mem run .pre (to-fill ν₃ ν₄ δ₃ δ₄ e₇ e₈ (r .given)))) (goes-fill ν₃ ν₄ δ₃ δ₄ e₇ e₈ (r .given) n-fits (given-each tells same₇ same₈)) $
+        calls-at ! fm (Fill 𝓤 H A mem run) known-fill (to-fill ν₃ ν₄ δ₃ δ₄ e₇ e₈ (r .given)) (and-then ! (load ! (from ! (stop !)) (look ! 23 refl)) (and-then ! (load ! (from ! (stop !)) (look ! 19 refl)) (and-then ! (load ! (from ! (stop !)) (look ! 15 refl)) (and-then ! (load ! (from ! (stop !)) (look ! 45 refl)) (no-more !))))) (λ v′. use1 W (later (some (λ (u : Unit {0}). ((‵ (flft κ₆ q₆) ⊛ ‵ (flft (ν₃ ∷ []) fullShare) ⊛ ‵ (flft (ν₄ ∷ []) fullShare) ⊛ ‵ ftrue) ⊛ ‵ (unit .own u (v′ ∷ []))) ⊛ raw (ensured 𝓤 H A fill.ended (fill.clauses 𝓤 H A mem run) (κ₆, (ν₃ ∷ [], (ν₄ ∷ [], tt))) (fill-args δ₃ δ₄ e₇ e₈ (r .given)) tt u)))) (id⊢ 𝓤 _) $
         await ! tt $ pick ! (λ u. split ! $ move ! (1 ∷ []) $
-        use1 W (some (λ (zs : (List Answer × (Unit {0} × (Unit {0} × (Unit {0} × Unit {0}))))). ‵ (lasts fill.ended (κ₅, (ν₃ ∷ [], (ν₄ ∷ [], tt))) (fill-args δ₃ δ₄ e₆ e₇ (r .given)) zs) ⊛ raw (fact 𝓤 (zs .0 ≡ records e₆ e₇ (r .given) ++ drop (r .given) c₅)))) (id⊢ 𝓤 _) $
-        pick ! (λ zs. split ! $ move ! (1 ∷ []) $ heard ! (zs .0 ≡ records e₆ e₇ (r .given) ++ drop (r .given) c₅) (λ filled. fsplit ! $ move ! (1 ∷ []) $ lose ! $ fsplit ! $ move ! (1 ∷ []) $
-        feqL ! (λ same₅. move ! (1 ∷ []) $ split ! $ move ! (1 ∷ []) $ feqL ! (λ e-unit.
-        land ! (from ! (stop !)) (init ! 26 refl (subst (λ (z : Val). Holds (hasTy tyUnit z) × WT z) (sym (ap only e-unit)) (tt, tt))) $ split ! $ move ! (1 ∷ []) $ split ! $ move ! (1 ∷ []) $
-        split ! $ move ! (1 ∷ []) $ lose ! $
+        use1 W (some (λ (zs : (List Answer × (Unit {0} × (Unit {0} × (Unit {0} × Unit {0}))))). ‵ (lasts fill.ended (κ₆, (ν₃ ∷ [], (ν₄ ∷ [], tt))) (fill-args δ₃ δ₄ e₇ e₈ (r .given)) zs) ⊛ raw (fact 𝓤 (zs .0 ≡ records e₇ e₈ (r .given) ++ drop (r .given) c₆)))) (id⊢ 𝓤 _) $
+        pick ! (λ zs. split ! $ move ! (1 ∷ []) $ heard ! (zs .0 ≡ records e₇ e₈ (r .given) ++ drop (r .given) c₆) (λ filled. fsplit ! $ move ! (1 ∷ []) $ lose ! $ fsplit ! $
+        move ! (1 ∷ []) $ feqL ! (λ same₆. move ! (1 ∷ []) $ split ! $ move ! (1 ∷ []) $
+        feqL ! (λ e-unit. land ! (from ! (stop !)) (init ! 28 refl (subst (λ (z : Val). Holds (hasTy tyUnit z) × WT z) (sym (ap only e-unit)) (tt, tt))) $ split ! $ move ! (1 ∷ []) $
+        split ! $ move ! (1 ∷ []) $ split ! $ move ! (1 ∷ []) $ lose ! $
         -- rows and distances are back, and the result is handed on
         move ! (1 ∷ []) $ lft-end ! tt $ move ! (0 ∷ 5 ∷ []) $
-        use2 W (later (‵ (MutSlice (named 4) κ₆ u32 .own (x₆ γ₆ e₆) (s₆ ∷ [])) ⊛ ‵ (flft κ₆ q₆))) (out-back u32 b₆ o₆ (length c₆) κ₆ q₆ γ₆ (ν₃ ∷ []) 𝓤 H A W (named 4) (named 1) e₆ room₆ same₆) $
+        use2 W (later (‵ (MutSlice (named 5) κ₇ u32 .own (x₇ γ₇ e₇) (s₇ ∷ [])) ⊛ ‵ (flft κ₇ q₇))) (out-back u32 b₇ o₇ (length c₇) κ₇ q₇ γ₇ (ν₃ ∷ []) 𝓤 H A W (named 5) (named 1) e₇ room₇ same₇) $
         await ! tt $ split ! $ move ! (2 ∷ []) $ lft-end ! tt $ move ! (0 ∷ 5 ∷ []) $
-        use2 W (later (‵ (MutSlice (named 5) κ₇ u32 .own (x₇ γ₇ e₇) (s₇ ∷ [])) ⊛ ‵ (flft κ₇ q₇))) (out-back u32 b₇ o₇ (length c₇) κ₇ q₇ γ₇ (ν₄ ∷ []) 𝓤 H A W (named 5) (named 2) e₇ room₇ same₇) $
-        await ! tt $ split ! $ assigns ! (of-opd ! (load ! (from ! (stop !)) (look ! 48 refl))) (from ! (stop !)) (init ! 72 refl (LL.lawful F.the-type F′.the-laws 𝓤 H A W .typed r _ is .0)) $
-        -- [distances; token of distances; rows; token of rows; token of answers; last value of answers; token of work; token of how; token of query; token of
-        -- index; token of table; last value of work; last value of how; query; index; table; then the locals, the last first, each before that it dies]
+        use2 W (later (‵ (MutSlice (named 6) κ₈ u32 .own (x₈ γ₈ e₈) (s₈ ∷ [])) ⊛ ‵ (flft κ₈ q₈))) (out-back u32 b₈ o₈ (length c₈) κ₈ q₈ γ₈ (ν₄ ∷ []) 𝓤 H A W (named 6) (named 2) e₈ room₈ same₈) $
+        await ! tt $ split ! $
+        assigns ! (of-opd ! (load ! (from ! (stop !)) (look ! 50 refl))) (from ! (stop !)) (init ! 76 refl (LL.lawful F.the-type F′.the-laws 𝓤 H A W .typed r _ is .0)) $
+        -- [distances; token of distances; rows; token of rows; token of answers; last value of answers; token of work; token of how; token of
+        -- withdrawn; token of query; token of index; token of table; last value of work; last value of how; withdrawn; query; index; table; then the
+        -- locals, the last first, each before that it dies]
         -- the locals are freed
-        returns ! (look ! 72 refl) $ forget ! 16 refl $ forget ! 18 refl $ forget ! 20 refl $ forget ! 22 refl $ forget ! 24 refl $ forget ! 26 refl $ forget ! 28 refl $ forget ! 30 refl $
-        forget ! 32 refl $ forget ! 34 refl $ forget ! 36 refl $ forget ! 38 refl $ forget ! 40 refl $ forget ! 42 refl $ forget ! 44 refl $ forget ! 46 refl $ forget ! 48 refl $ forget ! 50 refl $
-        forget ! 52 refl $ forget ! 54 refl $ forget ! 56 refl $ forget ! 58 refl $ forget ! 60 refl $ forget ! 62 refl $ forget ! 64 refl $ forget ! 66 refl $ forget ! 68 refl $ forget ! 70 refl $
-        forget ! 72 refl $ move ! (72 ∷ 73 ∷ []) $ free1 ! $ move ! (70 ∷ 71 ∷ []) $ free1 ! $ move ! (68 ∷ 69 ∷ []) $ free1 ! $ move ! (66 ∷ 67 ∷ []) $ free1 ! $ move ! (64 ∷ 65 ∷ []) $ free1 ! $
-        move ! (62 ∷ 63 ∷ []) $ free1 ! $ move ! (60 ∷ 61 ∷ []) $ free1 ! $ move ! (58 ∷ 59 ∷ []) $ free1 ! $ move ! (56 ∷ 57 ∷ []) $ free1 ! $ move ! (54 ∷ 55 ∷ []) $ free1 ! $
-        move ! (52 ∷ 53 ∷ []) $ free1 ! $ move ! (50 ∷ 51 ∷ []) $ free1 ! $ move ! (48 ∷ 49 ∷ []) $ free1 ! $ move ! (46 ∷ 47 ∷ []) $ free1 ! $ move ! (44 ∷ 45 ∷ []) $ free1 ! $
-        move ! (42 ∷ 43 ∷ []) $ free1 ! $ move ! (40 ∷ 41 ∷ []) $ free1 ! $ move ! (38 ∷ 39 ∷ []) $ free1 ! $ move ! (36 ∷ 37 ∷ []) $ free1 ! $ move ! (34 ∷ 35 ∷ []) $ free1 ! $
-        move ! (32 ∷ 33 ∷ []) $ free1 ! $ move ! (30 ∷ 31 ∷ []) $ free1 ! $ move ! (28 ∷ 29 ∷ []) $ free1 ! $ move ! (26 ∷ 27 ∷ []) $ free1 ! $ move ! (24 ∷ 25 ∷ []) $ free1 ! $
-        move ! (22 ∷ 23 ∷ []) $ free1 ! $ move ! (20 ∷ 21 ∷ []) $ free1 ! $ move ! (18 ∷ 19 ∷ []) $ free1 ! $ move ! (16 ∷ 17 ∷ []) $ free1 ! $ free0 ! $
-        keep ! (10 ∷ 9 ∷ 8 ∷ 4 ∷ 3 ∷ 1 ∷ 7 ∷ 6 ∷ 15 ∷ 14 ∷ 13 ∷ 5 ∷ 2 ∷ 0 ∷ 12 ∷ 11 ∷ []) $
-        by ! (exits r e₆ e₇ e₈ e₉ (zs .0) is same₆ same₇ same₈ same₉ same₅ (record { plain = tells; recorded = filled }))))))))))))))))))))))))))))))))))))))))))))))))))))))
+        returns ! (look ! 76 refl) $ forget ! 18 refl $ forget ! 20 refl $ forget ! 22 refl $ forget ! 24 refl $ forget ! 26 refl $ forget ! 28 refl $ forget ! 30 refl $ forget ! 32 refl $
+        forget ! 34 refl $ forget ! 36 refl $ forget ! 38 refl $ forget ! 40 refl $ forget ! 42 refl $ forget ! 44 refl $ forget ! 46 refl $ forget ! 48 refl $ forget ! 50 refl $
+        forget ! 52 refl $ forget ! 54 refl $ forget ! 56 refl $ forget ! 58 refl $ forget ! 60 refl $ forget ! 62 refl $ forget ! 64 refl $ forget ! 66 refl $ forget ! 68 refl $
+        forget ! 70 refl $ forget ! 72 refl $ forget ! 74 refl $ forget ! 76 refl $ move ! (76 ∷ 77 ∷ []) $ free1 ! $ move ! (74 ∷ 75 ∷ []) $ free1 ! $ move ! (72 ∷ 73 ∷ []) $ free1 ! $
+        move ! (70 ∷ 71 ∷ []) $ free1 ! $ move ! (68 ∷ 69 ∷ []) $ free1 ! $ move ! (66 ∷ 67 ∷ []) $ free1 ! $ move ! (64 ∷ 65 ∷ []) $ free1 ! $ move ! (62 ∷ 63 ∷ []) $ free1 ! $
+        move ! (60 ∷ 61 ∷ []) $ free1 ! $ move ! (58 ∷ 59 ∷ []) $ free1 ! $ move ! (56 ∷ 57 ∷ []) $ free1 ! $ move ! (54 ∷ 55 ∷ []) $ free1 ! $ move ! (52 ∷ 53 ∷ []) $ free1 ! $
+        move ! (50 ∷ 51 ∷ []) $ free1 ! $ move ! (48 ∷ 49 ∷ []) $ free1 ! $ move ! (46 ∷ 47 ∷ []) $ free1 ! $ move ! (44 ∷ 45 ∷ []) $ free1 ! $ move ! (42 ∷ 43 ∷ []) $ free1 ! $
+        move ! (40 ∷ 41 ∷ []) $ free1 ! $ move ! (38 ∷ 39 ∷ []) $ free1 ! $ move ! (36 ∷ 37 ∷ []) $ free1 ! $ move ! (34 ∷ 35 ∷ []) $ free1 ! $ move ! (32 ∷ 33 ∷ []) $ free1 ! $
+        move ! (30 ∷ 31 ∷ []) $ free1 ! $ move ! (28 ∷ 29 ∷ []) $ free1 ! $ move ! (26 ∷ 27 ∷ []) $ free1 ! $ move ! (24 ∷ 25 ∷ []) $ free1 ! $ move ! (22 ∷ 23 ∷ []) $ free1 ! $
+        move ! (20 ∷ 21 ∷ []) $ free1 ! $ move ! (18 ∷ 19 ∷ []) $ free1 ! $ free0 ! $ keep ! (11 ∷ 10 ∷ 9 ∷ 8 ∷ 4 ∷ 3 ∷ 1 ∷ 7 ∷ 6 ∷ 17 ∷ 16 ∷ 15 ∷ 14 ∷ 5 ∷ 2 ∷ 0 ∷ 13 ∷ 12 ∷ []) $
+        by ! (exits r e₇ e₈ e₉ e₁₀ (zs .0) is same₇ same₈ same₉ same₁₀ same₆ (record { plain = tells; recorded = filled })))))))))))))))))))))))))))))))))))))))))))))))))))))))
 
 module _ {M : Type 1} (𝓤 : URA M) (H : Heap 𝓤) (A : Atoms 𝓤) (W : Given 𝓤 H A) (mem : Memory → SProp 𝓤) (run : Routine → Fun 𝓤) where
   outer-walks : (C : Calls 𝓤 H) (Λ : Loops 𝓤 H) → FmC 𝓤 H (W .laws) C → Triple 𝓤 (C #core) (Core 𝓤 H A mem run) → Triple 𝓤 (C #fill) (Fill 𝓤 H A mem run)
       → Walks 𝓤 H A outer.ended stayed (WpFn 𝓤 H C Λ code.function) (outer.clauses 𝓤 H A mem run)
   outer-walks C Λ fm known-core known-fill =
       walked 𝓤 H A outer.ended stayed (outer.clauses 𝓤 H A mem run) (WpFn 𝓤 H C Λ code.function)
-      (λ κs. (slice-vals, (uint-vals w32, (slice-vals, (slice-vals, (uint-vals w32, (slice-vals, (slice-vals, (slice-vals, (slice-vals, (slice-vals, tt)))))))))))
+      (λ κs. (slice-vals, (uint-vals w32, (slice-vals, (slice-vals, (uint-vals w32, (slice-vals, (slice-vals, (slice-vals, (slice-vals, (slice-vals, (slice-vals, tt))))))))))))
       (λ κs.
       shr-slice-tells (named 0) (κs .0) u16 & uint-tells w32 & shr-slice-tells (named 1) (κs .1 .0) u32 & shr-slice-tells (named 2) (κs .1 .1 .0) u16 & uint-tells w32
-      & mut-slice-tells (named 3) (κs .1 .1 .1 .0) S.the-row & mut-slice-tells (named 4) (κs .1 .1 .1 .1 .0) u32 & mut-slice-tells (named 5) (κs .1 .1 .1 .1 .1 .0) u32
-      & mut-slice-tells (named 6) (κs .1 .1 .1 .1 .1 .1 .0) u8 & mut-slice-tells (named 7) (κs .1 .1 .1 .1 .1 .1 .1 .0) u32 & tt)
+      & shr-slice-tells (named 3) (κs .1 .1 .1 .0) u32 & mut-slice-tells (named 4) (κs .1 .1 .1 .1 .0) S.the-row & mut-slice-tells (named 5) (κs .1 .1 .1 .1 .1 .0) u32
+      & mut-slice-tells (named 6) (κs .1 .1 .1 .1 .1 .1 .0) u32 & mut-slice-tells (named 7) (κs .1 .1 .1 .1 .1 .1 .1 .0) u8
+      & mut-slice-tells (named 8) (κs .1 .1 .1 .1 .1 .1 .1 .1 .0) u32 & tt)
       (λ κs qs bounds a g are. via 𝓤 _ (fst∗ 𝓤 _ (emp 𝓤))
       (walk 𝓤 H A W mem run (κs .0) (κs .1 .0) (κs .1 .1 .0) (κs .1 .1 .1 .0) (κs .1 .1 .1 .1 .0) (κs .1 .1 .1 .1 .1 .0) (κs .1 .1 .1 .1 .1 .1 .0) (κs .1 .1 .1 .1 .1 .1 .1 .0)
-      (qs .0) (qs .1 .0) (qs .1 .1 .0) (qs .1 .1 .1 .0) (qs .1 .1 .1 .1 .0) (qs .1 .1 .1 .1 .1 .0) (qs .1 .1 .1 .1 .1 .1 .0) (qs .1 .1 .1 .1 .1 .1 .1 .0)
-      (a .0 .ptr .0) (a .0 .ptr .1) (a .1 .1 .0 .ptr .0) (a .1 .1 .0 .ptr .1) (a .1 .1 .1 .0 .ptr .0) (a .1 .1 .1 .0 .ptr .1)
-      (a .1 .1 .1 .1 .1 .0 .ptr .0) (a .1 .1 .1 .1 .1 .0 .ptr .1) (a .1 .1 .1 .1 .1 .1 .0 .ptr .0) (a .1 .1 .1 .1 .1 .1 .0 .ptr .1)
-      (a .1 .1 .1 .1 .1 .1 .1 .0 .ptr .0) (a .1 .1 .1 .1 .1 .1 .1 .0 .ptr .1) (a .1 .1 .1 .1 .1 .1 .1 .1 .0 .ptr .0) (a .1 .1 .1 .1 .1 .1 .1 .1 .0 .ptr .1)
-      (a .1 .1 .1 .1 .1 .1 .1 .1 .1 .0 .ptr .0) (a .1 .1 .1 .1 .1 .1 .1 .1 .1 .0 .ptr .1) (a .0 .name) (a .1 .1 .0 .name) (a .1 .1 .1 .0 .name) (a .1 .1 .1 .1 .1 .0 .name)
-      (a .1 .1 .1 .1 .1 .1 .0 .name) (a .1 .1 .1 .1 .1 .1 .1 .0 .name) (a .1 .1 .1 .1 .1 .1 .1 .1 .0 .name) (a .1 .1 .1 .1 .1 .1 .1 .1 .1 .0 .name) (a .0 .now) (a .1 .0)
-      (a .1 .1 .0 .now) (a .1 .1 .1 .0 .now) (a .1 .1 .1 .1 .0) (a .1 .1 .1 .1 .1 .0 .now) (a .1 .1 .1 .1 .1 .1 .0 .now) (a .1 .1 .1 .1 .1 .1 .1 .0 .now)
-      (a .1 .1 .1 .1 .1 .1 .1 .1 .0 .now) (a .1 .1 .1 .1 .1 .1 .1 .1 .1 .0 .now) (are .0 .0 .1) (are .1 .0 .1) (are .1 .1 .0 .0 .1) (are .1 .1 .1 .0 .0 .1)
-      (are .1 .1 .1 .1 .0 .1) (are .1 .1 .1 .1 .1 .0 .0 .1) (are .1 .1 .1 .1 .1 .1 .0 .0 .1) (are .1 .1 .1 .1 .1 .1 .1 .0 .0 .1) (are .1 .1 .1 .1 .1 .1 .1 .1 .0 .0 .1)
-      (are .1 .1 .1 .1 .1 .1 .1 .1 .1 .0 .0 .1) C Λ fm known-core known-fill))
+      (κs .1 .1 .1 .1 .1 .1 .1 .1 .0) (qs .0) (qs .1 .0) (qs .1 .1 .0) (qs .1 .1 .1 .0) (qs .1 .1 .1 .1 .0) (qs .1 .1 .1 .1 .1 .0) (qs .1 .1 .1 .1 .1 .1 .0) (qs .1 .1 .1 .1 .1 .1 .1 .0)
+      (qs .1 .1 .1 .1 .1 .1 .1 .1 .0) (a .0 .ptr .0) (a .0 .ptr .1) (a .1 .1 .0 .ptr .0) (a .1 .1 .0 .ptr .1) (a .1 .1 .1 .0 .ptr .0) (a .1 .1 .1 .0 .ptr .1)
+      (a .1 .1 .1 .1 .1 .0 .ptr .0) (a .1 .1 .1 .1 .1 .0 .ptr .1) (a .1 .1 .1 .1 .1 .1 .0 .ptr .0) (a .1 .1 .1 .1 .1 .1 .0 .ptr .1) (a .1 .1 .1 .1 .1 .1 .1 .0 .ptr .0)
+      (a .1 .1 .1 .1 .1 .1 .1 .0 .ptr .1) (a .1 .1 .1 .1 .1 .1 .1 .1 .0 .ptr .0) (a .1 .1 .1 .1 .1 .1 .1 .1 .0 .ptr .1) (a .1 .1 .1 .1 .1 .1 .1 .1 .1 .0 .ptr .0)
+      (a .1 .1 .1 .1 .1 .1 .1 .1 .1 .0 .ptr .1) (a .1 .1 .1 .1 .1 .1 .1 .1 .1 .1 .0 .ptr .0) (a .1 .1 .1 .1 .1 .1 .1 .1 .1 .1 .0 .ptr .1) (a .0 .name) (a .1 .1 .0 .name)
+      (a .1 .1 .1 .0 .name) (a .1 .1 .1 .1 .1 .0 .name) (a .1 .1 .1 .1 .1 .1 .0 .name) (a .1 .1 .1 .1 .1 .1 .1 .0 .name) (a .1 .1 .1 .1 .1 .1 .1 .1 .0 .name)
+      (a .1 .1 .1 .1 .1 .1 .1 .1 .1 .0 .name) (a .1 .1 .1 .1 .1 .1 .1 .1 .1 .1 .0 .name) (a .0 .now) (a .1 .0) (a .1 .1 .0 .now) (a .1 .1 .1 .0 .now) (a .1 .1 .1 .1 .0)
+      (a .1 .1 .1 .1 .1 .0 .now) (a .1 .1 .1 .1 .1 .1 .0 .now) (a .1 .1 .1 .1 .1 .1 .1 .0 .now) (a .1 .1 .1 .1 .1 .1 .1 .1 .0 .now) (a .1 .1 .1 .1 .1 .1 .1 .1 .1 .0 .now)
+      (a .1 .1 .1 .1 .1 .1 .1 .1 .1 .1 .0 .now) (are .0 .0 .1) (are .1 .0 .1) (are .1 .1 .0 .0 .1) (are .1 .1 .1 .0 .0 .1) (are .1 .1 .1 .1 .0 .1) (are .1 .1 .1 .1 .1 .0 .0 .1)
+      (are .1 .1 .1 .1 .1 .1 .0 .0 .1) (are .1 .1 .1 .1 .1 .1 .1 .0 .0 .1) (are .1 .1 .1 .1 .1 .1 .1 .1 .0 .0 .1) (are .1 .1 .1 .1 .1 .1 .1 .1 .1 .0 .0 .1)
+      (are .1 .1 .1 .1 .1 .1 .1 .1 .1 .1 .0 .0 .1) C Λ fm known-core known-fill))
 
-  goes : AllGo 𝓤 H A W 8 (outer.signature .params) (outer.ended .kept) stayed
+  goes : AllGo 𝓤 H A W 9 (outer.signature .params) (outer.ended .kept) stayed
   goes =
-      goes-none-slice 𝓤 H A W 8 (0 ∷ []) tt (plain (λ _. u16)) all-kept & goes-none 𝓤 H A W 8 (λ _. u32) all-kept (λ κs x f. refl)
-      & goes-none-slice 𝓤 H A W 8 (1 ∷ []) tt (plain (λ _. u32)) all-kept & goes-none-slice 𝓤 H A W 8 (2 ∷ []) tt (plain (λ _. u16)) all-kept
-      & goes-none 𝓤 H A W 8 (λ _. u32) all-kept (λ κs x f. refl) & goes-gave-slice 𝓤 H A W 8 3 tt (plain (λ _. S.the-row)) & goes-slice 𝓤 H A W 8 4 tt (plain (λ _. u32))
-      & goes-slice 𝓤 H A W 8 5 tt (plain (λ _. u32)) & goes-gave-slice 𝓤 H A W 8 6 tt (plain (λ _. u8)) & goes-gave-slice 𝓤 H A W 8 7 tt (plain (λ _. u32)) & tt
+      goes-none-slice 𝓤 H A W 9 (0 ∷ []) tt (plain (λ _. u16)) all-kept & goes-none 𝓤 H A W 9 (λ _. u32) all-kept (λ κs x f. refl)
+      & goes-none-slice 𝓤 H A W 9 (1 ∷ []) tt (plain (λ _. u32)) all-kept & goes-none-slice 𝓤 H A W 9 (2 ∷ []) tt (plain (λ _. u16)) all-kept
+      & goes-none 𝓤 H A W 9 (λ _. u32) all-kept (λ κs x f. refl) & goes-none-slice 𝓤 H A W 9 (3 ∷ []) tt (plain (λ _. u32)) all-kept
+      & goes-gave-slice 𝓤 H A W 9 4 tt (plain (λ _. S.the-row)) & goes-slice 𝓤 H A W 9 5 tt (plain (λ _. u32)) & goes-slice 𝓤 H A W 9 6 tt (plain (λ _. u32))
+      & goes-gave-slice 𝓤 H A W 9 7 tt (plain (λ _. u8)) & goes-gave-slice 𝓤 H A W 9 8 tt (plain (λ _. u32)) & tt
 
   outer-meets : (𝓣 : Tables 𝓤 H) → Triple 𝓤 (𝓣 .C #core) (Core 𝓤 H A mem run) → Triple 𝓤 (𝓣 .C #fill) (Fill 𝓤 H A mem run)
       → Meets 𝓤 H A outer.signature (WpFn 𝓤 H (𝓣 .C) (𝓣 .Λ) code.function) (outer.spec 𝓤 H A mem run)

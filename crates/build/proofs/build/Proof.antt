@@ -5,51 +5,54 @@ use Rattle.build.proofs.Outcomes.{Passed, answer-refused, answer-taken,
 use Rattle.build.proofs.Refusals.{says as says-is, unfit-refused}
 use Rattle.build.proofs.build.Statement.{statement}
 use Rattle.build.proofs.build.Tie as tie
-use Rattle.limits.specs.Limits.{maxRows, shareOk}
+use Rattle.limits.specs.Chosen.{choiceOk}
+use Rattle.limits.specs.Limits.{maxRows}
 use Rattle.measure.specs.Table.{rowsOf}
 use Rattle.build.specs.Numbers.{saidBuild}
 use borrow.Author.Needs.{needs}
-use lib.Dec.{eqb}
 use lib.ListN.{getD, length}
-use mathlib.Core.Bool.{_&&_, true}
+use mathlib.Core.Bool.{true}
 use mathlib.Core.Path.{_∙_, _≡_, sym}
 use native.Mathlib.Omega.{arith}
 
 -- ---- the tests, one after the other
--- the start, seen from where m, l and the edition were taken
+-- the start, seen from where the parameters were taken
 abbrev begun : tie.After-p → tie.Start
 begun c = c .before .before .before .before .before .before
 
--- m and l are in range, the parameters hold them, and the edition is 2
+-- m, l and the circles are in range, the parameters hold them, and the edition is 2
 answer : (c : tie.After-p)
-    → ((shareOk (begun c .args .m) (begun c .args .l) && eqb (begun c .args .edition) 2) ≡ true)
+    → (choiceOk (begun c .args .c) (begun c .args .m) (begun c .args .l) (begun c .args .circles) (begun c .args .edition) ≡ true)
     × (c .p .given .0 .0 .centres ≡ begun c .args .m) × (c .p .given .0 .0 .leaf ≡ begun c .args .l)
+    × (c .p .given .0 .0 .circles ≡ begun c .args .circles)
 answer c =
     let a = begun c .args in
-    answer-taken (a .m) (a .l) (a .edition) (c .p .given .1) (c .before .before .new .ensures)
+    answer-taken (a .c) (a .m) (a .l) (a .circles) (a .edition) (c .p .given .1) (c .before .before .new .ensures)
 
 -- what the call says
 abbrev says : tie.After-p → ℕ
 says c =
     let a = begun c .args in
-    saidBuild (a .table .now) (a .c) (a .edition) (a .m) (a .l) (length (a .room .now)) (length (a .work .now)) .0
+    saidBuild (a .table .now) (a .c) (a .circles) (a .edition) (a .m) (a .l) (length (a .room .now)) (length (a .work .now)) .0
 
 returns : tie.Need-returns
 returns c =
     let t = c .before .before in
     let a = t .before .before .before .before .before .before .args in
-    let share = answer-refused (a .m) (a .l) (a .edition) (t .enum-told .given .1) (t .before .before .new .ensures) in
+    let share = answer-refused (a .c) (a .m) (a .l) (a .circles) (a .edition) (t .enum-told .given .1) (t .before .before .new .ensures) in
     refused-builds
-    (says-is (a .table .now) (a .c) (a .edition) (a .m) (a .l) (length (a .room .now)) (length (a .work .now)) share (c .before .writer-number .ensures))
-    (unfit-refused (length (a .table .now)) (a .c) (length (a .room .now)) (length (a .work .now)) (c .before .writer-number .ensures))
+    (says-is (a .table .now) (a .c) (a .circles) (a .edition) (a .m) (a .l) (length (a .room .now)) (length (a .work .now)) share
+    (c .before .build-number .ensures))
+    (unfit-refused (a .table .now) (a .c) (a .circles) (length (a .room .now)) (length (a .work .now)) (c .before .build-number .ensures))
     (c .refused .ensures)
 
 -- the number that is told is what the call says
-said-is : (c : tie.After-writer-number2) → c .writer-number2 .result ≡ says (c .before .before)
+said-is : (c : tie.After-build-number2) → c .build-number2 .result ≡ says (c .before .before)
 said-is c =
     let p = c .before .before in
     let a = begun p .args in
-    says-is (a .table .now) (a .c) (a .edition) (a .m) (a .l) (length (a .room .now)) (length (a .work .now)) (answer p .0) (c .writer-number2 .ensures)
+    says-is (a .table .now) (a .c) (a .circles) (a .edition) (a .m) (a .l) (length (a .room .now)) (length (a .work .now)) (answer p .0)
+    (c .build-number2 .ensures)
 
 returns-2 : tie.Need-returns-2
 returns-2 c = refused-builds (said-is (c .before .before)) (c .before .if1 .taken) (c .refused2 .ensures)
@@ -62,11 +65,11 @@ abbrev past : tie.After-fill → tie.Else1
 past c = c .before .before .before
 
 passed : (c : tie.Else1)
-    → Passed (begun (held c) .args .table .now) (begun (held c) .args .c) (begun (held c) .args .edition) (begun (held c) .args .m)
-    (begun (held c) .args .l) (begun (held c) .args .room .now) (begun (held c) .args .work .now) (held c .p .given .0 .0)
+    → Passed (begun (held c) .args .table .now) (begun (held c) .args .c) (begun (held c) .args .circles) (begun (held c) .args .edition)
+    (begun (held c) .args .m) (begun (held c) .args .l) (begun (held c) .args .room .now) (begun (held c) .args .work .now) (held c .p .given .0 .0)
 passed c =
     let r = answer (held c) in
-    record { none = sym (said-is (c .before)) ∙ c .if1 .left; m-is = r .1; l-is = r .2 }
+    record { none = sym (said-is (c .before)) ∙ c .if1 .left; m-is = r .1; l-is = r .2; o-is = r .3 }
 
 -- the table's numbers have 16 bits
 narrow : (c : tie.After-p) (i : ℕ) → getD (begun c .args .table .now) i 0 ≤ 65535
@@ -107,8 +110,8 @@ mul-t19 c = omega (arith, few (c .before .before .before .before))
 add-t18 : tie.Need-add-t18
 add-t18 c = omega (arith, few (c .before .before .before .before))
 
-mul-t20 : tie.Need-mul-t20
-mul-t20 c = omega (arith, few (c .before .before .before .before))
+mul-t25 : tie.Need-mul-t25
+mul-t25 c = omega (arith, few (c .before .before .before .before))
 
 add-t26 : tie.Need-add-t26
 add-t26 c = omega (arith, few (c .before .before .before .before))
@@ -138,7 +141,7 @@ build-spec =
     fill-requires
     mul-t19
     add-t18
-    mul-t20
+    mul-t25
     add-t26
     (λ c. search needs)
     (λ c. search needs)

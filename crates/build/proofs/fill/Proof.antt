@@ -18,7 +18,7 @@ abbrev grown : tie.After-put-header → tie.After-grow
 grown c = c .before .before .before .before .before .before
 
 -- the workspace is as long as it was
-half : (c : tie.After-grow) → length (c .grow .last .1 .1 .1 .1 .1 .1 .0) ≡ 6 * start c .args .n
+half : (c : tie.After-grow) → length (c .grow .last .1 .1 .1 .1 .1 .1 .1 .0) ≡ 6 * start c .args .n
 half c = search needs
 
 -- so is the room

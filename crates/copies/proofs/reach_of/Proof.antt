@@ -28,7 +28,7 @@ returns-2 c =
 row-distance-requires : tie.Need-row-distance-requires
 row-distance-requires c κs =
     let f = c .before in
-    let k = f .before in
+    let k = f .before .before in
     let s = k .before .before .before .before .before .before .before .before .before in
     measurable (s .pre .0) (k .columns .ensures .0) (c .rows .ensures .0) (omega (arith, f .node-first .ensures .1)) (k .before .if2 .left)
 
@@ -37,13 +37,15 @@ returns-3 c =
     let m = c .before in
     let g = m .before in
     let d = g .before in
-    let k = d .before .before .before in
+    let o = d .before .before .before in
+    let k = o .before in
     let i = k .before .before .before in
     let h = i .before in
     let s = h .before .before .before .before .before in
     reach-more _ _ _ _ _ (h .before .before .node-radius .ensures) (h .before .node-inner .ensures) (h .holds-run .ensures)
     (not-false _ (i .if1 .left)) (k .before .if2 .left) (d .before .before .node-first .ensures .0) (d .before .rows .ensures .0)
-    (k .columns .ensures .0) (d .row-distance .ensures .0) (m .node-count .ensures .0) (s .pre .0 .shape .node (s .args .k) (s .pre .1) .some) (g .larger .ensures)
+    (k .columns .ensures .0) (o .circles .ensures) (d .row-distance .ensures .0) (m .node-count .ensures .0)
+    (s .pre .0 .shape .node (s .args .k) (s .pre .1) .some) (g .larger .ensures)
     (c .least-of .ensures)
 
 pub reach-of-spec : {M : Type 1} → statement M
@@ -55,6 +57,7 @@ reach-of-spec =
     (λ c κs. search needs)
     returns
     returns-2
+    (λ c κs. search needs)
     (λ c κs. search needs)
     (λ c κs. search needs)
     (λ c κs. search needs)

@@ -25,64 +25,54 @@ own : (c : tie.After-node-count)
     → c .node-count .result ≡ count# (start c .args .index .now) (child# (start c .args .index .now) (start c .args .p .node) + start c .args .k)
 own c = c .node-count .ensures .0 ∙ ap (λ i. count# (start c .args .index .now) (i + start c .args .k)) (kid c)
 
--- src/lib.rt:104:13
 node-child-requires : tie.Need-node-child-requires
 node-child-requires c κs =
     let D = c .before .before .before .before .pre .deals in
     (D .shape .whole, D .there)
 
--- src/lib.rt:104:13
 add-q : tie.Need-add-q
 add-q c =
     let r = kid-there (c .before .before .before .before .before .pre) (c .node-child .ensures .0) in
     omega (arith, r)
 
--- src/lib.rt:105:9
 node-count-requires : tie.Need-node-count-requires
 node-count-requires c κs =
     let g = c .before .before .before .before .before .pre in
     (g .deals .shape .whole, kid-there g (c .node-child .ensures .0) .0)
 
--- src/lib.rt:106:19
 add-to : tie.Need-add-to
 add-to c =
     let g = c .before .before .before .before .before .before .before .pre in
     omega (arith, g .fits, g .deals .few)
 
--- src/lib.rt:106:14
 mul-to : tie.Need-mul-to
 mul-to c =
     let g = c .before .before .before .before .before .before .before .pre in
     omega (arith, g .fits, g .deals .few)
 
--- src/lib.rt:107:36
 cast-pick : tie.Need-cast-pick
 cast-pick c =
     let n = c .before .before in
     let g = start n .pre in
     omega (arith, g .fits, g .deals .few, own n, g .child, g .deals .shape .whole .fan .1)
 
--- src/lib.rt:107:51
 mul-pick : tie.Need-mul-pick
 mul-pick c =
     let n = c .before .before in
     let g = start n .pre in
     omega (arith, g .fits, g .deals .few, own n, g .child, g .deals .shape .whole .fan .1)
 
--- src/lib.rt:107:46
 add-pick : tie.Need-add-pick
 add-pick c =
     let n = c .before .before in
     let g = start n .pre in
     omega (arith, g .fits, g .deals .few, own n, g .child, g .deals .shape .whole .fan .1)
 
--- src/lib.rt:107:9
 pick-requires : tie.Need-pick-requires
 pick-requires c κs =
     let n = c .before .before in
     pick-ready (start n .pre) (own n)
 
--- src/lib.rt:108:17
 add-count : tie.Need-add-count
 add-count c =
     let k = c .before .before .before in
@@ -91,7 +81,6 @@ add-count c =
     let r = end-fits g (own n) (k .pick .ensures) in
     omega (arith, r, g .deals .few)
 
--- src/lib.rt:109:20
 mul-end : tie.Need-mul-end
 mul-end c =
     let k = c .before .before .before in
@@ -100,7 +89,6 @@ mul-end c =
     let r = end-fits g (own n) (k .pick .ensures) in
     omega (arith, r, g .deals .few)
 
--- src/lib.rt:109:15
 add-end : tie.Need-add-end
 add-end c =
     let k = c .before .before .before in
@@ -109,7 +97,6 @@ add-end c =
     let r = end-fits g (own n) (k .pick .ensures) in
     omega (arith, r, g .deals .few)
 
--- src/lib.rt:110:48
 mul-settle : tie.Need-mul-settle
 mul-settle c =
     let k = c .before .before .before in
@@ -118,7 +105,6 @@ mul-settle c =
     let r = end-fits g (own n) (k .pick .ensures) in
     omega (arith, r, g .deals .few)
 
--- src/lib.rt:110:48
 sub-settle : tie.Need-sub-settle
 sub-settle c =
     let k = c .before .before .before in
@@ -127,7 +113,6 @@ sub-settle c =
     let r = end-fits g (own n) (k .pick .ensures) in
     omega (arith, r, g .deals .few)
 
--- src/lib.rt:110:48
 part-settle-start : tie.Need-part-settle-start
 part-settle-start c =
     let k = c .before .before .before in
@@ -136,7 +121,6 @@ part-settle-start c =
     let r = end-fits g (own n) (k .pick .ensures) in
     omega (arith, r, g .deals .few)
 
--- src/lib.rt:110:48
 part-settle-end : tie.Need-part-settle-end
 part-settle-end c =
     let k = c .before .before .before in
@@ -145,7 +129,6 @@ part-settle-end c =
     let r = end-fits g (own n) (k .pick .ensures) in
     search needs
 
--- src/lib.rt:110:9
 settle-requires : tie.Need-settle-requires
 settle-requires c κs =
     let k = c .before .before .before .before in
@@ -153,56 +136,47 @@ settle-requires c κs =
     let s = start n in
     settle-ready (s .pre) (own n) (k .pick .ensures) (kid n)
 
--- src/lib.rt:111:9
 reach-with-requires : tie.Need-reach-with-requires
 reach-with-requires c κs =
     let n = counted (c .before .before .before .before .before .before .before) in
     let g = start n .pre in
     (g .deals .shape, (kid-there g (kid n) .0, g .deals .edition))
 
--- src/lib.rt:112:34
 add-node : tie.Need-add-node
 add-node c =
     let g = start (counted (c .before .before .before .before .before .before .before .before)) .pre in
     omega (arith, g .nodes, g .small)
 
--- src/lib.rt:112:25
 mul-node : tie.Need-mul-node
 mul-node c =
     let g = start (counted (c .before .before .before .before .before .before .before .before)) .pre in
     omega (arith, g .nodes, g .small)
 
--- src/lib.rt:112:16
 add-node-2 : tie.Need-add-node-2
 add-node-2 c =
     let g = start (counted (c .before .before .before .before .before .before .before .before)) .pre in
     omega (arith, g .nodes, g .small)
 
--- src/lib.rt:114:9
 mul-put-node : tie.Need-mul-put-node
 mul-put-node c =
     let g = start (counted (c .before .before .before .before .before .before .before .before)) .pre in
     omega (arith, g .nodes, g .small)
 
--- src/lib.rt:114:9
 sub-put-node : tie.Need-sub-put-node
 sub-put-node c =
     let g = start (counted (c .before .before .before .before .before .before .before .before)) .pre in
     omega (arith, g .nodes, g .small)
 
--- src/lib.rt:114:9
 part-put-node-start : tie.Need-part-put-node-start
 part-put-node-start c =
     let g = start (counted (c .before .before .before .before .before .before .before .before)) .pre in
     omega (arith, g .nodes, g .small)
 
--- src/lib.rt:114:9
 part-put-node-end : tie.Need-part-put-node-end
 part-put-node-end c =
     let g = start (counted (c .before .before .before .before .before .before .before .before)) .pre in
     omega (arith, g .nodes, g .small)
 
--- src/lib.rt:115:9
 cast-put-node : tie.Need-cast-put-node
 cast-put-node c =
     let k = c .before .before .before .before .before .before .before .before .before in
@@ -211,7 +185,6 @@ cast-put-node c =
     let r = end-fits g (own n) (k .pick .ensures) in
     omega (arith, r)
 
--- src/lib.rt:116:9
 cast-put-node-2 : tie.Need-cast-put-node-2
 cast-put-node-2 c =
     let k = c .before .before .before .before .before .before .before .before .before in
@@ -220,21 +193,11 @@ cast-put-node-2 c =
     let r = end-fits g (own n) (k .pick .ensures) in
     omega (arith, r)
 
--- src/lib.rt:113:5
 put-node-requires : tie.Need-put-node-requires
 put-node-requires c κs =
     let s = start (counted (c .before .before .before .before .before .before .before .before .before)) in
     omega (arith, s .pre .nodes, node-room (s .args .room .now) (s .args .made + s .args .k))
 
--- src/lib.rt:90:1
-same-length : tie.Need-same-length
-same-length c = search needs
-
--- src/lib.rt:90:1
-same-length-2 : tie.Need-same-length-2
-same-length-2 c = search needs
-
--- src/lib.rt:90:1
 returns : tie.Need-returns
 returns c =
     let u = c .before .before in
@@ -277,6 +240,6 @@ deal-child-spec =
     cast-put-node
     cast-put-node-2
     put-node-requires
-    same-length
-    same-length-2
+    (λ c. search needs)
+    (λ c. search needs)
     returns)

@@ -15,22 +15,18 @@ Inv-loop table index p room₀ work₀ s made m at₀ k₀ room work at k =
 abbrev μ-loop : tie.MeasureT-loop
 μ-loop table index p room₀ work₀ s made m at₀ k₀ room work at k = m - k
 
--- src/lib.rt:138:9
 centres-requires : tie.Need-centres-requires Inv-loop μ-loop
 centres-requires c κs = omega (arith, c .before .before .before .before .pre .deals .shape .whole .words)
 
--- src/lib.rt:141:5
 loop-holds : tie.Need-loop-holds Inv-loop μ-loop
 loop-holds c = λ g. turn-start g _ (c .centres .ensures .0)
 
--- src/lib.rt:142:13
 deal-child-requires : tie.Need-deal-child-requires Inv-loop μ-loop
 deal-child-requires c κs =
     let l = c .before .before .before in
     let g = l .before .before .before .before .before .before .pre in
     turn-ask g _ (l .loop .inv g) (omega arith)
 
--- src/lib.rt:143:9
 add-at : tie.Need-add-at Inv-loop μ-loop
 add-at c =
     let e = c .before .before .before .before in
@@ -39,36 +35,24 @@ add-at c =
     let r = turn-small g _ (l .loop .inv g) (omega arith) (e .deal-child .ensures) in
     omega (arith, r)
 
--- src/lib.rt:144:9
-add-k : tie.Need-add-k Inv-loop μ-loop
-add-k c = search needs
-
--- src/lib.rt:141:5
-loop-less : tie.Need-loop-less Inv-loop μ-loop
-loop-less c = search needs
-
--- src/lib.rt:141:5
 loop-again : tie.Need-loop-again Inv-loop μ-loop
 loop-again c =
     let e = c .before .before .before .before in
     let l = e .before .before .before .before in
     λ g. turn-step g _ (l .loop .inv g) (omega arith) (search needs) (e .deal-child .ensures)
 
--- src/lib.rt:125:1
 same-length : tie.Need-same-length Inv-loop μ-loop
 same-length c =
     let l = c .before in
     let g = l .before .before .before .before .before .before .pre in
     l .loop .inv g .wide
 
--- src/lib.rt:125:1
 same-length-2 : tie.Need-same-length-2 Inv-loop μ-loop
 same-length-2 c =
     let l = c .before in
     let g = l .before .before .before .before .before .before .pre in
     l .loop .inv g .long
 
--- src/lib.rt:125:1
 returns : tie.Need-returns Inv-loop μ-loop
 returns c = λ g. turn-done g _ (c .before .loop .inv g) (omega arith)
 
@@ -82,8 +66,8 @@ deal-out-spec =
     loop-holds
     deal-child-requires
     add-at
-    add-k
-    loop-less
+    (λ c. search needs)
+    (λ c. search needs)
     loop-again
     same-length
     same-length-2

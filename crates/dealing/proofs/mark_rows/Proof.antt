@@ -10,120 +10,101 @@ use lib.ListN.{length}
 use native.Mathlib.Omega.{arith}
 
 abbrev Inv-loop : tie.InvT-loop
-Inv-loop table c index o part₀ child p₀ part p = (T : Marks table c index o part₀) → Marking T part p
+Inv-loop table c index o part₀ child set p₀ part p = (T : Marks table c index o part₀) → Marking T part p
 
 abbrev μ-loop : tie.MeasureT-loop
-μ-loop table c index o part₀ child p₀ part p = length part - p
+μ-loop table c index o part₀ child set p₀ part p = length part - p
 
--- src/lib.rt:49:9
 node-child-requires : tie.Need-node-child-requires Inv-loop μ-loop
 node-child-requires c κs = (c .before .before .before .pre .shape .whole, c .before .before .before .pre .there)
 
--- src/lib.rt:51:5
+-- the set of circles is read
+circles-requires : tie.Need-circles-requires Inv-loop μ-loop
+circles-requires c κs = omega (arith, c .before .before .before .before .pre .shape .whole .words)
+
 loop-holds : tie.Need-loop-holds Inv-loop μ-loop
 loop-holds c = λ T. marking-start T
 
--- src/lib.rt:52:13
-word-requires : tie.Need-word-requires Inv-loop μ-loop
-word-requires c κs = search needs
-
--- src/lib.rt:53:13
 closest-child-requires : tie.Need-closest-child-requires Inv-loop μ-loop
 closest-child-requires c κs =
     let l = c .before .before .before in
-    let T = l .before .before .before .before .before .pre in
+    let T = l .before .before .before .before .before .before .pre in
     (marking-lent T (l .loop .inv T) (omega arith) (c .word .ensures .0) .0, (T .there, T .inner))
 
--- src/lib.rt:54:58
 add-node-first : tie.Need-add-node-first Inv-loop μ-loop
 add-node-first c =
     let l = c .before .before .before .before in
-    let T = l .before .before .before .before .before .pre in
-    let r = marking-kid T (l .loop .inv T) (c .closest-child .ensures .1) (l .before .node-child .ensures .0) in
+    let T = l .before .before .before .before .before .before .pre in
+    let r = marking-kid T (l .loop .inv T) (c .closest-child .ensures .1) (l .before .before .node-child .ensures .0) in
     omega (arith, r)
 
--- src/lib.rt:54:40
 node-first-requires : tie.Need-node-first-requires Inv-loop μ-loop
 node-first-requires c κs =
     let l = c .before .before .before .before in
-    let T = l .before .before .before .before .before .pre in
-    (T .shape, marking-kid T (l .loop .inv T) (c .closest-child .ensures .1) (l .before .node-child .ensures .0) .0)
+    let T = l .before .before .before .before .before .before .pre in
+    (T .shape, marking-kid T (l .loop .inv T) (c .closest-child .ensures .1) (l .before .before .node-child .ensures .0) .0)
 
--- src/lib.rt:54:13
 row-distance-requires : tie.Need-row-distance-requires Inv-loop μ-loop
 row-distance-requires c κs =
     let l = c .before .before .before .before .before in
-    let T = l .before .before .before .before .before .pre in
+    let T = l .before .before .before .before .before .before .pre in
     marking-measured T (l .loop .inv T) (omega arith) (c .before .before .word .ensures .0) (c .node-first .ensures .1)
 
--- src/lib.rt:55:19
 mul-put-entry : tie.Need-mul-put-entry Inv-loop μ-loop
 mul-put-entry c =
     let l = c .before .before .before .before .before .before in
-    let T = l .before .before .before .before .before .pre in
+    let T = l .before .before .before .before .before .before .pre in
     let r = marking-fits T (l .loop .inv T) (omega arith) in
     omega (arith, r)
 
--- src/lib.rt:55:19
 sub-put-entry : tie.Need-sub-put-entry Inv-loop μ-loop
 sub-put-entry c =
     let l = c .before .before .before .before .before .before in
-    let T = l .before .before .before .before .before .pre in
+    let T = l .before .before .before .before .before .before .pre in
     let r = marking-fits T (l .loop .inv T) (omega arith) in
     omega (arith, r)
 
--- src/lib.rt:55:19
 part-put-entry-start : tie.Need-part-put-entry-start Inv-loop μ-loop
 part-put-entry-start c =
     let l = c .before .before .before .before .before .before in
-    let T = l .before .before .before .before .before .pre in
+    let T = l .before .before .before .before .before .before .pre in
     let r = marking-fits T (l .loop .inv T) (omega arith) in
     omega (arith, r)
 
--- src/lib.rt:55:19
 part-put-entry-end : tie.Need-part-put-entry-end Inv-loop μ-loop
 part-put-entry-end c =
     let l = c .before .before .before .before .before .before in
-    let T = l .before .before .before .before .before .pre in
+    let T = l .before .before .before .before .before .before .pre in
     let r = marking-fits T (l .loop .inv T) (omega arith) in
     omega (arith, r)
 
--- src/lib.rt:55:35
-cast-put-entry : tie.Need-cast-put-entry Inv-loop μ-loop
-cast-put-entry c = search needs
-
--- src/lib.rt:55:48
 cast-put-entry-2 : tie.Need-cast-put-entry-2 Inv-loop μ-loop
 cast-put-entry-2 c =
     let l = c .before .before .before .before .before .before .before in
-    let T = l .before .before .before .before .before .pre in
-    let r = marking-kid T (l .loop .inv T) (c .before .before .before .closest-child .ensures .1) (l .before .node-child .ensures .0) in
+    let T = l .before .before .before .before .before .before .pre in
+    let r = marking-kid T (l .loop .inv T) (c .before .before .before .closest-child .ensures .1) (l .before .before .node-child .ensures .0) in
     omega (arith, r)
 
--- src/lib.rt:55:9
 put-entry-requires : tie.Need-put-entry-requires Inv-loop μ-loop
 put-entry-requires c κs =
     let l = c .before .before .before .before .before .before .before in
-    let T = l .before .before .before .before .before .pre in
+    let T = l .before .before .before .before .before .before .pre in
     marking-room T (l .loop .inv T) (omega arith)
 
--- src/lib.rt:56:9
 add-p : tie.Need-add-p Inv-loop μ-loop
 add-p c =
     let l = c .before .before .before .before .before .before .before .before .before .before in
-    let T = l .before .before .before .before .before .pre in
+    let T = l .before .before .before .before .before .before .pre in
     let r = marking-fits T (l .loop .inv T) (omega arith) in
     omega (arith, r)
 
--- src/lib.rt:51:5
 loop-less : tie.Need-loop-less Inv-loop μ-loop
 loop-less c =
     let l = c .before .before .before .before .before .before .before .before .before .before in
-    let T = l .before .before .before .before .before .pre in
+    let T = l .before .before .before .before .before .before .pre in
     let r = marking-fits T (l .loop .inv T) (omega arith) in
     search needs
 
--- src/lib.rt:51:5
 loop-again : tie.Need-loop-again Inv-loop μ-loop
 loop-again c =
     let e = c .before .before in
@@ -132,21 +113,19 @@ loop-again c =
     let k = f .before in
     let z = k .before in
     let l = z .before .before .before in
-    λ T. marking-step T (l .loop .inv T) _ (omega arith) (z .word .ensures .0) (k .closest-child .ensures .0) (l .before .node-child .ensures .0)
-    (f .node-first .ensures .0) (x .row-distance .ensures .0) (e .put-entry .ensures)
+    λ T. marking-step T (l .loop .inv T) _ (omega arith) (z .word .ensures .0) (k .closest-child .ensures .0) (l .before .before .node-child .ensures .0)
+    (f .node-first .ensures .0) (l .before .circles .ensures) (x .row-distance .ensures .0) (e .put-entry .ensures)
 
--- src/lib.rt:45:1
 same-length : tie.Need-same-length Inv-loop μ-loop
 same-length c =
     let l = c .before in
-    let T = l .before .before .before .before .before .pre in
+    let T = l .before .before .before .before .before .before .pre in
     marking-long T (l .loop .inv T)
 
--- src/lib.rt:45:1
 returns : tie.Need-returns Inv-loop μ-loop
 returns c =
     let l = c .before in
-    let T = l .before .before .before .before .before .pre in
+    let T = l .before .before .before .before .before .before .pre in
     marking-done T (l .loop .inv T) (omega arith)
 
 pub mark-rows-spec : {M : Type 1} → statement M
@@ -156,8 +135,9 @@ mark-rows-spec =
     Inv-loop
     μ-loop
     node-child-requires
+    circles-requires
     loop-holds
-    word-requires
+    (λ c κs. search needs)
     closest-child-requires
     add-node-first
     node-first-requires
@@ -166,7 +146,7 @@ mark-rows-spec =
     sub-put-entry
     part-put-entry-start
     part-put-entry-end
-    cast-put-entry
+    (λ c. search needs)
     cast-put-entry-2
     put-entry-requires
     add-p

@@ -4,35 +4,21 @@ use Rattle.dealing.proofs.Reaches.{reach-none, reach-some}
 use Rattle.dealing.proofs.reach_with.Statement.{statement}
 use Rattle.dealing.proofs.reach_with.Tie as tie
 use borrow.Author.Needs.{needs}
-use native.Mathlib.Omega.{arith}
 
--- src/lib.rt:66:9
 node-radius-requires : tie.Need-node-radius-requires
 node-radius-requires c κs = (c .before .pre .0 .whole, c .before .pre .1 .0)
 
--- src/lib.rt:67:9
 node-inner-requires : tie.Need-node-inner-requires
 node-inner-requires c κs = (c .before .before .pre .0 .whole, (c .before .before .pre .1 .0, c .before .before .pre .1 .1))
 
--- src/lib.rt:69:9
 returns : tie.Need-returns
 returns c =
     let s = c .before .before .before .before .before in
     reach-none (s .args .index .now) (s .args .q) (c .before .before .before .node-radius .ensures) (c .before .before .node-inner .ensures) (c .if1 .taken)
 
--- src/lib.rt:72:17
-larger-requires : tie.Need-larger-requires
-larger-requires c κs = search needs
-
--- src/lib.rt:73:25
 node-count-requires : tie.Need-node-count-requires
 node-count-requires c κs = (c .before .before .before .before .before .before .pre .0 .whole, c .before .before .before .before .before .before .pre .1 .0)
 
--- src/lib.rt:73:16
-least-of-requires : tie.Need-least-of-requires
-least-of-requires c κs = search needs
-
--- src/lib.rt:61:1
 returns-2 : tie.Need-returns-2
 returns-2 c =
     let s = c .before .before .before .before .before .before .before .before in
@@ -46,7 +32,7 @@ reach-with-spec =
     node-radius-requires
     node-inner-requires
     returns
-    larger-requires
+    (λ c κs. search needs)
     node-count-requires
-    least-of-requires
+    (λ c κs. search needs)
     returns-2)

@@ -8,43 +8,32 @@ use borrow.Author.Needs.{needs}
 use mathlib.Core.Path.{refl, subst, sym}
 use native.Mathlib.Omega.{arith}
 
--- src/lib.rt:82:8
 node-child-requires : tie.Need-node-child-requires
 node-child-requires c κs = (c .before .before .before .pre .shape .whole, c .before .before .before .pre .there)
 
--- src/lib.rt:83:17
 add-result : tie.Need-add-result
 add-result c =
     let T = c .before .before .before .before .before .pre in
     omega (arith, T .there, T .shape .whole .nodes, T .shape .whole .rows)
 
--- src/lib.rt:83:16
 cast-result : tie.Need-cast-result
 cast-result c =
     let T = c .before .before .before .before .before .pre in
     omega (arith, T .there, T .shape .whole .nodes, T .shape .whole .rows)
 
--- src/lib.rt:83:9
 returns : tie.Need-returns
 returns c =
     let T = c .before .before .before .before .before .pre in
     settle-inner T _ (c .before .node-child .ensures .0) (c .if1 .taken) refl
 
--- src/lib.rt:85:18
 columns-requires : tie.Need-columns-requires
 columns-requires c κs = omega (arith, c .before .before .before .before .before .pre .shape .whole .words)
 
--- src/lib.rt:85:5
 lodge-requires : tie.Need-lodge-requires
 lodge-requires c κs =
     let s = c .before .before .before .before .before .before .before in
     subst (λ i. Takes (s .args .table .now) i (s .args .index .now) (s .args .q) (s .args .part .now)) (sym (c .before .columns .ensures .0)) (s .pre)
 
--- src/lib.rt:78:1
-same-length : tie.Need-same-length
-same-length c = search needs
-
--- src/lib.rt:78:1
 returns-2 : tie.Need-returns-2
 returns-2 c =
     let k = c .before .before .before .before in
@@ -61,5 +50,5 @@ settle-spec =
     returns
     columns-requires
     lodge-requires
-    same-length
+    (λ c. search needs)
     returns-2)

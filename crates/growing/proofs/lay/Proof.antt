@@ -4,22 +4,22 @@ use Prim.Native.Nat.{_-_}
 use Rattle.growing.proofs.Laying.{Laying, laying-done, laying-start, laying-step}
 use Rattle.growing.proofs.lay.Statement.{statement}
 use Rattle.growing.proofs.lay.Tie as tie
-use Rattle.measure.proofs.Metric.{metric}
 use Rattle.measure.proofs.Rows.{row-ends}
 use Rattle.measure.specs.Table.{between}
+use Rattle.split.proofs.Laid.{row-self}
 use borrow.Author.Needs.{needs}
 use native.Mathlib.Omega.{arith}
 
 abbrev Inv-loop : tie.InvT-loop
-Inv-loop table c n work₀ radius₀ inner₀ i₀ work radius inner i = Laying (between table c) n work₀ work radius inner i
+Inv-loop table c circles n work₀ radius₀ inner₀ i₀ work radius inner i = Laying (between table c circles) n work₀ work radius inner i
 
 abbrev μ-loop : tie.MeasureT-loop
-μ-loop table c n work₀ radius₀ inner₀ i₀ work radius inner i = n - i
+μ-loop table c circles n work₀ radius₀ inner₀ i₀ work radius inner i = n - i
 
 loop-holds : tie.Need-loop-holds Inv-loop μ-loop
 loop-holds c =
     let a = c .before .before .args in
-    laying-start (between (a .table .now) (a .c)) (a .n) (a .work .now)
+    laying-start (between (a .table .now) (a .c) (a .circles)) (a .n) (a .work .now)
 
 row-distance-requires : tie.Need-row-distance-requires Inv-loop μ-loop
 row-distance-requires c κs =
@@ -36,7 +36,7 @@ loop-again c =
     let g = b .before in
     let s = g .before .before .before in
     let a = s .before .before .before .args in
-    laying-step (s .loop .inv) (metric (a .table .now) (a .c) .self 0) (search needs) (search needs) (g .before .row-distance .ensures .0)
+    laying-step (s .loop .inv) (row-self (a .table .now) (a .c) (a .circles) 0) (search needs) (search needs) (g .before .row-distance .ensures .0)
     (g .larger .ensures) (b .least-of .ensures)
     (e .put-entry .ensures) (search needs)
 

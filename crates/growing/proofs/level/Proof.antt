@@ -9,11 +9,11 @@ use lib.ListN.{length}
 use mathlib.Core.Path.{_≡_}
 
 abbrev Inv-loop : tie.InvT-loop
-Inv-loop table c m l n room₀ work₀ lo hi made₀ k₀ room work made k =
-    (length room ≡ length room₀) × (length work ≡ length work₀) × Turn table c m l n room₀ work₀ lo hi room work made k
+Inv-loop table c circles m l n room₀ work₀ lo hi made₀ k₀ room work made k =
+    (length room ≡ length room₀) × (length work ≡ length work₀) × Turn table c circles m l n room₀ work₀ lo hi room work made k
 
 abbrev μ-loop : tie.MeasureT-loop
-μ-loop table c m l n room₀ work₀ lo hi made₀ k₀ room work made k = hi - k
+μ-loop table c circles m l n room₀ work₀ lo hi made₀ k₀ room work made k = hi - k
 
 loop-holds : tie.Need-loop-holds Inv-loop μ-loop
 loop-holds c = (search needs, search needs, λ g. levelling-start g)

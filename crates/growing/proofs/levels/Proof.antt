@@ -10,18 +10,18 @@ use lib.ListN.{length}
 use mathlib.Core.Path.{_≡_}
 
 abbrev Inv-loop : tie.InvT-loop
-Inv-loop table c m l n room₀ work₀ lo₀ hi₀ depth₀ room work lo hi depth =
-    (length room ≡ length room₀) × (length work ≡ length work₀) × Grows table c m l n room₀ work₀ room work lo hi depth
+Inv-loop table c circles m l n room₀ work₀ lo₀ hi₀ depth₀ room work lo hi depth =
+    (length room ≡ length room₀) × (length work ≡ length work₀) × Grows table c circles m l n room₀ work₀ room work lo hi depth
 
 abbrev μ-loop : tie.MeasureT-loop
-μ-loop table c m l n room₀ work₀ lo₀ hi₀ depth₀ room work lo hi depth = maxDepth - depth
+μ-loop table c circles m l n room₀ work₀ lo₀ hi₀ depth₀ room work lo hi depth = maxDepth - depth
 
 -- the start, seen from the loop
 abbrev start : tie.At-loop Inv-loop μ-loop → tie.Start Inv-loop μ-loop
 start c = c .before .before .before .before
 
 loop-holds : tie.Need-loop-holds Inv-loop μ-loop
-loop-holds c = (search needs, search needs, λ g. growing-start _ _ _ _ _ (g .origin) _ _ (g .rooted))
+loop-holds c = (search needs, search needs, λ g. growing-start _ _ _ _ _ _ (g .origin) _ _ (g .rooted))
 
 level-requires : tie.Need-level-requires Inv-loop μ-loop
 level-requires c κs =

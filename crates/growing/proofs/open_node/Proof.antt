@@ -29,7 +29,7 @@ same-length-2 : tie.Need-same-length-2
 same-length-2 c =
     let r = c .before .before .before .before in
     let a = start (r .before .before .before .before) .args in
-    let l : length (r .split-run .last .1 .1 .1 .1 .1 .0) ≡ length (set (a .room .now) (nodeAt (a .k) + 2) (a .made)) = search needs in
+    let l : length (r .split-run .last .1 .1 .1 .1 .1 .1 .0) ≡ length (set (a .room .now) (nodeAt (a .k) + 2) (a .made)) = search needs in
     l ∙ length-set (a .room .now) (nodeAt (a .k) + 2) (a .made)
 
 returns-2 : tie.Need-returns-2

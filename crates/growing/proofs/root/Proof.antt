@@ -9,7 +9,7 @@ returns : tie.Need-returns
 returns c =
     let l = c .before .before .before .before .before .before in
     let s = l .before .before .before .before .before in
-    root-stands (s .pre .0) (s .pre .1) (search needs) (l .lay .ensures) (c .before .before .put-node .ensures)
+    root-stands (s .args .circles) (s .pre .0) (s .pre .1) (search needs) (l .lay .ensures) (c .before .before .put-node .ensures)
 
 pub root-spec : {M : Type 1} → statement M
 root-spec =

@@ -7,10 +7,10 @@ use borrow.Author.Needs.{needs}
 use native.Mathlib.Omega.{arith}
 
 abbrev Inv-loop : tie.InvT-loop
-Inv-loop table c index k z child m at₀ least₀ j₀ at least j = Choosing table c index k z child m at least j
+Inv-loop table c index k z child m set at₀ least₀ j₀ at least j = Choosing table c index k z child m set at least j
 
 abbrev μ-loop : tie.MeasureT-loop
-μ-loop table c index k z child m at₀ least₀ j₀ at least j = m - j
+μ-loop table c index k z child m set at₀ least₀ j₀ at least j = m - j
 
 node-child-requires : tie.Need-node-child-requires Inv-loop μ-loop
 node-child-requires c κs = (c .before .before .pre .0 .shape .whole, c .before .before .pre .1 .0)
@@ -18,21 +18,31 @@ node-child-requires c κs = (c .before .before .pre .0 .shape .whole, c .before 
 centres-requires : tie.Need-centres-requires Inv-loop μ-loop
 centres-requires c κs = omega (arith, c .before .before .before .pre .0 .shape .whole .words)
 
+circles-requires : tie.Need-circles-requires Inv-loop μ-loop
+circles-requires c κs = omega (arith, c .before .before .before .before .pre .0 .shape .whole .words)
+
 node-first-requires : tie.Need-node-first-requires Inv-loop μ-loop
 node-first-requires c κs =
-    let c4 = c .before .before .before .before in
-    let L = c4 .pre .0 in
-    (L .shape, omega (arith, kids-there L (c4 .pre .1 .0) (c4 .pre .1 .1) (c .before .node-child .ensures .0) (c .centres .ensures .0)))
+    let c5 = c .before .before .before .before .before in
+    let L = c5 .pre .0 in (
+      L .shape,
+      omega (
+        arith,
+        kids-there L (c5 .pre .1 .0) (c5 .pre .1 .1) (c .before .before .node-child .ensures .0)
+            (c .before .centres .ensures .0),
+      ),
+    )
 
 row-distance-requires : tie.Need-row-distance-requires Inv-loop μ-loop
-row-distance-requires c κs = measurable (c .before .before .before .before .before .pre .0) (c .node-first .ensures .1)
+row-distance-requires c κs = measurable (c .before .before .before .before .before .before .pre .0) (c .node-first .ensures .1)
 
 loop-holds : tie.Need-loop-holds Inv-loop μ-loop
 loop-holds c =
     let c2 = c .before .before in
     let c3 = c2 .before in
-    let c6 = c3 .before .before .before in
-    choosing-start (c6 .pre .0) (c6 .pre .1 .0) (c6 .pre .1 .1) (c3 .node-child .ensures .0) (c2 .centres .ensures .0)
+    let c4 = c3 .before in
+    let c7 = c4 .before .before .before in
+    choosing-start (c7 .pre .0) (c7 .pre .1 .0) (c7 .pre .1 .1) (c4 .node-child .ensures .0) (c3 .centres .ensures .0) (c2 .circles .ensures)
     (c .before .node-first .ensures .0) (c .row-distance .ensures .0)
 
 add-node-first : tie.Need-add-node-first Inv-loop μ-loop
@@ -68,6 +78,7 @@ closest-child-spec =
     μ-loop
     node-child-requires
     centres-requires
+    circles-requires
     node-first-requires
     row-distance-requires
     loop-holds

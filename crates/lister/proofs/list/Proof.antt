@@ -32,7 +32,7 @@ returns c =
 print-index-requires : tie.Need-print-index-requires
 print-index-requires c κs =
     let made = c .before .before .before .before .before .before in
-    built-there _ _ _ _ _ _ _ _ _ _ _ (made .build .ensures) (c .before .if1 .left)
+    built-there _ _ _ _ _ _ _ _ _ _ _ _ (made .build .ensures) (c .before .if1 .left)
 
 returns-2 : tie.Need-returns-2
 returns-2 c =

@@ -7,13 +7,8 @@ use borrow.Author.Needs.{needs}
 
 returns : tie.Need-returns
 returns c =
-    let b = c .before .before in
-    (from-query _ _ _ (b .row-of .ensures .0) _ (b .before .before .before .pre .2) (c .many .ensures .0), c .many .ensures .1)
-
-returns-2 : tie.Need-returns-2
-returns-2 c =
-    let b = c .before .before in
-    (from-query _ _ _ (b .row-of .ensures .0) _ (b .before .before .before .pre .2) (c .distance .ensures .0), c .distance .ensures .1)
+    let b = c .before in
+    (from-query _ _ _ _ (b .row-of .ensures .0) _ (b .before .before .before .pre .2) (c .distance .ensures .0), c .distance .ensures .1)
 
 pub query-distance-spec : {M : Type 1} → statement M
-query-distance-spec = tie.close (tie.spec (λ c κs. search needs) (λ c κs. search needs) returns (λ c κs. search needs) returns-2)
+query-distance-spec = tie.close (tie.spec (λ c κs. search needs) (λ c κs. search needs) returns)

@@ -7,14 +7,8 @@ use borrow.Author.Needs.{needs}
 
 returns : tie.Need-returns
 returns c =
-    let b = c .before .before in
-    (between-rows _ _ _ (b .row-of2 .ensures .0) _ (b .before .row-of .ensures) (c .many .ensures .0), c .many .ensures .1)
-
-returns-2 : tie.Need-returns-2
-returns-2 c =
-    let b = c .before .before in
-    (between-rows _ _ _ (b .row-of2 .ensures .0) _ (b .before .row-of .ensures) (c .distance .ensures .0), c .distance .ensures .1)
+    let b = c .before in
+    (between-rows _ _ _ _ (b .row-of2 .ensures .0) _ (b .before .row-of .ensures) (c .distance .ensures .0), c .distance .ensures .1)
 
 pub row-distance-spec : {M : Type 1} → statement M
-row-distance-spec =
-    tie.close (tie.spec (λ c κs. search needs) (λ c κs. search needs) (λ c κs. search needs) returns (λ c κs. search needs) returns-2)
+row-distance-spec = tie.close (tie.spec (λ c κs. search needs) (λ c κs. search needs) (λ c κs. search needs) returns)

@@ -11,7 +11,7 @@ use native.Mathlib.Omega.{arith}
 
 -- where nothing is refused: the start
 abbrev start : tie.Else1 → tie.Start
-start e = e .before .before .before .before .before .before .before .before .before
+start e = e .before .before .before .before .before .before .before .before .before .before
 
 -- seen from the number of answers: that branch; and from the core's search: that number
 abbrev going : tie.After-least → tie.Else1
@@ -22,7 +22,7 @@ asked f = f .before .before .before .before .before
 
 -- what is asked, and what is lent
 abbrev asking : tie.Start → NearestAsked
-asking s = asks (s .args .table .now) (s .args .c) (s .args .index .now) (s .args .query .now) (s .args .wanted)
+asking s = asks (s .args .table .now) (s .args .c) (s .args .index .now) (s .args .query .now) (s .args .wanted) (s .args .withdrawn .now)
 
 abbrev lending : tie.Start → NearestLent
 lending s = lends (s .args .rows .now) (s .args .distances .now) (s .args .how .now) (s .args .work .now)
@@ -36,7 +36,7 @@ lent l =
 
 returns : tie.Need-returns
 returns c =
-    let s = c .before .before .before .before .before .before .before .before .before in
+    let s = c .before .before .before .before .before .before .before .before .before .before in
     refused-is (asking s) (lending s) (s .pre) (c .before .refusal .ensures) (c .if1 .taken)
 
 rows-requires : tie.Need-rows-requires

@@ -18,7 +18,7 @@ returns : tie.Need-returns
 returns c =
     let a = c .before .before .before .before .before .before .before .before in
     let r = a .before .before .before .before .before in
-    let s = r .before .before .before .before .before .before .before .before .before in
+    let s = r .before .before .before .before .before .before .before .before .before .before in
     room-is (r .least2 .ensures ∙ ap (λ (z : ℕ). min (s .args .own) z) (r .before .least .ensures)) (a .answer .ensures)
 
 pub within-spec : {M : Type 1} → statement M

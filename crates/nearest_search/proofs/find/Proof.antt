@@ -9,7 +9,7 @@ use native.Mathlib.Omega.{arith}
 
 -- seen from the wiping of the how-bytes: the start, and the number of rows as it is read
 abbrev start : tie.After-clear-bytes → tie.Start
-start b = b .before .before .before .before .before .before .before .before .before .before
+start b = b .before .before .before .before .before .before .before .before .before .before .before
 
 abbrev counted : tie.After-clear-bytes → tie.After-rows
 counted b = b .before .before
@@ -22,23 +22,23 @@ abbrev sought : tie.After-give → tie.After-search
 sought g = g .before .before .before .before .before .before .before .before .before
 
 rows-requires : tie.Need-rows-requires
-rows-requires c κs = omega (arith, c .before .before .before .before .before .before .before .pre .tested .shape .whole .words)
+rows-requires c κs = omega (arith, c .before .before .before .before .before .before .before .before .pre .tested .shape .whole .words)
 
 clear-bytes-requires : tie.Need-clear-bytes-requires
 clear-bytes-requires c κs =
     let r = c .before in
-    omega (arith, r .rows .ensures .0, r .before .before .before .before .before .before .before .before .pre .bytes)
+    omega (arith, r .rows .ensures .0, r .before .before .before .before .before .before .before .before .before .pre .bytes)
 
 returns : tie.Need-returns
 returns c =
     let b = c .before .before .before in
-    found-none _ _ _ _ _ _ _ _ _ (start b .pre) _ _ (counted b .rows .ensures .0) (c .if1 .taken) (b .clear-bytes .ensures)
+    found-none _ _ _ _ _ _ _ _ _ _ (start b .pre) _ _ (counted b .rows .ensures .0) (c .if1 .taken) (b .clear-bytes .ensures)
 
 search-requires : tie.Need-search-requires
 search-requires c κs =
     let b = c .before .before .before .before .before in
     let rows = counted b .rows in
-    begin-blank _ _ _ _ _ _ _ _ _ (start b .pre) (omega (arith, rows .ensures .0)) _ _ (rows .ensures .0) (b .clear-bytes .ensures)
+    begin-blank _ _ _ _ _ _ _ _ _ _ (start b .pre) (omega (arith, rows .ensures .0)) _ _ (rows .ensures .0) (b .clear-bytes .ensures)
 
 mul-give : tie.Need-mul-give
 mul-give c =
@@ -50,7 +50,7 @@ give-requires c κs =
     let s = c .before .before .before .before .before .before .before .before in
     let b = wiping s in
     let rows = counted b .rows in
-    gives _ _ _ _ _ _ _ _ _ (start b .pre) (omega (arith, rows .ensures .0)) _ _ _ _
+    gives _ _ _ _ _ _ _ _ _ _ (start b .pre) (omega (arith, rows .ensures .0)) _ _ _ _
     (wiped-as (start b .args .index .now) _ _ _ (rows .ensures .0) (b .clear-bytes .ensures)) (s .search .ensures) _ (rows .ensures .0)
 
 mul-clear-words : tie.Need-mul-clear-words
@@ -71,7 +71,7 @@ returns-2 c =
     let s = sought g in
     let b = wiping s in
     let rows = counted b .rows in
-    found-at _ _ _ _ _ _ _ _ _ (start b .pre) (omega (arith, rows .ensures .0)) _ _ _ _
+    found-at _ _ _ _ _ _ _ _ _ _ (start b .pre) (omega (arith, rows .ensures .0)) _ _ _ _
     (wiped-as (start b .args .index .now) _ _ _ (rows .ensures .0) (b .clear-bytes .ensures)) (s .search .ensures) _ _ _ _ _ _ (rows .ensures .0)
     (g .give .ensures) (c .before .before .clear-words .ensures)
 

@@ -10,14 +10,14 @@ use Rattle.nearness.specs.Strays.{Firsts, kidStrays}
 use Rattle.laws.proofs.First.{search-start}
 use Rattle.laws.specs.First.{First}
 use Rattle.measure.specs.Table.{between}
-use Rattle.words.specs.Words.{count#, n#, start#}
+use Rattle.words.specs.Words.{circles#, count#, n#, start#}
 use borrow.Author.Needs.{needs}
 use mathlib.Core.List.{List}
 use mathlib.Core.Path.{subst, sym}
 use native.Mathlib.Omega.{arith}
 
 abbrev Inv-loop : tie.InvT-loop
-Inv-loop table c index fs k a child j f end p₀ p = (p ≤ end) × First (kidStrays (between table c) index k j) (start# index j) p p
+Inv-loop table c index fs k a child j f end p₀ p = (p ≤ end) × First (kidStrays (between table c (circles# index)) index k j) (start# index j) p p
 
 abbrev μ-loop : tie.MeasureT-loop
 μ-loop table c index fs k a child j f end p₀ p = end - p
@@ -36,7 +36,7 @@ words c = start c .args .index .now
 
 -- the distance between the table's rows
 abbrev dist : tie.After-node-child Inv-loop μ-loop → ℕ → ℕ → ℕ
-dist c = between (start c .args .table .now) (start c .args .c)
+dist c = between (start c .args .table .now) (start c .args .c) (circles# (start c .args .index .now))
 
 -- the number of child a
 abbrev own : tie.After-node-child Inv-loop μ-loop → ℕ

@@ -8,14 +8,15 @@ use Rattle.nearness.proofs.closeness.Tie as tie
 use Rattle.nearness.specs.Strays.{allStrays}
 use Rattle.limits.specs.Said.{said}
 use Rattle.measure.specs.Table.{between}
-use Rattle.words.specs.Words.{N#}
+use Rattle.words.specs.Words.{N#, circles#}
 use borrow.Author.Needs.{needs}
 use mathlib.Core.Path.{_∙_, _≡_, sym}
 use native.Mathlib.Omega.{arith}
 
 abbrev Inv-loop : tie.InvT-loop
 Inv-loop table c index total k₀ k =
-    (total ≡ N# index) × (k ≤ total) × (said (allStrays (between table c) index) ≡ saidFrom (between table c) index k)
+    (total ≡ N# index) × (k ≤ total)
+    × (said (allStrays (between table c (circles# index)) index) ≡ saidFrom (between table c (circles# index)) index k)
 
 abbrev μ-loop : tie.MeasureT-loop
 μ-loop table c index total k₀ k = total - k
@@ -26,7 +27,7 @@ start l = l .before .before .before .before
 
 -- the distance between the table's rows
 abbrev dist : tie.Start Inv-loop μ-loop → ℕ → ℕ → ℕ
-dist s = between (s .args .table .now) (s .args .c)
+dist s = between (s .args .table .now) (s .args .c) (circles# (s .args .index .now))
 
 loop-holds : tie.Need-loop-holds Inv-loop μ-loop
 loop-holds c =

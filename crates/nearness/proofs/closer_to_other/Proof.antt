@@ -8,7 +8,7 @@ use Rattle.nearness.specs.Strays.{closer}
 use Rattle.laws.proofs.First.{any-first, any-lost, search-on, search-start, search-stop}
 use Rattle.laws.specs.First.{First}
 use Rattle.measure.specs.Table.{between}
-use Rattle.words.specs.Words.{m#}
+use Rattle.words.specs.Words.{circles#, m#}
 use borrow.Author.Needs.{needs}
 use mathlib.Core.Bool.{Bool}
 use mathlib.Core.Path.{_∙_, _≡_, subst, sym}
@@ -17,7 +17,7 @@ use native.Mathlib.Omega.{arith}
 
 abbrev Inv-loop : tie.InvT-loop
 Inv-loop table c index child fs g x p m i₀ i =
-    (i ≤ m) × (m ≡ m# index) × First (closer (between table c) index p x) child (child + i) (child + i)
+    (i ≤ m) × (m ≡ m# index) × First (closer (between table c (circles# index)) index p x) child (child + i) (child + i)
 
 abbrev μ-loop : tie.MeasureT-loop
 μ-loop table c index child fs g x p m i₀ i = m - i
@@ -26,9 +26,13 @@ abbrev μ-loop : tie.MeasureT-loop
 abbrev start : tie.At-loop Inv-loop μ-loop → tie.Start Inv-loop μ-loop
 start l = l .before .before .before .before
 
+-- the distance between the table's rows
+abbrev dist : tie.Start Inv-loop μ-loop → ℕ → ℕ → ℕ
+dist s = between (s .args .table .now) (s .args .c) (circles# (s .args .index .now))
+
 -- the test of one centre: the row at p is closer to it
 abbrev test : tie.Start Inv-loop μ-loop → ℕ → Bool
-test s = closer (between (s .args .table .now) (s .args .c)) (s .args .index .now) (s .args .p) (s .args .x)
+test s = closer (dist s) (s .args .index .now) (s .args .p) (s .args .x)
 
 -- the test of the i-th centre is that of its node
 tested : (c : tie.After-is-closer Inv-loop μ-loop)
@@ -39,7 +43,7 @@ tested c =
     let s = start l in
     let here = s .pre .1 .0 .at (l .loop .i) (omega (arith, l .loop .inv .1, c .before .before .loop-test .taken)) in
     c .is-closer .ensures
-    ∙ closer-is (between (s .args .table .now) (s .args .c)) (s .args .index .now) (s .args .p) (s .args .x) (s .args .child + l .loop .i) here
+    ∙ closer-is (dist s) (s .args .index .now) (s .args .p) (s .args .x) (s .args .child + l .loop .i) here
 
 loop-holds : tie.Need-loop-holds Inv-loop μ-loop
 loop-holds c =

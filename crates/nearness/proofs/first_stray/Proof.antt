@@ -9,14 +9,15 @@ use Rattle.nearness.proofs.first_stray.Tie as tie
 use Rattle.nearness.specs.Strays.{FirstIn, Firsts}
 use Rattle.measure.specs.Table.{between}
 use Rattle.words.specs.Shape.{inner}
-use Rattle.words.specs.Words.{m#}
+use Rattle.words.specs.Words.{circles#, m#}
 use borrow.Author.Needs.{needs}
 use mathlib.Core.Bool.{true}
 use mathlib.Core.Path.{_≡_, subst}
 use native.Mathlib.Omega.{arith}
 
 abbrev Inv-loop : tie.InvT-loop
-Inv-loop table c index k low₀ child m fs a₀ low a = (m ≡ m# index) × (a ≤ m) × FirstIn index k (straysTo (between table c) index k a) low
+Inv-loop table c index k low₀ child m fs a₀ low a =
+    (m ≡ m# index) × (a ≤ m) × FirstIn index k (straysTo (between table c (circles# index)) index k a) low
 
 abbrev μ-loop : tie.MeasureT-loop
 μ-loop table c index k low₀ child m fs a₀ low a = m - a
@@ -29,16 +30,21 @@ branch l = l .before .before .before
 abbrev start : tie.Else1 Inv-loop μ-loop → tie.Start Inv-loop μ-loop
 start e = e .before .before .before .before .before
 
+-- the distance between the table's rows
+abbrev dist : tie.Start Inv-loop μ-loop → ℕ → ℕ → ℕ
+dist s = between (s .args .table .now) (s .args .c) (circles# (s .args .index .now))
+
 -- in that branch node k is inner
 is-inner : (e : tie.Else1 Inv-loop μ-loop) → inner (start e .args .index .now) (start e .args .k) ≡ true
 is-inner e = inner-yes (start e .args .index .now) (start e .args .k) (e .before .node-child .ensures .0) (e .if1 .left)
 
 returns : tie.Need-returns Inv-loop μ-loop
 returns c =
-    let a = c .before .before .before .before .before .args in
-    let w = a .index .now in
+    let s = c .before .before .before .before .before in
+    let w = s .args .index .now in
+    let k = s .args .k in
     rw (c .before .before .node-end .ensures)
-    (near-leaf (between (a .table .now) (a .c)) w (a .k) (inner-no w (a .k) (c .before .node-child .ensures .0) (c .if1 .taken)))
+    (near-leaf (dist s) w k (inner-no w k (c .before .node-child .ensures .0) (c .if1 .taken)))
 
 firsts-requires : tie.Need-firsts-requires Inv-loop μ-loop
 firsts-requires c κs =
@@ -48,8 +54,8 @@ firsts-requires c κs =
 
 loop-holds : tie.Need-loop-holds Inv-loop μ-loop
 loop-holds c =
-    let a = c .before .before .before .before .before .before .before .args in
-    let start = near-start (between (a .table .now) (a .c)) (a .index .now) (a .k) in
+    let s = c .before .before .before .before .before .before .before in
+    let start = near-start (dist s) (s .args .index .now) (s .args .k) in
     (c .before .centres .ensures .0, omega arith, rw (c .before .before .before .before .node-end .ensures) start)
 
 child-stray-requires : tie.Need-child-stray-requires Inv-loop μ-loop
@@ -65,17 +71,19 @@ loop-again : tie.Need-loop-again Inv-loop μ-loop
 loop-again c =
     let at-loop = c .before .before .before .before in
     let l = at-loop .loop in
-    let a = start (branch at-loop) .args in
+    let s = start (branch at-loop) in
+    let a = s .args in
     let child = c .before .child-stray in
-    let more = near-more (between (a .table .now) (a .c)) (a .index .now) (a .k) (l .a) (l .low) (child .result) (l .inv .2) (child .ensures) in
+    let more = near-more (dist s) (a .index .now) (a .k) (l .a) (l .low) (child .result) (l .inv .2) (child .ensures) in
     (l .inv .0, omega arith, rw (c .lesser .ensures) more)
 
 returns-2 : tie.Need-returns-2 Inv-loop μ-loop
 returns-2 c =
     let l = c .before .loop in
     let e = branch (c .before) in
-    let a = start e .args in
-    near-done (between (a .table .now) (a .c)) (a .index .now) (a .k) (l .a) (l .low) (is-inner e) (omega arith) (l .inv .2)
+    let s = start e in
+    let a = s .args in
+    near-done (dist s) (a .index .now) (a .k) (l .a) (l .low) (is-inner e) (omega arith) (l .inv .2)
 
 pub first-stray-spec : {M : Type 1} → statement M
 first-stray-spec =

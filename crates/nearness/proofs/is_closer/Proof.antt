@@ -4,12 +4,13 @@ use Rattle.nearness.proofs.Strays.{closer-own}
 use Rattle.nearness.proofs.is_closer.Statement.{statement}
 use Rattle.nearness.proofs.is_closer.Tie as tie
 use Rattle.measure.specs.Table.{between}
+use Rattle.words.specs.Words.{circles#}
 
 returns : tie.Need-returns
 returns c =
     let s = c .before .before .before in
     let a = s .args in
-    closer-own (between (a .table .now) (a .c)) (a .index .now) (a .p) (a .x) (a .f) (a .g) (c .if1 .taken) (s .pre .1 .2)
+    closer-own (between (a .table .now) (a .c) (circles# (a .index .now))) (a .index .now) (a .p) (a .x) (a .f) (a .g) (c .if1 .taken) (s .pre .1 .2)
 
 apart-requires : tie.Need-apart-requires
 apart-requires c κs =

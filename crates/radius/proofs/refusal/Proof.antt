@@ -1,13 +1,37 @@
--- `radius::refusal` meets its contract: it asks what the definition asks.
+-- `radius::refusal` meets its contract: it asks what the definition asks, and the set last.
 -- Assumes nothing.
+use Prim.Native.Nat.{ℕ}
+use Rattle.limits.specs.Said.{said}
+use Rattle.measure.specs.Table.{rowsOf}
+use Rattle.radius.proofs.Refusals.{by-call, none-said, twenty}
 use Rattle.radius.proofs.refusal.Statement.{statement}
 use Rattle.radius.proofs.refusal.Tie as tie
-use Rattle.radius.specs.Numbers.{saidRadius}
+use Rattle.radius.specs.Numbers.{radiusAsks}
+use Rattle.refusals.specs.Refused.{callFaults}
 use borrow.Author.Needs.{needs}
+use mathlib.Core.Path.{_≡_}
+use native.Mathlib.Omega.{arith}
+
+-- the start, seen from what numbers and the index say
+abbrev start : tie.After-refusal → tie.Start
+start c = c .before .before .before .before .before .before
+
+-- it asks of them what the definition asks
+early : (c : tie.After-refusal) → c .refusal .result ≡ said (callFaults (radiusAsks (start c .args .table .now) (start c .args .c) (start c .args .query .now) (start c .args .room)) (start c .args .table .now) (start c .args .index .now) (start c .args .query .now)) .0
+early c = cc
 
 returns : tie.Need-returns
-unfolding saidRadius
-returns c = cc
+returns c = by-call _ _ _ _ _ _ (early (c .before)) (omega arith)
+
+returns-2 : tie.Need-returns-2
+returns-2 c =
+    let a = start (c .before .before .before) .args in
+    twenty (a .table .now) (a .c) (a .index .now) (a .query .now) (a .withdrawn .now) (a .room) (early (c .before .before .before)) (omega (arith, c .before .before .if1 .left)) (c .before .before .before .before .rows-in .ensures) (c .before .set-bad .ensures) (c .if2 .taken)
+
+returns-3 : tie.Need-returns-3
+returns-3 c =
+    let a = start (c .before .before .before) .args in
+    none-said (a .table .now) (a .c) (a .index .now) (a .query .now) (a .withdrawn .now) (a .room) (early (c .before .before .before)) (omega (arith, c .before .before .if1 .left)) (c .before .before .before .before .rows-in .ensures) (c .before .set-bad .ensures) (c .if2 .left)
 
 pub refusal-spec : {M : Type 1} → statement M
-refusal-spec = tie.close (tie.spec (λ c κs. search needs) (λ c κs. search needs) returns)
+refusal-spec = tie.close (tie.spec (λ c κs. search needs) (λ c κs. search needs) returns (λ c κs. search needs) returns-2 returns-3)

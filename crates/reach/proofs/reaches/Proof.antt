@@ -2,16 +2,17 @@
 -- left of the run.
 -- Assumes nothing.
 use Prim.Native.Nat.{_-_, ℕ}
-use Rattle.measure.proofs.Metric.{metric}
 use Rattle.measure.specs.Table.{between}
 use Rattle.reach.proofs.Farthest.{Reaching, reach-done, reach-next, reach-one, reach-two}
+use Rattle.reach.proofs.Runs.{at-itself}
 use Rattle.reach.proofs.reaches.Statement.{statement}
 use Rattle.reach.proofs.reaches.Tie as tie
+use Rattle.words.specs.Words.{circles#}
 use borrow.Author.Needs.{needs}
 use native.Mathlib.Omega.{arith}
 
 abbrev Inv-loop : tie.InvT-loop
-Inv-loop table c index k f end second far₀ near₀ p₀ far near p = Reaching (between table c) index k p far near
+Inv-loop table c index k f end second far₀ near₀ p₀ far near p = Reaching (between table c (circles# index)) index k p far near
 
 abbrev μ-loop : tie.MeasureT-loop
 μ-loop table c index k f end second far₀ near₀ p₀ far near p = end - p
@@ -26,13 +27,13 @@ ends l = l .before .before .before
 
 -- the distance between the table's rows
 abbrev dist : tie.Start Inv-loop μ-loop → ℕ → ℕ → ℕ
-dist s = between (s .args .table .now) (s .args .c)
+dist s = between (s .args .table .now) (s .args .c) (circles# (s .args .index .now))
 
 returns : tie.Need-returns Inv-loop μ-loop
 returns c =
     let e = c .before in
     let s = start e in
-    reach-one (dist s) (s .args .index .now) (s .args .k) (metric (s .args .table .now) (s .args .c))
+    reach-one (dist s) (s .args .index .now) (s .args .k) (at-itself (s .args .table .now) (s .args .c) (circles# (s .args .index .now)))
     (s .pre .0 .shape .node (s .args .k) (s .pre .1) .some)
     (omega (arith, c .if1 .taken, e .node-start .ensures .0, e .before .node-end .ensures))
 
@@ -48,7 +49,7 @@ loop-holds c =
     let e = c .before .before in
     let s = start e in
     let low = e .node-start .ensures .0 in
-    reach-two (dist s) (s .args .index .now) (s .args .k) (metric (s .args .table .now) (s .args .c))
+    reach-two (dist s) (s .args .index .now) (s .args .k) (at-itself (s .args .table .now) (s .args .c) (circles# (s .args .index .now)))
     (omega (arith, c .before .if1 .left, e .before .node-end .ensures, low)) (omega (arith, low)) (e .before .before .node-first .ensures .0)
     (c .apart .ensures)
 

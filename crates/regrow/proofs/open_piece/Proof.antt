@@ -12,24 +12,28 @@ use mathlib.Core.Path.{_∙_, _≡_}
 open-node-requires : tie.Need-open-node-requires
 open-node-requires c κs =
     let r = c .before .before .before in
-    let k = r .before in
+    let o = r .before in
+    let k = o .before in
     let i = k .before in
     let m = i .before in
     let n = m .before in
     let s = n .before .before .before .before .before .before in
-    splits-ready (s .pre) (n .word .ensures .0) (m .centres .ensures .0) (i .if1 .taken) (k .columns .ensures .0) (r .rows .ensures .0)
+    splits-ready (s .pre) (n .word .ensures .0) (m .centres .ensures .0) (i .if1 .taken) (k .columns .ensures .0) (o .circles .ensures)
+    (r .rows .ensures .0)
 
 returns : tie.Need-returns
 returns c =
-    let o = c .before .before .before .before in
-    let r = o .before .before .before .before in
-    let k = r .before in
+    let g = c .before .before .before .before in
+    let r = g .before .before .before .before in
+    let o = r .before in
+    let k = o .before in
     let i = k .before in
     let m = i .before in
     let n = m .before in
     let s = n .before .before .before .before .before .before in
-    splits-done (s .pre) (n .word .ensures .0) (m .centres .ensures .0) (i .if1 .taken) (k .columns .ensures .0) (r .rows .ensures .0)
-    (o .open-node .ensures)
+    splits-done (s .pre) (n .word .ensures .0) (m .centres .ensures .0) (i .if1 .taken) (k .columns .ensures .0) (o .circles .ensures)
+    (r .rows .ensures .0)
+    (g .open-node .ensures)
 
 copy-children-requires : tie.Need-copy-children-requires
 copy-children-requires c κs =
@@ -61,6 +65,7 @@ open-piece-spec =
     (λ c. search needs)
     (λ c. search needs)
     (λ c. search needs)
+    (λ c κs. search needs)
     (λ c κs. search needs)
     (λ c κs. search needs)
     (λ c κs. search needs)

@@ -9,10 +9,10 @@ use Rattle.rounds.specs.Entries.{InTable}
 use borrow.Author.Needs.{needs}
 
 abbrev Inv-loop : tie.InvT-loop
-Inv-loop table c m run₀ r₀ run r = Choosing (InTable table c) (between table c) m run₀ run r
+Inv-loop table c circles m run₀ r₀ run r = Choosing (InTable table c) (between table c circles) m run₀ run r
 
 abbrev μ-loop : tie.MeasureT-loop
-μ-loop table c m run₀ r₀ run r = m - r
+μ-loop table c circles m run₀ r₀ run r = m - r
 
 loop-holds : tie.Need-loop-holds Inv-loop μ-loop
 loop-holds c =

@@ -13,10 +13,10 @@ use mathlib.Core.Path.{_∙_}
 use native.Mathlib.Omega.{arith}
 
 abbrev Inv-loop : tie.InvT-loop
-Inv-loop table c centre part₀ p₀ part p = Nearing (InTable table c) (between table c) centre part₀ part p
+Inv-loop table c circles centre part₀ p₀ part p = Nearing (InTable table c) (between table c circles) centre part₀ part p
 
 abbrev μ-loop : tie.MeasureT-loop
-μ-loop table c centre part₀ p₀ part p = length part - p
+μ-loop table c circles centre part₀ p₀ part p = length part - p
 
 loop-holds : tie.Need-loop-holds Inv-loop μ-loop
 loop-holds c = nearing-start _ _ _ _ (c .before .before .pre .2)

@@ -1,6 +1,7 @@
 -- `rounds::nearer_one` meets its contract: the branch that writes is the one where the new centre is strictly closer.
 -- Assumes nothing.
 
+use Prim.Native.Nat.{ℕ}
 use Rattle.measure.specs.Table.{between}
 use Rattle.rounds.proofs.Nearing.{near-less, near-same}
 use Rattle.rounds.proofs.nearer_one.Statement.{statement}
@@ -13,12 +14,15 @@ use mathlib.Core.Path.{_∙_, _≡_, ap₂}
 abbrev start : tie.After-row-distance → tie.Start
 start c = c .before .before .before .before .before .before
 
+-- how far two rows are apart
+abbrev apart : tie.Start → ℕ → ℕ → ℕ
+apart s = between (s .args .table .now) (s .args .c) (s .args .circles)
+
 -- what is measured is the entry's distance from the new centre
 measured : (c : tie.After-row-distance)
-    → c .row-distance .result ≡ between (start c .args .table .now) (start c .args .c) (start c .args .centre) (getD (start c .args .entry .now) 0 0)
+    → c .row-distance .result ≡ apart (start c) (start c .args .centre) (getD (start c .args .entry .now) 0 0)
 measured c =
-    let a = start c .args in
-    c .row-distance .ensures .0 ∙ ap₂ (between (a .table .now) (a .c)) (c .before .before .before .wide .ensures) (c .before .wide2 .ensures)
+    c .row-distance .ensures .0 ∙ ap₂ (apart (start c)) (c .before .before .before .wide .ensures) (c .before .wide2 .ensures)
 
 row-distance-requires : tie.Need-row-distance-requires
 row-distance-requires c κs =
@@ -31,13 +35,13 @@ returns : tie.Need-returns
 returns c =
     let m = c .before .before in
     let s = start m in
-    near-less (between (s .args .table .now) (s .args .c)) (s .args .centre) _ (s .args .entry .now) (s .pre .2) (measured m) (c .if1 .taken)
+    near-less (apart s) (s .args .centre) _ (s .args .entry .now) (s .pre .2) (measured m) (c .if1 .taken)
 
 returns-2 : tie.Need-returns-2
 returns-2 c =
     let m = c .before .before in
     let s = start m in
-    near-same (between (s .args .table .now) (s .args .c)) (s .args .centre) _ (s .args .entry .now) (s .pre .2) (measured m) (c .if1 .left)
+    near-same (apart s) (s .args .centre) _ (s .args .entry .now) (s .pre .2) (measured m) (c .if1 .left)
 
 pub nearer-one-spec : {M : Type 1} → statement M
 nearer-one-spec =

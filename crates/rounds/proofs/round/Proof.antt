@@ -41,7 +41,7 @@ returns c =
     let f = found (moved e) in
     let s = start f in
     round-done (s .args .part .now) (f .farthest .result) (s .pre .1) refl (moved e .shift .ensures) (e .put-entry .ensures)
-    (between (s .args .table .now) (s .args .c)) _ (f .farthest .ensures .0) (c .before .before .nearer .ensures)
+    (between (s .args .table .now) (s .args .c) (s .args .circles)) _ (f .farthest .ensures .0) (c .before .before .nearer .ensures)
 
 pub round-spec : {M : Type 1} → statement M
 round-spec =

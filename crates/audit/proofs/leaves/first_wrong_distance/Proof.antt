@@ -1,19 +1,20 @@
 -- `audit::leaves::first_wrong_distance` meets its contract: `low` is the lowest wrong position of the leaves passed. The measure is what is
 -- left of the nodes.
 -- Assumes nothing.
-use Prim.Native.Nat.{_-_, _≤_}
+use Prim.Native.Nat.{_-_, _≤_, ℕ}
 use Rattle.audit.proofs.Distances.{distances-done, distances-more, distances-start, wrongTo}
 use Rattle.audit.proofs.leaves.first_wrong_distance.Statement.{statement}
 use Rattle.audit.proofs.leaves.first_wrong_distance.Tie as tie
 use Rattle.laws.specs.First.{First}
 use Rattle.measure.specs.Table.{between}
-use Rattle.words.specs.Words.{N#, n#}
+use Rattle.words.specs.Words.{N#, circles#, n#}
 use borrow.Author.Needs.{needs}
 use mathlib.Core.Path.{_≡_}
 use native.Mathlib.Omega.{arith}
 
 abbrev Inv-loop : tie.InvT-loop
-Inv-loop table c index total n low₀ k₀ low k = (total ≡ N# index) × (k ≤ total) × First (wrongTo (between table c) index k) 0 (n# index) low
+Inv-loop table c index total n low₀ k₀ low k =
+    (total ≡ N# index) × (k ≤ total) × First (wrongTo (between table c (circles# index)) index k) 0 (n# index) low
 
 abbrev μ-loop : tie.MeasureT-loop
 μ-loop table c index total n low₀ k₀ low k = total - k
@@ -22,10 +23,14 @@ abbrev μ-loop : tie.MeasureT-loop
 abbrev start : tie.At-loop Inv-loop μ-loop → tie.Start Inv-loop μ-loop
 start l = l .before .before .before .before .before
 
+-- the distance between the table's rows
+abbrev dist : tie.Start Inv-loop μ-loop → ℕ → ℕ → ℕ
+dist s = between (s .args .table .now) (s .args .c) (circles# (s .args .index .now))
+
 loop-holds : tie.Need-loop-holds Inv-loop μ-loop
 loop-holds c =
-    let a = c .before .before .before .before .args in
-    (c .before .nodes .ensures .0, omega arith, rw (c .rows .ensures .0) (distances-start (between (a .table .now) (a .c)) (a .index .now)))
+    let s = c .before .before .before .before in
+    (c .before .nodes .ensures .0, omega arith, rw (c .rows .ensures .0) (distances-start (dist s) (s .args .index .now)))
 
 leaf-wrong-requires : tie.Need-leaf-wrong-requires Inv-loop μ-loop
 leaf-wrong-requires c κs = (start (c .before) .pre, omega arith)
@@ -34,16 +39,16 @@ loop-again : tie.Need-loop-again Inv-loop μ-loop
 loop-again c =
     let at-loop = c .before .before .before in
     let l = at-loop .loop in
-    let a = start at-loop .args in
+    let s = start at-loop in
     let leaf = c .before .leaf-wrong in
-    let more = distances-more (between (a .table .now) (a .c)) (a .index .now) (l .k) (l .low) (leaf .result) (l .inv .2) (leaf .ensures) in
+    let more = distances-more (dist s) (s .args .index .now) (l .k) (l .low) (leaf .result) (l .inv .2) (leaf .ensures) in
     (l .inv .0, omega arith, rw (c .lesser .ensures) more)
 
 returns : tie.Need-returns Inv-loop μ-loop
 returns c =
     let l = c .before .loop in
-    let a = start (c .before) .args in
-    distances-done (between (a .table .now) (a .c)) (a .index .now) (l .k) (l .low) (omega arith) (l .inv .2)
+    let s = start (c .before) in
+    distances-done (dist s) (s .args .index .now) (l .k) (l .low) (omega arith) (l .inv .2)
 
 pub first-wrong-distance-spec : {M : Type 1} → statement M
 first-wrong-distance-spec =

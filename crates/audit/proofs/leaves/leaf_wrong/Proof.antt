@@ -10,14 +10,14 @@ use Rattle.laws.proofs.First.{first-none, search-start}
 use Rattle.laws.specs.First.{First}
 use Rattle.measure.specs.Table.{between}
 use Rattle.words.specs.Shape.{inner}
-use Rattle.words.specs.Words.{count#, n#, start#}
+use Rattle.words.specs.Words.{circles#, count#, n#, start#}
 use borrow.Author.Needs.{needs}
 use mathlib.Core.Bool.{false}
 use mathlib.Core.Path.{_≡_}
 use native.Mathlib.Omega.{arith}
 
 abbrev Inv-loop : tie.InvT-loop
-Inv-loop table c index k n f end p₀ p = (p ≤ end) × First (leafWrong (between table c) index k) (start# index k) p p
+Inv-loop table c index k n f end p₀ p = (p ≤ end) × First (leafWrong (between table c (circles# index)) index k) (start# index k) p p
 
 abbrev μ-loop : tie.MeasureT-loop
 μ-loop table c index k n f end p₀ p = end - p
@@ -32,7 +32,7 @@ start e = e .before .before .before .before .before
 
 -- the distance between the table's rows
 abbrev dist : tie.Start Inv-loop μ-loop → ℕ → ℕ → ℕ
-dist s = between (s .args .table .now) (s .args .c)
+dist s = between (s .args .table .now) (s .args .c) (circles# (s .args .index .now))
 
 -- in that branch node k is a leaf
 is-leaf : (e : tie.Else1 Inv-loop μ-loop) → inner (start e .args .index .now) (start e .args .k) ≡ false

@@ -7,6 +7,7 @@ use Rattle.card.proofs.reading.refusal_of.Tie as tie
 use Rattle.limits.proofs.Numbers.{passed}
 use borrow.Author.Needs.{needs}
 use mathlib.Core.Path.{_∙_, sym}
+use native.Mathlib.Omega.{arith}
 
 returns : tie.Need-returns
 returns c =
@@ -34,7 +35,7 @@ returns-3 c =
     let m = k .before .before .before in
     let t = m .before .before in
     by-card _ _ _ _ (t .table-number .ensures) (m .before .if1 .left) (m .check-image .ensures) (k .before .if2 .left) (k .card-number .ensures)
-    (c .before .if3 .taken) (c .refused3 .ensures .0) (c .refused3 .ensures .1) (c .refused3 .ensures .2)
+    (λ z. omega (arith, z, c .before .if3 .taken)) (c .refused3 .ensures .0) (c .refused3 .ensures .1) (c .refused3 .ensures .2)
 
 card-total-requires : tie.Need-card-total-requires
 card-total-requires c κs =
@@ -48,7 +49,7 @@ returns-4 c =
     let m = k .before .before .before in
     let t = m .before .before in
     five _ _ _ _ (t .table-number .ensures) (m .before .if1 .left) (m .check-image .ensures) (k .before .if2 .left) (k .card-number .ensures)
-    (l .before .if3 .left) (l .card-total .ensures) (c .before .if4 .taken)
+    (omega (arith, l .before .if3 .left)) (l .card-total .ensures) (c .before .if4 .taken)
     (c .refused4 .ensures .0) (c .refused4 .ensures .1) (c .refused4 .ensures .2)
 
 returns-5 : tie.Need-returns-5
@@ -58,7 +59,7 @@ returns-5 c =
     let m = k .before .before .before in
     let t = m .before .before in
     none-refused _ _ _ _ (t .table-number .ensures) (m .before .if1 .left) (m .check-image .ensures) (k .before .if2 .left) (k .card-number .ensures)
-    (l .before .if3 .left) (l .card-total .ensures) (c .if4 .left)
+    (omega (arith, l .before .if3 .left)) (l .card-total .ensures) (c .if4 .left)
 
 pub refusal-of-spec : {M : Type 1} → statement M
 refusal-of-spec =

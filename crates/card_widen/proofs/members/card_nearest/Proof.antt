@@ -8,21 +8,21 @@ use Rattle.card_words.specs.Cards.{cardWords}
 use Rattle.measure.specs.Table.{between}
 use Rattle.tree.proofs.Nearest.{NearTo, near-done, near-next, near-none, near-start}
 use Rattle.words.specs.InShape.{Node}
-use Rattle.words.specs.Words.{first#, n#, row#}
+use Rattle.words.specs.Words.{circles#, first#, n#, row#}
 use borrow.Author.Needs.{needs}
 use mathlib.Core.List.{List}
 use mathlib.Core.Path.{_∙_, _≡_, ap}
 use native.Mathlib.Omega.{arith}
 
 abbrev Inv-loop : tie.InvT-loop
-Inv-loop table c image k start end second f near₀ p₀ near p = NearTo (between table c) (cardWords image) k p near
+Inv-loop table c image k start end second f near₀ p₀ near p = NearTo (between table c (circles# (cardWords image))) (cardWords image) k p near
 
 abbrev μ-loop : tie.MeasureT-loop
 μ-loop table c image k start end second f near₀ p₀ near p = end - p
 
 -- the distance between the table's rows
 abbrev dist : tie.Start Inv-loop μ-loop → ℕ → ℕ → ℕ
-dist s = between (s .args .table .now) (s .args .c)
+dist s = between (s .args .table .now) (s .args .c) (circles# (cardWords (s .args .image .now)))
 
 -- the card's words
 abbrev words : tie.Start Inv-loop μ-loop → List ℕ

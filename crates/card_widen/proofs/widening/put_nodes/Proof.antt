@@ -6,14 +6,14 @@ use Rattle.card_widen.proofs.widening.put_nodes.Statement.{statement}
 use Rattle.card_widen.proofs.widening.put_nodes.Tie as tie
 use Rattle.card_words.specs.Cards.{cardWords}
 use Rattle.measure.specs.Table.{between}
-use Rattle.words.specs.Words.{N#}
+use Rattle.words.specs.Words.{N#, circles#}
 use borrow.Author.Needs.{needs}
 use mathlib.Core.Path.{_≡_}
 use native.Mathlib.Omega.{arith}
 
 abbrev Inv-loop : tie.InvT-loop
 Inv-loop table c image part₀ total k₀ part k =
-    Noded (between table c) (cardWords image) part₀ part k × (total ≡ N# (cardWords image)) × (k ≤ total)
+    Noded (between table c (circles# (cardWords image))) (cardWords image) part₀ part k × (total ≡ N# (cardWords image)) × (k ≤ total)
 
 abbrev μ-loop : tie.MeasureT-loop
 μ-loop table c image part₀ total k₀ part k = total - k
@@ -24,12 +24,12 @@ start l = l .before .before .before .before .before
 
 -- the distance between the table's rows
 abbrev dist : tie.Start Inv-loop μ-loop → ℕ → ℕ → ℕ
-dist s = between (s .args .table .now) (s .args .c)
+dist s = between (s .args .table .now) (s .args .c) (circles# (cardWords (s .args .image .now)))
 
 loop-holds : tie.Need-loop-holds Inv-loop μ-loop
 loop-holds c =
-    let a = c .before .before .before .before .args in
-    (noded-start (between (a .table .now) (a .c)) (cardWords (a .image .now)) (a .part .now), c .card-nodes .ensures .0, omega arith)
+    let s = c .before .before .before .before in
+    (noded-start (dist s) (cardWords (s .args .image .now)) (s .args .part .now), c .card-nodes .ensures .0, omega arith)
 
 loop-again : tie.Need-loop-again Inv-loop μ-loop
 loop-again c =

@@ -5,6 +5,7 @@ use Rattle.card_widen.proofs.widening.widen_card.Statement.{statement}
 use Rattle.card_widen.proofs.widening.widen_card.Tie as tie
 use Rattle.card_words.specs.Cards.{cardWords}
 use Rattle.measure.specs.Table.{between}
+use Rattle.words.specs.Words.{circles#}
 use borrow.Author.Needs.{needs}
 use mathlib.Core.Path.{refl}
 use native.Mathlib.Omega.{arith}
@@ -23,7 +24,8 @@ returns c =
     let t = n .before .before .before .before in
     let s = t .before .before .before .before .before in
     let a = s .args in
-    filled (between (a .table .now) (a .c)) (cardWords (a .image .now)) (a .room .now) _ _ (s .pre .1) (t .put-top .ensures) refl
+    let w = cardWords (a .image .now) in
+    filled (between (a .table .now) (a .c) (circles# w)) w (a .room .now) _ _ (s .pre .1) (t .put-top .ensures) refl
     (n .put-nodes .ensures) refl (omega (arith, k .card-nodes .ensures .0)) (p .put-pairs .ensures) refl (search needs) (search needs)
 
 pub widen-card-spec : {M : Type 1} → statement M

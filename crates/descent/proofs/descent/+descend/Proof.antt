@@ -13,7 +13,9 @@ use Rattle.marking.specs.Lent.{Lent}
 use Rattle.marking.specs.Marks.{Distances, leastFrom}
 use Rattle.marking.specs.Written.{marked, write}
 use Rattle.measure.specs.Table.{from}
-use Rattle.words.specs.Words.{child#, m#}
+use Rattle.rowset.specs.Sets.{isIn}
+use Rattle.tree.specs.Radius.{veiled}
+use Rattle.words.specs.Words.{child#, circles#, m#}
 use borrow.Author.Tests.{eq-eqb}
 use lib.ListN.{length}
 use mathlib.Core.Bool.{not}
@@ -34,14 +36,14 @@ use Rattle.words.proofs.places.node_child.Reads as node-child-reads
 use Rattle.descent.proofs.descent.+descend.{statement}
 use Rattle.descent.proofs.descent.+descend.Tie.{close}
 
-abbrev μ-descend : Measures 4 descend-kinds.ps ℕ
+abbrev μ-descend : Measures 5 descend-kinds.ps ℕ
 μ-descend κs a = a .1 .1 .1 .1 .1 .1 .1 .1 .0
 
-abbrev descend-at : ℕ → In 4 descend-kinds.ps
-descend-at t = and 4 descend-kinds.ps (is 4 descend-kinds.ps μ-descend t) descend.Pre
+abbrev descend-at : ℕ → In 5 descend-kinds.ps
+descend-at t = and 5 descend-kinds.ps (is 5 descend-kinds.ps μ-descend t) descend.Pre
 
-abbrev descend-below : ℕ → In 4 descend-kinds.ps
-descend-below t = and 4 descend-kinds.ps (falls 4 descend-kinds.ps _<_ μ-descend t) descend.Pre
+abbrev descend-below : ℕ → In 5 descend-kinds.ps
+descend-below t = and 5 descend-kinds.ps (falls 5 descend-kinds.ps _<_ μ-descend t) descend.Pre
 
 -- what the callees ask and give, and what a call of `descend` itself asks and gives below t
 abbrev claims : ℕ → descend-lts.Claims
@@ -65,55 +67,55 @@ claims t = (
 )
 
 abbrev descend-Inv-loop : descend-lts.InvT-loop
-descend-Inv-loop table c index query k x bound r levels how₀ ch m ds y j₀ how j =
+descend-Inv-loop table c index query k x bound r levels withdrawn how₀ ch m ds y j₀ how j =
     Lent index table c query how × Below index levels k ch × (length how ≡ length how₀) × (j ≤ m) × (m ≡ m# index)
-    × Distances (from table c query) index ch ds × (y ≡ leastFrom (from table c query) index ch)
-    × (how ≡ marked (λ (i : ℕ). kidMarks (from table c query) r index (levels - 1) bound ch (ch + i)) 0 j how₀)
+    × Distances (from table c (circles# index) query) index ch ds × (y ≡ leastFrom (from table c (circles# index) query) index ch)
+    × (how ≡ marked (isIn withdrawn) (λ (i : ℕ). kidMarks (from table c (circles# index) query) r index (levels - 1) bound ch (ch + i)) 0 j how₀)
 
 abbrev descend-μ-loop : descend-lts.MeasureT-loop
-descend-μ-loop table c index query k x bound r levels how₀ ch m ds y j₀ how j = m - j
+descend-μ-loop table c index query k x bound r levels withdrawn how₀ ch m ds y j₀ how j = m - j
 
 descend-open-leaf-requires : (t : ℕ) → descend-lts.Need-open-leaf-requires (claims t) (descend-at t) descend.Post descend-Inv-loop descend-μ-loop
 descend-open-leaf-requires t c κs =
-    let s = c .before .before .before .before .before .before .before in
+    let s = c .before .before .before .before .before .before .before .before in
     (s .pre .1 .0, (s .pre .1 .1 .1, s .pre .1 .1 .2))
 
 descend-same-length : (t : ℕ) → descend-lts.Need-same-length (claims t) (descend-at t) descend.Post descend-Inv-loop descend-μ-loop
 descend-same-length t c =
-    c .before .before .open-leaf .kept .1 .1 .1 .1 .1 .1 .1 .0
+    c .before .before .open-leaf .kept .1 .1 .1 .1 .1 .1 .1 .1 .0
 
 descend-returns : (t : ℕ) → descend-lts.Need-returns (claims t) (descend-at t) descend.Post descend-Inv-loop descend-μ-loop
 descend-returns t c =
-    let s = c .before .before .before .before .before .before .before .before .before .before in
+    let s = c .before .before .before .before .before .before .before .before .before .before .before in
     c .before .before .open-leaf .ensures
-    ∙ leaf-opened _ _ _ (s .pre .1 .0 .tested .shape) _ _ _ (s .pre .1 .1 .1) _ (s .pre .1 .1 .3) (s .pre .1 .1 .4)
+    ∙ leaf-opened _ _ _ _ (s .pre .1 .0 .tested .shape) _ _ _ (s .pre .1 .1 .1) _ (s .pre .1 .1 .3) (s .pre .1 .1 .4)
     (ap not (eq-eqb (child# (s .args .index .now) (s .args .k)) 0 (sym (c .before .before .before .before .before .node-child .ensures .0) ∙ c .before .before .before .before .if1 .taken)))
 
 descend-open-inner-requires : (t : ℕ) → descend-lts.Need-open-inner-requires (claims t) (descend-at t) descend.Post descend-Inv-loop descend-μ-loop
 descend-open-inner-requires t c κs =
-    let s = c .before .before .before .before .before .before .before .before in
+    let s = c .before .before .before .before .before .before .before .before .before in
     let kids = below (s .pre .1 .0 .tested .shape) (s .args .levels) (s .args .k) _ (s .pre .1 .1 .0) (s .pre .1 .1 .1) (c .before .before .before .node-child .ensures .0) (c .before .before .if1 .left) in
-    (s .pre .1 .0, (kids .inside, s .pre .1 .1 .2, s .pre .1 .1 .3 ∙ ap (from (s .args .table .now) (s .args .c) (s .args .query .now)) (kids .first)))
+    (s .pre .1 .0, (kids .inside, s .pre .1 .1 .2, s .pre .1 .1 .3 ∙ ap (from (s .args .table .now) (s .args .c) (circles# (s .args .index .now)) (s .args .query .now)) (kids .first)))
 
 descend-least-of-requires : (t : ℕ) → descend-lts.Need-least-of-requires (claims t) (descend-at t) descend.Post descend-Inv-loop descend-μ-loop
 descend-least-of-requires t c κs =
-    let s = c .before .before .before .before .before .before .before .before .before .before .before in
+    let s = c .before .before .before .before .before .before .before .before .before .before .before .before in
     omega (arith, s .pre .1 .0 .tested .shape .whole .fan, c .before .before .before .before .centres .ensures .0)
 
 descend-loop-holds : (t : ℕ) → descend-lts.Need-loop-holds (claims t) (descend-at t) descend.Post descend-Inv-loop descend-μ-loop
 descend-loop-holds t c =
-    let s = c .before .before .before .before .before .before .before .before .before .before .before .before in
+    let s = c .before .before .before .before .before .before .before .before .before .before .before .before .before in
     let m = c .before .before .before .before .before .centres .ensures .0 in
     let inner = c .before .before .before .open-inner in
     let fan = s .pre .1 .0 .tested .shape .whole .fan in (
-      lent-same (s .pre .1 .0) _ (inner .kept .1 .1 .1 .1 .1 .1 .1 .0),
+      lent-same (s .pre .1 .0) _ (inner .kept .1 .1 .1 .1 .1 .1 .1 .1 .0),
       below (s .pre .1 .0 .tested .shape) (s .args .levels) (s .args .k) _ (s .pre .1 .1 .0) (s .pre .1 .1 .1) (c .before .before .before .before .before .before .before .node-child .ensures .0) (c .before .before .before .before .before .before .if1 .left),
       refl,
       omega arith,
       m,
       inner .ensures .1,
-      c .least-of .ensures ∙ least-is (from (s .args .table .now) (s .args .c) (s .args .query .now)) (s .args .index .now) _ _ _ m (omega arith) (omega arith) (inner .ensures .1),
-      marked-none _ _ _ _ refl,
+      c .least-of .ensures ∙ least-is (from (s .args .table .now) (s .args .c) (circles# (s .args .index .now)) (s .args .query .now)) (s .args .index .now) _ _ _ m (omega arith) (omega arith) (inner .ensures .1),
+      marked-none _ _ _ _ _ refl,
     )
 
 descend-kid-bound-requires : (t : ℕ) → descend-lts.Need-kid-bound-requires (claims t) (descend-at t) descend.Post descend-Inv-loop descend-μ-loop
@@ -134,28 +136,29 @@ descend-sub-descend t c =
 
 descend-descend-requires : (t : ℕ) → descend-lts.Need-descend-requires (claims t) (descend-at t) descend.Post descend-Inv-loop descend-μ-loop
 descend-descend-requires t c κs =
-    let s = c .before .before .before .before .before .before .before .before .before .before .before .before .before .before .before .before .before .before .before .before .before .before in
+    let s = c .before .before .before .before .before .before .before .before .before .before .before .before .before .before .before .before .before .before .before .before .before .before .before in
     let l = c .before .before .before .before .before .before .before .before .before .loop in
     let kids = l .inv .1 in
     let settling = c .before .before .before .before .before .settle in
     let low : l .j < m# (s .args .index .now) = omega (arith, l .inv .4, c .before .before .before .before .before .before .before .before .loop-test .taken) in (
       omega (arith, s .pre .0, kids .deeper),
       (
-        lent-same (l .inv .0) _ (settling .kept .1 .1 .1 .1 .1 .0),
+        lent-same (l .inv .0) _ (settling .kept .1 .1 .1 .1 .1 .1 .0),
         (kids .left (l .j), omega (arith, kids .inside), l .inv .5 .near _ low, l .inv .5 .at _ low, sym (c .before .enum-told .given .1) ∙ settling .ensures .0),
       ),
     )
 
 descend-loop-again : (t : ℕ) → descend-lts.Need-loop-again (claims t) (descend-at t) descend.Post descend-Inv-loop descend-μ-loop
 descend-loop-again t c =
-    let s = c .before .before .before .before .before .before .before .before .before .before .before .before .before .before .before .before .before .before .before .before .before .before .before .before .before in
+    let s = c .before .before .before .before .before .before .before .before .before .before .before .before .before .before .before .before .before .before .before .before .before .before .before .before .before .before in
     let l = c .before .before .before .before .before .before .before .before .before .before .before .before .loop in
     let child = c .before .before .descend in
     let settling = c .before .before .before .before .before .before .before .before .settle in
-    let kept = child .kept .1 .1 .1 .1 .1 .1 .1 .1 .1 .0 ∙ settling .kept .1 .1 .1 .1 .1 .0 in
-    let x = (from (s .args .table .now) (s .args .c) (s .args .query .now)) in
+    let kept = child .kept .1 .1 .1 .1 .1 .1 .1 .1 .1 .1 .0 ∙ settling .kept .1 .1 .1 .1 .1 .1 .0 in
+    let x = from (s .args .table .now) (s .args .c) (circles# (s .args .index .now)) (s .args .query .now) in
+    let gone = isIn (s .args .withdrawn .now) in
     let ch = c .before .before .before .before .before .before .before .before .before .before .before .before .before .before .before .before .before .before .before .before .node-child .result in
-    let same = settling .ensures .1 ∙ ap (λ (v : Fate). settled (s .args .index .now) (ch + l .j) v (l .how)) (c .before .before .before .before .enum-told .given .1) in (
+    let same = settling .ensures .1 ∙ ap (λ (v : Fate). settled gone (s .args .index .now) (ch + l .j) v (l .how)) (c .before .before .before .before .enum-told .given .1) in (
       lent-same (l .inv .0) _ kept,
       l .inv .1,
       kept ∙ l .inv .2,
@@ -163,18 +166,19 @@ descend-loop-again t c =
       l .inv .4,
       l .inv .5,
       l .inv .6,
-      marked-next _ 0 (l .j) _ (omega arith) (l .inv .7)
-          (child-did x (s .args .r) (s .args .index .now) (s .args .levels - 1) (s .args .bound) ch (l .j) (l .how) (c .before .before .before .before .before .before .before .before .before .before .kid-bound .ensures) (l .inv .6)
-          (l .inv .5 .at (l .j) (omega (arith, l .inv .4, c .before .before .before .before .before .before .before .before .before .before .before .loop-test .taken))) (child .ensures ∙ ap (write (nodeMarks x (s .args .r) (s .args .index .now) (s .args .levels - 1) (ch + l .j) (c .before .before .before .before .before .before .before .before .before .before .kid-bound .result))) same)),
+      marked-next _ _ 0 (l .j) _ (omega arith) (l .inv .7)
+          (child-did gone x (s .args .r) (s .args .index .now) (s .args .levels - 1) (s .args .bound) ch (l .j) (l .how) (c .before .before .before .before .before .before .before .before .before .before .kid-bound .ensures) (l .inv .6)
+          (l .inv .5 .at (l .j) (omega (arith, l .inv .4, c .before .before .before .before .before .before .before .before .before .before .before .loop-test .taken))) (child .ensures ∙ ap (write (veiled gone (nodeMarks x (s .args .r) (s .args .index .now) (s .args .levels - 1) (ch + l .j) (c .before .before .before .before .before .before .before .before .before .before .kid-bound .result)))) same)),
     )
 
 descend-loop-again-2 : (t : ℕ) → descend-lts.Need-loop-again-2 (claims t) (descend-at t) descend.Post descend-Inv-loop descend-μ-loop
 descend-loop-again-2 t c =
-    let s = c .before .before .before .before .before .before .before .before .before .before .before .before .before .before .before .before .before .before .before .before in
+    let s = c .before .before .before .before .before .before .before .before .before .before .before .before .before .before .before .before .before .before .before .before .before in
     let l = c .before .before .before .before .before .before .before .loop in
     let settling = c .before .before .before .settle in
-    let kept = settling .kept .1 .1 .1 .1 .1 .0 in
-    let x = (from (s .args .table .now) (s .args .c) (s .args .query .now)) in
+    let kept = settling .kept .1 .1 .1 .1 .1 .1 .0 in
+    let x = from (s .args .table .now) (s .args .c) (circles# (s .args .index .now)) (s .args .query .now) in
+    let gone = isIn (s .args .withdrawn .now) in
     let ch = c .before .before .before .before .before .before .before .before .before .before .before .before .before .before .before .node-child .result in
     let at = l .inv .5 .at (l .j) (omega arith) in (
       lent-same (l .inv .0) _ kept,
@@ -184,22 +188,22 @@ descend-loop-again-2 t c =
       l .inv .4,
       l .inv .5,
       l .inv .6,
-      marked-next _ 0 (l .j) _ (omega arith) (l .inv .7)
-          (child-did x (s .args .r) (s .args .index .now) (s .args .levels - 1) (s .args .bound) ch (l .j) (l .how) (c .before .before .before .before .before .kid-bound .ensures) (l .inv .6) at
-          (settling .ensures .1 ∙ settled-did x (s .args .r) (s .args .index .now) (l .inv .0 .tested .shape) (s .args .levels - 1) (ch + l .j) _ (omega (arith, l .inv .1 .inside)) (l .how) at _ (settling .ensures .0) (not-opened _ (c .match .keys2)))),
+      marked-next _ _ 0 (l .j) _ (omega arith) (l .inv .7)
+          (child-did gone x (s .args .r) (s .args .index .now) (s .args .levels - 1) (s .args .bound) ch (l .j) (l .how) (c .before .before .before .before .before .kid-bound .ensures) (l .inv .6) at
+          (settling .ensures .1 ∙ settled-did gone x (s .args .r) (s .args .index .now) (l .inv .0 .tested .shape) (s .args .levels - 1) (ch + l .j) _ (omega (arith, l .inv .1 .inside)) (l .how) at _ (settling .ensures .0) (not-opened _ (c .match .keys2)))),
     )
 
 descend-same-length-2 : (t : ℕ) → descend-lts.Need-same-length-2 (claims t) (descend-at t) descend.Post descend-Inv-loop descend-μ-loop
 descend-same-length-2 t c =
-    c .before .loop .inv .2 ∙ c .before .before .before .before .before .open-inner .kept .1 .1 .1 .1 .1 .1 .1 .0
+    c .before .loop .inv .2 ∙ c .before .before .before .before .before .open-inner .kept .1 .1 .1 .1 .1 .1 .1 .1 .0
 
 descend-returns-2 : (t : ℕ) → descend-lts.Need-returns-2 (claims t) (descend-at t) descend.Post descend-Inv-loop descend-μ-loop
 descend-returns-2 t c =
-    let s = c .before .before .before .before .before .before .before .before .before .before .before .before .before .before in
+    let s = c .before .before .before .before .before .before .before .before .before .before .before .before .before .before .before in
     let l = c .before .loop in
     let kids = l .inv .1 in
-    inner-opened _ _ _ (s .pre .1 .0 .tested .shape) _ _ _ (s .pre .1 .1 .1) _ (s .pre .1 .1 .3) (s .pre .1 .1 .4) _ _ _
-    (kids .deeper) (kids .inner-node) (kids .child) (c .before .before .before .before .before .open-inner .ensures .0) (marked-end _ 0 (l .j) _ (omega arith) (l .inv .7))
+    inner-opened _ _ _ _ (s .pre .1 .0 .tested .shape) _ _ _ (s .pre .1 .1 .1) _ (s .pre .1 .1 .3) (s .pre .1 .1 .4) _ _ _
+    (kids .deeper) (kids .inner-node) (kids .child) (c .before .before .before .before .before .open-inner .ensures .0) (marked-end _ _ 0 (l .j) _ (omega arith) (l .inv .7))
 
 pub +descend-spec : {M : Type 1} → statement M
 +descend-spec = close μ-descend λ t. descend-lts.spec (claims t)

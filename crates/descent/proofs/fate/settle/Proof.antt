@@ -6,27 +6,42 @@ use Rattle.descent.proofs.fate.settle.Tie as tie
 use Rattle.descent.specs.Descent.{fateOf, settled}
 use Rattle.descent.specs.declared.fate.Fate.{Fate}
 use Prim.Native.Nat.{ℕ}
+use Rattle.rowset.specs.Sets.{isIn}
+use Rattle.words.specs.Words.{radius#}
 use borrow.Author.Needs.{needs}
-use mathlib.Core.Path.{_∙_, ap, sym}
+use mathlib.Core.Path.{_∙_, _≡_, ap, sym}
 use native.Mathlib.Omega.{arith}
+
+-- the start, seen from the reading of the radius
+abbrev start : tie.After-node-radius → tie.Start
+start c = c .before .before .before .before
+
+-- the fate is the definition's
+fate : (c : tie.After-fate-of)
+    → c .fate-of .result ≡ fateOf (start (c .before) .args .x) (radius# (start (c .before) .args .index .now) (start (c .before) .args .k)) (start (c .before) .args .bound) (start (c .before) .args .r)
+fate c =
+    let s = start (c .before) in
+    c .fate-of .ensures ∙ ap (λ (R : ℕ). fateOf (s .args .x) R (s .args .bound) (s .args .r)) (c .before .node-radius .ensures)
 
 fate-of-requires : tie.Need-fate-of-requires
 fate-of-requires c κs =
-    let s = c .before .before .before in
+    let s = start c in
     (s .pre .1 .2, omega (arith, s .pre .0 .node (s .args .k) (s .pre .1 .0) .near, c .node-radius .ensures))
 
 returns : tie.Need-returns
 returns c =
-    let s = c .before .before .before .before .before in (
-      c .before .fate-of .ensures ∙ ap (λ (R : ℕ). fateOf (s .args .x) R (s .args .bound) (s .args .r)) (c .before .before .node-radius .ensures),
-      unswept (s .args .index .now) (s .args .k) (s .args .how .now) (c .before .fate-of .result) (c .match .keys2),
+    let s = start (c .before .before) in (
+      fate (c .before),
+      unswept (isIn (s .args .withdrawn .now)) (s .args .index .now) (s .args .k) (s .args .how .now) (c .before .fate-of .result) (c .match .keys2),
     )
 
 returns-2 : tie.Need-returns-2
 returns-2 c =
-    let s = c .before .before .before .before .before .before .before .before .before .before in (
-      c .before .before .before .before .before .before .fate-of .ensures ∙ ap (λ (R : ℕ). fateOf (s .args .x) R (s .args .bound) (s .args .r)) (c .before .before .before .before .before .before .before .node-radius .ensures),
-      c .before .before .sweep .ensures ∙ ap (λ (v : Fate). settled (s .args .index .now) (s .args .k) v (s .args .how .now)) (sym (c .before .before .before .before .enum-told .given .1)),
+    let f = c .before .before .before .before .before .before in
+    let s = start (f .before) in (
+      fate f,
+      c .before .before .sweep .ensures
+          ∙ ap (λ (v : Fate). settled (isIn (s .args .withdrawn .now)) (s .args .index .now) (s .args .k) v (s .args .how .now)) (sym (c .before .before .before .before .enum-told .given .1)),
     )
 
 pub settle-spec : {M : Type 1} → statement M

@@ -11,9 +11,11 @@ use Rattle.marking.proofs.centres.open_inner.Statement.{statement}
 use Rattle.marking.proofs.centres.open_inner.Tie as tie
 use Rattle.marking.specs.Marks.{centreAt, firstAt}
 use Rattle.marking.specs.Lent.{Lent}
-use Rattle.marking.specs.Written.{marked}
+use Rattle.marking.specs.Written.{mark, marked}
+use Rattle.rowset.specs.Sets.{isIn}
+use Rattle.tree.specs.Radius.{byDistance}
 use Rattle.words.proofs.Positions.{row-word}
-use Rattle.words.specs.Words.{N#, first#, m#, n#, row#, start#}
+use Rattle.words.specs.Words.{N#, circles#, first#, m#, n#, row#, start#}
 use borrow.Author.Needs.{needs}
 use lib.ListN.{length, length-set, replicate}
 use mathlib.Core.Path.{_∙_, _≡_, ap, refl, sym}
@@ -21,18 +23,18 @@ use native.Mathlib.Nat.{add-zero}
 use native.Mathlib.Omega.{arith}
 
 abbrev Inv-loop : tie.InvT-loop
-Inv-loop table c index query ch x r how₀ m base ds₀ j₀ how ds j =
+Inv-loop table c index query ch x r withdrawn how₀ m base round ds₀ j₀ how ds j =
     Lent index table c query how × (length how ≡ length how₀)
     × (1 ≤ j) × (j ≤ m) × (m ≡ m# index) × (ch + m# index ≤ N# index) × (length ds ≡ 64)
-    × Holds (λ (i : ℕ). firstAt (from table c query) index (ch + i)) maxDistance ds j
-    × (how ≡ marked (λ (i : ℕ). centreAt (from table c query) r index (ch + i)) 1 j how₀)
+    × Holds (λ (i : ℕ). firstAt (from table c (circles# index) query) index (ch + i)) maxDistance ds j
+    × (how ≡ marked (isIn withdrawn) (λ (i : ℕ). centreAt (from table c (circles# index) query) r index (ch + i)) 1 j how₀)
 
 abbrev μ-loop : tie.MeasureT-loop
-μ-loop table c index query ch x r how₀ m base ds₀ j₀ how ds j = m - j
+μ-loop table c index query ch x r withdrawn how₀ m base round ds₀ j₀ how ds j = m - j
 
 -- the start, and the node whose first is read, seen from the reading of its start
 abbrev start : tie.After-node-start Inv-loop μ-loop → tie.Start Inv-loop μ-loop
-start c = c .before .before .before .before .before .before .before .before .before
+start c = c .before .before .before .before .before .before .before .before .before .before .before
 
 abbrev kid : tie.After-node-start Inv-loop μ-loop → ℕ
 kid c = start c .args .ch + c .before .before .loop .j
@@ -48,7 +50,7 @@ there c =
 first : (c : tie.After-word Inv-loop μ-loop) → c .word .result ≡ first# (start (c .before) .args .index .now) (kid (c .before))
 first c =
     let w = start (c .before) .args .index .now in
-    c .word .ensures .0 ∙ row-word w _ (c .before .node-start .result) (c .before .before .before .before .pair-at .ensures)
+    c .word .ensures .0 ∙ row-word w _ (c .before .node-start .result) (c .before .before .before .before .before .pair-at .ensures)
     ∙ ap (row# w) (c .before .node-start .ensures .0)
 
 -- and is one of the n
@@ -60,19 +62,19 @@ low c =
 
 loop-holds : tie.Need-loop-holds Inv-loop μ-loop
 loop-holds c =
-    let s = c .before .before .before .before .before .before in
-    let at : firstAt (from (s .args .table .now) (s .args .c) (s .args .query .now)) (s .args .index .now) (s .args .ch)
-    ≡ firstAt (from (s .args .table .now) (s .args .c) (s .args .query .now)) (s .args .index .now) (s .args .ch + 0) =
-    ap (firstAt (from (s .args .table .now) (s .args .c) (s .args .query .now)) (s .args .index .now)) (sym (add-zero (s .args .ch))) in (
+    let s = c .before .before .before .before .before .before .before .before in
+    let at : firstAt (from (s .args .table .now) (s .args .c) (circles# (s .args .index .now)) (s .args .query .now)) (s .args .index .now) (s .args .ch)
+    ≡ firstAt (from (s .args .table .now) (s .args .c) (circles# (s .args .index .now)) (s .args .query .now)) (s .args .index .now) (s .args .ch + 0) =
+    ap (firstAt (from (s .args .table .now) (s .args .c) (circles# (s .args .index .now)) (s .args .query .now)) (s .args .index .now)) (sym (add-zero (s .args .ch))) in (
       s .pre .0,
       refl,
       omega arith,
       omega (arith, s .pre .0 .tested .shape .whole .fan),
-      c .before .centres .ensures .0,
+      c .before .before .centres .ensures .0,
       s .pre .1 .0,
       refl,
       holds-one _ _ (replicate 64 (s .args .x)) (s .pre .1 .2 ∙ at) (s .pre .1 .1),
-      marked-none _ _ _ _ refl,
+      marked-none _ _ _ _ _ refl,
     )
 
 node-start-requires : tie.Need-node-start-requires Inv-loop μ-loop
@@ -81,12 +83,12 @@ node-start-requires c κs = (c .before .loop .inv .0 .tested .shape .whole, omeg
 add-word : tie.Need-add-word Inv-loop μ-loop
 add-word c =
     let W = c .before .before .loop .inv .0 .tested .shape .whole in
-    omega (arith, there c, W .words, c .before .before .before .pair-at .ensures, start c .good)
+    omega (arith, there c, W .words, c .before .before .before .before .pair-at .ensures, start c .good)
 
 word-requires : tie.Need-word-requires Inv-loop μ-loop
 word-requires c κs =
     let W = c .before .before .loop .inv .0 .tested .shape .whole in
-    omega (arith, there c, W .words, c .before .before .before .pair-at .ensures)
+    omega (arith, there c, W .words, c .before .before .before .before .pair-at .ensures)
 
 measure-row-requires : tie.Need-measure-row-requires Inv-loop μ-loop
 measure-row-requires c κs = measurable (c .before .before .before .before .loop .inv .0) _ (low (c .before))
@@ -95,10 +97,13 @@ loop-again : tie.Need-loop-again Inv-loop μ-loop
 loop-again c =
     let read = c .before .before .before .before in
     let s = start (read .before) in
-    let x = from (s .args .table .now) (s .args .c) (s .args .query .now) in
+    let x = from (s .args .table .now) (s .args .c) (circles# (s .args .index .now)) (s .args .query .now) in
     let l = read .before .before .before .loop in
     let row = c .before .before .measure-row in
-    let k = row .kept .1 .1 .1 .1 .1 .0 in (
+    let i = read .word .result in
+    let round = read .before .before .before .before .circles .ensures in
+    let full : ℕ → ℕ → ℕ = λ o i. from (s .args .table .now) (s .args .c) o (s .args .query .now) i in
+    let k = row .kept .1 .1 .1 .1 .1 .1 .1 .0 in (
       lent-same (l .inv .0) _ k,
       k ∙ l .inv .1,
       omega arith,
@@ -106,14 +111,15 @@ loop-again c =
       l .inv .4,
       l .inv .5,
       simp length-set (l .inv .6),
-      holds-more _ maxDistance (l .ds) (l .j) (omega arith) (row .ensures .0 .0 ∙ ap x (first read)) (row .ensures .0 .1) (l .inv .7),
-      marked-next _ 1 (l .j) _ (l .inv .2) (l .inv .8) (centre-did x _ (s .args .index .now) _ _ (first read) (row .ensures .1)),
+      holds-more _ maxDistance (l .ds) (l .j) (omega arith) (row .ensures .0 .0 ∙ ap (λ (o : ℕ). full o i) round ∙ ap x (first read)) (row .ensures .0 .1) (l .inv .7),
+      marked-next _ _ 1 (l .j) _ (l .inv .2) (l .inv .8) (centre-did _ x _ (s .args .index .now) _ _ (first read)
+          (row .ensures .1 ∙ ap (λ (o : ℕ). mark (isIn (s .args .withdrawn .now)) i (byDistance (full o) (s .args .r) i) (l .how)) round)),
     )
 
 returns : tie.Need-returns Inv-loop μ-loop
 returns c =
     let l = c .before .loop in
-    (marked-end _ 1 (l .j) _ (omega arith) (l .inv .8), record { at = λ i h. l .inv .7 i (omega arith) .0; near = λ i h. l .inv .7 i (omega arith) .1 })
+    (marked-end _ _ 1 (l .j) _ (omega arith) (l .inv .8), record { at = λ i h. l .inv .7 i (omega arith) .0; near = λ i h. l .inv .7 i (omega arith) .1 })
 
 pub open-inner-spec : {M : Type 1} → statement M
 open-inner-spec =
@@ -121,6 +127,7 @@ open-inner-spec =
     (tie.spec
     Inv-loop
     μ-loop
+    (λ c κs. search needs)
     (λ c κs. search needs)
     (λ c κs. search needs)
     loop-holds

@@ -1,83 +1,74 @@
--- `marking::swept::sweep` meets its contract: after the turn for position p the rows of the run up to p are marked 2.
+-- `marking::swept::sweep` meets its contract: the run is that of the node, and a set of no words has no row in it.
 -- Assumes nothing.
-use Prim.Native.Nat.{_+_, _-_, _≤_, ℕ}
-use Rattle.marking.proofs.Written.{byte-in, marked-end, marked-next, marked-none, write-one}
+use Prim.Native.Nat.{_+_, _≤_, ℕ}
+use Rattle.marking.proofs.Written.{marked-same}
 use Rattle.marking.proofs.swept.sweep.Statement.{statement}
 use Rattle.marking.proofs.swept.sweep.Tie as tie
 use Rattle.marking.specs.Marks.{sweptAt}
-use Rattle.marking.specs.Written.{marked, write}
-use Rattle.words.proofs.Positions.{row-word}
-use Rattle.words.specs.InShape.{InShape, Node}
-use Rattle.words.specs.Words.{count#, n#, row#, start#}
+use Rattle.marking.specs.Written.{marked}
+use Rattle.rowset.proofs.Rows.{beyond}
+use Rattle.rowset.specs.Sets.{isIn}
+use Rattle.words.specs.Words.{count#, n#, start#}
 use borrow.Author.Needs.{needs}
-use lib.ListN.{length, length-set}
-use mathlib.Core.List.{[], _∷_}
-use mathlib.Core.Path.{_∙_, _≡_, ap, refl}
+use mathlib.Core.Bool.{Bool, false}
+use mathlib.Core.List.{List}
+use mathlib.Core.Path.{_∙_, _≡_, ap₂, sym}
 use native.Mathlib.Omega.{arith}
 
-abbrev Inv-loop : tie.InvT-loop
-Inv-loop index k how₀ start end base p₀ how p =
-    InShape index × Node index k × (n# index ≤ length how₀) × (length how ≡ length how₀)
-    × (start# index k + 1 ≤ p) × (p ≤ end) × (end ≡ start# index k + count# index k)
-    × (how ≡ marked (sweptAt index) (start# index k + 1) p how₀)
+-- the start, seen from the reading of the run
+abbrev start : tie.After-pair-at → tie.Start
+start c = c .before .before .before .before .before .before
 
-abbrev μ-loop : tie.MeasureT-loop
-μ-loop index k how₀ start end base p₀ how p = end - p
-
--- the row read is that of position p
-row : (c : tie.After-word Inv-loop μ-loop)
-    → c .word .result ≡ row# (c .before .before .before .before .before .before .before .before .args .index .now) (c .before .before .loop .p)
-row c =
-    let w = c .before .before .before .before .before .before .before .before .args .index .now in
-    c .word .ensures .0 ∙ row-word w _ (c .before .before .loop .p) (c .before .before .before .pair-at .ensures)
-
-loop-holds : tie.Need-loop-holds Inv-loop μ-loop
-loop-holds c =
-    let s = c .before .before .before .before .before in
+-- its run is inside the positions
+run : (c : tie.After-pair-at) → (c .before .before .node-start .result + 1 ≤ c .before .before .node-start .result + c .before .node-count .result)
+    × (c .before .before .node-start .result + c .before .node-count .result ≤ n# (start c .args .index .now))
+run c =
+    let s = start c in
     let nd = s .pre .0 .node (s .args .k) (s .pre .1 .0) in
-    (s .pre .0, nd, s .pre .1 .1, refl, omega arith, omega (arith, nd .some), omega arith, marked-none _ _ _ _ (omega arith))
+    (omega (arith, nd .some, c .before .node-count .ensures), omega (arith, nd .run, c .before .before .node-start .ensures, c .before .node-count .ensures))
 
-slice-write-how : tie.Need-slice-write-how Inv-loop μ-loop
-slice-write-how c =
-    let l = c .before .before .loop in
-    omega (arith, l .inv .0 .place (l .p) (omega (arith, l .inv .1 .run)), row c)
+sweep-all-requires : tie.Need-sweep-all-requires
+sweep-all-requires c κs =
+    let p = c .before .before in
+    ((start p .pre .0, p .pair-at .ensures), (run p .0, run p .1, start p .pre .1 .1))
 
-loop-again : tie.Need-loop-again Inv-loop μ-loop
-loop-again c =
-    let l = c .before .before .loop in (
-      l .inv .0,
-      l .inv .1,
-      l .inv .2,
-      simp length-set (l .inv .3),
-      omega arith,
-      omega arith,
-      l .inv .6,
-      marked-next _ _ (l .p) _ (l .inv .4) (l .inv .7) (byte-in _ _ ∙ write-one _ 2 _ ∙ ap (λ (i : ℕ). write ((i, 2) ∷ []) (l .how)) (row c)),
-    )
+sweep-shown-requires : tie.Need-sweep-shown-requires
+sweep-shown-requires c κs =
+    let p = c .before .before in
+    ((start p .pre .0, p .pair-at .ensures), (run p .0, run p .1, start p .pre .1 .1))
 
-returns : tie.Need-returns Inv-loop μ-loop
+-- and is the node's
+node-run : (c : tie.After-pair-at) (gone : ℕ → Bool) (h : List ℕ)
+    → marked gone (sweptAt (start c .args .index .now)) (c .before .before .node-start .result + 1) (c .before .before .node-start .result + c .before .node-count .result) h
+    ≡ marked gone (sweptAt (start c .args .index .now)) (start# (start c .args .index .now) (start c .args .k) + 1)
+    (start# (start c .args .index .now) (start c .args .k) + count# (start c .args .index .now) (start c .args .k)) h
+node-run c gone h =
+    ap₂ (λ (s n : ℕ). marked gone (sweptAt (start c .args .index .now)) (s + 1) (s + n) h) (c .before .before .node-start .ensures .0) (c .before .node-count .ensures .0)
+
+returns : tie.Need-returns
 returns c =
-    let l = c .before .loop in
-    marked-end _ _ (l .p) _ (omega arith) (l .inv .7)
+    let p = c .before .before .before .before .before in
+    let set = start p .args .withdrawn .now in
+    c .before .before .sweep-all .ensures
+    ∙ marked-same (λ (i : ℕ). false) (isIn set) (λ i. sym (beyond set i (omega (arith, c .before .before .before .before .if1 .taken)))) _ _ _ _
+    ∙ node-run p (isIn set) _
+
+returns-2 : tie.Need-returns-2
+returns-2 c = c .before .before .sweep-shown .ensures ∙ node-run (c .before .before .before .before .before) _ _
 
 pub sweep-spec : {M : Type 1} → statement M
 sweep-spec =
     tie.close
     (tie.spec
-    Inv-loop
-    μ-loop
     (λ c κs. search needs)
     (λ c κs. search needs)
     (λ c. search needs)
     (λ c κs. search needs)
     (λ c. search needs)
-    loop-holds
+    sweep-all-requires
     (λ c. search needs)
+    sweep-shown-requires
     (λ c. search needs)
-    (λ c κs. search needs)
-    slice-write-how
+    returns
     (λ c. search needs)
-    (λ c. search needs)
-    loop-again
-    (λ c. search needs)
-    returns)
+    returns-2)

@@ -1,6 +1,8 @@
 -- `nearest_search::searching::search` meets its contract: each round takes the item with the least bound, while it is due; what is left falls with each.
 -- Assumes nothing.
+use Prim.Native.Nat.{_<_, _≤_}
 use Rattle.frontier.specs.Waiting.{items}
+use Rattle.index_space.specs.Items.{greatestWord}
 use Rattle.laws.specs.Bags.{total}
 use Rattle.measure.specs.Table.{from}
 use Rattle.nearest_search.proofs.Progress.{ends, round, round-less, round-since, stops, takes}
@@ -13,30 +15,31 @@ use Rattle.nearest_search.specs.Asked.{asks}
 use Rattle.nearest_search.specs.Rounds.{SearchState}
 use Rattle.nearest_search.specs.Standing.{Since}
 use Rattle.queue.proofs.Queued.{empty-queue}
-use Rattle.words.specs.Words.{n#}
+use Rattle.words.specs.Words.{circles#, n#}
 use borrow.Author.Needs.{needs}
 use mathlib.Core.Path.{_∙_}
 use native.Mathlib.Omega.{arith}
 
 abbrev Inv-loop : tie.InvT-loop
-Inv-loop table c query index w how₀ work₀ n base first held₀ len₀ how work held len =
-    SearchState (asks table c index query w) how work len held × Since (n# index) how₀ how work₀ work
+Inv-loop table c query index w withdrawn how₀ work₀ n base first o held₀ len₀ how work held len =
+    SearchState (asks table c index query w withdrawn) how work len held × Since (n# index) how₀ how work₀ work
 
 abbrev μ-loop : tie.MeasureT-loop
-μ-loop table c query index w how₀ work₀ n base first held₀ len₀ how work held len = total (cost index) (items index (from table c query) work len)
+μ-loop table c query index w withdrawn how₀ work₀ n base first o held₀ len₀ how work held len = total (cost index)
+    (items index (from table c (circles# index) query) work len)
 
 -- seen from the loop: the root as it is queued, its first as it is measured, the number of rows as it is read, and the start
 abbrev queued : tie.At-loop Inv-loop μ-loop → tie.After-push Inv-loop μ-loop
 queued l = l .before .before .before
 
-abbrev met : tie.At-loop Inv-loop μ-loop → tie.After-measure-row Inv-loop μ-loop
+abbrev met : tie.At-loop Inv-loop μ-loop → tie.After-measure-centre Inv-loop μ-loop
 met l = queued l .before .before .before .before .before .before
 
 abbrev counted : tie.At-loop Inv-loop μ-loop → tie.After-rows Inv-loop μ-loop
-counted l = met l .before .before .before .before .before
+counted l = met l .before .before .before .before .before .before
 
 abbrev start : tie.At-loop Inv-loop μ-loop → tie.Start Inv-loop μ-loop
-start l = counted l .before .before .before .before .before .before
+start l = counted l .before .before .before .before .before .before .before
 
 -- seen from the entry that is taken out: the loop
 abbrev turn : tie.After-pop Inv-loop μ-loop → tie.At-loop Inv-loop μ-loop
@@ -46,43 +49,51 @@ turn p = p .before .before .before
 since : (l : tie.At-loop Inv-loop μ-loop)
     → Since (n# (start l .args .index .now)) (start l .args .how .now) (l .loop .how) (start l .args .work .now) (l .loop .work)
 since l =
-    begins-since _ _ _ (start l .args .index .now) _ (start l .pre .filled) _ _ _ _ _ _ _ _ (counted l .rows .ensures .0)
-    (met l .measure-row .ensures) (queued l .push .ensures) _ _ (l .loop .inv .1)
+    begins-since _ _ _ (start l .args .index .now) _ _ (start l .pre .filled) _ _ _ _ _ _ _ _ _ (counted l .rows .ensures .0)
+    (met l .before .before .before .circles .ensures) (met l .measure-centre .ensures) (queued l .push .ensures) _ _ (l .loop .inv .1)
 
 rows-requires : tie.Need-rows-requires Inv-loop μ-loop
-rows-requires c κs = omega (arith, c .before .before .before .before .before .pre .tested .shape .whole .words)
+rows-requires c κs = omega (arith, c .before .before .before .before .before .before .pre .tested .shape .whole .words)
 
 pair-at-requires : tie.Need-pair-at-requires Inv-loop μ-loop
-pair-at-requires c κs = omega (arith, c .before .before .before .before .before .before .pre .tested .shape .whole .words)
+pair-at-requires c κs = omega (arith, c .before .before .before .before .before .before .before .pre .tested .shape .whole .words)
 
 node-first-requires : tie.Need-node-first-requires Inv-loop μ-loop
 node-first-requires c κs =
-    let pre = c .before .before .before .before .before .before .before .pre in
+    let pre = c .before .before .before .before .before .before .before .before .pre in
     (pre .tested .shape, pre .tested .shape .root (pre .filled) .there)
 
-measure-row-requires : tie.Need-measure-row-requires Inv-loop μ-loop
-measure-row-requires c κs =
-    let s = c .before .before .before .before .before .before .before .before .before .before in
-    let rows = c .before .before .before .before .rows in
-    let node-first = c .before .before .node-first in
-    (ready-at _ _ _ (s .args .index .now) _ _ _ _ _ (rows .ensures .0) (blank-ready _ _ _ (s .pre)), omega (arith, node-first .ensures .1, rows .ensures .0))
+circles-requires : tie.Need-circles-requires Inv-loop μ-loop
+circles-requires c κs = omega (arith, c .before .before .before .before .before .before .before .before .before .pre .tested .shape .whole .words)
+
+measure-centre-requires : tie.Need-measure-centre-requires Inv-loop μ-loop
+measure-centre-requires c κs =
+    let s = c .before .before .before .before .before .before .before .before .before .before .before .before in
+    let rows = c .before .before .before .before .before .rows in
+    let node-first = c .before .before .before .node-first in
+    let circles = c .before .before .circles in (
+      ready-at _ _ _ (s .args .index .now) _ _ _ _ _ _ _ (rows .ensures .0) (circles .ensures) (blank-ready _ _ _ (s .pre)),
+      omega (arith, node-first .ensures .1, rows .ensures .0),
+    )
 
 push-requires : tie.Need-push-requires Inv-loop μ-loop
 push-requires c κs =
     let m = c .before .before .before .before .before in
-    let rows = m .before .before .before .before .before .rows in
-    let pre = m .before .before .before .before .before .before .before .before .before .before .before .pre in
-    (empty-queue _ 0 (omega arith), omega (arith, m .measure-row .ensures .grew .stands .room, rows .ensures .0, pre .filled))
+    let rows = m .before .before .before .before .before .before .rows in
+    let pre = m .before .before .before .before .before .before .before .before .before .before .before .before .before .pre in
+    (empty-queue _ 0 (omega arith), omega (arith, m .measure-centre .ensures .alone .grew .stands .room, rows .ensures .0, pre .filled))
 
 loop-holds : tie.Need-loop-holds Inv-loop μ-loop
 loop-holds c =
     let p = c .before .before in
     let m = p .before .before .before .before .before .before in
-    let node-first = m .before .before .before .node-first in
-    let rows = m .before .before .before .before .before .rows in
-    let s = m .before .before .before .before .before .before .before .before .before .before .before in (
-      begins-state _ _ _ (s .args .index .now) _ (s .pre .filled) _ _ _ _ _ _ _ _ (rows .ensures .0) (m .measure-row .ensures) (p .push .ensures)
-          (s .pre .tested .shape) (node-first .ensures .0) (s .pre .blank) (blank-ready _ _ _ (s .pre)),
+    let circles = m .before .before .before .circles in
+    let node-first = m .before .before .before .before .node-first in
+    let rows = m .before .before .before .before .before .before .rows in
+    let s = m .before .before .before .before .before .before .before .before .before .before .before .before .before in (
+      begins-state _ _ _ (s .args .index .now) _ _ (s .pre .filled) _ _ _ _ _ _ _ _ _ (rows .ensures .0) (circles .ensures)
+          (m .measure-centre .ensures)
+          (p .push .ensures) (s .pre .tested .shape) (node-first .ensures .0) (s .pre .blank) (blank-ready _ _ _ (s .pre)),
       since-none _ _ _,
     )
 
@@ -110,10 +121,12 @@ same-length-2 c =
 
 returns : tie.Need-returns Inv-loop μ-loop
 returns c =
+    let word : c .before .key-of .result ≤ greatestWord = omega arith in
+    let far : c .before .before .last .result < c .before .key-of .result = omega arith in
     let p = c .before .before .before .before .before .before in
     let l = turn p in
-    stops _ _ _ _ _ (start l .pre .tested .shape) _ _ _ _ (l .loop .inv .0) _ _ (p .pop .ensures) (p .before .before .loop-test .taken) _ _ _
-    (counted l .rows .ensures .0) (c .before .before .last .ensures) (c .before .key-of .ensures) (omega arith) (omega arith) _ _ (since l)
+    stops _ _ _ _ _ _ (start l .pre .tested .shape) _ _ _ _ (l .loop .inv .0) _ _ (p .pop .ensures) (p .before .before .loop-test .taken) _ _ _
+    (counted l .rows .ensures .0) (c .before .before .last .ensures) (c .before .key-of .ensures) word far _ _ (since l)
 
 sub-take-item : tie.Need-sub-take-item Inv-loop μ-loop
 sub-take-item c = omega (arith, c .before .before .before .before .before .before .before .before .before .before .loop-test .taken)
@@ -122,8 +135,9 @@ take-item-requires : tie.Need-take-item-requires Inv-loop μ-loop
 take-item-requires c κs =
     let p = c .before .before .before .before .before .before .before .before in
     let l = turn p in (
-      takes _ _ _ _ _ (start l .pre .tested .shape) _ _ _ _ (l .loop .inv .0) _ _ (p .pop .ensures) (p .before .before .loop-test .taken) (start l .pre .tested .edition),
-      (counted l .rows .ensures .0, met l .before .before .before .before .pair-at .ensures),
+      takes _ _ _ _ _ _ (start l .pre .tested .shape) _ _ _ _ (l .loop .inv .0) _ _ (p .pop .ensures) (p .before .before .loop-test .taken)
+          (start l .pre .tested .edition),
+      (counted l .rows .ensures .0, met l .before .before .before .before .before .pair-at .ensures),
     )
 
 loop-less : tie.Need-loop-less Inv-loop μ-loop
@@ -131,7 +145,7 @@ loop-less c =
     let t = c .before .before .before .before in
     let p = t .before .before .before .before .before .before .before .before .before in
     let l = turn p in
-    round-less _ _ _ _ _ (start l .pre .tested .shape) _ _ _ _ (l .loop .inv .0) _ _ (p .pop .ensures) (p .before .before .loop-test .taken) _ _ _ _
+    round-less _ _ _ _ _ _ (start l .pre .tested .shape) _ _ _ _ (l .loop .inv .0) _ _ (p .pop .ensures) (p .before .before .loop-test .taken) _ _ _ _
     (t .take-item .ensures)
 
 loop-again : tie.Need-loop-again Inv-loop μ-loop
@@ -141,9 +155,10 @@ loop-again c =
     let l = turn p in
     let key-of = t .before .before .before .before .key-of in
     let last = t .before .before .before .before .before .last in (
-      round _ _ _ _ _ (start l .pre .tested .shape) _ _ _ _ (l .loop .inv .0) _ _ (p .pop .ensures) (p .before .before .loop-test .taken) _ _ _ _
+      round _ _ _ _ _ _ (start l .pre .tested .shape) _ _ _ _ (l .loop .inv .0) _ _ (p .pop .ensures) (p .before .before .loop-test .taken) _ _ _ _
           (t .take-item .ensures) (start l .pre .filled) _ _ _ (counted l .rows .ensures .0) (last .ensures) (key-of .ensures) (omega arith) (omega arith),
-      round-since _ _ _ _ _ (start l .pre .tested .shape) _ _ _ _ (l .loop .inv .0) _ _ (p .pop .ensures) (p .before .before .loop-test .taken) _ _ _ _
+      round-since _ _ _ _ _ _ (start l .pre .tested .shape) _ _ _ _ (l .loop .inv .0) _ _ (p .pop .ensures)
+          (p .before .before .loop-test .taken) _ _ _ _
           (t .take-item .ensures) _ _ (l .loop .inv .1),
     )
 
@@ -156,7 +171,7 @@ same-length-4 c = since (c .before) .words
 returns-2 : tie.Need-returns-2 Inv-loop μ-loop
 returns-2 c =
     let l = c .before in
-    ends _ _ _ _ _ (start l .pre .tested .shape) _ _ _ _ (l .loop .inv .0) _ _ (since l) (omega arith)
+    ends _ _ _ _ _ _ (start l .pre .tested .shape) _ _ _ _ (l .loop .inv .0) _ _ (since l) (omega arith)
 
 pub search-spec : {M : Type 1} → statement M
 search-spec =
@@ -167,7 +182,8 @@ search-spec =
     rows-requires
     pair-at-requires
     node-first-requires
-    measure-row-requires
+    circles-requires
+    measure-centre-requires
     push-requires
     loop-holds
     pop-requires

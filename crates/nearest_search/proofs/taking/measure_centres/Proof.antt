@@ -3,50 +3,64 @@
 use Prim.Native.Nat.{_-_}
 use Rattle.measure.specs.Table.{from}
 use Rattle.nearest_search.proofs.Growing.{CentresTo, centres-done, centres-start, centres-step}
-use Rattle.nearest_search.proofs.Staying.{ready-on}
+use Rattle.nearest_search.proofs.Staying.{centres-by, ready-by, ready-on}
 use Rattle.nearest_search.proofs.taking.measure_centres.Statement.{statement}
 use Rattle.nearest_search.proofs.taking.measure_centres.Tie as tie
+use Rattle.rowset.specs.Sets.{isIn}
+use Rattle.words.specs.Words.{circles#}
 use borrow.Author.Needs.{needs}
 use native.Mathlib.Omega.{arith}
 
 abbrev Inv-loop : tie.InvT-loop
-Inv-loop table c query index n w how₀ work₀ held a e k₀ j₀ how work k j = CentresTo (from table c query) index n w how₀ how work₀ work a e j held k
+Inv-loop table c query index n w withdrawn how₀ work₀ held a e o k₀ j₀ how work k j = CentresTo (from table c (circles# index) query)
+    (isIn withdrawn) index n w how₀ how work₀ work a e j held k
 
 abbrev μ-loop : tie.MeasureT-loop
-μ-loop table c query index n w how₀ work₀ held a e k₀ j₀ how work k j = e - j
+μ-loop table c query index n w withdrawn how₀ work₀ held a e o k₀ j₀ how work k j = e - j
+
+circles-requires : tie.Need-circles-requires Inv-loop μ-loop
+circles-requires c κs = omega (arith, c .before .before .before .before .before .before .pre .1 .0 .whole .words)
 
 loop-holds : tie.Need-loop-holds Inv-loop μ-loop
 loop-holds c =
-    let pre = c .before .before .before .before .before .pre in
-    centres-start _ _ _ _ _ _ _ _ _ _ (omega arith) (pre .1 .2) (pre .0 .stands)
+    let pre = c .before .before .before .before .before .before .before .pre in
+    centres-start _ _ _ _ _ _ _ _ _ _ _ (omega arith) (pre .1 .2) (pre .0 .stands)
 
 node-first-requires : tie.Need-node-first-requires Inv-loop μ-loop
 node-first-requires c κs =
-    let pre = c .before .before .before .before .before .before .before .pre in
+    let pre = c .before .before .before .before .before .before .before .before .before .pre in
     (pre .1 .0, omega (arith, pre .1 .3))
 
-measure-row-requires : tie.Need-measure-row-requires Inv-loop μ-loop
-measure-row-requires c κs =
-    let pre = c .before .before .before .before .before .before .before .before .before .before .pre in
+measure-centre-requires : tie.Need-measure-centre-requires Inv-loop μ-loop
+measure-centre-requires c κs =
+    let pre = c .before .before .before .before .before .before .before .before .before .before .before .before .pre in
     let loop = c .before .before .before .before .loop in
     let node-first = c .before .before .node-first in
-    (ready-on _ _ _ _ _ _ _ _ _ _ _ (pre .0) (loop .inv .took .grew .stands), omega (arith, node-first .ensures .1, pre .1 .1))
+    let circles = c .before .before .before .before .before .circles in
+    let index = c .before .before .before .before .before .before .before .before .before .before .before .before .args .index .now in (
+      ready-by _ _ _ index _ _ _ _ _ _ _ (circles .ensures) (ready-on _ _ _ _ _ _ _ _ _ _ _ _ _ (pre .0) (loop .inv .took .alone .grew .stands)),
+      omega
+          (arith, node-first .ensures .1, pre .1 .1),
+    )
 
 loop-again : tie.Need-loop-again Inv-loop μ-loop
 loop-again c =
     let loop = c .before .before .before .before .before .before .before .before .before .loop in
     let node-first = c .before .before .before .before .before .before .before .node-first in
-    let measure-row = c .before .before .before .before .measure-row in
-    centres-step _ _ _ _ _ _ _ _ _ _ _ _ _ _ _ _ _ (loop .inv) (omega arith) (node-first .ensures .0) (measure-row .ensures)
+    let measure-centre = c .before .before .before .before .measure-centre in
+    let circles = c .before .before .before .before .before .before .before .before .before .before .circles in
+    let index = c .before .before .before .before .before .before .before .before .before .before .before .before .before .before .before .before .before .args .index .now in
+    centres-step _ _ _ _ _ _ _ _ _ _ _ _ _ _ _ _ _ _ (loop .inv) (omega arith) (node-first .ensures .0)
+    (centres-by _ _ _ index _ _ _ _ _ _ _ _ _ _ _ (circles .ensures) (measure-centre .ensures))
 
 same-length : tie.Need-same-length Inv-loop μ-loop
-same-length c = c .before .loop .inv .took .grew .since .bytes
+same-length c = c .before .loop .inv .took .alone .grew .since .bytes
 
 same-length-2 : tie.Need-same-length-2 Inv-loop μ-loop
-same-length-2 c = c .before .loop .inv .took .grew .since .words
+same-length-2 c = c .before .loop .inv .took .alone .grew .since .words
 
 returns : tie.Need-returns Inv-loop μ-loop
-returns c = centres-done _ _ _ _ _ _ _ _ _ _ _ _ _ (omega arith) (c .before .loop .inv)
+returns c = centres-done _ _ _ _ _ _ _ _ _ _ _ _ _ _ (omega arith) (c .before .loop .inv)
 
 pub measure-centres-spec : {M : Type 1} → statement M
 measure-centres-spec =
@@ -54,10 +68,11 @@ measure-centres-spec =
     (tie.spec
     Inv-loop
     μ-loop
+    circles-requires
     (λ c. search needs)
     loop-holds
     node-first-requires
-    measure-row-requires
+    measure-centre-requires
     (λ c. search needs)
     (λ c. search needs)
     loop-again

@@ -11,18 +11,18 @@ use native.Mathlib.Omega.{arith}
 
 -- seen from the reading of the number of centres: the start; and from the measuring of the centres: that reading
 abbrev start : tie.After-centres → tie.Start
-start e = e .before .before .before .before .before .before .before
+start e = e .before .before .before .before .before .before .before .before
 
 abbrev read : tie.After-measure-centres → tie.After-centres
 read m = m .before .before .before
 
 node-child-requires : tie.Need-node-child-requires
 node-child-requires c κs =
-    let pre = c .before .before .before .before .before .pre in
-    node-words _ _ (pre .0 .room .shape) (node-there _ _ _ _ _ _ _ _ _ _ _ (pre .0))
+    let pre = c .before .before .before .before .before .before .pre in
+    node-words _ _ (pre .0 .room .shape) (node-there _ _ _ _ _ _ _ _ _ _ _ _ (pre .0))
 
 centres-requires : tie.Need-centres-requires
-centres-requires c κs = omega (arith, c .before .before .before .before .before .before .pre .0 .room .shape .whole .words)
+centres-requires c κs = omega (arith, c .before .before .before .before .before .before .before .pre .0 .room .shape .whole .words)
 
 add-e : tie.Need-add-e
 add-e c = omega (arith, c .before .node-child .ensures .1, c .centres .ensures .1)
@@ -31,7 +31,7 @@ measure-centres-requires : tie.Need-measure-centres-requires
 measure-centres-requires c κs =
     let e = c .before .before in
     let pre = start e .pre in
-    inner-asks _ _ _ _ _ _ _ _ _ _ _ (pre .0) (pre .1 .1) _ _ _ (pre .1 .0) (e .before .node-child .ensures .0) (e .centres .ensures .0)
+    inner-asks _ _ _ _ _ _ _ _ _ _ _ _ (pre .0) (pre .1 .1) _ _ _ (pre .1 .0) (e .before .node-child .ensures .0) (e .centres .ensures .0)
 
 nearest-centre-requires : tie.Need-nearest-centre-requires
 nearest-centre-requires c κs =
@@ -39,8 +39,8 @@ nearest-centre-requires c κs =
     let e = read m in
     let pre = start e .pre in
     let child = e .before .node-child .ensures .0 in
-    let a = inner-asks _ _ _ _ _ _ _ _ _ _ _ (pre .0) (pre .1 .1) _ _ _ (pre .1 .0) child (e .centres .ensures .0) in
-    let r = inner-then _ _ _ _ _ _ _ _ _ _ _ (pre .0) (pre .1 .1) _ _ _ _ _ _ (pre .1 .0) child (e .centres .ensures .0)
+    let a = inner-asks _ _ _ _ _ _ _ _ _ _ _ _ (pre .0) (pre .1 .1) _ _ _ (pre .1 .0) child (e .centres .ensures .0) in
+    let r = inner-then _ _ _ _ _ _ _ _ _ _ _ _ (pre .0) (pre .1 .1) _ _ _ _ _ _ (pre .1 .0) child (e .centres .ensures .0)
     (m .measure-centres .ensures) in
     (a .1 .0, a .1 .1, a .1 .2, a .1 .3, r .words)
 
@@ -52,7 +52,7 @@ mul-last c =
 last-requires : tie.Need-last-requires
 last-requires c κs =
     let m = c .before .before .before .before .before .before .before in
-    omega (arith, m .measure-centres .ensures .grew .stands .room, m .measure-centres .ensures .grew .stands .wanted)
+    omega (arith, m .measure-centres .ensures .alone .grew .stands .room, m .measure-centres .ensures .alone .grew .stands .wanted)
 
 queue-children-requires : tie.Need-queue-children-requires
 queue-children-requires c κs =
@@ -60,27 +60,27 @@ queue-children-requires c κs =
     let e = read m in
     let pre = start e .pre in
     let child = e .before .node-child .ensures .0 in
-    let a = inner-asks _ _ _ _ _ _ _ _ _ _ _ (pre .0) (pre .1 .1) _ _ _ (pre .1 .0) child (e .centres .ensures .0) in
-    let r = inner-then _ _ _ _ _ _ _ _ _ _ _ (pre .0) (pre .1 .1) _ _ _ _ _ _ (pre .1 .0) child (e .centres .ensures .0)
+    let a = inner-asks _ _ _ _ _ _ _ _ _ _ _ _ (pre .0) (pre .1 .1) _ _ _ (pre .1 .0) child (e .centres .ensures .0) in
+    let r = inner-then _ _ _ _ _ _ _ _ _ _ _ _ (pre .0) (pre .1 .1) _ _ _ _ _ _ (pre .1 .0) child (e .centres .ensures .0)
     (m .measure-centres .ensures) in
     (room-less _ _ _ _ _ _ r (omega (arith, e .centres .ensures .0)), (omega (arith, a .1 .2), omega (arith, a .1 .3)))
 
 same-length : tie.Need-same-length
 same-length c =
     let m = c .before .before .before .before .before .before .before .before .before .before .before .before in
-    m .measure-centres .ensures .grew .since .bytes
+    m .measure-centres .ensures .alone .grew .since .bytes
 
 same-length-2 : tie.Need-same-length-2
 same-length-2 c =
     let m = c .before .before .before .before .before .before .before .before .before .before .before .before in
-    c .before .before .queue-children .ensures .outside .same ∙ m .measure-centres .ensures .grew .since .words
+    c .before .before .queue-children .ensures .outside .same ∙ m .measure-centres .ensures .alone .grew .since .words
 
 returns : tie.Need-returns
 returns c =
     let m = c .before .before .before .before .before .before .before .before .before .before .before .before in
     let e = read m in
     let pre = start e .pre in
-    inner-done _ _ _ _ _ _ _ _ _ _ _ (pre .0) (pre .1 .1) _ _ _ _ _ _ _ _ _ _ _ (pre .1 .0) (e .before .node-child .ensures .0)
+    inner-done _ _ _ _ _ _ _ _ _ _ _ _ (pre .0) (pre .1 .1) _ _ _ _ _ _ _ _ _ _ _ (pre .1 .0) (e .before .node-child .ensures .0)
     (e .centres .ensures .0) (omega (arith, e .centres .ensures .0)) (c .before .before .before .before .last .ensures) (m .measure-centres .ensures)
     (c .before .before .before .before .before .before .nearest-centre .ensures) (c .before .before .queue-children .ensures)
 

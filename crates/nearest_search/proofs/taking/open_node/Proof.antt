@@ -9,39 +9,39 @@ use native.Mathlib.Omega.{arith}
 
 node-child-requires : tie.Need-node-child-requires
 node-child-requires c κs =
-    let pre = c .before .before .before .before .before .pre in
-    node-words _ _ (pre .0 .room .shape) (node-there _ _ _ _ _ _ _ _ _ _ _ (pre .0))
+    let pre = c .before .before .before .before .before .before .pre in
+    node-words _ _ (pre .0 .room .shape) (node-there _ _ _ _ _ _ _ _ _ _ _ _ (pre .0))
 
 mul-last : tie.Need-mul-last
 mul-last c =
-    let pre = c .before .before .before .before .before .before .before .before .pre in
+    let pre = c .before .before .before .before .before .before .before .before .before .pre in
     omega (arith, pre .1, pre .0 .room .shape .whole .rows)
 
 last-requires : tie.Need-last-requires
 last-requires c κs =
-    let pre = c .before .before .before .before .before .before .before .before .pre in
+    let pre = c .before .before .before .before .before .before .before .before .before .pre in
     omega (arith, pre .1, pre .0 .ready .stands .room, pre .0 .ready .stands .wanted)
 
 open-leaf-requires : tie.Need-open-leaf-requires
 open-leaf-requires c κs =
-    let pre = c .before .before .before .before .before .before .before .before .before .before .pre in
-    (room-at _ _ _ _ _ (pre .1) (pre .0 .room), node-there _ _ _ _ _ _ _ _ _ _ _ (pre .0))
+    let pre = c .before .before .before .before .before .before .before .before .before .before .before .pre in
+    (room-at _ _ _ _ _ (pre .1) (pre .0 .room), node-there _ _ _ _ _ _ _ _ _ _ _ _ (pre .0))
 
 same-length : tie.Need-same-length
 same-length c = c .before .before .open-leaf .ensures .outside .same
 
 returns : tie.Need-returns
 returns c =
-    let pre = c .before .before .before .before .before .before .before .before .before .before .before .before .before .pre in
+    let pre = c .before .before .before .before .before .before .before .before .before .before .before .before .before .before .pre in
     let node-child = c .before .before .before .before .before .before .before .node-child in
     let if1 = c .before .before .before .before .before .before .if1 in
     let last = c .before .before .before .before .last in
     let open-leaf = c .before .before .open-leaf in
-    taken-leaf _ _ _ _ _ _ _ _ _ _ _ (pre .0) (sym (node-child .ensures .0) ∙ if1 .taken) _ _ _ _ (pre .1) (last .ensures) (open-leaf .ensures)
+    taken-leaf _ _ _ _ _ _ _ _ _ _ _ _ (pre .0) (sym (node-child .ensures .0) ∙ if1 .taken) _ _ _ _ (pre .1) (last .ensures) (open-leaf .ensures)
 
 open-inner-requires : tie.Need-open-inner-requires
 open-inner-requires c κs =
-    let pre = c .before .before .before .before .before .before .before .before .before .pre in
+    let pre = c .before .before .before .before .before .before .before .before .before .before .pre in
     let node-child = c .before .before .before .node-child in
     (pre .0, (pre .1, omega (arith, node-child .ensures .0)))
 

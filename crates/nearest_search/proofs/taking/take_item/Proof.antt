@@ -14,7 +14,7 @@ use native.Mathlib.Omega.{arith}
 
 -- seen from the reading of the id: the start
 abbrev start : tie.After-id-of → tie.Start
-start i = i .before .before .before .before .before .before
+start i = i .before .before .before .before .before .before .before
 
 -- past the nodes' ids: the position, that it can be read, and that what is read is its row
 abbrev place : tie.After-id-of → ℕ
@@ -24,7 +24,7 @@ there : (e : tie.Else1) → pairAt (start (e .before) .args .index .now) (place 
 there e =
     let i = e .before in
     let pre = start i .pre in
-    place-words _ _ (pre .0 .room .shape) (place-there _ _ _ _ _ _ _ _ _ _ _ _ (pre .1 .0) (i .id-of .ensures) (pre .0) (omega arith))
+    place-words _ _ (pre .0 .room .shape) (place-there _ _ _ _ _ _ _ _ _ _ _ _ _ (pre .1 .0) (i .id-of .ensures) (pre .0) (omega arith))
 
 row : (c : tie.After-word) → c .word .result ≡ row# (start (c .before .before) .args .index .now) (place (c .before .before))
 row c =
@@ -38,7 +38,7 @@ open-node-requires : tie.Need-open-node-requires
 open-node-requires c κs =
     let i = c .before .before .before .before in
     let pre = start i .pre in
-    (node-takes _ _ _ _ _ _ _ _ _ _ _ _ (pre .1 .0) (i .id-of .ensures) (pre .0) _ (c .key-of .ensures) (omega arith), pre .1 .0)
+    (node-takes _ _ _ _ _ _ _ _ _ _ _ _ _ (pre .1 .0) (i .id-of .ensures) (pre .0) _ (c .key-of .ensures) (omega arith), pre .1 .0)
 
 same-length : tie.Need-same-length
 same-length c = c .before .before .before .before .open-node .ensures .grew .since .bytes
@@ -51,7 +51,7 @@ returns c =
     let o = c .before .before .before .before in
     let i = o .before .before .before .before .before in
     let pre = start i .pre in
-    node-taken _ _ _ _ _ _ _ _ _ _ _ _ (pre .1 .0) (i .id-of .ensures) (pre .0) _ (o .before .key-of .ensures) (omega arith) _ _ _ _
+    node-taken _ _ _ _ _ _ _ _ _ _ _ _ _ (pre .1 .0) (i .id-of .ensures) (pre .0) _ (o .before .key-of .ensures) (omega arith) _ _ _ _
     (o .open-node .ensures)
 
 mul-word : tie.Need-mul-word
@@ -68,25 +68,29 @@ add-word c = omega (arith, there c, start (c .before) .pre .1 .1, start (c .befo
 word-requires : tie.Need-word-requires
 word-requires c κs = omega (arith, there c, start (c .before) .pre .1 .1)
 
+circles-requires : tie.Need-circles-requires
+circles-requires c κs = omega (arith, start (c .before .before) .pre .0 .room .shape .whole .words)
+
 measure-row-requires : tie.Need-measure-row-requires
 measure-row-requires c κs =
-    let i = c .before .before .before .before in
+    let i = c .before .before .before .before .before in
     let pre = start i .pre in
-    place-row _ _ _ _ _ _ _ _ _ _ _ _ (pre .1 .0) (i .id-of .ensures) (pre .0) (omega arith) _ (row (c .before .before))
+    place-row _ _ _ _ _ _ _ _ _ _ _ _ _ (pre .1 .0) (i .id-of .ensures) (pre .0) (omega arith) _ _ (row (c .before .before .before))
+    (c .before .before .circles .ensures)
 
 same-length-3 : tie.Need-same-length-3
-same-length-3 c = c .before .before .before .before .measure-row .ensures .grew .since .bytes
+same-length-3 c = c .before .before .before .before .measure-row .ensures .0 .grew .since .bytes
 
 same-length-4 : tie.Need-same-length-4
-same-length-4 c = c .before .before .before .before .measure-row .ensures .grew .since .words
+same-length-4 c = c .before .before .before .before .measure-row .ensures .0 .grew .since .words
 
 returns-2 : tie.Need-returns-2
 returns-2 c =
     let m = c .before .before .before .before in
-    let i = m .before .before .before .before .before in
+    let i = m .before .before .before .before .before .before in
     let pre = start i .pre in
-    place-taken _ _ _ _ _ _ _ _ _ _ _ _ (pre .1 .0) (i .id-of .ensures) (pre .0) (omega arith) _ _ _ _ (row (m .before .before .before))
-    (m .measure-row .ensures)
+    place-taken _ _ _ _ _ _ _ _ _ _ _ _ _ (pre .1 .0) (i .id-of .ensures) (pre .0) (omega arith) _ _ _ _ _ (row (m .before .before .before .before))
+    (m .before .before .before .circles .ensures) (m .measure-row .ensures .0)
 
 pub take-item-spec : {M : Type 1} → statement M
 take-item-spec =
@@ -105,6 +109,7 @@ take-item-spec =
     mul-word-2
     add-word
     word-requires
+    circles-requires
     measure-row-requires
     same-length-3
     same-length-4

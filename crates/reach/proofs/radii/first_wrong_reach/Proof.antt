@@ -7,13 +7,13 @@ use Rattle.laws.proofs.First.{search-end, search-on, search-start, search-stop}
 use Rattle.laws.specs.First.{First}
 use Rattle.measure.specs.Table.{between}
 use Rattle.tree.specs.Check.{wrongReach}
-use Rattle.words.specs.Words.{N#}
+use Rattle.words.specs.Words.{N#, circles#}
 use borrow.Author.Needs.{needs}
 use mathlib.Core.Path.{_∙_, _≡_, sym}
 use native.Mathlib.Omega.{arith}
 
 abbrev Inv-loop : tie.InvT-loop
-Inv-loop table c index total k₀ k = First (wrongReach (between table c) index) 0 k k × (total ≡ N# index) × (k ≤ total)
+Inv-loop table c index total k₀ k = First (wrongReach (between table c (circles# index)) index) 0 k k × (total ≡ N# index) × (k ≤ total)
 
 abbrev μ-loop : tie.MeasureT-loop
 μ-loop table c index total k₀ k = total - k

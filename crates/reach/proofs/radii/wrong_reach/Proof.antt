@@ -5,6 +5,7 @@ use Rattle.reach.proofs.Wrong.{reach-far, reach-near}
 use Rattle.reach.proofs.radii.wrong_reach.Statement.{statement}
 use Rattle.reach.proofs.radii.wrong_reach.Tie as tie
 use Rattle.measure.specs.Table.{between}
+use Rattle.words.specs.Words.{circles#}
 use borrow.Author.Needs.{needs}
 use native.Mathlib.Omega.{arith}
 
@@ -18,7 +19,7 @@ passed c = c .before .before .before
 
 -- the distance between the table's rows
 abbrev dist : tie.Start → ℕ → ℕ → ℕ
-dist s = between (s .args .table .now) (s .args .c)
+dist s = between (s .args .table .now) (s .args .c) (circles# (s .args .index .now))
 
 returns : tie.Need-returns
 returns c =

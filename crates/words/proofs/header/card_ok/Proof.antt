@@ -1,13 +1,13 @@
 -- `words::header::card_ok` meets its contract: each return is one bad word, and the last has all the others good.
 -- Assumes nothing.
 use Rattle.laws.proofs.Tests.{no, no-at, yes, yes-at}
-use Rattle.limits.specs.Limits.{columnsOk, editionOk, shareOk}
+use Rattle.limits.specs.Limits.{circlesOk, columnsOk, editionOk, shareOk}
 use Rattle.words.proofs.Headers.{bad-columns, bad-edition, bad-kind, bad-nodes, bad-rows, bad-share, good-header}
 use Rattle.words.proofs.header.card_ok.Statement.{statement}
 use Rattle.words.proofs.header.card_ok.Tie as tie
 use Rattle.words.specs.Words.{nodesOk}
 use borrow.Author.Needs.{needs}
-use mathlib.Core.Path.{_∙_, ap, sym}
+use mathlib.Core.Path.{_∙_, ap, ap₂}
 use native.Mathlib.Omega.{arith}
 
 returns : tie.Need-returns
@@ -34,20 +34,20 @@ returns-6 c = bad-kind _ (omega arith)
 
 returns-7 : tie.Need-returns-7
 returns-7 c =
-    let at6 = c .before in
+    let at6 = c .before .before .before in
     let at5 = at6 .before .before in
     let at4 = at5 .before .before .before in
     let at3 = at4 .before .before .before .before in
     let at2 = at3 .before .before .before in
     let at1 = at2 .before .before in
     let n = at2 .before .word2 .ensures .0 in
-    rw (c .word8 .ensures .0)
-    (good-header _ (yes (at1 .before .edition-ok .ensures ∙ ap editionOk (at1 .before .before .word .ensures .0)) (at1 .if1 .left)) (omega (arith, n, at2 .if2 .left))
+    c .circles-ok .ensures ∙ ap₂ circlesOk (c .before .before .word8 .ensures .0) (c .before .circles .ensures)
+    ∙ good-header _ (yes (at1 .before .edition-ok .ensures ∙ ap editionOk (at1 .before .before .word .ensures .0)) (at1 .if1 .left)) (omega (arith, n, at2 .if2 .left))
     (yes (at3 .before .columns-ok .ensures ∙ ap columnsOk (at3 .before .before .word3 .ensures .0)) (at3 .if3 .left))
     (yes-at shareOk (at4 .before .share-ok .ensures) (at4 .before .before .before .word4 .ensures .0) (at4 .before .before .word5 .ensures .0)
     (at4 .if4 .left))
     (yes-at nodesOk (at5 .before .nodes-ok .ensures) n (at5 .before .before .word6 .ensures .0) (at5 .if5 .left))
-    (omega (arith, at6 .before .word7 .ensures .0, at6 .if6 .left)))
+    (omega (arith, at6 .before .word7 .ensures .0, at6 .if6 .left))
 
 pub card-ok-spec : {M : Type 1} → statement M
 card-ok-spec =
@@ -70,5 +70,7 @@ card-ok-spec =
     returns-5
     (λ c κs. search needs)
     returns-6
+    (λ c κs. search needs)
+    (λ c κs. search needs)
     (λ c κs. search needs)
     returns-7)

@@ -1,0 +1,3 @@
+pub mod OffCircle
+pub mod Refusals
+pub mod Tested
