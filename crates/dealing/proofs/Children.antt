@@ -101,7 +101,8 @@ module _ {t w : List ℕ} {o n lo hi : ℕ} {room₀ work₀ : List ℕ} {s made
       pub some : k ≤ m# w
       pub many : length done ≡ k
       pub upto : at ≡ s + sizes w done
-      pub split : kidPieces t w o (g .zs) s ≡ done ++ kidsFrom (between t (c# w) (circles# w)) w (kidFor (between t (c# w) (circles# w)) w o) (g .zs) at (child# w o + k) k (m# w - k)
+      pub split : kidPieces t w o (g .zs) s ≡ done ++ kidsFrom (between t (c# w) (circles# w)) w (kidFor (between t (c# w) (circles# w)) w o)
+          (g .zs) at (child# w o + k) k (m# w - k)
       pub nodes : room ≡ take (nodeAt made) room₀ ++ (each (nodeWords 2) (map (pendOf t w last) done) ++ drop (nodeAt (made + k)) room₀)
       pub before : take (3 * n) work ≡ take (3 * n) work₀
       pub long : length work ≡ length work₀
@@ -232,7 +233,8 @@ module _ {t w : List ℕ} {o n lo hi : ℕ} {room₀ work₀ : List ℕ} {s made
           let len : length (stretch work′ b (b + 3 * r)) ≡ 3 * sizeOf w q =
           length-take-le (b + 3 * r - b) (drop b work′) (omega (arith, length-drop b work′)) ∙ omega (arith, size-is) in
           let nodes′ : List Node = map (pendOf t w last) Dn in
-          let room-cut : room′ ≡ take (nodeAt made) room₀ ++ (each (nodeWords 2) (map (pendOf t w last) (Dn ++ q ∷ [])) ++ drop (nodeAt (made + (k + 1))) room₀) =
+          let room-cut : room′ ≡ take (nodeAt made) room₀ ++ (each (nodeWords 2) (map (pendOf t w last) (Dn ++ q ∷ [])) ++ drop (nodeAt (made +
+          (k + 1))) room₀) =
           nodes-more room′ (got .nodes) in
           record {
             fan = inv .fan;
@@ -247,7 +249,8 @@ module _ {t w : List ℕ} {o n lo hi : ℕ} {room₀ work₀ : List ℕ} {s made
                 ∙ ap (λ (i : ℕ). kidsFrom d w place (g .zs) (at + size) i (suc k) (m# w - (k + 1))) one));
             nodes = room-cut;
             before =
-                sym (take-take (3 * n) b work′ (omega arith)) ∙ ap (take (3 * n)) (got .before) ∙ take-take (3 * n) b work (omega arith) ∙ inv .before;
+                sym (take-take (3 * n) b work′ (omega arith)) ∙ ap (take (3 * n)) (got .before) ∙ take-take (3 * n) b work (omega arith)
+                ∙ inv .before;
             long = got .long ∙ inv .long;
             wide = wide ∙ inv .wide;
             stand = rw cut (stand-last t w last Dn q (stretch work a b) (stretch work′ b (b + 3 * r)) (inv .stand) len (got .stands));
@@ -296,7 +299,8 @@ module _ {t w : List ℕ} {o n lo hi : ℕ} {room₀ work₀ : List ℕ} {s made
           record {
             nodes =
                 inv .nodes
-                ∙ ap₂ (λ (x : List Piece) (i : ℕ). take (nodeAt made) room₀ ++ (each (nodeWords 2) (map (pendOf t w last) x) ++ drop (nodeAt (made + i)) room₀)) (sym whole) same;
+                ∙ ap₂ (λ (x : List Piece) (i : ℕ). take (nodeAt made) room₀ ++ (each (nodeWords 2) (map (pendOf t w last) x) ++ drop (nodeAt
+                (made + i)) room₀)) (sym whole) same;
             before = inv .before;
             long = inv .long;
             stand = rw (whole, ← end) (inv .stand);

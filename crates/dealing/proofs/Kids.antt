@@ -239,7 +239,8 @@ module _ {t w : List ℕ} {o n lo hi : ℕ} {room work : List ℕ} {k at made : 
 
         -- ---- and its node is written
         module _ {radius inner : ℕ} (reaches : Reaching w (child# w o + k) more far near radius inner) {put : List ℕ}
-            (wrote : put ≡ at ∷ (own + more) ∷ mark ∷ radius ∷ inner ∷ drop 5 (midOf (nodeAt (made + k)) (length room - nodeAt (made + k)) room)) where
+            (wrote : put ≡ at ∷ (own + more) ∷ mark ∷ radius ∷ inner ∷ drop 5 (midOf (nodeAt (made + k)) (length room - nodeAt
+            (made + k)) room)) where
           -- its piece
           abbrev q : Piece
           q = kidPiece t w o (g .zs) k at
@@ -257,9 +258,11 @@ module _ {t w : List ℕ} {o n lo hi : ℕ} {room work : List ℕ} {k at made : 
               let es : sizeOf w q ≡ own + more = piece-size t w at kid here ∙ ap₂ (λ (a b : ℕ). a + b) (sym counts) (sym more-is) in
               let em : mark ≡ markOf t (c# w) w last q =
               laid .marked at ∙ ap (λ (l : List ℕ). markOf t (c# w) w last (pieceOf d w at (child# w o + k) l)) rows-are in
-              ap₂ (λ (a b : ℕ). at ∷ (own + more) ∷ mark ∷ a ∷ b ∷ []) (r .0 ∙ ap (λ (x : Reach). x .outer) (sym eR)) (r .1 ∙ ap (λ (x : Reach). x .inner) (sym eR))
+              ap₂ (λ (a b : ℕ). at ∷ (own + more) ∷ mark ∷ a ∷ b ∷ []) (r .0 ∙ ap (λ (x : Reach). x .outer) (sym eR)) (r .1
+              ∙ ap (λ (x : Reach). x .inner) (sym eR))
               ∙ ap₂ (λ (a b : ℕ). at ∷ a ∷ b ∷ reachOf t w q .outer ∷ reachOf t w q .inner ∷ []) (sym es) em
-              ∙ ap (λ (a : ℕ). a ∷ sizeOf w q ∷ markOf t (c# w) w last q ∷ reachOf t w q .outer ∷ reachOf t w q .inner ∷ []) (sym (piece-start t w at kid here))
+              ∙ ap (λ (a : ℕ). a ∷ sizeOf w q ∷ markOf t (c# w) w last q ∷ reachOf t w q .outer ∷ reachOf t w q .inner ∷ []) (sym
+              (piece-start t w at kid here))
 
           -- THE CHILD IS DEALT OUT
           child-done : ChildDealt t w o n last (g .zs) room work k at made

@@ -128,7 +128,8 @@ module _ {t : List ℕ} {c : ℕ} {w : List ℕ} {o : ℕ} {part₀ : List ℕ} 
     marking-room h = omega (arith, ap length (mid-end p part), length-drop p part, marking-fits h)
 
     -- it is marked
-    pub marking-step : (new : List ℕ) {z k x f child set : ℕ} → p < length part → z ≡ at part p → k ≡ closestKid (between t c (circles# w)) w z o → child ≡ child# w o
+    pub marking-step : (new : List ℕ) {z k x f child set : ℕ} → p < length part → z ≡ at part p → k ≡ closestKid (between t c (circles# w)) w z o
+        → child ≡ child# w o
         → f ≡ first# w (child + k) → set ≡ circles# w → x ≡ between t c set f z → new ≡ z ∷ x ∷ k ∷ drop 3 (midOf p (length part - p) part)
         → Marking (putMid p (length part - p) part new) (p + 3)
     unfolding marked

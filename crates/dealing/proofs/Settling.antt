@@ -69,7 +69,8 @@ module _ (t w : List ℕ) (s o : ℕ) (zs : List ℕ) where
   pub piece-size : sizeOf w (pieceOf d w s o zs) ≡ count# w o + length zs
   piece-size = go (inner w o)
     where
-      either : (b : Bool) (R : Reach) (run : List ℕ) → sizeOf w (cond b (settled s R (map (λ i. (i, d (head run) i)) run)) (grown s R run)) ≡ length run
+      either : (b : Bool) (R : Reach) (run : List ℕ)
+          → sizeOf w (cond b (settled s R (map (λ i. (i, d (head run) i)) run)) (grown s R run)) ≡ length run
       either true R run = length-map run (λ i. (i, d (head run) i))
       either false R run = refl
 
@@ -89,7 +90,8 @@ module _ (t w : List ℕ) (s o : ℕ) (zs : List ℕ) where
   pub piece-reach : 1 ≤ count# w o → reachOf t w (pieceOf d w s o zs) ≡ reachTaking (count# w o) (reach# w o) (map (d (first# w o)) zs)
   piece-reach some = go (inner w o)
     where
-      first-is : (k : ℕ) (ys : List ℕ) → 1 ≤ k → head (map (λ e. e .0) (map {B = ℕ × ℕ} (λ p. (row# w p, dist# w p)) (range (start# w o) k)) ++ ys) ≡ first# w o
+      first-is : (k : ℕ) (ys : List ℕ) → 1 ≤ k
+          → head (map (λ e. e .0) (map {B = ℕ × ℕ} (λ p. (row# w p, dist# w p)) (range (start# w o) k)) ++ ys) ≡ first# w o
       first-is zero ys h = absurd (omega arith)
       first-is (suc k) ys h = refl
 

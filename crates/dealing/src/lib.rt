@@ -1,5 +1,5 @@
-// The new rows of an old inner node, dealt out to its children: each goes to the closest, and every child is laid in the second half of the workspace,
-// its new rows behind room for its own; a leaf is laid whole.
+// The new rows of an old inner node, dealt out to its children: each goes to the closest, and every child is laid in the second half of the
+// workspace, its new rows behind room for its own; a leaf is laid whole.
 ghost use Prim.Native.Nat.{_*_, _+_, _<_, _≤_};
 ghost use Rattle.dealing.specs.Dealt.{ChildAsk, ChildDeals, KidsAsk, KidsDeal};
 ghost use Rattle.dealing.specs.Marked.{Marks, Reaching, marked};
@@ -45,7 +45,8 @@ pub struct Deal {
 // Marks each new row of the inner node o with the child that takes it, and with how far it is from that child's first.
 pub fn mark_rows(table: &[u16], c: usize, index: &[u32], o: usize, part: &mut [u32])
     requires { ⌜ Marks (now table) c (now index) o (now part) ⌝ }
-    ensures { λ _. ⌜ now (part .exit) ≡ marked (between (now (table .entry)) c (circles# (now (index .entry)))) (now (index .entry)) o (rows (now (part .entry))) ⌝ }
+    ensures { λ _. ⌜ now (part .exit) ≡ marked (between (now (table .entry)) c (circles# (now (index .entry)))) (now (index .entry)) o
+        (rows (now (part .entry))) ⌝ }
 {
     let child = node_child(index, o);
     let set = circles(index);

@@ -69,8 +69,12 @@ module _ {w : List ℕ} {o : ℕ} {part₀ : List ℕ} {s count : ℕ} {part : L
   -- the next position is there, and there is room for its entry
   pub keeping-next : i < count → (s + i < n# w) × (3 * i + 3 ≤ length part) × (s + count ≤ maxRows)
   keeping-next h =
-      let N = inv .shape .node o (inv .there) in
-      (omega (arith, N .run, inv .starts, inv .counts), omega (arith, keeping-long, inv .fits), omega (arith, N .run, inv .starts, inv .counts, inv .shape .whole .rows))
+      let N = inv .shape .node o (inv .there) in (
+        omega (arith, N .run, inv .starts, inv .counts),
+        omega (arith, keeping-long, inv .fits),
+        omega
+            (arith, N .run, inv .starts, inv .counts, inv .shape .whole .rows),
+      )
 
   -- it can be read
   pub keeping-there : i < count → pairAt w (s + i) + 1 < length w
@@ -110,7 +114,8 @@ module _ {w : List ℕ} {o : ℕ} {part₀ : List ℕ} {s count : ℕ} {part : L
 -- one of its own
 pub row-own : (w : List ℕ) (o : ℕ) (part : List ℕ) (i : ℕ) {s : ℕ} → s ≡ start# w o → i < count# w o → row# w (s + i) ≡ rowOf w o part i
 unfolding rowOf
-row-own w o part i e h = ap (λ (k : ℕ). row# w (k + i)) e ∙ sym (ap (λ (s : Bool). cond s (row# w (start# w o + i)) (at part (3 * i))) (lt-ltb i (count# w o) h))
+row-own w o part i e h =
+    ap (λ (k : ℕ). row# w (k + i)) e ∙ sym (ap (λ (s : Bool). cond s (row# w (start# w o + i)) (at part (3 * i))) (lt-ltb i (count# w o) h))
 
 -- one of the others
 pub row-new : (w : List ℕ) (o : ℕ) (part : List ℕ) (i : ℕ) → count# w o ≤ i → at part (3 * i) ≡ rowOf w o part i
@@ -225,7 +230,9 @@ module _ {t : List ℕ} {c : ℕ} {w : List ℕ} {o : ℕ} {part₀ : List ℕ} 
   module _ {first count : ℕ} {part : List ℕ} {i : ℕ} (inv : Measuring first count part i) where
     -- their words
     front-size : length (under (between t c (circles# w) first) first (take i run)) ≡ 3 * i
-    front-size = under-long (between t c (circles# w) first) first (take i run) ∙ ap (λ (k : ℕ). 3 * k) (length-take-le i run (omega (arith, inv .upto, inv .counts)))
+    front-size =
+        under-long (between t c (circles# w) first) first (take i run)
+        ∙ ap (λ (k : ℕ). 3 * k) (length-take-le i run (omega (arith, inv .upto, inv .counts)))
 
     -- as long as it was
     pub measuring-long : length part ≡ length part₀

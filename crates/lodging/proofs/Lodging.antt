@@ -94,7 +94,8 @@ module _ {t : List ℕ} {c : ℕ} {w : List ℕ} {o : ℕ} {part₀ : List ℕ} 
         → (last || leb (length part₀ / 3) k) ≡ b → Lodges t c w o last part₀ part′ (cond b 0 4294967295)
     unfolding keptWords
     lodge-kept last {part′} e {k} ek b eb =
-        let size : length (members# w o) ≡ length part₀ / 3 = length-map (run# w o) (λ p. (row# w p, dist# w p)) ∙ range-length (start# w o) (count# w o) ∙ sym same in
+        let size : length (members# w o) ≡ length part₀ / 3 =
+        length-map (run# w o) (λ p. (row# w p, dist# w p)) ∙ range-length (start# w o) (count# w o) ∙ sym same in
         record {
           stands = λ s. subst (λ (l : List ℕ). Stands t c w last (leafPiece d w s o l) part′) (sym none) (
             ap length e ∙ kept-size w (run# w o) ∙ sym (ap (λ (i : ℕ). 3 * i) (length-map (run# w o) (λ p. (row# w p, dist# w p)))),
@@ -108,13 +109,18 @@ module _ {t : List ℕ} {c : ℕ} {w : List ℕ} {o : ℕ} {part₀ : List ℕ} 
   -- its piece by whether a row stands twice
   piece-is : (s : ℕ) → (length part₀ / 3 ≡ count# w o → ⊥)
       → leafPiece d w s o zs
-      ≡ cond (twice all) (settled s (reachTaking (length (members# w o)) (reach# w o) (map (d (head all)) zs)) (map {B = ℕ × ℕ} (λ i. (i, d (head all) i)) all))
+      ≡ cond (twice all) (settled s (reachTaking (length (members# w o)) (reach# w o) (map (d (head all)) zs)) (map {B = ℕ × ℕ} (λ i. (
+        i,
+        d
+            (head all) i,
+      )) all))
       (grown s (reachTaking (length (members# w o)) (reach# w o) (map (d (head all)) zs)) all)
   piece-is s some = go zs refl
     where
       go : (ys : List ℕ) → zs ≡ ys
           → leafPiece d w s o ys
-          ≡ cond (twice (own ++ ys)) (settled s (reachTaking (length (members# w o)) (reach# w o) (map (d (head (own ++ ys))) ys)) (map {B = ℕ × ℕ} (λ i. (i, d (head (own ++ ys)) i)) (own ++ ys)))
+          ≡ cond (twice (own ++ ys)) (settled s (reachTaking (length (members# w o)) (reach# w o) (map (d (head (own ++ ys))) ys)) (map {B = ℕ × ℕ}
+          (λ i. (i, d (head (own ++ ys)) i)) (own ++ ys)))
           (grown s (reachTaking (length (members# w o)) (reach# w o) (map (d (head (own ++ ys))) ys)) (own ++ ys))
       go [] e = absurd (some (omega (arith, new-count T, ap length e)))
       go (z ∷ ys) e =
@@ -125,45 +131,57 @@ module _ {t : List ℕ} {c : ℕ} {w : List ℕ} {o : ℕ} {part₀ : List ℕ} 
           (paired (row# w) (dist# w) (run# w o))
 
   -- a leaf's members, measured
-  members-stand : (last : Bool) {part′ : List ℕ} → part′ ≡ laid d all → (s : ℕ) (R : Reach) → Stands t c w last (settled s R (map {B = ℕ × ℕ} (λ i. (i, d (head all) i)) all)) part′
+  members-stand : (last : Bool) {part′ : List ℕ} → part′ ≡ laid d all → (s : ℕ) (R : Reach)
+      → Stands t c w last (settled s R (map {B = ℕ × ℕ} (λ i. (i, d (head all) i)) all)) part′
   members-stand last e s R = (
     ap length e ∙ laid-long d all ∙ sym (ap (λ (i : ℕ). 3 * i) (length-map all (λ i. (i, d (head all) i)))),
     ap pairsIn e ∙ pairs-under (d (head all)) (head all) all,
   )
 
   -- as many members as rows
-  members-size : (last : Bool) (k : ℕ) → k ≡ l# w → (last || leb (length part₀ / 3) k) ≡ (last || leb (length (map {B = ℕ × ℕ} (λ i. (i, d (head all) i)) all)) (l# w))
+  members-size : (last : Bool) (k : ℕ) → k ≡ l# w
+      → (last || leb (length part₀ / 3) k) ≡ (last || leb (length (map {B = ℕ × ℕ} (λ i. (i, d (head all) i)) all)) (l# w))
   members-size last k ek = ap₂ (λ (i j : ℕ). last || leb i j) (sym (length-map all (λ i. (i, d (head all) i)) ∙ all-long)) ek
 
   module _ (last : Bool) (some : length part₀ / 3 ≡ count# w o → ⊥) {part′ : List ℕ} {mark : ℕ} where
     -- what is to be shown, by that
-    by-piece : ((s : ℕ) (R : Reach) → Stands t c w last (cond (twice all) (settled s R (map {B = ℕ × ℕ} (λ i. (i, d (head all) i)) all)) (grown s R all)) part′)
-        → ((s : ℕ) (R : Reach) → mark ≡ markOf t c w last (cond (twice all) (settled s R (map {B = ℕ × ℕ} (λ i. (i, d (head all) i)) all)) (grown s R all)))
+    by-piece : ((s : ℕ) (R : Reach)
+        → Stands t c w last (cond (twice all) (settled s R (map {B = ℕ × ℕ} (λ i. (i, d (head all) i)) all)) (grown s R all)) part′)
+        → ((s : ℕ) (R : Reach) → mark ≡ markOf t c w last (cond (twice all) (settled s R (map {B = ℕ × ℕ} (λ i. (i, d (head all) i)) all))
+        (grown s R all)))
         → Lodges t c w o last part₀ part′ mark
     by-piece f g =
         record {
-          stands = λ s. subst (λ (q : Piece). Stands t c w last q part′) (sym (piece-is s some)) (f s (reachTaking (length (members# w o)) (reach# w o) (map (d (head all)) zs)));
-          marked = λ s. subst (λ (q : Piece). mark ≡ markOf t c w last q) (sym (piece-is s some)) (g s (reachTaking (length (members# w o)) (reach# w o) (map (d (head all)) zs)));
+          stands =
+              λ s. subst (λ (q : Piece). Stands t c w last q part′) (sym (piece-is s some)) (f s (reachTaking (length (members# w o)) (reach# w o)
+              (map (d (head all)) zs)));
+          marked =
+              λ s. subst (λ (q : Piece). mark ≡ markOf t c w last q) (sym (piece-is s some)) (g s (reachTaking (length (members# w o)) (reach# w o)
+              (map (d (head all)) zs)));
         }
 
     -- it is not to be split, however that may be
-    pub lodge-measured : part′ ≡ laid (between t c (circles# w)) (leafRun w o (newRows w o part₀)) → {k : ℕ} → k ≡ l# w → (last || leb (length part₀ / 3) k) ≡ true
+    pub lodge-measured : part′ ≡ laid (between t c (circles# w)) (leafRun w o (newRows w o part₀)) → {k : ℕ} → k ≡ l# w
+        → (last || leb (length part₀ / 3) k) ≡ true
         → mark ≡ 0 → Lodges t c w o last part₀ part′ mark
     lodge-measured e {k} ek st em = by-piece (λ s R. stand s R (twice all)) (λ s R. marks s R (twice all))
       where
         few : (last || leb (length all) (l# w)) ≡ true
         few = ap₂ (λ (i j : ℕ). last || leb i j) all-long (sym ek) ∙ st
 
-        stand : (s : ℕ) (R : Reach) (b : Bool) → Stands t c w last (cond b (settled s R (map {B = ℕ × ℕ} (λ i. (i, d (head all) i)) all)) (grown s R all)) part′
+        stand : (s : ℕ) (R : Reach) (b : Bool)
+            → Stands t c w last (cond b (settled s R (map {B = ℕ × ℕ} (λ i. (i, d (head all) i)) all)) (grown s R all)) part′
         stand s R true = members-stand last e s R
         stand s R false = e ∙ ap (λ (b : Bool). laid d (cond b all (orderly all))) (sym few)
 
-        marks : (s : ℕ) (R : Reach) (b : Bool) → mark ≡ markOf t c w last (cond b (settled s R (map {B = ℕ × ℕ} (λ i. (i, d (head all) i)) all)) (grown s R all))
+        marks : (s : ℕ) (R : Reach) (b : Bool)
+            → mark ≡ markOf t c w last (cond b (settled s R (map {B = ℕ × ℕ} (λ i. (i, d (head all) i)) all)) (grown s R all))
         marks s R true = em ∙ ap (λ (b : Bool). cond b 0 4294967295) (sym (sym (members-size last k ek) ∙ st))
         marks s R false = em
 
     -- a row stands twice
-    pub lodge-twice : part′ ≡ laid (between t c (circles# w)) (leafRun w o (newRows w o part₀)) → {k : ℕ} → k ≡ l# w → (last || leb (length part₀ / 3) k) ≡ false
+    pub lodge-twice : part′ ≡ laid (between t c (circles# w)) (leafRun w o (newRows w o part₀)) → {k : ℕ} → k ≡ l# w
+        → (last || leb (length part₀ / 3) k) ≡ false
         → twice (leafRun w o (newRows w o part₀)) ≡ true → mark ≡ 4294967295 → Lodges t c w o last part₀ part′ mark
     lodge-twice e {k} ek st tw em =
         by-piece (λ s R. rw tw (members-stand last e s R))
@@ -171,7 +189,8 @@ module _ {t : List ℕ} {c : ℕ} {w : List ℕ} {o : ℕ} {part₀ : List ℕ} 
 
     -- none does, and its rows are in order
     pub lodge-ordered : part′ ≡ laid (between t c (circles# w)) (orderly (leafRun w o (newRows w o part₀))) → {k : ℕ} → k ≡ l# w
-        → (last || leb (length part₀ / 3) k) ≡ false → twice (leafRun w o (newRows w o part₀)) ≡ false → mark ≡ 0 → Lodges t c w o last part₀ part′ mark
+        → (last || leb (length part₀ / 3) k) ≡ false → twice (leafRun w o (newRows w o part₀)) ≡ false → mark ≡ 0
+        → Lodges t c w o last part₀ part′ mark
     lodge-ordered e {k} ek st tw em =
         let many : (last || leb (length all) (l# w)) ≡ false = ap₂ (λ (i j : ℕ). last || leb i j) all-long (sym ek) ∙ st in
         by-piece (λ s R. rw tw (e ∙ ap (λ (b : Bool). laid d (cond b all (orderly all))) (sym many))) (λ s R. rw tw em)

@@ -35,7 +35,8 @@ own-rows a cs more zero h = refl
 own-rows a cs more (suc k) h =
     let one : k + 1 ≡ suc k = omega arith in
     ap₂ (λ (x : List ℕ) (y : ℕ). x ++ y ∷ []) (own-rows a cs more k (omega arith))
-    (ap (λ (i : ℕ). getD (each own (a ∷ cs) ++ more) (3 * i) 0) one ∙ own-read (a ∷ cs) more (suc k) (omega arith)) ∙ sym (take-suc cs k 0 (omega arith))
+    (ap (λ (i : ℕ). getD (each own (a ∷ cs) ++ more) (3 * i) 0) one ∙ own-read (a ∷ cs) more (suc k) (omega arith))
+    ∙ sym (take-suc cs k 0 (omega arith))
 
 module _ (d : ℕ → ℕ → ℕ) where
   -- the first centre stays the first

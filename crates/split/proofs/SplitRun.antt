@@ -264,11 +264,16 @@ module _ {t : List ℕ} {c o m n : ℕ} {room work : List ℕ} {s count made : �
       groups-long : length (groupWords after m s count) ≡ 3 * count
       groups-long =
           ap length groups-are
-          ∙ among-words-long d m early run (asked .share) some (omega (arith, run-long, within)) (omega (arith, run-long, asked .share, asked .centred), asked .once)
+          ∙ among-words-long d m early run (asked .share) some (omega (arith, run-long, within)) (
+            omega
+                (arith, run-long, asked .share, asked .centred),
+            asked .once,
+          )
           ∙ ap (λ (k : ℕ). 3 * k) run-long
 
       -- they can be shared out
-      pub share-ready : Sharable room (putMid (3 * s) (3 * s + 3 * count - 3 * s) (putMid (3 * s) (3 * s + 3 * early - 3 * s) work ys) zs) n m s count made
+      pub share-ready : Sharable room (putMid (3 * s) (3 * s + 3 * count - 3 * s) (putMid (3 * s)
+          (3 * s + 3 * early - 3 * s) work ys) zs) n m s count made
       share-ready =
           rw after-is
           record {
@@ -281,7 +286,8 @@ module _ {t : List ℕ} {c o m n : ℕ} {room work : List ℕ} {s count made : �
           }
 
       -- ---- shared out to the second half, and copied back
-      module _ {room′ work₂ work₃ : List ℕ} (shared′ : Shared room (putMid (3 * s) (3 * s + 3 * count - 3 * s) (putMid (3 * s) (3 * s + 3 * early - 3 * s) work ys) zs) n m s count made
+      module _ {room′ work₂ work₃ : List ℕ} (shared′ : Shared room (putMid (3 * s) (3 * s + 3 * count - 3 * s) (putMid (3 * s)
+          (3 * s + 3 * early - 3 * s) work ys) zs) n m s count made
           room′ work₂)
           (copied : work₃ ≡ take (3 * s) work₂ ++ (stretch work₂ (3 * s + 3 * n) (3 * s + 3 * count + 3 * n) ++ drop (3 * s + 3 * count) work₂)) where
         -- the same over the workspace as it is named here
@@ -352,6 +358,9 @@ split-all {t} {c} {o} {m} {n} {room} {work} {s} {count} {made} asked got =
     let same : splitAmong (between t c o) m count run ≡ split (between t c o) m run =
     among-all (between t c o) m count run (sym (run-long asked (asked .centred) (omega arith))) in
     record {
-      words = got .words ∙ ap (λ (x : List (List ℕ)). take (3 * s) work ++ (each (laid (between t c o)) x ++ stretch work (3 * s + 3 * count) (3 * n))) same;
-      nodes = got .nodes ∙ ap (λ (x : List (List ℕ)). take (nodeAt made) room ++ (runNodes (between t c o) s x ++ drop (nodeAt (made + m)) room)) same;
+      words =
+          got .words ∙ ap (λ (x : List (List ℕ)). take (3 * s) work ++ (each (laid (between t c o)) x ++ stretch work (3 * s + 3 * count)
+          (3 * n))) same;
+      nodes =
+          got .nodes ∙ ap (λ (x : List (List ℕ)). take (nodeAt made) room ++ (runNodes (between t c o) s x ++ drop (nodeAt (made + m)) room)) same;
     }

@@ -62,7 +62,8 @@ pub record SplitAmong (t : List ℕ) (c o m early n : ℕ) (room work : List ℕ
       ≡ take (nodeAt made) room
       ++ (runNodes (between t c o) s (splitAmong (between t c o) m early (runAt work s count)) ++ drop (nodeAt (made + m)) room)
 
--- where they may be any of its rows: its words are now those of its children's runs, whose nodes stand from `made` on; the rest of the first half is as it was
+-- where they may be any of its rows: its words are now those of its children's runs, whose nodes stand from `made` on; the rest of the first half is
+-- as it was
 pub record Splitted (t : List ℕ) (c o m n : ℕ) (room work : List ℕ) (s count made : ℕ) (room′ work′ : List ℕ) : Type 0 where
   pub words : take (3 * n) work′
       ≡ take (3 * s) work ++ (each (laid (between t c o)) (split (between t c o) m (runAt work s count)) ++ stretch work (3 * s + 3 * count) (3 * n))

@@ -1,7 +1,8 @@
 -- `dealing::mark_rows` meets its contract: the rows before word p are marked (`Marking`).
 -- Assumes nothing.
 use Prim.Native.Nat.{_-_}
-use Rattle.dealing.proofs.Marking.{Marking, marking-done, marking-fits, marking-kid, marking-lent, marking-long, marking-measured, marking-room, marking-start, marking-step}
+use Rattle.dealing.proofs.Marking.{Marking, marking-done, marking-fits, marking-kid, marking-lent}
+use Rattle.dealing.proofs.Marking.{marking-long, marking-measured, marking-room, marking-start, marking-step}
 use Rattle.dealing.proofs.mark_rows.Statement.{statement}
 use Rattle.dealing.proofs.mark_rows.Tie as tie
 use Rattle.dealing.specs.Marked.{Marks}
@@ -113,7 +114,8 @@ loop-again c =
     let k = f .before in
     let z = k .before in
     let l = z .before .before .before in
-    λ T. marking-step T (l .loop .inv T) _ (omega arith) (z .word .ensures .0) (k .closest-child .ensures .0) (l .before .before .node-child .ensures .0)
+    λ T. marking-step T (l .loop .inv T) _ (omega arith) (z .word .ensures .0) (k .closest-child .ensures .0)
+    (l .before .before .node-child .ensures .0)
     (f .node-first .ensures .0) (l .before .circles .ensures) (x .row-distance .ensures .0) (e .put-entry .ensures)
 
 same-length : tie.Need-same-length Inv-loop μ-loop

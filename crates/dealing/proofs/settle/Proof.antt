@@ -38,7 +38,8 @@ returns-2 : tie.Need-returns-2
 returns-2 c =
     let k = c .before .before .before .before in
     let T = k .before .before .before .before .before .before .pre in
-    settle-leaf T _ (k .before .before .node-child .ensures .0) (k .before .if1 .left) (k .columns .ensures .0) (search needs) (c .before .before .lodge .ensures)
+    settle-leaf T _ (k .before .before .node-child .ensures .0) (k .before .if1 .left) (k .columns .ensures .0) (search needs)
+    (c .before .before .lodge .ensures)
 
 pub settle-spec : {M : Type 1} → statement M
 settle-spec =

@@ -30,7 +30,8 @@ nearer-requires c κs =
     (s .before .before .before .pre .0, r .0, r .1)
 
 loop-again : tie.Need-loop-again Inv-loop μ-loop
-loop-again c = informing-step (c .before .before .before .before .before .before .loop .inv) _ (search needs) refl (c .before .before .nearer .ensures)
+loop-again c =
+    informing-step (c .before .before .before .before .before .before .loop .inv) _ (search needs) refl (c .before .before .nearer .ensures)
 
 returns : tie.Need-returns Inv-loop μ-loop
 returns c = informing-done (c .before .loop .inv) (search needs)
