@@ -23,7 +23,7 @@ pub fn least_of(k: usize, low: u32, d: u32) -> u32
 }
 
 // Writes from word `to` on those of the entries from lo to hi whose centre is `centre`.
-fn pick(work: &mut [u32], lo: usize, hi: usize, centre: u32, to: usize) -> Group
+pub fn pick(work: &mut [u32], lo: usize, hi: usize, centre: u32, to: usize) -> Group
     requires { ⌜ Picking (now work) lo hi centre to ⌝ }
     ensures { λ r. ⌜ Picked (now (work .entry)) lo hi centre to (now (work .exit)) (r .count) (r .radius) (r .inner) ⌝ }
 {

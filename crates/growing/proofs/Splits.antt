@@ -6,7 +6,8 @@ use Rattle.growing.specs.Levels.{leafNode, placed}
 use Rattle.growing.specs.Stages.{Fit, Openable, Opened, Tiled}
 use Rattle.laws.specs.Lists.{each, joined}
 use Rattle.measure.specs.Table.{between}
-use Rattle.split.specs.Runs.{Splittable, Splitted, laid, runAt, runNodes}
+use Rattle.split.proofs.SplitRun.{split-all}
+use Rattle.split.specs.Runs.{SplitAmong, Splittable, Splitted, laid, runAt, runNodes}
 use Rattle.tree.specs.Build.{split}
 use Rattle.tree.specs.Encode.{nodeWords}
 use Rattle.split.specs.Places.{count#, nodeAt, start#}
@@ -88,6 +89,6 @@ module _ {t : List ℕ} {c o m l n : ℕ} {room work : List ℕ} {k made : ℕ} 
       }
 
   -- its children are the nodes from `made` on
-  pub open-done : {room′ work′ : List ℕ} → Splitted t c o m n (set room (nodeAt k + 2) made) work s count made room′ work′
+  pub open-done : {room′ work′ : List ℕ} → SplitAmong t c o m count n (set room (nodeAt k + 2) made) work s count made room′ work′
       → Opened t c o m l n room work k made room′ work′ (made + m)
-  open-done got = record { stays = λ h. absurd (omega arith); splits = λ h. (refl, rw (start, size) at got) }
+  open-done got = record { stays = λ h. absurd (omega arith); splits = λ h. (refl, rw (start, size) at (split-all open-ready got)) }

@@ -91,7 +91,7 @@ pub fn open_node(
         return made;
     }
     room[HEADER + WIDTH * k + 2] = made as u32;
-    split_run(table, c, circles, m, n, room, work, s, count, made);
+    split_run(table, c, circles, m, count, n, room, work, s, count, made);
     made + m
 }
 

@@ -1,8 +1,8 @@
 -- Laws of whole entries: the first of them, one taken out, what they learn, and the one chosen next. Assumes nothing.
-use Prim.Native.Nat.{_%_, _+_, _<_, _≤_, suc, zero, ℕ}
-use Rattle.rounds.specs.Entries.{Entries, ahead, allBut, far, nearAll, next, others}
+use Prim.Native.Nat.{_%_, _*_, _+_, _-_, _<_, _≤_, suc, zero, ℕ}
+use Rattle.rounds.specs.Entries.{Entries, ahead, allBut, far, nearAll, next, others, roundsOf}
 use lib.ListN.{drop, getD, length, length-append, length-drop, take}
-use lib.Seq.{length-take-le}
+use lib.Seq.{drop-nil, length-take-le}
 use mathlib.Core.Bool.{Bool, cond, false, true}
 use mathlib.Core.List.{List, [], _++_, _∷_}
 use mathlib.Core.Path.{_≡_, refl}
@@ -44,6 +44,17 @@ but-entries P (i ∷ x ∷ a ∷ es) (suc (suc (suc b))) e w h =
     let up : suc (suc (suc b)) + 3 ≡ suc (suc (suc (b + 3))) = omega arith in
     rw up ((e .0, r .0), r .1)
 
+-- the entries behind the first k
+pub entries-behind : (P : ℕ → Type 0) (k : ℕ) (es : List ℕ) → Entries P es → Entries P (drop (3 * k) es)
+unfolding Entries
+entries-behind P zero es e = e
+entries-behind P (suc k) [] e = rw drop-nil tt
+entries-behind P (suc k) (i ∷ []) e = absurd e
+entries-behind P (suc k) (i ∷ x ∷ []) e = absurd e
+entries-behind P (suc k) (i ∷ x ∷ a ∷ es) e =
+    let up : 3 * suc k ≡ suc (suc (suc (3 * k))) = omega arith in
+    rw up (entries-behind P k es (e .1))
+
 -- ---- entries that learn of a centre
 -- the first entry learns by itself, and stays three words
 pub near-front : (d : ℕ → ℕ → ℕ) (j : ℕ) (es : List ℕ) → 3 ≤ length es
@@ -55,7 +66,7 @@ near-front d j (i ∷ x ∷ []) h = absurd (omega arith)
 near-front d j (i ∷ x ∷ a ∷ es) h = (refl, refl)
 
 -- entries that learn of a centre keep their rows
-near-entries : (P : ℕ → Type 0) (d : ℕ → ℕ → ℕ) (j : ℕ) (es : List ℕ) → Entries P es
+pub near-entries : (P : ℕ → Type 0) (d : ℕ → ℕ → ℕ) (j : ℕ) (es : List ℕ) → Entries P es
     → Entries P (nearAll d j es) × (length (nearAll d j es) ≡ length es)
 unfolding Entries nearAll
 near-entries P d j [] e = (tt, refl)
@@ -93,3 +104,30 @@ others-entries P d es e h =
       n .0,
       omega (arith, n .1, length-append (take b es) (drop (b + 3) es), length-take-le b es (omega arith), length-drop (b + 3) es),
     )
+
+-- ---- after the rounds
+-- so are k rounds
+rounds-left : (P : ℕ → Type 0) (d : ℕ → ℕ → ℕ) (k : ℕ) (es : List ℕ) → Entries P es → 3 * k ≤ length es → Entries P (roundsOf d k es)
+unfolding Entries roundsOf
+rounds-left P d zero es e h = e
+rounds-left P d (suc k) es e h =
+    let f = far-place P es e (omega arith) in
+    let o = others-entries P d es e (omega arith) in
+    (but-entries P es (far es) e (f .1) (f .0) .1, rounds-left P d k (others d es) (o .0) (omega (arith, o .1)))
+
+-- a run's entries are entries still
+pub rounds-entries : (P : ℕ → Type 0) (d : ℕ → ℕ → ℕ) (m : ℕ) (es : List ℕ) → 1 ≤ m → 3 * m ≤ length es → Entries P es
+    → Entries P (take 3 es ++ roundsOf d (m - 1) (drop 3 es))
+unfolding Entries
+rounds-entries P d m [] h l e = absurd (omega arith)
+rounds-entries P d m (i ∷ []) h l e = absurd e
+rounds-entries P d m (i ∷ x ∷ []) h l e = absurd e
+rounds-entries P d m (i ∷ x ∷ a ∷ es) h l e = (e .0, rounds-left P d (m - 1) es (e .1) (omega arith))
+
+-- entries behind entries
+pub entries-append : (P : ℕ → Type 0) (es fs : List ℕ) → Entries P es → Entries P fs → Entries P (es ++ fs)
+unfolding Entries
+entries-append P [] fs e f = f
+entries-append P (i ∷ []) fs e f = absurd e
+entries-append P (i ∷ x ∷ []) fs e f = absurd e
+entries-append P (i ∷ x ∷ a ∷ es) fs e f = (e .0, entries-append P es fs (e .1) f)

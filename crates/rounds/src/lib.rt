@@ -30,7 +30,7 @@ fn nearer_one(table: &[u16], c: usize, circles: u32, centre: u32, entry: &mut [u
 }
 
 // The same for every entry.
-fn nearer(table: &[u16], c: usize, circles: u32, centre: u32, part: &mut [u32])
+pub fn nearer(table: &[u16], c: usize, circles: u32, centre: u32, part: &mut [u32])
     requires { ⌜ (c ≤ maxColumns) × InTable (now table) c centre × Entries (InTable (now table) c) (now part) ⌝ }
     ensures { λ _. ⌜ now (part .exit) ≡ nearAll (between (now (table .entry)) c circles) centre (now (part .entry)) ⌝ }
 {

@@ -111,7 +111,7 @@ module _ (d : ℕ → ℕ → ℕ) where
       ∙ rounds-held k a (cs ++ j ∷ []) (without j is) (omega (arith, without-length j is))
 
   -- a run's entries, while its first is the only centre
-  laid-held : (a : ℕ) (is : List ℕ) → each (λ i. i ∷ d a i ∷ a ∷ []) is ≡ each (held d (a ∷ [])) is
+  pub laid-held : (a : ℕ) (is : List ℕ) → each (λ i. i ∷ d a i ∷ a ∷ []) is ≡ each (held d (a ∷ [])) is
   laid-held a [] = refl
   laid-held a (i ∷ is) = ap₂ (λ (x : ℕ) (l : List ℕ). i ∷ x ∷ a ∷ l) (sym (nearness-closest d (a ∷ []) i (omega arith))) (laid-held a is)
 

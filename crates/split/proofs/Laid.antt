@@ -1,6 +1,7 @@
 -- Entries of rows that have one centre: how many words, what they say, and the rows read back; runs that follow each other. Assumes nothing.
 use Prim.Native.Nat.{_*_, _≤_, max, suc, ℕ}
 use Rattle.groups.specs.Groups.{distances, size, widest}
+use Rattle.laws.proofs.Joins.{each-append}
 use Rattle.laws.proofs.Lists.{tally-length}
 use Rattle.laws.specs.Every.{Every}
 use Rattle.laws.specs.Lists.{each, greatest, head, joined}
@@ -12,7 +13,7 @@ use Rattle.tree.proofs.Grow.{split-tally}
 use Rattle.tree.specs.Build.{Run, split}
 use lib.ListN.{length, length-append}
 use mathlib.Core.Bool.{true}
-use mathlib.Core.List.{List, [], _∷_, map}
+use mathlib.Core.List.{List, [], _++_, _∷_, map}
 use mathlib.Core.Path.{_∙_, _≡_, ap, refl, sym}
 use native.Mathlib.Omega.{arith}
 
@@ -60,6 +61,10 @@ pub under-rows : (f : ℕ → ℕ) (a : ℕ) (xs : List ℕ) → rows (under f a
 unfolding rows
 under-rows f a [] = refl
 under-rows f a (x ∷ xs) = ap (λ (ys : List ℕ). x ∷ ys) (under-rows f a xs)
+
+-- the entries of two lists of rows
+pub under-append : (f : ℕ → ℕ) (a : ℕ) (xs ys : List ℕ) → under f a (xs ++ ys) ≡ under f a xs ++ under f a ys
+under-append f a xs ys = each-append (λ i. i ∷ f i ∷ a ∷ []) xs ys
 
 module _ (d : ℕ → ℕ → ℕ) where
   -- a run's entries have three words a row

@@ -1,18 +1,16 @@
--- The groups of the words that the rounds leave are the runs of 01's `split`. Assumes nothing.
+-- The groups of the words that the rounds leave are the runs of the centres. Assumes nothing.
 use Prim.Native.Nat.{_*_, _+_, _-_, _≤_, ℕ}
 use Rattle.groups.specs.Groups.{distances, group, narrowest, picked, size, widest}
 use Rattle.laws.specs.Lists.{each, keep, lowest}
 use Rattle.rounds.specs.Entries.{own}
 use Rattle.split.proofs.Closest.{held, nearness-closest}
-use Rattle.split.proofs.Held.{chosen, chosenWords, unchosen}
 use Rattle.split.proofs.Laid.{under, under-distances, under-size, under-widest}
 use Rattle.split.specs.Runs.{laid, runNodes}
 use Rattle.split.specs.Shares.{centres, groupNodes, groupWords, shared, sharedNodes, waiting}
-use Rattle.tree.proofs.Grow.{split-length}
-use Rattle.tree.specs.Build.{closest, innerReach, nearness, radius, split}
+use Rattle.tree.specs.Build.{closest, innerReach, nearness, radius}
 use borrow.Author.Tests.{eqb-true}
 use lib.Dec.{eqb}
-use lib.ListN.{drop, getD, length, length-append, length-map, take}
+use lib.ListN.{drop, getD, length, length-append, take}
 use lib.Seq.{drop-at, drop-drop, getD-drop, take-at}
 use mathlib.Core.Bool.{Bool, cond, false, true}
 use mathlib.Core.List.{List, [], _++_, _∷_, append-assoc, map}
@@ -20,11 +18,11 @@ use mathlib.Core.Path.{_∙_, _≡_, ap, ap₂, refl, sym}
 use native.Mathlib.Omega.{arith}
 
 -- the rows of is that join centre a, where cs are the centres
-abbrev joining : (ℕ → ℕ → ℕ) → List ℕ → ℕ → List ℕ → List ℕ
+abbrev pub joining : (ℕ → ℕ → ℕ) → List ℕ → ℕ → List ℕ → List ℕ
 joining d cs a is = keep (λ i. eqb (closest d cs i) a) is
 
 -- the run of centre a
-abbrev runOf : (ℕ → ℕ → ℕ) → List ℕ → List ℕ → ℕ → List ℕ
+abbrev pub runOf : (ℕ → ℕ → ℕ) → List ℕ → List ℕ → ℕ → List ℕ
 runOf d cs is a = a ∷ joining d cs a is
 
 -- ---- the rows is wait, and cs are the centres
@@ -81,34 +79,16 @@ centres-own w p (a ∷ cs) more e =
     ap (λ (k : ℕ). getD w k 0) (omega arith) ∙ sym (getD-drop p w 0 0) ∙ ap (λ (l : List ℕ). getD l 0 0) e in
     ap₂ (λ (x : ℕ) (l : List ℕ). x ∷ l) r (centres-own w (p + 3) cs more (sym (drop-drop 3 p w) ∙ ap (drop 3) e))
 
--- THE GROUPS OF A RUN'S WORDS AFTER THE ROUNDS
-module _ (d : ℕ → ℕ → ℕ) (zeroed : (i : ℕ) → d i i ≡ 0) (w : List ℕ) (m s count : ℕ) (run more : List ℕ) (one : 1 ≤ m) (few : m ≤ count)
-    (here : drop (3 * s) w ≡ chosenWords d m run ++ more) (long : length (chosenWords d m run) ≡ 3 * count) where
-  -- the centres
-  cs : List ℕ
-  cs = chosen d m run
-
-  -- the rows that wait
-  is : List ℕ
-  is = unchosen d m run
-
-  -- the runs of `split` are those of these centres
-  split-is : split d m run ≡ map (runOf d cs is) cs
-  unfolding cs is split
-  split-is = refl
-
-  -- there are m centres
-  cs-long : length cs ≡ m
-  cs-long = sym (length-map cs (runOf d cs is)) ∙ ap length (sym split-is) ∙ split-length d m m one (omega arith) run
-
+-- THE GROUPS OF A RUN'S WORDS AFTER THE ROUNDS: cs are its centres, and is its other rows
+module _ (d : ℕ → ℕ → ℕ) (zeroed : (i : ℕ) → d i i ≡ 0) (w : List ℕ) (m s count : ℕ) (cs is more : List ℕ) (one : 1 ≤ m) (few : m ≤ count)
+    (cs-long : length cs ≡ m) (here : drop (3 * s) w ≡ (each own cs ++ each (held d cs) is) ++ more)
+    (long : length (each own cs ++ each (held d cs) is) ≡ 3 * count) where
   -- the centres' words, then those that wait
   opened : drop (3 * s) w ≡ each own cs ++ (each (held d cs) is ++ more)
-  unfolding cs is
   opened = here ∙ append-assoc (each own cs) (each (held d cs) is) more
 
   -- which are all words but the centres'
   is-long : 3 * m + length (each (held d cs) is) ≡ 3 * count
-  unfolding cs is
   is-long = omega (arith, long, length-append (each own cs) (each (held d cs) is), own-long cs, cs-long)
 
   -- the centres are read
@@ -126,10 +106,9 @@ module _ (d : ℕ → ℕ → ℕ) (zeroed : (i : ℕ) → d i i ≡ 0) (w : Lis
       ap₂ (λ (x : ℕ) (l : List ℕ). take x l) k back ∙ take-at (each (held d cs) is) more (length (each (held d cs) is)) refl
 
   -- their words are those of the children's runs
-  pub group-words : groupWords w m s count ≡ each (laid d) (split d m run)
-  group-words = ap₂ shared waiting-is centres-are ∙ shared-laid d zeroed cs (omega (arith, cs-long)) is cs ∙ ap (each (laid d)) (sym split-is)
+  pub group-words : groupWords w m s count ≡ each (laid d) (map (runOf d cs is) cs)
+  group-words = ap₂ shared waiting-is centres-are ∙ shared-laid d zeroed cs (omega (arith, cs-long)) is cs
 
   -- and their nodes are those of the runs
-  pub group-nodes : groupNodes w m s count ≡ runNodes d s (split d m run)
-  group-nodes =
-      ap₂ (sharedNodes s) waiting-is centres-are ∙ nodes-laid d zeroed cs (omega (arith, cs-long)) is s cs ∙ ap (runNodes d s) (sym split-is)
+  pub group-nodes : groupNodes w m s count ≡ runNodes d s (map (runOf d cs is) cs)
+  group-nodes = ap₂ (sharedNodes s) waiting-is centres-are ∙ nodes-laid d zeroed cs (omega (arith, cs-long)) is s cs

@@ -22,13 +22,14 @@ returns c =
 split-run-requires : tie.Need-split-run-requires
 split-run-requires c κs =
     let k = c .before .before .before in
-    open-ready (start k .pre) (k .before .before .word .ensures .0) (k .word2 .ensures .0) (search needs)
+    let r = open-ready (start k .pre) (k .before .before .word .ensures .0) (k .word2 .ensures .0) (search needs) in
+    (r, (r .centred, omega arith))
 
 same-length-2 : tie.Need-same-length-2
 same-length-2 c =
     let r = c .before .before .before .before in
     let a = start (r .before .before .before .before) .args in
-    let l : length (r .split-run .last .1 .1 .1 .1 .1 .0) ≡ length (set (a .room .now) (nodeAt (a .k) + 2) (a .made)) = search needs in
+    let l : length (r .split-run .last .1 .1 .1 .1 .1 .1 .0) ≡ length (set (a .room .now) (nodeAt (a .k) + 2) (a .made)) = search needs in
     l ∙ length-set (a .room .now) (nodeAt (a .k) + 2) (a .made)
 
 returns-2 : tie.Need-returns-2

@@ -1,0 +1,5 @@
+pub mod Marking
+pub mod Reaches
+pub mod Settling
+pub mod Kids
+pub mod Children
