@@ -174,7 +174,7 @@ query-there long c k s h = omega (arith, row-ends c (long / c) k h, mul-div-le l
 pub fit-lent : {w t : List ℕ} {c : ℕ} {qs how marks : List ℕ} → Fit w t c qs how marks → {q how₁ : List ℕ} → length q ≡ c → length how₁ ≡ length how
     → Lent w t c q how₁
 fit-lent F e l =
-    record { tested = F .tested; query = e; how = omega (arith, F .bytes) }
+    record { tested = F .tested; query = e; how = λ some. omega (arith, F .bytes) }
 
 -- k of the queries are searched for
 pub record Going (w t : List ℕ) (c : ℕ) (qs : List ℕ) (r : ℕ) (s how₀ marks₀ : List ℕ) (n asked : ℕ) (how marks : List ℕ) (in# met k : ℕ) : Type 0 where

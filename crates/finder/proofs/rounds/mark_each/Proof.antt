@@ -31,14 +31,15 @@ row-of-requires : tie.Need-row-of-requires Inv-loop μ-loop
 row-of-requires c κs =
     query-there _ _ _ (c .before .loop .inv .fit .some) (omega arith)
 
-search-requires : tie.Need-search-requires Inv-loop μ-loop
-search-requires c κs =
-    fit-lent (c .before .before .before .loop .inv .fit) (c .before .row-of .ensures .1) (c .before .before .before .loop .inv .bytes)
+mark-one-requires : tie.Need-mark-one-requires Inv-loop μ-loop
+mark-one-requires c κs =
+    let l = c .before .before .before .loop in
+    (fit-lent (l .inv .fit) (c .before .row-of .ensures .1) (l .inv .bytes), omega (arith, l .inv .fit .bytes, l .inv .bytes))
 
 measured-rows-requires : tie.Need-measured-rows-requires Inv-loop μ-loop
 measured-rows-requires c κs =
     let l = c .before .before .before .before .before .before .before .loop in
-    omega (arith, l .inv .fit .bytes, l .inv .bytes, l .inv .rows, c .before .before .before .search .kept .1 .1 .1 .1 .1 .1 .0)
+    omega (arith, l .inv .fit .bytes, l .inv .bytes, l .inv .rows, c .before .before .before .mark-one .kept .1 .1 .1 .1 .1 .1 .0)
 
 add-measured : tie.Need-add-measured Inv-loop μ-loop
 add-measured c =
@@ -49,7 +50,7 @@ add-measured c =
 join-requires : tie.Need-join-requires Inv-loop μ-loop
 join-requires c κs =
     let l = c .before .before .before .before .before .before .before .before .before .before .loop in (
-      omega (arith, l .inv .fit .bytes, l .inv .bytes, l .inv .rows, c .before .before .before .before .before .before .search .kept .1 .1 .1 .1 .1 .1 .0),
+      omega (arith, l .inv .fit .bytes, l .inv .bytes, l .inv .rows, c .before .before .before .before .before .before .mark-one .kept .1 .1 .1 .1 .1 .1 .0),
       omega (arith, l .inv .fit .room, l .inv .room, l .inv .rows),
     )
 
@@ -63,7 +64,7 @@ loop-again : tie.Need-loop-again Inv-loop μ-loop
 loop-again c =
     let l = c .before .before .before .before .before .before .before .before .before .before .before .before .before .loop in
     let found = c .before .before .join .ensures in
-    going-next (l .inv) (omega arith) (c .before .before .before .before .before .before .before .before .before .before .before .row-of .ensures .0) (c .before .before .before .before .before .before .before .before .before .search .ensures) (c .before .before .before .before .before .measured-rows .ensures .0) (found .0) (found .1)
+    going-next (l .inv) (omega arith) (c .before .before .before .before .before .before .before .before .before .before .before .row-of .ensures .0) (c .before .before .before .before .before .before .before .before .before .mark-one .ensures) (c .before .before .before .before .before .measured-rows .ensures .0) (found .0) (found .1)
     (found .2)
 
 same-length : tie.Need-same-length Inv-loop μ-loop
@@ -88,7 +89,7 @@ mark-each-spec =
     div-asked
     loop-holds
     row-of-requires
-    search-requires
+    mark-one-requires
     measured-rows-requires
     add-measured
     join-requires
