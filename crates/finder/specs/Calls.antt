@@ -18,8 +18,8 @@ abbrev pub leafRows : ℕ
 leafRows = 1_024
 
 -- ---- marking
--- the set o of circles; the queries qs and r that are asked about, and the set s of rows withdrawn; room, workspace, how-bytes and marks before and after; the number and the two counts. The index of the
--- table is built into the room; the number of the build is `made`
+-- the set o of circles; the queries qs and r that are asked about, and the set s of rows withdrawn; room, workspace, how-bytes and marks before and
+-- after; the number and the two counts. The index of the table is built into the room; the number of the build is `made`
 pub record Near (t : List ℕ) (c o : ℕ) (qs : List ℕ) (r : ℕ) (s room room′ work work′ how how′ marks marks′ : List ℕ) (number in# met : ℕ) : Type 0 where
   pub made : ℕ
   pub words : ℕ
@@ -35,8 +35,8 @@ pub record Near (t : List ℕ) (c o : ℕ) (qs : List ℕ) (r : ℕ) (s room roo
   pub asked : number ≡ 0 → Asked t c (take words room′) qs r s (rowsOf qs c) how how′ marks marks′ in# met
 
 -- ---- finding
--- the set o of circles; the query q and how many are wanted, and the set s of rows withdrawn; room, workspace, how-bytes, rows and distances before and after; the number and the counts. The index is built
--- as for marking, and leaves the workspace `cleared`
+-- the set o of circles; the query q and how many are wanted, and the set s of rows withdrawn; room, workspace, how-bytes, rows and distances before
+-- and after; the number and the counts. The index is built as for marking, and leaves the workspace `cleared`
 pub record Finds (t : List ℕ) (c o : ℕ) (q : List ℕ) (w : ℕ) (s room room′ work work′ how how′ rs rs′ ds ds′ : List ℕ) (number given met : ℕ) : Type 0 where
   pub made : ℕ
   pub words : ℕ

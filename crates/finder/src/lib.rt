@@ -52,8 +52,8 @@ pub fn mark_near(
     how: &mut [u8],
     marks: &mut [u8],
 ) -> Found
-    ensures { λ f. ⌜ Near (now (table .entry)) c circles (now (queries .entry)) r (now (withdrawn .entry)) (now (room .entry)) (now (room .exit)) (now (work .entry))
-        (now (work .exit)) (now (how .entry)) (now (how .exit)) (now (marks .entry)) (now (marks .exit)) (f .number) (f .inside) (f .measured) ⌝ }
+    ensures { λ f. ⌜ Near (now (table .entry)) c circles (now (queries .entry)) r (now (withdrawn .entry)) (now (room .entry)) (now (room .exit))
+        (now (work .entry)) (now (work .exit)) (now (how .entry)) (now (how .exit)) (now (marks .entry)) (now (marks .exit)) (f .number) (f .inside) (f .measured) ⌝ }
 {
     let built = build::build(
         table,
@@ -95,8 +95,8 @@ pub fn find_nearest(
     rows: &mut [u32],
     distances: &mut [u32],
 ) -> Given
-    ensures { λ g. ⌜ Finds (now (table .entry)) c circles (now (query .entry)) w (now (withdrawn .entry)) (now (room .entry)) (now (room .exit)) (now (work .entry))
-        (now (work .exit)) (now (how .entry)) (now (how .exit)) (now (rows .entry)) (now (rows .exit)) (now (distances .entry))
+    ensures { λ g. ⌜ Finds (now (table .entry)) c circles (now (query .entry)) w (now (withdrawn .entry)) (now (room .entry)) (now (room .exit))
+        (now (work .entry)) (now (work .exit)) (now (how .entry)) (now (how .exit)) (now (rows .entry)) (now (rows .exit)) (now (distances .entry))
         (now (distances .exit)) (g .number) (g .given) (g .measured) ⌝ }
 {
     let built = build::build(

@@ -19,7 +19,8 @@ said (f ∷ fs) = f
 abbrev pub fault : ℕ → Bool → List Said
 fault k b = cond b ((k, 0, 0) ∷ []) []
 
--- every refusal that numbers decide: 1 the columns, 2 m, l, the circles or the edition, 3 and 4 the table's length, 5 a lent room, 6 the query's length, 7 none wanted
+-- every refusal that numbers decide: 1 the columns, 2 m, l, the circles or the edition, 3 and 4 the table's length, 5 a lent room, 6 the query's
+-- length, 7 none wanted
 unfoldable pub numberFaults : Asked → List Said
 numberFaults a =
     fault 1 (not (columnsOk (a .columns)))
