@@ -82,7 +82,8 @@ said (found w k p p′) = checks five w k p p′
 -- an entry comes out as it says
 unfoldable pub holds : Entry → Bool
 unfolding sumTo numberFaults l1 between cardOk headerOk wholeOk wordsOk born level tile nodeOk shapeOk fitFaults offCircle circleFaults
-    callFaults bitOf setBad again wrongDist wrongRadius wrongInner strays faults rotate step checkFrom checkWord window saidBuild saidCheck saidRadius saidNearest right checks said
+    callFaults bitOf setBad again wrongDist wrongRadius wrongInner strays faults rotate step checkFrom checkWord window
+    saidBuild saidCheck saidRadius saidNearest right checks said
 holds (means k) = right k && said k
 holds (block b ws s) = eqb (checkWord b (window ws 0 127)) s
 holds (check w k p p′) = checks five w k p p′

@@ -53,7 +53,8 @@ pub fn mark_near(
     marks: &mut [u8],
 ) -> Found
     ensures { λ f. ⌜ Near (now (table .entry)) c circles (now (queries .entry)) r (now (withdrawn .entry)) (now (room .entry)) (now (room .exit))
-        (now (work .entry)) (now (work .exit)) (now (how .entry)) (now (how .exit)) (now (marks .entry)) (now (marks .exit)) (f .number) (f .inside) (f .measured) ⌝ }
+        (now (work .entry)) (now (work .exit)) (now (how .entry)) (now (how .exit)) (now (marks .entry)) (now (marks .exit))
+        (f .number) (f .inside) (f .measured) ⌝ }
 {
     let built = build::build(
         table,

@@ -249,12 +249,9 @@ module _ {M : Type 1} (𝓤 : URA M) (H : Heap 𝓤) (A : Atoms 𝓤) (W : Given
         ∷ ‵ (owns (ShrSlice (named 0) κ₀ u16 ∷ u32 ∷ ShrSlice (named 1) κ₂ u32 ∷ ShrSlice (named 2) κ₃ u16 ∷ u32 ∷ ShrSlice (named 3) κ₅ u32 ∷ MutSlice (named 4) κ₆ S.the-row ∷ MutSlice (named 5) κ₇ u32 ∷ MutSlice (named 6) κ₈ u32 ∷ MutSlice (named 7) κ₉ u8 ∷ MutSlice (named 8) κ₁₀ u32 ∷ []) a vals) ∷ []) ∵
         enter ! C Λ code.function (s₀ ∷ vint w32 n₁ ∷ s₂ ∷ s₃ ∷ vint w32 n₄ ∷ s₅ ∷ s₆ ∷ s₇ ∷ s₈ ∷ s₉ ∷ s₁₀ ∷ []) _ $
         alloc1 ! (λ l₀. alloc1 ! (λ l₁. alloc1 ! (λ l₂. alloc1 ! (λ l₃. alloc1 ! (λ l₄. alloc1 ! (λ l₅. alloc1 ! (λ l₆. alloc1 ! (λ l₇. alloc1 ! (λ l₈. alloc1 ! (λ l₉. alloc1 ! (λ l₁₀.
-        alloc1 ! (λ l₁₁. alloc1 ! (λ l₁₂. alloc1 ! (λ l₁₃. alloc1 ! (λ l₁₄. alloc1 ! (λ l₁₅. alloc1 ! (λ l₁₆. alloc1 ! (λ l₁₇. alloc1 ! (λ l₁₈. alloc1 ! (λ l₁₉. alloc1 ! (λ l₂₀.
-        alloc1 ! (λ l₂₁. alloc1 ! (λ l₂₂. alloc1 ! (λ l₂₃. alloc1 ! (λ l₂₄. alloc1 ! (λ l₂₅. alloc1 ! (λ l₂₆. alloc1 ! (λ l₂₇. alloc1 ! (λ l₂₈. alloc1 ! (λ l₂₉. alloc0 ! $ params1 ! $
-        pass1 ! (init ! 56 refl (tt, (tt, (record { fits = room₀ .0 }, tt)))) $ pass1 ! (init ! 54 refl (tt, record { fits = n₁-fits })) $
-        pass1 ! (init ! 52 refl (tt, (tt, (record { fits = room₂ .0 }, tt)))) $ pass1 ! (init ! 50 refl (tt, (tt, (record { fits = room₃ .0 }, tt)))) $
-        pass1 ! (init ! 48 refl (tt, record { fits = n₄-fits })) $ pass1 ! (init ! 46 refl (tt, (tt, (record { fits = room₅ .0 }, tt)))) $
-        pass1 ! (init ! 44 refl (tt, (tt, (record { fits = room₆ .0 }, tt)))) $ pass1 ! (init ! 42 refl (tt, (tt, (record { fits = room₇ .0 }, tt)))) $
+        alloc1 ! (λ l₁₁. alloc1 ! (λ l₁₂. alloc1 ! (λ l₁₃. alloc1 ! (λ l₁₄. alloc1 ! (λ l₁₅. alloc1 ! (λ l₁₆. alloc1 ! (λ l₁₇. alloc1 ! (λ l₁₈. alloc1 ! (λ l₁₉. alloc1 ! (λ l₂₀. alloc1 ! (λ l₂₁. alloc1 ! (λ l₂₂. alloc1 ! (λ l₂₃. alloc1 ! (λ l₂₄. alloc1 ! (λ l₂₅. alloc1 ! (λ l₂₆. alloc1 ! (λ l₂₇. alloc1 ! (λ l₂₈. alloc1 ! (λ l₂₉. alloc0 ! $ params1 ! $
+        pass1 ! (init ! 56 refl (tt, (tt, (record { fits = room₀ .0 }, tt)))) $ pass1 ! (init ! 54 refl (tt, record { fits = n₁-fits })) $ pass1 ! (init ! 52 refl (tt, (tt, (record { fits = room₂ .0 }, tt)))) $ pass1 ! (init ! 50 refl (tt, (tt, (record { fits = room₃ .0 }, tt)))) $
+        pass1 ! (init ! 48 refl (tt, record { fits = n₄-fits })) $ pass1 ! (init ! 46 refl (tt, (tt, (record { fits = room₅ .0 }, tt)))) $ pass1 ! (init ! 44 refl (tt, (tt, (record { fits = room₆ .0 }, tt)))) $ pass1 ! (init ! 42 refl (tt, (tt, (record { fits = room₇ .0 }, tt)))) $
         pass1 ! (init ! 40 refl (tt, (tt, (record { fits = room₈ .0 }, tt)))) $ pass1 ! (init ! 38 refl (tt, (tt, (record { fits = room₉ .0 }, tt)))) $
         pass1 ! (init ! 36 refl (tt, (tt, (record { fits = room₁₀ .0 }, tt)))) $ pass0 ! $
         -- answers.len(), and the slices that the search writes
@@ -273,8 +270,7 @@ module _ {M : Type 1} (𝓤 : URA M) (H : Heap 𝓤) (A : Atoms 𝓤) (W : Given
         use1 W (‵ Own₃ ⊛ ‵ Own₃) (shr-slice-copy 𝓤 H A W (named 2) κ₃ u16 .twice x₃ (s₃ ∷ [])) $ split ! $ move ! (2 ∷ []) $ fsplit ! $ lose ! $ fsplit ! $
         use1 W (‵ Own₅ ⊛ ‵ Own₅) (shr-slice-copy 𝓤 H A W (named 3) κ₅ u32 .twice x₅ (s₅ ∷ [])) $ split ! $ move ! (2 ∷ []) $ fsplit ! $ move ! (1 ∷ []) $ fsplit ! $ move ! (1 ∷ []) $
         fsplit ! $ move ! (1 ∷ []) $ fsplit ! $ move ! (1 ∷ []) $ fsplit ! $ move ! (1 ∷ []) $ lose ! $ move ! (73 ∷ []) $ split ! $ move ! (1 ∷ []) $ split ! $ move ! (1 ∷ []) $ split ! $
-        move ! (1 ∷ []) $ split ! $ move ! (1 ∷ []) $ split ! $ move ! (1 ∷ []) $ split ! $ move ! (1 ∷ []) $ split ! $ move ! (1 ∷ []) $ split ! $ move ! (1 ∷ []) $ split ! $
-        move ! (1 ∷ []) $ lose ! $
+        move ! (1 ∷ []) $ split ! $ move ! (1 ∷ []) $ split ! $ move ! (1 ∷ []) $ split ! $ move ! (1 ∷ []) $ split ! $ move ! (1 ∷ []) $ split ! $ move ! (1 ∷ []) $ split ! $ move ! (1 ∷ []) $ lose ! $
         -- [token of work; token of how; token of distances; token of rows; token of answers; token of withdrawn; token of query; token of index;
         -- token of table; work; how; distances; rows; answers; withdrawn; copy of withdrawn; query; copy of query; index; copy of index; table; copy
         -- of table; then the locals, the last first, each before that it dies]
@@ -296,15 +292,13 @@ module _ {M : Type 1} (𝓤 : URA M) (H : Heap 𝓤) (A : Atoms 𝓤) (W : Given
         await ! tt $ pick ! (λ r. split ! $ move ! (1 ∷ []) $
         use1 W (some (λ (us : (Unit {0} × (Unit {0} × (Unit {0} × (Unit {0} × (Unit {0} × (Unit {0} × (Unit {0} × (List ℕ × (List ℕ × (List ℕ × (List ℕ × Unit {0})))))))))))). ‵ (lasts core.ended (κ₀, (κ₂, (κ₃, (κ₅, (ν₁ ∷ [], (ν₂ ∷ [], (κ₉, (κ₁₀, tt)))))))) (core-args δ₁ δ₂) us) ⊛ raw (fact 𝓤 (Answered (asks c₀ n₁ c₂ c₃ n₄ c₅) (min (length c₆) (min (length c₇) (length c₈))) (lends c₇ c₈ c₉ c₁₀) (lends (us .1 .1 .1 .1 .1 .1 .1 .0) (us .1 .1 .1 .1 .1 .1 .1 .1 .0) (us .1 .1 .1 .1 .1 .1 .1 .1 .1 .0) (us .1 .1 .1 .1 .1 .1 .1 .1 .1 .1 .0)) (r .number) (r .given) (r .measured))))) (id⊢ 𝓤 _) $
         pick ! (λ us. let e₇ : List ℕ = us .1 .1 .1 .1 .1 .1 .1 .0 in let e₈ : List ℕ = us .1 .1 .1 .1 .1 .1 .1 .1 .0 in let e₉ : List ℕ = us .1 .1 .1 .1 .1 .1 .1 .1 .1 .0 in let e₁₀ : List ℕ = us .1 .1 .1 .1 .1 .1 .1 .1 .1 .1 .0 in split ! $
-        move ! (1 ∷ []) $
-        heard ! (Answered (asks c₀ n₁ c₂ c₃ n₄ c₅) (min (length c₆) (min (length c₇) (length c₈))) (lends c₇ c₈ c₉ c₁₀) (lends e₇ e₈ e₉ e₁₀) (r .number) (r .given) (r .measured)) (λ tells. fsplit ! $
+        move ! (1 ∷ []) $ heard ! (Answered (asks c₀ n₁ c₂ c₃ n₄ c₅) (min (length c₆) (min (length c₇) (length c₈))) (lends c₇ c₈ c₉ c₁₀) (lends e₇ e₈ e₉ e₁₀) (r .number) (r .given) (r .measured)) (λ tells. fsplit ! $
         lose ! $ fsplit ! $ lose ! $ fsplit ! $ lose ! $ fsplit ! $ lose ! $ fsplit ! $ lose ! $ fsplit ! $ lose ! $ fsplit ! $ lose ! $ fsplit ! $ fsplit ! $ move ! (1 ∷ []) $
         feqL ! (λ same₇. move ! (1 ∷ []) $ fsplit ! $ fsplit ! $ move ! (1 ∷ []) $ feqL ! (λ same₈. move ! (1 ∷ []) $ fsplit ! $ fsplit ! $ move ! (1 ∷ []) $
         feqL ! (λ same₉. move ! (1 ∷ []) $ fsplit ! $ fsplit ! $ move ! (1 ∷ []) $ feqL ! (λ same₁₀. move ! (1 ∷ []) $ lose ! $ move ! (4 ∷ []) $ split ! $ move ! (1 ∷ []) $
         peeks ! F.the-row (Is F.the-row) (shows 𝓤 H A F.the-row) r (v ∷ []) (λ is₀. land ! (from ! (stop !)) (init ! 46 refl (LL.lawful F.the-type F′.the-laws 𝓤 H A W .typed r _ is₀ .0)) $
         rewrite ! 46 (λ (u : Val). ‵ (fat fullShare F′.mir l₁₃ 0 u)) (ap only (LL.tells F.the-type F′.the-laws r _ is₀)) refl $
-        let is : Is F.the-row r (mach r ∷ []) = subst (Is F.the-row r) (LL.tells F.the-type F′.the-laws r _ is₀) is₀ in let n-fits : r .given < 2 ^ 64 = widens (r .given) (LL.owed F.the-type F′.the-laws r _ is .1 .0 .1) in lose ! $
-        split ! $ move ! (1 ∷ []) $ split ! $ move ! (1 ∷ []) $ split ! $ move ! (1 ∷ []) $ split ! $ move ! (1 ∷ []) $ split ! $ move ! (1 ∷ []) $ split ! $ move ! (1 ∷ []) $ split ! $
+        let is : Is F.the-row r (mach r ∷ []) = subst (Is F.the-row r) (LL.tells F.the-type F′.the-laws r _ is₀) is₀ in let n-fits : r .given < 2 ^ 64 = widens (r .given) (LL.owed F.the-type F′.the-laws r _ is .1 .0 .1) in lose ! $ split ! $ move ! (1 ∷ []) $ split ! $ move ! (1 ∷ []) $ split ! $ move ! (1 ∷ []) $ split ! $ move ! (1 ∷ []) $ split ! $ move ! (1 ∷ []) $ split ! $ move ! (1 ∷ []) $ split ! $
         move ! (1 ∷ []) $ split ! $ move ! (1 ∷ []) $ lose ! $
         -- rows and distances come back
         move ! (3 ∷ []) $ lft-end ! tt $ move ! (0 ∷ 13 ∷ 11 ∷ []) $
@@ -353,14 +347,10 @@ module _ {M : Type 1} (𝓤 : URA M) (H : Heap 𝓤) (A : Atoms 𝓤) (W : Given
         -- withdrawn; token of query; token of index; token of table; last value of work; last value of how; withdrawn; query; index; table; then the
         -- locals, the last first, each before that it dies]
         -- the locals are freed
-        returns ! (look ! 76 refl) $ forget ! 18 refl $ forget ! 20 refl $ forget ! 22 refl $ forget ! 24 refl $ forget ! 26 refl $ forget ! 28 refl $ forget ! 30 refl $ forget ! 32 refl $
-        forget ! 34 refl $ forget ! 36 refl $ forget ! 38 refl $ forget ! 40 refl $ forget ! 42 refl $ forget ! 44 refl $ forget ! 46 refl $ forget ! 48 refl $ forget ! 50 refl $
-        forget ! 52 refl $ forget ! 54 refl $ forget ! 56 refl $ forget ! 58 refl $ forget ! 60 refl $ forget ! 62 refl $ forget ! 64 refl $ forget ! 66 refl $ forget ! 68 refl $
-        forget ! 70 refl $ forget ! 72 refl $ forget ! 74 refl $ forget ! 76 refl $ move ! (76 ∷ 77 ∷ []) $ free1 ! $ move ! (74 ∷ 75 ∷ []) $ free1 ! $ move ! (72 ∷ 73 ∷ []) $ free1 ! $
-        move ! (70 ∷ 71 ∷ []) $ free1 ! $ move ! (68 ∷ 69 ∷ []) $ free1 ! $ move ! (66 ∷ 67 ∷ []) $ free1 ! $ move ! (64 ∷ 65 ∷ []) $ free1 ! $ move ! (62 ∷ 63 ∷ []) $ free1 ! $
-        move ! (60 ∷ 61 ∷ []) $ free1 ! $ move ! (58 ∷ 59 ∷ []) $ free1 ! $ move ! (56 ∷ 57 ∷ []) $ free1 ! $ move ! (54 ∷ 55 ∷ []) $ free1 ! $ move ! (52 ∷ 53 ∷ []) $ free1 ! $
-        move ! (50 ∷ 51 ∷ []) $ free1 ! $ move ! (48 ∷ 49 ∷ []) $ free1 ! $ move ! (46 ∷ 47 ∷ []) $ free1 ! $ move ! (44 ∷ 45 ∷ []) $ free1 ! $ move ! (42 ∷ 43 ∷ []) $ free1 ! $
-        move ! (40 ∷ 41 ∷ []) $ free1 ! $ move ! (38 ∷ 39 ∷ []) $ free1 ! $ move ! (36 ∷ 37 ∷ []) $ free1 ! $ move ! (34 ∷ 35 ∷ []) $ free1 ! $ move ! (32 ∷ 33 ∷ []) $ free1 ! $
+        returns ! (look ! 76 refl) $ forget ! 18 refl $ forget ! 20 refl $ forget ! 22 refl $ forget ! 24 refl $ forget ! 26 refl $ forget ! 28 refl $ forget ! 30 refl $ forget ! 32 refl $ forget ! 34 refl $ forget ! 36 refl $ forget ! 38 refl $ forget ! 40 refl $ forget ! 42 refl $ forget ! 44 refl $ forget ! 46 refl $ forget ! 48 refl $ forget ! 50 refl $
+        forget ! 52 refl $ forget ! 54 refl $ forget ! 56 refl $ forget ! 58 refl $ forget ! 60 refl $ forget ! 62 refl $ forget ! 64 refl $ forget ! 66 refl $ forget ! 68 refl $ forget ! 70 refl $ forget ! 72 refl $ forget ! 74 refl $ forget ! 76 refl $ move ! (76 ∷ 77 ∷ []) $ free1 ! $ move ! (74 ∷ 75 ∷ []) $ free1 ! $ move ! (72 ∷ 73 ∷ []) $ free1 ! $
+        move ! (70 ∷ 71 ∷ []) $ free1 ! $ move ! (68 ∷ 69 ∷ []) $ free1 ! $ move ! (66 ∷ 67 ∷ []) $ free1 ! $ move ! (64 ∷ 65 ∷ []) $ free1 ! $ move ! (62 ∷ 63 ∷ []) $ free1 ! $ move ! (60 ∷ 61 ∷ []) $ free1 ! $ move ! (58 ∷ 59 ∷ []) $ free1 ! $ move ! (56 ∷ 57 ∷ []) $ free1 ! $ move ! (54 ∷ 55 ∷ []) $ free1 ! $ move ! (52 ∷ 53 ∷ []) $ free1 ! $
+        move ! (50 ∷ 51 ∷ []) $ free1 ! $ move ! (48 ∷ 49 ∷ []) $ free1 ! $ move ! (46 ∷ 47 ∷ []) $ free1 ! $ move ! (44 ∷ 45 ∷ []) $ free1 ! $ move ! (42 ∷ 43 ∷ []) $ free1 ! $ move ! (40 ∷ 41 ∷ []) $ free1 ! $ move ! (38 ∷ 39 ∷ []) $ free1 ! $ move ! (36 ∷ 37 ∷ []) $ free1 ! $ move ! (34 ∷ 35 ∷ []) $ free1 ! $ move ! (32 ∷ 33 ∷ []) $ free1 ! $
         move ! (30 ∷ 31 ∷ []) $ free1 ! $ move ! (28 ∷ 29 ∷ []) $ free1 ! $ move ! (26 ∷ 27 ∷ []) $ free1 ! $ move ! (24 ∷ 25 ∷ []) $ free1 ! $ move ! (22 ∷ 23 ∷ []) $ free1 ! $
         move ! (20 ∷ 21 ∷ []) $ free1 ! $ move ! (18 ∷ 19 ∷ []) $ free1 ! $ free0 ! $ keep ! (11 ∷ 10 ∷ 9 ∷ 8 ∷ 4 ∷ 3 ∷ 1 ∷ 7 ∷ 6 ∷ 17 ∷ 16 ∷ 15 ∷ 14 ∷ 5 ∷ 2 ∷ 0 ∷ 13 ∷ 12 ∷ []) $
         by ! (exits r e₇ e₈ e₉ e₁₀ (zs .0) is same₇ same₈ same₉ same₁₀ same₆ (record { plain = tells; recorded = filled })))))))))))))))))))))))))))))))))))))))))))))))))))))))
@@ -378,16 +368,11 @@ module _ {M : Type 1} (𝓤 : URA M) (H : Heap 𝓤) (A : Atoms 𝓤) (W : Given
       & mut-slice-tells (named 8) (κs .1 .1 .1 .1 .1 .1 .1 .1 .0) u32 & tt)
       (λ κs qs bounds a g are. via 𝓤 _ (fst∗ 𝓤 _ (emp 𝓤))
       (walk 𝓤 H A W mem run (κs .0) (κs .1 .0) (κs .1 .1 .0) (κs .1 .1 .1 .0) (κs .1 .1 .1 .1 .0) (κs .1 .1 .1 .1 .1 .0) (κs .1 .1 .1 .1 .1 .1 .0) (κs .1 .1 .1 .1 .1 .1 .1 .0)
-      (κs .1 .1 .1 .1 .1 .1 .1 .1 .0) (qs .0) (qs .1 .0) (qs .1 .1 .0) (qs .1 .1 .1 .0) (qs .1 .1 .1 .1 .0) (qs .1 .1 .1 .1 .1 .0) (qs .1 .1 .1 .1 .1 .1 .0) (qs .1 .1 .1 .1 .1 .1 .1 .0)
-      (qs .1 .1 .1 .1 .1 .1 .1 .1 .0) (a .0 .ptr .0) (a .0 .ptr .1) (a .1 .1 .0 .ptr .0) (a .1 .1 .0 .ptr .1) (a .1 .1 .1 .0 .ptr .0) (a .1 .1 .1 .0 .ptr .1)
-      (a .1 .1 .1 .1 .1 .0 .ptr .0) (a .1 .1 .1 .1 .1 .0 .ptr .1) (a .1 .1 .1 .1 .1 .1 .0 .ptr .0) (a .1 .1 .1 .1 .1 .1 .0 .ptr .1) (a .1 .1 .1 .1 .1 .1 .1 .0 .ptr .0)
-      (a .1 .1 .1 .1 .1 .1 .1 .0 .ptr .1) (a .1 .1 .1 .1 .1 .1 .1 .1 .0 .ptr .0) (a .1 .1 .1 .1 .1 .1 .1 .1 .0 .ptr .1) (a .1 .1 .1 .1 .1 .1 .1 .1 .1 .0 .ptr .0)
-      (a .1 .1 .1 .1 .1 .1 .1 .1 .1 .0 .ptr .1) (a .1 .1 .1 .1 .1 .1 .1 .1 .1 .1 .0 .ptr .0) (a .1 .1 .1 .1 .1 .1 .1 .1 .1 .1 .0 .ptr .1) (a .0 .name) (a .1 .1 .0 .name)
-      (a .1 .1 .1 .0 .name) (a .1 .1 .1 .1 .1 .0 .name) (a .1 .1 .1 .1 .1 .1 .0 .name) (a .1 .1 .1 .1 .1 .1 .1 .0 .name) (a .1 .1 .1 .1 .1 .1 .1 .1 .0 .name)
-      (a .1 .1 .1 .1 .1 .1 .1 .1 .1 .0 .name) (a .1 .1 .1 .1 .1 .1 .1 .1 .1 .1 .0 .name) (a .0 .now) (a .1 .0) (a .1 .1 .0 .now) (a .1 .1 .1 .0 .now) (a .1 .1 .1 .1 .0)
-      (a .1 .1 .1 .1 .1 .0 .now) (a .1 .1 .1 .1 .1 .1 .0 .now) (a .1 .1 .1 .1 .1 .1 .1 .0 .now) (a .1 .1 .1 .1 .1 .1 .1 .1 .0 .now) (a .1 .1 .1 .1 .1 .1 .1 .1 .1 .0 .now)
-      (a .1 .1 .1 .1 .1 .1 .1 .1 .1 .1 .0 .now) (are .0 .0 .1) (are .1 .0 .1) (are .1 .1 .0 .0 .1) (are .1 .1 .1 .0 .0 .1) (are .1 .1 .1 .1 .0 .1) (are .1 .1 .1 .1 .1 .0 .0 .1)
-      (are .1 .1 .1 .1 .1 .1 .0 .0 .1) (are .1 .1 .1 .1 .1 .1 .1 .0 .0 .1) (are .1 .1 .1 .1 .1 .1 .1 .1 .0 .0 .1) (are .1 .1 .1 .1 .1 .1 .1 .1 .1 .0 .0 .1)
+      (κs .1 .1 .1 .1 .1 .1 .1 .1 .0) (qs .0) (qs .1 .0) (qs .1 .1 .0) (qs .1 .1 .1 .0) (qs .1 .1 .1 .1 .0) (qs .1 .1 .1 .1 .1 .0) (qs .1 .1 .1 .1 .1 .1 .0) (qs .1 .1 .1 .1 .1 .1 .1 .0) (qs .1 .1 .1 .1 .1 .1 .1 .1 .0) (a .0 .ptr .0) (a .0 .ptr .1) (a .1 .1 .0 .ptr .0) (a .1 .1 .0 .ptr .1) (a .1 .1 .1 .0 .ptr .0) (a .1 .1 .1 .0 .ptr .1)
+      (a .1 .1 .1 .1 .1 .0 .ptr .0) (a .1 .1 .1 .1 .1 .0 .ptr .1) (a .1 .1 .1 .1 .1 .1 .0 .ptr .0) (a .1 .1 .1 .1 .1 .1 .0 .ptr .1) (a .1 .1 .1 .1 .1 .1 .1 .0 .ptr .0) (a .1 .1 .1 .1 .1 .1 .1 .0 .ptr .1) (a .1 .1 .1 .1 .1 .1 .1 .1 .0 .ptr .0) (a .1 .1 .1 .1 .1 .1 .1 .1 .0 .ptr .1) (a .1 .1 .1 .1 .1 .1 .1 .1 .1 .0 .ptr .0)
+      (a .1 .1 .1 .1 .1 .1 .1 .1 .1 .0 .ptr .1) (a .1 .1 .1 .1 .1 .1 .1 .1 .1 .1 .0 .ptr .0) (a .1 .1 .1 .1 .1 .1 .1 .1 .1 .1 .0 .ptr .1) (a .0 .name) (a .1 .1 .0 .name) (a .1 .1 .1 .0 .name) (a .1 .1 .1 .1 .1 .0 .name) (a .1 .1 .1 .1 .1 .1 .0 .name) (a .1 .1 .1 .1 .1 .1 .1 .0 .name) (a .1 .1 .1 .1 .1 .1 .1 .1 .0 .name)
+      (a .1 .1 .1 .1 .1 .1 .1 .1 .1 .0 .name) (a .1 .1 .1 .1 .1 .1 .1 .1 .1 .1 .0 .name) (a .0 .now) (a .1 .0) (a .1 .1 .0 .now) (a .1 .1 .1 .0 .now) (a .1 .1 .1 .1 .0) (a .1 .1 .1 .1 .1 .0 .now) (a .1 .1 .1 .1 .1 .1 .0 .now) (a .1 .1 .1 .1 .1 .1 .1 .0 .now) (a .1 .1 .1 .1 .1 .1 .1 .1 .0 .now) (a .1 .1 .1 .1 .1 .1 .1 .1 .1 .0 .now)
+      (a .1 .1 .1 .1 .1 .1 .1 .1 .1 .1 .0 .now) (are .0 .0 .1) (are .1 .0 .1) (are .1 .1 .0 .0 .1) (are .1 .1 .1 .0 .0 .1) (are .1 .1 .1 .1 .0 .1) (are .1 .1 .1 .1 .1 .0 .0 .1) (are .1 .1 .1 .1 .1 .1 .0 .0 .1) (are .1 .1 .1 .1 .1 .1 .1 .0 .0 .1) (are .1 .1 .1 .1 .1 .1 .1 .1 .0 .0 .1) (are .1 .1 .1 .1 .1 .1 .1 .1 .1 .0 .0 .1)
       (are .1 .1 .1 .1 .1 .1 .1 .1 .1 .1 .0 .0 .1) C Λ fm known-core known-fill))
 
   goes : AllGo 𝓤 H A W 9 (outer.signature .params) (outer.ended .kept) stayed
