@@ -119,6 +119,7 @@ fn labels_wrong() {
     ask(b"hours.csv\x00like\x000\x0012\x00--label\x00speed\x00");
     ask(b"hours.csv\x00like\x000\x0012\x00--label\x00when\x00");
     ask(b"hours.csv\x00like\x000\x0012\x00--label\x005\x00");
+    ask(b"clock.csv\x00like\x000\x0012\x00--label\x005\x00");
     ask(b"hours.csv\x00like\x000\x0012\x00--label\x00time\x00--columns\x00time,speed\x00");
     ask(b"hours.csv\x00like\x00time=2026-04-12T07:34\x0012\x00--label\x00time\x00");
     ask(b"hours.csv\x00like\x000\x0012\x00--label\x00");
