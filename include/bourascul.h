@@ -18,9 +18,9 @@
    at the same time; what a call may change (room, work, how, rows, distances, answers, an image that is written, a set that rows are
    struck from or restored to) each thread lends of its own.
 
-   STACK. Nothing else is taken. Bytes of stack that a call takes at most, measured on x86-64 code (target/host/stack): write 40,
-   list 128, read 240, build 536, nearest 592, nearest_answers 608, append 616, check 1,920, radius 19,816 (25 levels). A loader
-   that binds late takes about 3,500 more in the first call that needs memcpy, memmove or memset.
+   STACK. Nothing else is taken. Bytes of stack that a call takes at most, measured on x86-64 code (target/host/stack): strike and
+   restore 8, write 40, list 128, read 252, build 640, append 640, nearest 864, nearest_answers 864, check 1,552, radius 21,880 (25
+   levels). A loader that binds late takes about 3,500 more in the first call that needs memcpy, memmove or memset.
 
    NUMBERS. Each call but bourascul_list gives a number, first or alone. 0 is done; any other is a refusal, and of several the lowest
    is given (but 19 comes before 10 to 13; bourascul_read gives 8, 9, 19 and 5 last, in this order; bourascul_write gives 16 before
