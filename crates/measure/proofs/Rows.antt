@@ -70,6 +70,10 @@ module _ (o : ℕ) (a b : List ℕ) where
 pub l1-next-plain : (a b : List ℕ) (i : ℕ) → l1 (i + 1) 0 a b ≡ l1 i 0 a b + gap (getD a i 0) (getD b i 0)
 l1-next-plain a b i = l1-next 0 a b i ∙ ap (λ (t : Bool). l1 i 0 a b + apart t (getD a i 0) (getD b i 0)) (no-circle i)
 
+-- where the set of circles is empty, the plain sum is the distance
+pub by-none : (k o : ℕ) (a b : List ℕ) {r : ℕ} → 0 ≡ o → r ≡ l1 k 0 a b → r ≡ l1 k o a b
+by-none k o a b none m = m ∙ ap (λ (o : ℕ). l1 k o a b) none
+
 -- ---- a distance r that was measured from a part of the table
 module _ (T : List ℕ) (c o j : ℕ) {r : ℕ} {b : List ℕ} (B : b ≡ row T c j) where
   -- the query's

@@ -156,7 +156,13 @@ pub fn row_distance(table: &[u16], c: usize, circles: u32, i: usize, j: usize) -
 {
     let a = row_of(table, c, i);
     let b = row_of(table, c, j);
-    distance(a, b, circles)
+    if circles != 0 {
+        return rounded(a, b, circles);
+    }
+    if 6 < c {
+        return many(a, b);
+    }
+    plain(a, b)
 }
 
 // The distance of a query from row i.
@@ -165,7 +171,13 @@ pub fn query_distance(table: &[u16], c: usize, circles: u32, query: &[u16], i: u
     ensures { λ r. ⌜ (r ≡ from (now (table .entry)) c circles (now (query .entry)) i) × (r ≤ maxDistance) ⌝ }
 {
     let b = row_of(table, c, i);
-    distance(query, b, circles)
+    if circles != 0 {
+        return rounded(query, b, circles);
+    }
+    if 6 < c {
+        return many(query, b);
+    }
+    plain(query, b)
 }
 
 // ---- with a ceiling
