@@ -3,14 +3,14 @@ use Prim.Native.Nat.{_*_, _+_, _-_, _<_, _≤_, min, suc, zero, ℕ}
 use Rattle.laws.proofs.Sums.{sum-most, sum-part}
 use Rattle.limits.specs.Limits.{maxColumns, maxDistance}
 use Rattle.measure.proofs.Metric.{apart-most}
-use Rattle.measure.proofs.Rows.{l1-next}
+use Rattle.measure.proofs.Rows.{from-query, l1-next}
 use Rattle.measure.specs.Distance.{apart, capped, isCircle, l1}
 use Rattle.measure.specs.Table.{from, row}
-use lib.ListN.{drop, getD, take}
+use lib.ListN.{drop, getD, length, take}
 use lib.Seq.{getD-drop}
 use mathlib.Core.List.{List, [], _∷_}
 use mathlib.Core.Logic.{_↔_}
-use mathlib.Core.Path.{_≡_, subst, sym}
+use mathlib.Core.Path.{_∙_, _≡_, ap, refl, subst, sym}
 use native.Mathlib.Nat.{mul-le-mul-left}
 use native.Mathlib.Numerals.{add-one}
 use native.Mathlib.Omega.{arith}
@@ -24,12 +24,13 @@ l1-grows o a b i (suc k) =
     let e : i + suc k ≡ i + k + 1 = omega arith in
     rw e (omega (arith, l1-next o a b (i + k), l1-grows o a b i k))
 
--- over some of the columns it is too far already, and so it is over all
-pub too-far : (o : ℕ) (a b : List ℕ) (i c top d : ℕ) → d ≡ l1 i o a b → i ≤ c → top < d → top + 1 ≡ min (l1 c o a b) (top + 1)
-too-far o a b i c top d e h far =
-    let k : i + (c - i) ≡ c = omega arith in
-    let g : l1 i o a b ≤ l1 c o a b = subst (λ (z : ℕ). l1 i o a b ≤ l1 z o a b) k (l1-grows o a b i (c - i)) in
-    omega (arith, e, g)
+-- over some of the columns they are as far apart as one more than the ceiling, and so they are over all
+pub too-far : (o : ℕ) (a b : List ℕ) (i c k over d : ℕ) → over ≡ min k maxDistance + 1 → d ≡ l1 i o a b → i ≤ c → over ≤ d
+    → over ≡ capped k (l1 c o a b)
+too-far o a b i c k over d e h m far =
+    let j : i + (c - i) ≡ c = omega arith in
+    let g : l1 i o a b ≤ l1 c o a b = subst (λ (z : ℕ). l1 i o a b ≤ l1 z o a b) j (l1-grows o a b i (c - i)) in
+    omega (arith, e, h, g)
 
 -- rows of 16-bit numbers are at most 1,048,560 apart
 pub l1-bounded : (c o : ℕ) (a b : List ℕ) → c ≤ maxColumns → ((j : ℕ) → getD a j 0 ≤ 65535) → ((j : ℕ) → getD b j 0 ≤ 65535) → l1 c o a b ≤ maxDistance
@@ -58,9 +59,18 @@ from-bounded T q c o i h ht hq =
     (λ j. take-small 65535 c (drop (c * i) T) j (λ j. subst (λ v. v ≤ 65535) (sym (getD-drop (c * i) T j 0)) (ht (c * i + j))))
 
 -- ---- the ceiling
--- what is given where the ceiling is the lesser of it and the greatest distance
-pub capped-of : (k top d r : ℕ) → top ≡ min k maxDistance → r ≡ min d (top + 1) → r ≡ capped k d
-capped-of k top d r e h = omega arith
+-- the lesser of the distance and one more than the ceiling is what is given
+pub capped-of : (k over d e r : ℕ) → over ≡ min k maxDistance + 1 → e ≡ d → r ≡ min e over → r ≡ capped k d
+capped-of k over d e r h m l = omega arith
+
+-- where the set of circles is empty, what is given of the plain sum is given of the distance
+pub by-no-circle : (k c o : ℕ) (a b : List ℕ) {r : ℕ} → 0 ≡ o → r ≡ capped k (l1 c 0 a b) → r ≡ capped k (l1 c o a b)
+by-no-circle k c o a b none m = m ∙ ap (λ (o : ℕ). capped k (l1 c o a b)) none
+
+-- what is given of a row that is a part of the table is given of the query's distance
+pub capped-from : (k : ℕ) (T : List ℕ) (c o j : ℕ) {r : ℕ} {b : List ℕ} → b ≡ row T c j → (q : List ℕ) → length q ≡ c
+    → r ≡ capped k (l1 (length q) o q b) → r ≡ capped k (from T c o q j)
+capped-from k T c o j {r} {b} B q e m = m ∙ ap (capped k) (from-query T c o j B q e refl)
 
 -- a distance within the ceiling is given as it is
 pub capped-met : (k top d : ℕ) → top ≡ min k maxDistance → d ≤ top → d ≡ capped k d

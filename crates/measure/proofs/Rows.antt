@@ -6,11 +6,12 @@ use Rattle.laws.specs.Upto.{sumTo}
 use Rattle.measure.specs.Distance.{apart, circle, isCircle, l1}
 use Rattle.measure.specs.Table.{between, from, row}
 use Rattle.measure.specs.Turns.{turnOf}
-use lib.Dec.{eqb}
+use borrow.Author.Tests.{eqb-true}
+use lib.Dec.{T, eqb, leb}
 use lib.ListN.{drop, getD, length, length-drop, length-take, take}
-use mathlib.Core.Bool.{Bool, cond, false, true}
+use mathlib.Core.Bool.{Bool, _&&_, cond, false, true}
 use mathlib.Core.List.{List}
-use mathlib.Core.Path.{_∙_, _≡_, ap, ap₂, refl, subst}
+use mathlib.Core.Path.{_∙_, _≡_, ap, ap₂, refl, subst, sym}
 use native.Mathlib.Nat.{add-sub-cancel-left, mul-le-mul-left, mul-suc, zero-div}
 use native.Mathlib.Omega.{arith}
 
@@ -69,6 +70,14 @@ module _ (o : ℕ) (a b : List ℕ) where
 -- over one more, where no column is a circle
 pub l1-next-plain : (a b : List ℕ) (i : ℕ) → l1 (i + 1) 0 a b ≡ l1 i 0 a b + gap (getD a i 0) (getD b i 0)
 l1-next-plain a b i = l1-next 0 a b i ∙ ap (λ (t : Bool). l1 i 0 a b + apart t (getD a i 0) (getD b i 0)) (no-circle i)
+
+-- the test for few plain columns says that the set of circles is empty
+pub none-few : (o k : ℕ) → (eqb o 0 && leb k 6) ≡ true → 0 ≡ o
+none-few o k t = go (eqb o 0) (leb k 6) refl t
+  where
+    go : (a b : Bool) → eqb o 0 ≡ a → (a && b) ≡ true → 0 ≡ o
+    go true b e h = sym (eqb-true o 0 e)
+    go false b e h = absurd (subst T (sym h) tt)
 
 -- where the set of circles is empty, the plain sum is the distance
 pub by-none : (k o : ℕ) (a b : List ℕ) {r : ℕ} → 0 ≡ o → r ≡ l1 k 0 a b → r ≡ l1 k o a b

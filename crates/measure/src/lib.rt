@@ -133,18 +133,26 @@ fn rounded(a: &[u16], b: &[u16], circles: u32) -> u32
     round_columns(a, b, circles, 0, 0, c)
 }
 
-// The distance of two rows.
-pub fn distance(a: &[u16], b: &[u16], circles: u32) -> u32
+// The distance of two rows that have circles, or more than six columns: so that one call stands for both where rows are measured.
+fn rounded_or_many(a: &[u16], b: &[u16], circles: u32) -> u32
     requires { ⌜ (length (now a) ≡ length (now b)) × (length (now a) ≤ maxColumns) ⌝ }
     ensures { λ r. ⌜ (r ≡ l1 (length (now (a .entry))) circles (now (a .entry)) (now (b .entry))) × (r ≤ maxDistance) ⌝ }
 {
     if circles != 0 {
         return rounded(a, b, circles);
     }
-    if 6 < a.len() {
-        return many(a, b);
+    many(a, b)
+}
+
+// The distance of two rows.
+pub fn distance(a: &[u16], b: &[u16], circles: u32) -> u32
+    requires { ⌜ (length (now a) ≡ length (now b)) × (length (now a) ≤ maxColumns) ⌝ }
+    ensures { λ r. ⌜ (r ≡ l1 (length (now (a .entry))) circles (now (a .entry)) (now (b .entry))) × (r ≤ maxDistance) ⌝ }
+{
+    if (circles == 0) & (a.len() <= 6) {
+        return plain(a, b);
     }
-    plain(a, b)
+    rounded_or_many(a, b, circles)
 }
 
 // ---- rows of a table
@@ -156,13 +164,10 @@ pub fn row_distance(table: &[u16], c: usize, circles: u32, i: usize, j: usize) -
 {
     let a = row_of(table, c, i);
     let b = row_of(table, c, j);
-    if circles != 0 {
-        return rounded(a, b, circles);
+    if (circles == 0) & (c <= 6) {
+        return plain(a, b);
     }
-    if 6 < c {
-        return many(a, b);
-    }
-    plain(a, b)
+    rounded_or_many(a, b, circles)
 }
 
 // The distance of a query from row i.
@@ -171,48 +176,78 @@ pub fn query_distance(table: &[u16], c: usize, circles: u32, query: &[u16], i: u
     ensures { λ r. ⌜ (r ≡ from (now (table .entry)) c circles (now (query .entry)) i) × (r ≤ maxDistance) ⌝ }
 {
     let b = row_of(table, c, i);
-    if circles != 0 {
-        return rounded(query, b, circles);
+    if (circles == 0) & (c <= 6) {
+        return plain(query, b);
     }
-    if 6 < c {
-        return many(query, b);
-    }
-    plain(query, b)
+    rounded_or_many(query, b, circles)
 }
 
-// ---- with a ceiling
+// ---- with a ceiling: 02, R-8
 
-// The distance of two rows over columns `from` to c, by the set of their circles.
-fn part(a: &[u16], b: &[u16], circles: u32, before: u32, from: usize, c: usize) -> u32
-    requires { ⌜ (c ≤ length (now a)) × (c ≤ length (now b)) × (c ≤ maxColumns) ⌝ }
-    requires { ⌜ (from ≤ c) × (before ≤ 65535 * from) × (before ≡ l1 from circles (now a) (now b)) ⌝ }
-    ensures { λ r. ⌜ (r ≡ l1 c circles (now (a .entry)) (now (b .entry))) × (r ≤ 65535 * c) ⌝ }
+// One more than a ceiling, which counts as the greatest distance where it is above that.
+fn one_over(ceiling: u32) -> u32
+    ensures { λ r. ⌜ r ≡ min ceiling maxDistance + 1 ⌝ }
 {
-    if circles == 0 {
-        return columns(a, b, before, from, c);
-    }
-    round_columns(a, b, circles, before, from, c)
+    smaller(ceiling, Params::MOST_DISTANCE) + 1
 }
 
-// The distance of two rows of more than eight columns where it is at most `top`, else one more than that. After eight columns it looks whether it is
-// too far already, and then adds no more: a look after each column would cost more than it saves.
-fn many_to(a: &[u16], b: &[u16], circles: u32, top: u32) -> u32
-    requires { ⌜ (length (now a) ≡ length (now b)) × (length (now a) ≤ maxColumns) × (8 < length (now a)) × (top ≤ maxDistance) ⌝ }
-    ensures { λ r. ⌜ r ≡ min (l1 (length (now (a .entry))) circles (now (a .entry)) (now (b .entry))) (top + 1) ⌝ }
+// The distance of two rows with circles as far as the ceiling. After eight columns it looks whether they are too far apart already, and then adds no
+// more: a look after each column would cost more than it saves.
+fn rounded_to(a: &[u16], b: &[u16], circles: u32, ceiling: u32) -> u32
+    requires { ⌜ (length (now a) ≡ length (now b)) × (length (now a) ≤ maxColumns) ⌝ }
+    ensures { λ r. ⌜ r ≡ capped ceiling (l1 (length (now (a .entry))) circles (now (a .entry)) (now (b .entry))) ⌝ }
 {
+    let over = one_over(ceiling);
     let c = a.len();
-    let eight = part(a, b, circles, 0, 0, 8);
-    if top < eight {
-        return top + 1;
+    if c <= 8 {
+        return smaller(rounded(a, b, circles), over);
+    }
+    let eight = round_columns(a, b, circles, 0, 0, 8);
+    if over <= eight {
+        return over;
+    }
+    smaller(round_columns(a, b, circles, eight, 8, c), over)
+}
+
+// The same for two rows of more than eight columns that have no circle. It is called from two places, so that it stays apart and is not in the way
+// of the few columns' code.
+fn many_to(a: &[u16], b: &[u16], ceiling: u32) -> u32
+    requires { ⌜ (length (now a) ≡ length (now b)) × (length (now a) ≤ maxColumns) × (8 < length (now a)) ⌝ }
+    ensures { λ r. ⌜ r ≡ capped ceiling (l1 (length (now (a .entry))) 0 (now (a .entry)) (now (b .entry))) ⌝ }
+{
+    let over = one_over(ceiling);
+    let c = a.len();
+    let eight = columns(a, b, 0, 0, 8);
+    if over <= eight {
+        return over;
     }
     if c == 16 {
-        return smaller(part(a, b, circles, eight, 8, 16), top + 1);
+        return smaller(columns(a, b, eight, 8, 16), over);
     }
-    smaller(part(a, b, circles, eight, 8, c), top + 1)
+    smaller(columns(a, b, eight, 8, c), over)
 }
 
-// The distance of a query from row i where it is at most the ceiling, else one more than the ceiling; a ceiling above the greatest distance counts as
-// that.
+// The distance of two rows where it is at most the ceiling, else one more than the ceiling; a ceiling above the greatest distance counts as that. With
+// at most eight columns there is nothing to stop.
+pub fn distance_to(a: &[u16], b: &[u16], circles: u32, ceiling: u32) -> u32
+    requires { ⌜ (length (now a) ≡ length (now b)) × (length (now a) ≤ maxColumns) ⌝ }
+    ensures given { λ r. ⌜ r ≡ capped ceiling (l1 (length (now (a .entry))) circles (now (a .entry)) (now (b .entry))) ⌝ }
+    ensures few { λ _. ⌜ l1 (length (now (a .entry))) circles (now (a .entry)) (now (b .entry)) ≤ maxDistance ⌝ }
+{
+    if circles != 0 {
+        return rounded_to(a, b, circles, ceiling);
+    }
+    let c = a.len();
+    if 8 < c {
+        return many_to(a, b, ceiling);
+    }
+    if 6 < c {
+        return smaller(many(a, b), one_over(ceiling));
+    }
+    smaller(plain(a, b), one_over(ceiling))
+}
+
+// The same for a query and row i.
 pub fn query_distance_to(
     table: &[u16],
     c: usize,
@@ -225,10 +260,15 @@ pub fn query_distance_to(
     ensures given { λ r. ⌜ r ≡ capped ceiling (from (now (table .entry)) c circles (now (query .entry)) i) ⌝ }
     ensures few { λ _. ⌜ from (now (table .entry)) c circles (now (query .entry)) i ≤ maxDistance ⌝ }
 {
-    let top = smaller(ceiling, Params::MOST_DISTANCE);
-    if c <= 8 {
-        return smaller(query_distance(table, c, circles, query, i), top + 1);
-    }
     let b = row_of(table, c, i);
-    many_to(query, b, circles, top)
+    if circles != 0 {
+        return rounded_to(query, b, circles, ceiling);
+    }
+    if 8 < c {
+        return many_to(query, b, ceiling);
+    }
+    if 6 < c {
+        return smaller(many(query, b), one_over(ceiling));
+    }
+    smaller(plain(query, b), one_over(ceiling))
 }
