@@ -7,3 +7,4 @@ pub mod Striking
 pub mod Outcomes
 pub mod Calls
 pub mod Cases
+pub mod Empty

@@ -4,8 +4,9 @@ use Rattle.laws.specs.Lists.{any, range}
 use lib.Bits.{bitAnd, bitOr}
 use lib.Dec.{eqb}
 use lib.ListN.{getD, length, set}
-use mathlib.Core.Bool.{Bool, _||_, not}
+use mathlib.Core.Bool.{Bool, _||_, false, not}
 use mathlib.Core.List.{List}
+use mathlib.Core.Path.{_≡_}
 
 -- the word in which row r's bit stands: missing words are zeros, so that a set of any length answers for every row
 abbrev pub wordOf : List ℕ → ℕ → ℕ
@@ -46,3 +47,11 @@ setBad s n = not (eqb (length s) (wordsFor n)) || tooHigh s n
 -- every word has 32 bits, as those of every lent set have
 abbrev pub Narrow : List ℕ → Type 0
 Narrow s = (i : ℕ) → getD s i 0 < 4_294_967_296
+
+-- two sets have the same rows, whatever their lengths
+abbrev pub SameRows : List ℕ → List ℕ → Type 0
+SameRows s t = (i : ℕ) → isIn s i ≡ isIn t i
+
+-- unless the test says that a bit is on, every word is zero
+abbrev pub AllOff : Bool → List ℕ → Type 0
+AllOff on s = on ≡ false → (k : ℕ) → getD s k 0 ≡ 0

@@ -1,8 +1,8 @@
 // A set of rows as bits, 32 rows to a word: which rows are in it, and the foremen's orders to strike a row and to restore one.
-ghost use Prim.Native.Nat.{_/_, _<_};
+ghost use Prim.Native.Nat.{_/_, _<_, _≤_};
 ghost use Rattle.rowset.specs.Orders.{Orders, restoring, saidOrder, striking};
-ghost use Rattle.rowset.specs.Sets.{isIn, mask, restored, setBad, struck, wordsFor};
-ghost use lib.ListN.{length};
+ghost use Rattle.rowset.specs.Sets.{AllOff, SameRows, isIn, mask, restored, setBad, struck, wordsFor};
+ghost use lib.ListN.{length, take};
 ghost use mathlib.Core.Path.{_≡_};
 
 // A word in which row r's bit alone is on.
@@ -43,6 +43,29 @@ fn restore_row(set: &mut [u32], r: usize)
     let at = r / 32;
     let bit = mask_of(r);
     set[at] = set[at] & !bit;
+}
+
+// Whether a word of the set has a bit on. It looks at every word, without a branch.
+fn some_on(set: &[u32]) -> bool
+    ensures { λ b. ⌜ AllOff b (now (set .entry)) ⌝ }
+{
+    let mut on = false;
+    let mut i = 0;
+    while i < set.len() {
+        on = on | (set[i] != 0);
+        i += 1;
+    }
+    on
+}
+
+// How many words of the set a search need be lent: none where no row is in it, so that no row is asked for.
+pub fn words_asked(set: &[u32]) -> usize
+    ensures { λ r. ⌜ (r ≤ length (now (set .entry))) × SameRows (take r (now (set .entry))) (now (set .entry)) ⌝ }
+{
+    if some_on(set) {
+        return set.len();
+    }
+    0
 }
 
 // How many words n rows take. It does not go by n + 31, which may be more than a usize holds.
