@@ -2,6 +2,7 @@
 use Prim.Native.Nat.{_+_, ℕ}
 use Rattle.laws.specs.Lists.{gap}
 use Rattle.marking.specs.Marks.{centreAt, decision, leafAt, leafMark, verdictByte}
+use Rattle.marking.specs.Written.{byte}
 use Rattle.marking.specs.declared.leaf.Verdict.the-variants.{In, Measure, Out}
 use Rattle.marking.specs.declared.leaf.Verdict.{Verdict}
 use Rattle.tree.specs.Radius.{byDistance, inLeaf}
@@ -17,6 +18,12 @@ module _ (x : ℕ → ℕ) (r : ℕ) (w : List ℕ) where
       → (i, verdictByte (byDistance x r i) v′) ∷ [] ≡ leafAt x r w xf p
   unfolding leafMark
   leaf-did v′ xf p a b c e = cc
+
+  -- and so is the byte that it stored
+  pub leaf-byte : (v′ : Verdict) (xf p : ℕ) (h : List ℕ) {i s : ℕ} {v : Verdict} → i ≡ row# w p → s ≡ dist# w p → v ≡ decision xf s r → v ≡ v′
+      → byte i (verdictByte (byDistance x r i) v′) h ≡ byte (row# w p) (leafMark x r w xf p) h
+  unfolding leafMark
+  leaf-byte v′ xf p h a b c e = cc
 
   -- a centre that was measured
   pub centre-did : (k : ℕ) {i : ℕ} → i ≡ first# w k → (i, byDistance x r i) ∷ [] ≡ centreAt x r w k

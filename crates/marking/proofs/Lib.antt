@@ -5,3 +5,5 @@ pub mod Distances
 pub mod Counted
 pub mod Sweeps
 pub mod Did
+pub mod Bytes
+pub mod Verdicts

@@ -4,7 +4,7 @@ use Rattle.laws.proofs.Joins.{each-append}
 use Rattle.laws.proofs.Ranges.{range-append}
 use Rattle.laws.specs.Lists.{each, range}
 use Rattle.limits.specs.Limits.{maxDistance}
-use Rattle.marking.proofs.Written.{shown-append}
+use Rattle.marking.proofs.Written.{marked-same, shown-append}
 use Rattle.marking.specs.Listed.{Leaves, entered, listed, roomFor, span, told, unmeasured}
 use Rattle.marking.specs.Written.{byte, mark, marked, write}
 use Rattle.measure.specs.Distance.{capped}
@@ -223,6 +223,15 @@ told-bare x ms (y ∷ l) e = absurd (omega arith)
 pub marked-is : (gone : ℕ → Bool) (f : ℕ → List (ℕ × ℕ)) (lo hi : ℕ) (h : List ℕ) → marked gone f lo hi h ≡ write (veiled gone (span f lo hi)) h
 unfolding marked span
 marked-is gone f lo hi h = refl
+
+-- where no row is gone and no list is lent, what is written is all that is left
+pub leaves-bare : (gone : ℕ → Bool) (x : ℕ → ℕ) (f : ℕ → List (ℕ × ℕ)) (lo hi : ℕ) (h : List ℕ) {h₁ l : List ℕ} → ((i : ℕ) → gone i ≡ false)
+    → length l ≡ 0 → h₁ ≡ marked (λ (i : ℕ). false) f lo hi h → Leaves gone x (span f lo hi) h h₁ l l
+leaves-bare gone x f lo hi h {h₁} {l} none bare e =
+    record {
+      bytes = e ∙ marked-same (λ (i : ℕ). false) gone (λ i. sym (none i)) f lo hi h ∙ marked-is gone f lo hi h;
+      rows = told-bare x (veiled gone (span f lo hi)) l bare;
+    }
 
 -- marks by the distances of a set of circles that the code has read
 pub leaves-by : (gone : ℕ → Bool) (x : ℕ → ℕ → ℕ) (f : (ℕ → ℕ) → List (ℕ × ℕ)) {o o′ : ℕ} {h h₁ l l₁ : List ℕ} → o ≡ o′

@@ -48,6 +48,11 @@ pub write-one : (gone : ℕ → Bool) (i v : ℕ) (h : List ℕ) → mark gone i
 unfolding write mark
 write-one gone i v h = refl
 
+-- one mark where no row is gone
+pub write-plain : (i v : ℕ) (h : List ℕ) → byte i v h ≡ write (veiled (λ (j : ℕ). false) ((i, v) ∷ [])) h
+unfolding write
+write-plain i v h = refl
+
 -- marks after marks, as far as they are shown
 pub shown-append : (gone : ℕ → Bool) (xs ys : List (ℕ × ℕ)) (h : List ℕ)
     → write (veiled gone (xs ++ ys)) h ≡ write (veiled gone ys) (write (veiled gone xs) h)

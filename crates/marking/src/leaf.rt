@@ -3,11 +3,12 @@ ghost use Prim.Native.Nat.{_+_, _<_, _≤_};
 ghost use Rattle.limits.specs.Limits.{maxDistance};
 ghost use Rattle.measure.specs.Table.{from};
 ghost use Rattle.marking.specs.Marks.{decision, leafAt};
-ghost use Rattle.marking.specs.Lent.{Lent};
+ghost use Rattle.marking.specs.Lent.{Bare, Lent};
 ghost use Rattle.marking.specs.Listed.{Leaves, span};
 ghost use Rattle.rowset.specs.Sets.{isIn};
 ghost use Rattle.words.specs.Words.{N#, circles#, count#, n#, pairAt, row#, start#};
 ghost use mathlib.Core.Path.{_≡_};
+use crate::bare::open_bare;
 use crate::row::UNMEASURED;
 use crate::row::enter;
 use crate::row::measure_to;
@@ -28,7 +29,7 @@ pub enum Verdict {
 }
 
 // The leaf decision: x is the distance of the leaf's first, s the row's stored distance.
-fn decide(x: u32, s: u32, r: u32) -> Verdict
+pub fn decide(x: u32, s: u32, r: u32) -> Verdict
     requires { ⌜ (x ≤ maxDistance) × (s ≤ maxDistance) ⌝ }
     ensures { λ v. ⌜ v ≡ decision x s r ⌝ }
 {
@@ -77,6 +78,19 @@ fn leaf_row(
     measure_to(table, c, circles, query, row, r, withdrawn, how, list);
 }
 
+// How-bytes are lent, and neither a set nor a list; of each its length is given.
+fn is_bare(how: usize, withdrawn: usize, list: usize) -> bool
+    ensures { λ b. ⌜ Bare b how withdrawn list ⌝ }
+{
+    if how == 0 {
+        return false;
+    }
+    if withdrawn != 0 {
+        return false;
+    }
+    list == 0
+}
+
 // An opened leaf, node k, whose first is at x: each row but its first.
 pub fn open_leaf(
     table: &[u16],
@@ -101,6 +115,22 @@ pub fn open_leaf(
     let end = start + node_count(index, k);
     let base = pair_at(index, 0);
     let round = circles(index);
+    if is_bare(how.len(), withdrawn.len(), list.len()) {
+        open_bare(
+            table,
+            c,
+            round,
+            index,
+            query,
+            base,
+            start + 1,
+            end,
+            x,
+            r,
+            how,
+        );
+        return;
+    }
     let mut p = start + 1;
     while p < end {
         leaf_row(

@@ -22,6 +22,7 @@ off-next s i on h e k l = by-test on (eqb (getD s i 0) 0) refl refl e
         below : (b : Bool) → eqb k i ≡ b → getD s k 0 ≡ 0
         below true q = ap (λ (j : ℕ). getD s j 0) (eqb-true k i q) ∙ eqb-true (getD s i 0) 0 z
         below false q = f (omega (arith, eqb-false k i q))
+
     by-test : (b z : Bool) → on ≡ b → eqb (getD s i 0) 0 ≡ z → (b || not z) ≡ false → getD s k 0 ≡ 0
     by-test true z p q r = absurd (subst T r tt)
     by-test false true p q r = last q (h p k)

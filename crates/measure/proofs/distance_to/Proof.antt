@@ -29,15 +29,17 @@ returns-2 c = (by-no-circle _ _ _ _ _ (omega arith) (c .many-to .ensures), few (
 
 returns-3 : tie.Need-returns-3
 returns-3 c =
-    let o = c .before in
-    (capped-of _ _ _ _ _ (o .one-over .ensures) (by-none _ _ _ _ (omega arith) (o .before .many .ensures .0)) (c .smaller .ensures),
-      few (o .before .before .before .before .before))
+    let o = c .before in (
+      capped-of _ _ _ _ _ (o .one-over .ensures) (by-none _ _ _ _ (omega arith) (o .before .many .ensures .0)) (c .smaller .ensures),
+      few (o .before .before .before .before .before),
+    )
 
 returns-4 : tie.Need-returns-4
 returns-4 c =
-    let o = c .before in
-    (capped-of _ _ _ _ _ (o .one-over2 .ensures) (by-none _ _ _ _ (omega arith) (o .before .plain .ensures .0)) (c .smaller2 .ensures),
-      few (o .before .before .before .before .before))
+    let o = c .before in (
+      capped-of _ _ _ _ _ (o .one-over2 .ensures) (by-none _ _ _ _ (omega arith) (o .before .plain .ensures .0)) (c .smaller2 .ensures),
+      few (o .before .before .before .before .before),
+    )
 
 pub distance-to-spec : {M : Type 1} → statement M
 distance-to-spec =

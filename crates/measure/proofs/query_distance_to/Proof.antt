@@ -18,14 +18,14 @@ use native.Mathlib.Omega.{arith}
 done : (c : tie.After-row-of) (r : ℕ)
     → r
     ≡ capped (c .before .before .before .args .ceiling)
-        (l1 (length (c .before .before .before .args .query .now)) (c .before .before .before .args .circles) (c .before .before .before .args .query .now)
-        (c .row-of .result .now))
+    (l1 (length (c .before .before .before .args .query .now)) (c .before .before .before .args .circles) (c .before .before .before .args .query .now)
+    (c .row-of .result .now))
     → (r
     ≡ capped (c .before .before .before .args .ceiling)
-        (from (c .before .before .before .args .table .now) (c .before .before .before .args .c) (c .before .before .before .args .circles)
-        (c .before .before .before .args .query .now) (c .before .before .before .args .i)))
+    (from (c .before .before .before .args .table .now) (c .before .before .before .args .c) (c .before .before .before .args .circles)
+    (c .before .before .before .args .query .now) (c .before .before .before .args .i)))
     × (from (c .before .before .before .args .table .now) (c .before .before .before .args .c) (c .before .before .before .args .circles)
-        (c .before .before .before .args .query .now) (c .before .before .before .args .i)
+    (c .before .before .before .args .query .now) (c .before .before .before .args .i)
     ≤ maxDistance)
 done c r h =
     let s = c .before .before .before in (

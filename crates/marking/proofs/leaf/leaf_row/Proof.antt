@@ -5,7 +5,7 @@ use Rattle.measure.specs.Table.{from}
 use Rattle.marking.proofs.Fitted.{measurable}
 use Rattle.marking.proofs.Did.{leaf-did}
 use Rattle.marking.proofs.Listed.{leaves-as, leaves-gone, leaves-in, leaves-out}
-use Rattle.marking.proofs.leaf.Verdict as verdict-type
+use Rattle.marking.proofs.Verdicts.{out-only}
 use Rattle.marking.proofs.leaf.leaf_row.Statement.{statement}
 use Rattle.marking.proofs.leaf.leaf_row.Tie as tie
 use Rattle.marking.specs.declared.leaf.Verdict.the-variants.{In, Measure, Out}
@@ -16,18 +16,9 @@ use Rattle.words.proofs.Positions.{dist-word, row-word}
 use Rattle.words.specs.Words.{at, dist#, n#, row#}
 use borrow.Author.Needs.{needs}
 use borrow.Author.Tests.{not-false, not-true}
-use denote.Enum.Declared.{tagOf}
 use mathlib.Core.List.{[], _∷_}
-use mathlib.Core.Logic.{⊎-elim}
-use mathlib.Core.Path.{_∙_, _≡_, refl}
+use mathlib.Core.Path.{_∙_, _≡_}
 use native.Mathlib.Omega.{arith}
-use types.Run.{OneOf}
-
--- the `else` of the `let`, where the `if let` failed too: by the tags it is `Out`
-out-only : (v : Verdict) → OneOf (0 ∷ 1 ∷ []) (tagOf verdict-type.the-type v) → OneOf (1 ∷ 2 ∷ []) (tagOf verdict-type.the-type v) → v ≡ Out
-out-only In p q = ⊎-elim (λ e. absurd (omega arith)) (λ e. absurd (omega arith)) q
-out-only Out p q = refl
-out-only Measure p q = ⊎-elim (λ e. absurd (omega arith)) (λ e. absurd (omega arith)) p
 
 -- the start, seen from the reading of the row, and the distances
 abbrev start : tie.After-word → tie.Start
