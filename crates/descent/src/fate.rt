@@ -18,7 +18,7 @@ pub enum Fate {
 }
 
 // Which of them, in this order: x is the distance of the node's first.
-fn fate_of(x: u32, radius: u32, bound: u32, r: u32) -> Fate
+pub fn fate_of(x: u32, radius: u32, bound: u32, r: u32) -> Fate
     requires { ⌜ (x ≤ maxDistance) × (radius ≤ maxDistance) ⌝ }
     ensures { λ v. ⌜ v ≡ fateOf x radius bound r ⌝ }
 {

@@ -9,11 +9,14 @@ ghost use Rattle.words.specs.Words.{circles#};
 ghost use mathlib.Core.Path.{_≡_};
 use crate::descent::descend;
 use crate::fate::Fate;
-use crate::fate::settle;
+use crate::fate::fate_of;
 use limits::Params;
-use marking::row::measure_row;
+use marking::row::mark_measured;
+use marking::swept::sweep;
+use measure::query_distance;
 use words::places::circles;
 use words::places::node_first;
+use words::places::node_radius;
 use words::places::nodes;
 
 mod descent;
@@ -40,33 +43,28 @@ pub fn search(
     if nodes(index) == 0 {
         return;
     }
+    // the root is measured and settled here, and not by the functions that its descendants go through: each of these is then called from one place,
+    // and is compiled there
     let first = node_first(index, 0);
-    let x = measure_row(
+    let x = query_distance(table, c, circles(index), query, first);
+    mark_measured(x, first, r, withdrawn, how, list);
+    let fate = fate_of(x, node_radius(index, 0), 0, r);
+    if let Fate::Swept = fate {
+        sweep(index, 0, withdrawn, how, list);
+        return;
+    }
+    descend(
         table,
         c,
-        circles(index),
+        index,
         query,
-        first,
+        0,
+        x,
+        0,
         r,
+        Params::MOST_DEPTH,
         withdrawn,
         how,
         list,
     );
-    let fate = settle(index, 0, x, 0, r, withdrawn, how, list);
-    if let Fate::Opened = fate {
-        descend(
-            table,
-            c,
-            index,
-            query,
-            0,
-            x,
-            0,
-            r,
-            Params::MOST_DEPTH,
-            withdrawn,
-            how,
-            list,
-        );
-    }
 }
