@@ -7,6 +7,7 @@ use descent::search;
 use limits::Asked;
 use limits::rows_in;
 use rowset::set_bad;
+use rowset::words_asked;
 use tallies::tally;
 use words::places::rows;
 
@@ -71,6 +72,7 @@ pub fn radius(
     }
     let n = rows(index);
     clear_bytes(how, n);
+    let end = words_asked(withdrawn);
     let mut unlisted = [0; 1];
     search(
         table,
@@ -78,7 +80,7 @@ pub fn radius(
         index,
         query,
         r,
-        withdrawn,
+        &withdrawn[..end],
         how,
         &mut unlisted[..0],
     );

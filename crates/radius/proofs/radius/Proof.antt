@@ -12,11 +12,13 @@ use Rattle.radius.proofs.radius.Statement.{statement}
 use Rattle.radius.proofs.radius.Tie as tie
 use Rattle.radius.specs.Numbers.{saidRadius}
 use Rattle.rowset.specs.Sets.{isIn}
+use Rattle.tree.proofs.Veiled.{veiled-same}
 use Rattle.tree.specs.Grove.{treeOf}
 use Rattle.tree.specs.Radius.{marks, veiled}
 use Rattle.words.specs.Words.{circles#, n#}
 use borrow.Author.Needs.{needs}
-use lib.ListN.{length}
+use lib.ListN.{length, take}
+use lib.Seq.{length-take-le}
 use mathlib.Core.Path.{_∙_, _≡_, ap, sym}
 use native.Mathlib.Omega.{arith}
 
@@ -43,28 +45,35 @@ clear-bytes-requires c κs =
     let e = c .before .before in
     omega (arith, room _ _ _ _ _ (start e .args .how .now) (none e), c .before .rows .ensures .0)
 
+slice-aggregate-search : tie.Need-slice-aggregate-search
+slice-aggregate-search c = sym (length-take-le _ _ (c .before .words-asked .ensures .0))
+
 search-requires : tie.Need-search-requires
-search-requires c κs = lent-same (lent (c .before .before .before .before .before .before .before)) (c .before .before .before .before .clear-bytes .last .0) (c .before .before .before .before .clear-bytes .kept .0)
+search-requires c κs = lent-same (lent (c .before .before .before .before .before .before .before .before .before)) (c .before .before .before .before .before .before .clear-bytes .last .0) (c .before .before .before .before .before .before .clear-bytes .kept .0)
 
 tally-requires : tie.Need-tally-requires
 tally-requires c κs =
-    let e = c .before .before .before .before .before .before .before .before .before .before .before .before in
+    let e = c .before .before .before .before .before .before .before .before .before .before .before .before .before .before in
     omega (
       arith,
       room _ _ _ _ _ (start e .args .how .now) (none e),
-      c .before .before .before .before .before .before .before .before .before .before .before .rows .ensures .0,
+      c .before .before .before .before .before .before .before .before .before .before .before .before .before .rows .ensures .0,
       c .before .before .before .before .search .kept .1 .1 .1 .1 .1 .1 .0,
-      c .before .before .before .before .before .before .before .before .before .clear-bytes .kept .0,
+      c .before .before .before .before .before .before .before .before .before .before .before .clear-bytes .kept .0,
     )
 
 returns-2 : tie.Need-returns-2
 returns-2 c =
-    let e = c .before .before .before .before .before .before .before .before .before .before .before .before .before in
+    let e = c .before .before .before .before .before .before .before .before .before .before .before .before .before .before .before in
     let a = start e .args in
-    let n = c .before .before .before .before .before .before .before .before .before .before .before .before .rows .ensures .0 in
-    let ms = veiled (isIn (a .withdrawn .now)) (marks (from (a .table .now) (a .c) (circles# (a .index .now)) (a .query .now)) (a .r) (treeOf (a .index .now))) in
+    let n = c .before .before .before .before .before .before .before .before .before .before .before .before .before .before .rows .ensures .0 in
+    let all = marks (from (a .table .now) (a .c) (circles# (a .index .now)) (a .query .now)) (a .r) (treeOf (a .index .now)) in
+    let ms = veiled (isIn (a .withdrawn .now)) all in
+    let asked = c .before .before .before .before .before .before .before .before .before .words-asked in
     done-is _ _ _ _ _ _ (a .how .now) (e .before .refusal .ensures) _ (e .if1 .left) (lent e .tested .shape) n
-    (c .before .before .before .before .before .search .ensures .bytes ∙ ap (write ms) (c .before .before .before .before .before .before .before .before .before .before .clear-bytes .ensures ∙ ap (λ (n : ℕ). wiped n (a .how .now)) n))
+    (c .before .before .before .before .before .search .ensures .bytes
+    ∙ ap (λ ms. write ms (c .before .before .before .before .before .before .before .before .before .before .before .before .clear-bytes .last .0)) (veiled-same (isIn (take (asked .result) (a .withdrawn .now))) (isIn (a .withdrawn .now)) (asked .ensures .1) all)
+    ∙ ap (write ms) (c .before .before .before .before .before .before .before .before .before .before .before .before .clear-bytes .ensures ∙ ap (λ (n : ℕ). wiped n (a .how .now)) n))
     (c .tally .ensures .0) (c .tally .ensures .1)
 
 pub radius-spec : {M : Type 1} → statement M
@@ -75,6 +84,8 @@ radius-spec =
     returns
     rows-requires
     clear-bytes-requires
+    (λ c κs. search needs)
+    slice-aggregate-search
     (λ c. search needs)
     (λ c. search needs)
     search-requires
