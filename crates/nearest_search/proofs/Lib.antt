@@ -11,3 +11,4 @@ pub mod HowBytes
 pub mod MetRows
 pub mod Handed
 pub mod Finding
+pub mod Again

@@ -144,8 +144,8 @@ module _ (n : ℕ) (how work : List ℕ) (met : ℕ) (L : Listed n how work met)
           )
 
       -- IT IS LISTED BEHIND THE OTHERS
-      pub listed-more : (k v : ℕ) → k ≡ 5 * n + met → v ≡ r → Marked n r how (set how r 1) work (set work k v) (met + 1)
-      listed-more k v ek ev = record {
+      pub listed-more : (k v met′ : ℕ) → k ≡ 5 * n + met → v ≡ r → met′ ≡ met + 1 → Marked n r how (set how r 1) work (set work k v) met′
+      listed-more k v met′ ek ev em = subst (Marked n r how (set how r 1) work (set work k v)) (sym em) (record {
         byte = refl;
         outside = outside-set work (5 * n) (6 * n) k v (omega arith) (omega (arith, listed-room));
         listed = record {
@@ -159,7 +159,7 @@ module _ (n : ℕ) (how work : List ℕ) (met : ℕ) (L : Listed n how work met)
           words = omega (arith, length-set work k v, L .words);
           small = L .small;
         };
-      }
+      })
         where
           here : getD (set work k v) (5 * n + met) 0 ≡ r
           here =
@@ -191,9 +191,9 @@ module _ (n : ℕ) (how₀ work : List ℕ) (met : ℕ) (L : Listed n how₀ wor
   times r i = sumTo (λ (j : ℕ). is r (getD work (5 * n + j) 0)) i
 
   -- none is at first
-  pub unmark-start : UnmarkedTo n how₀ how₀ work met 0
-  unmark-start = record {
-    byte = λ r. sym (ap (λ (v : ℕ). cond (ltb 0 v) 0 (at how₀ r)) (sum-none (λ (j : ℕ). is r (getD work (5 * n + j) 0))));
+  pub unmark-start : (i : ℕ) → i ≡ 0 → UnmarkedTo n how₀ how₀ work met i
+  unmark-start i z = record {
+    byte = λ r. sym (ap (λ (v : ℕ). cond (ltb 0 v) 0 (at how₀ r)) (ap (times r) z ∙ sum-none (λ (j : ℕ). is r (getD work (5 * n + j) 0))));
     bytes = refl;
     low = omega arith;
   }

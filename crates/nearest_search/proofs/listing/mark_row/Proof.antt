@@ -5,7 +5,6 @@ use Rattle.nearest_search.proofs.MetRows.{listed-again, listed-more, li
 use Rattle.nearest_search.proofs.listing.mark_row.Statement.{statement}
 use Rattle.nearest_search.proofs.listing.mark_row.Tie as tie
 use borrow.Author.Needs.{needs}
-use mathlib.Core.Path.{refl}
 use native.Mathlib.Omega.{arith}
 
 -- where it was not marked: there is room in the list
@@ -41,7 +40,7 @@ add-result c = omega (arith, c .before .before .pre .0 .small, room c)
 returns : tie.Need-returns
 returns c =
     let pre = c .before .before .pre in
-    listed-more _ _ _ _ (pre .0) _ (pre .1 .0) (c .if1 .taken) _ _ (omega arith) refl
+    listed-more _ _ _ _ (pre .0) _ (pre .1 .0) (c .if1 .taken) _ _ _ (omega arith) (omega arith) (omega arith)
 
 returns-2 : tie.Need-returns-2
 returns-2 c =

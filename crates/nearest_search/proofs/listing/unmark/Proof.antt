@@ -22,7 +22,7 @@ mul-first : tie.Need-mul-first Inv-loop μ-loop
 mul-first c = omega (arith, c .pre .small)
 
 loop-holds : tie.Need-loop-holds Inv-loop μ-loop
-loop-holds c = unmark-start _ _ _ _ (c .pre)
+loop-holds c = unmark-start _ _ _ _ (c .pre) _ (omega arith)
 
 add-r : tie.Need-add-r Inv-loop μ-loop
 add-r c = omega (arith, c .before .before .pre .small, most (c .before .before))
