@@ -1,6 +1,5 @@
--- The workspace of a nearest search, 6n words for n rows: 2n for the frontier, n for the distances of centres by row, 2n for the answers, and n to
--- spare. A
--- working notion, on which no promise rests. Assumes nothing.
+-- The workspace of a nearest search, 6n words for n rows: 2n for the frontier, n for the distances of centres by row, 2n for the answers, and n for
+-- the rows measured. A working notion, on which no promise rests. Assumes nothing.
 use Prim.Native.Nat.{_*_, _+_, ℕ}
 use lib.ListN.{getD}
 use mathlib.Core.List.{List}
@@ -12,6 +11,10 @@ distancesAt n = 2 * n
 -- where the answers stand
 abbrev pub answersAt : ℕ → ℕ
 answersAt n = 3 * n
+
+-- where the rows measured stand
+abbrev pub metAt : ℕ → ℕ
+metAt n = 5 * n
 
 -- how many words there are
 abbrev pub workWords : ℕ → ℕ

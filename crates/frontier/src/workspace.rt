@@ -7,5 +7,8 @@ pub const DISTANCES: usize = 2;
 // The answers, a queue of at most n entries.
 pub const ANSWERS: usize = 3;
 
+// The rows measured, in the order in which they were.
+pub const MET: usize = 5;
+
 // The workspace ends.
 pub const END: usize = 6;

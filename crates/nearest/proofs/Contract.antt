@@ -10,7 +10,7 @@ use Rattle.measure.proofs.Metric.{query-point}
 use Rattle.measure.proofs.OnCircle.{round-query}
 use Rattle.measure.specs.Table.{Round, between, from, rowsOf}
 use Rattle.nearest_search.specs.Asked.{NearestAsked, NearestLent, asks, away, due, gone, positionsLeft, rowsIn}
-use Rattle.nearest_search.specs.Found.{FoundNearest, Searchable, Settled, SoundAnswers}
+use Rattle.nearest_search.specs.Found.{FoundAnswers, FoundNearest, Searchable, Settled, SoundAnswers}
 use Rattle.nearest.proofs.Refusals.{not-refused, rooms}
 use Rattle.nearest.specs.Calls.{Answered, Serves, saidOf}
 use Rattle.nearest.specs.Numbers.{nearestAsks}
@@ -21,7 +21,7 @@ use Rattle.tree.proofs.Rows.{rows-tree}
 use Rattle.tree.proofs.Theorems.{home-below, same-row}
 use Rattle.tree.specs.Grove.{Grove, treeOf}
 use Rattle.tree.specs.Homes.{homes}
-use Rattle.tree.specs.Nearest.{answers, candidates, isMeasured, measured, nearHow, passes, remaining, sort}
+use Rattle.tree.specs.Nearest.{answers, candidates, isMeasured, nearHow, passes, remaining, sort}
 use Rattle.words.specs.Words.{circles#, n#, row#}
 use borrow.Author.Tests.{eqb-false, eqb-true, not-false}
 use lib.Dec.{T, eqb}
@@ -221,19 +221,19 @@ module _ (a : NearestAsked) (b : NearestLent) {number room : ℕ} (fit : (room �
   core-asks n k z en ek = fits a room b fit k (ek ∙ ap (λ (n : ℕ). min (a .wanted) n) en) (sym said-is ∙ z)
 
   -- A SEARCH MEETS THE CONTRACT
-  pub done-is : (n k given given₀ met : ℕ) (b′ : NearestLent) → number ≡ 0 → n ≡ rowsIn a → k ≡ min (a .wanted) n
-      → FoundNearest (butFor a k) b b′ given₀ → given ≡ given₀ → met ≡ measured (take n (b′ .how)) → Answered a room b b′ 0 given met
-  done-is n k given given₀ met b′ z en ek₀ D₀ eg em =
+  pub done-is : (n k given given₀ met met₀ : ℕ) (b′ : NearestLent) → number ≡ 0 → n ≡ rowsIn a → k ≡ min (a .wanted) n
+      → FoundNearest (butFor a k) b b′ given₀ met₀ → given ≡ given₀ → met ≡ met₀ → Answered a room b b′ 0 given met
+  done-is n k given given₀ met met₀ b′ z en ek₀ D₀ eg em =
       let w = a .index in
       let ek : k ≡ due a = ek₀ ∙ ap (λ (n : ℕ). min (a .wanted) n) en in
-      let D = subst (λ (g : ℕ). FoundNearest (butFor a k) b b′ g) (sym eg) D₀ in
+      let D = subst (λ (g : ℕ). FoundAnswers (butFor a k) b b′ g met₀) (sym eg) (D₀ .gave) in
       record {
         said = sym z ∙ said-is;
         refused = λ f. absurd (f refl);
-        cleared = λ e. D .cleared;
+        cleared = λ e. D₀ .cleared;
         beyond = λ e. D .beyond;
         sound = λ e. sound-wanted (away a) (gone a) (n# w) (a .wanted) k ek (left-most a) (D .sound);
-        counted = λ e. em ∙ ap (λ (n : ℕ). measured (take n (b′ .how))) en;
+        counted = λ e. em ∙ D .counted;
         found = λ e t′ A.
             let round = query-round a room b (sym said-is ∙ z) in
             settled-wanted a t′ k ek A round b b′ given

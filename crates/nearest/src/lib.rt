@@ -10,7 +10,6 @@ use limits::is_short;
 use limits::rows_in;
 use nearest_search::find;
 use rowset::set_bad;
-use tallies::tally;
 
 // What a call gives: 0 or why it was refused; on success how many answers, and how many rows were measured.
 pub struct Given {
@@ -98,7 +97,7 @@ fn answer(
         };
     }
     let n = words::places::rows(index);
-    let given = find(
+    let found = find(
         table,
         c,
         index,
@@ -110,11 +109,10 @@ fn answer(
         how,
         work,
     );
-    let counts = tally(how, n);
     Given {
         number: 0,
-        given: given,
-        measured: counts.measured,
+        given: found.given,
+        measured: found.measured,
     }
 }
 

@@ -8,7 +8,7 @@ use Rattle.laws.specs.Outside.{Outside}
 use Rattle.laws.specs.Upto.{sumTo}
 use Rattle.nearest_search.proofs.Filling.{left-add, left-zero}
 use Rattle.nearest_search.proofs.Staying.{held-stay, since-none, since-then, since-work, stands-stay}
-use Rattle.nearest_search.specs.Standing.{Grew, GrewCentres, Stands, metOf}
+use Rattle.nearest_search.specs.Standing.{Grew, GrewAlone, GrewCentres, Stands, metOf}
 use Rattle.words.specs.Words.{first#}
 use mathlib.Core.Bool.{Bool, cond}
 use mathlib.Core.List.{List}
@@ -74,14 +74,32 @@ module _ (x : ℕ → ℕ) (gone : ℕ → Bool) (n w : ℕ) where
   pub grew-front : (how how′ work work₁ work₂ : List ℕ) (held held′ : ℕ) (g : ℕ → ℕ) → Grew x gone n w how how′ work work₁ held held′ g
       → Outside work₁ work₂ 0 (2 * n) → Grew x gone n w how how′ work work₂ held held′ g
   grew-front how how′ work work₁ work₂ held held′ g G O = record {
-    stands = stands-stay n work₁ work₂ (λ i l. O .over i (omega arith)) (O .same) x gone w how′ held′ (G .stands);
+    stands = stands-stay n work₁ work₂ (λ i lo hi. O .over i (omega arith)) (O .same) x gone w how′ held′ (G .stands);
     keeps = λ r l e. O .over (2 * n + r) (omega arith) ∙ G .keeps r l e;
     since = since-then n how how′ how′ work work₁ work₂ (G .since) (since-work n how′ work₁ work₂ 0 (2 * n) (omega arith) O);
     most = G .most;
     more = G .more;
     best = λ H new.
-        let b = G .best H new in
-        (held-stay n work₁ work₂ (λ i l. O .over i (omega arith)) x (metOf gone how′) w held′ (b .0), b .1);
+        let b = G .best H new in (
+          held-stay n work₁ work₂ (λ i lo hi. O .over i (omega arith)) x (metOf gone how′) w held′ (omega (arith, G .stands .most, G .stands .wanted))
+              (b .0),
+          b .1,
+        );
+  }
+
+  -- where a row was listed before
+  pub grew-listed : (how how′ work work₁ work₂ : List ℕ) (held held′ : ℕ) (g : ℕ → ℕ) → held ≤ n → Outside work work₁ (5 * n) (6 * n)
+      → GrewAlone x gone n w how how′ work₁ work₂ held held′ g → GrewAlone x gone n w how how′ work work₂ held held′ g
+  grew-listed how how′ work work₁ work₂ held held′ g few O G = record {
+    grew = record {
+      stands = G .grew .stands;
+      keeps = λ r l e. G .grew .keeps r l (O .under (2 * n + r) (omega arith) ∙ e);
+      since = since-then n how how how′ work work₁ work₂ (since-work n how work work₁ (5 * n) (6 * n) (omega arith) O) (G .grew .since);
+      most = G .grew .most;
+      more = G .grew .more;
+      best = λ H new. G .grew .best (held-stay n work work₁ (λ i lo hi. O .under i hi) x (metOf gone how) w held few H) new;
+    };
+    front = λ i h. G .front i h ∙ O .under i (omega arith);
   }
 
 -- ---- centres, one after the other

@@ -1,5 +1,5 @@
 -- The answers handed out, place by place: what holds of them on every index in shape. Assumes nothing.
-use Prim.Native.Nat.{_<_, _≤_, min, suc, zero, ℕ}
+use Prim.Native.Nat.{_-_, _<_, _≤_, min, suc, zero, ℕ}
 use Rattle.answers_held.proofs.Handouts.{both-zero, falling-sorted}
 use Rattle.answers_held.proofs.RowEntries.{entry-own, pair}
 use Rattle.answers_held.specs.Answers.{distanceOf, rowOf, stray}
@@ -10,14 +10,17 @@ use Rattle.laws.specs.Lists.{has}
 use Rattle.nearest_search.specs.Asked.{NearestLent}
 use Rattle.nearest_search.specs.Found.{SoundAnswers}
 use Rattle.tree.proofs.Sorted.{Le, Sorted}
+use Rattle.tree.specs.Nearest.{isMeasured}
 use Rattle.words.specs.Words.{at}
-use lib.Dec.{T}
+use borrow.Author.Tests.{ne-eqb}
+use lib.Dec.{T, ltb}
 use lib.ListN.{drop, getD, length, length-map, take}
 use lib.Seq.{take-at}
-use mathlib.Core.Bool.{Bool, cond, false, true}
+use mathlib.Core.Bool.{Bool, _||_, cond, false, true}
 use mathlib.Core.List.{List, [], _++_, _∷_, map}
 use mathlib.Core.Logic.{_↔_}
 use mathlib.Core.Path.{_∙_, _≡_, ap, refl, subst, sym}
+use native.Mathlib.Decide.{ℕ-discrete}
 use native.Mathlib.Omega.{arith}
 
 -- ---- by places
@@ -54,6 +57,32 @@ order-is ea eb ec ed h = (omega (arith, h .0), λ q. omega (arith, h .1 (omega a
 three : (b : Bool) (v v′ : ℕ) → v ≤ 1 → v′ ≡ cond b 3 v → ((v′ ≡ 3) ↔ T b) × ((v′ ≡ 3 → ⊥) → v′ ≤ 1)
 three true v v′ h e = ((λ z. tt, λ t. e), λ n. absurd (n e))
 three false v v′ h e = ((λ z. absurd (omega arith), λ t. absurd t), λ n. omega arith)
+
+-- it is marked then as it was, where an answer was, and says measured where it is
+pub given-byte : (b : Bool) (v v′ : ℕ) → v ≤ 1 → (b ≡ true → 1 - v ≡ 0) → v′ ≡ cond b 3 v → (ltb 0 v′ ≡ ltb 0 v) × (isMeasured v′ ≡ ltb 0 v′)
+given-byte b zero v′ h m e = subst (λ (v′ : ℕ). (ltb 0 v′ ≡ false) × (isMeasured v′ ≡ ltb 0 v′)) (sym e) (go b m)
+  where
+    go : (b : Bool) → (b ≡ true → 1 - zero ≡ 0) → (ltb 0 (cond b 3 0) ≡ false) × (isMeasured (cond b 3 0) ≡ ltb 0 (cond b 3 0))
+    go true m = absurd (omega (arith, m refl))
+    go false m = (refl, refl)
+given-byte b (suc zero) v′ h m e = subst (λ (v′ : ℕ). (ltb 0 v′ ≡ true) × (isMeasured v′ ≡ ltb 0 v′)) (sym e) (go b)
+  where
+    go : (b : Bool) → (ltb 0 (cond b 3 1) ≡ true) × (isMeasured (cond b 3 1) ≡ ltb 0 (cond b 3 1))
+    go true = (refl, refl)
+    go false = (refl, refl)
+given-byte b (suc (suc v)) v′ h m e = absurd (omega arith)
+
+-- where no row handed out has f, one that is handed out has not
+pub given-some : (f : ℕ → ℕ) (l : List ℕ) → total (λ (e : ℕ). f (rowOf e)) l ≡ 0 → (i : ℕ) → has i (map rowOf l) ≡ true → f i ≡ 0
+given-some f [] z i h = absurd (false-true h)
+  where
+    false-true : false ≡ true → ⊥
+    false-true e = omega (arith, ap (λ (b : Bool). cond {A = ℕ} b 1 0) e)
+given-some f (e ∷ l) z i h = go (ℕ-discrete i (rowOf e)) (λ q. given-some f l (omega arith) i q)
+  where
+    go : Dec (i ≡ rowOf e) → (has i (map rowOf l) ≡ true → f i ≡ 0) → f i ≡ 0
+    go (yes q) ih = omega (arith, ap f q)
+    go (no q) ih = ih (sym (ap (λ (b : Bool). b || has i (map rowOf l)) (ne-eqb i (rowOf e) q)) ∙ h)
 
 -- a test that counts nothing fails
 not-gone : (b : Bool) → cond {A = ℕ} b 1 0 ≡ 0 → b ≡ false

@@ -164,7 +164,7 @@ module _ (t : List ℕ) (c : ℕ) (q w : List ℕ) (wanted : ℕ) (struck : List
           let O : Outside work₁ work₂ 0 (2 * n# w) =
           front-alone (n# w) len (m# w) work₁ work₂ (omega (arith, T .room .fits, kids-fit)) (M .outside) in
           let o = opened w x work₁ work₂ len (m# w) g last len′ (childOf w x a b u) M child-read (lastOf work₂ (3 * n# w) wanted held′)
-          (openedBy w x (node k b u)) (last-then w wanted work₁ work₂ held′ last n en el O) opens-are in
+          (openedBy w x (node k b u)) (last-then w wanted work₁ work₂ held′ last n (omega (arith, T .ready .stands .wanted)) en el O) opens-are in
           record {
             grew = grew-front x (isIn struck) (n# w) wanted how how′ work work₁ work₂ held held′ (measuredBy w (node k b u))
                 (grew-as x (isIn struck) (n# w) wanted how how′ work work₁ held held′ (firstsTo w a (m# w - 1))

@@ -8,5 +8,7 @@ pub mod Weights
 pub mod Progress
 pub mod Starting
 pub mod HowBytes
+pub mod MetRows
 pub mod Handed
 pub mod Finding
+pub mod Again

@@ -1,6 +1,6 @@
 -- One row measured: it is marked and entered among the answers, unless it is withdrawn or too far; of a centre the distance is kept besides.
 -- Assumes nothing.
-use Prim.Native.Nat.{_*_, _+_, _<_, _≤_, min, ℕ}
+use Prim.Native.Nat.{_*_, _+_, _-_, _<_, _≤_, min, ℕ}
 use Rattle.answers_held.proofs.Entering.{enter-less, enter-most, enter-none, enter-one, enter-up}
 use Rattle.answers_held.proofs.Holding.{enter-held, held-as}
 use Rattle.answers_held.proofs.LastOf.{last-full, last-room}
@@ -9,6 +9,7 @@ use Rattle.answers_held.specs.Answers.{BestHeld, Entered, HeldQueue, distanceOf
 use Rattle.best_first.specs.Search.{both}
 use Rattle.frontier.specs.Workspace.{kept}
 use Rattle.index_space.specs.Items.{leftOf, liveOf}
+use Rattle.laws.proofs.Bags.{total-none}
 use Rattle.laws.proofs.Ones.{is-bit, is-not, is-same, is-self}
 use Rattle.laws.proofs.Outside.{outside-same}
 use Rattle.laws.specs.Bags.{is, total}
@@ -16,7 +17,10 @@ use Rattle.laws.specs.Outside.{Outside}
 use Rattle.limits.specs.Limits.{maxDistance}
 use Rattle.measure.specs.Distance.{capped}
 use Rattle.nearest_search.proofs.Filling.{left-zero, sum-one}
-use Rattle.nearest_search.proofs.Staying.{held-stay, stands-stay}
+use Rattle.nearest_search.proofs.Growing.{grew-listed}
+use Rattle.nearest_search.proofs.MetRows.{listed-front, listed-stays}
+use Rattle.nearest_search.proofs.Staying.{held-stay, last-stays, stands-stay}
+use Rattle.nearest_search.specs.Listed.{Listed, Marked}
 use Rattle.nearest_search.specs.Standing.{GrewAlone, GrewCentres, Stands, metOf}
 use Rattle.queue.specs.Entry.{entryAt}
 use Rattle.queue.specs.Queue.{Queue, entries}
@@ -49,6 +53,8 @@ pub record Handled (x : ℕ → ℕ) (gone : ℕ → Bool) (n w r : ℕ) (work w
   pub most : held′ ≤ w
   pub own : total (stray x n) (entries work′ (3 * n) held′) ≡ 0
   pub remain : total (λ (e : ℕ). cond (gone (rowOf e)) 1 0) (entries work′ (3 * n) held′) ≡ 0
+  -- what neither the row nor any that was held has, none has then
+  pub none : (f : ℕ → ℕ) → f (turned r (x r)) ≡ 0 → total f (entries work (3 * n) held) ≡ 0 → total f (entries work′ (3 * n) held′) ≡ 0
   pub outside : Outside work work′ (3 * n) (3 * n + (w + w))
   pub up : held′ ≤ held + liveOf gone r
   pub more : held′ < w → held′ ≡ held + liveOf gone r
@@ -91,15 +97,16 @@ module _ (x : ℕ → ℕ) (gone : ℕ → Bool) (n w : ℕ) (how work : List �
     -- A ROW THAT IS WITHDRAWN IS NOT ENTERED: the answers are as they were
     pub passed-by : gone r ≡ true → Handled x gone n w r work work held held
     passed-by g =
-        let none : liveOf gone r ≡ 0 = ap (λ (b : Bool). cond {A = ℕ} b 0 1) g in
+        let zero : liveOf gone r ≡ 0 = ap (λ (b : Bool). cond {A = ℕ} b 0 1) g in
         record {
           queue = St .queue;
           most = St .most;
           own = St .own;
           remain = St .remain;
+          none = λ f z t. t;
           outside = outside-same work (3 * n) (3 * n + (w + w));
           up = omega arith;
-          more = λ l. omega (arith, none);
+          more = λ l. omega (arith, zero);
           best = λ m m′ H z grown. held-as x m m′ n work (3 * n) w held (λ s. omega (arith, grown s, left-gone gone r s g)) H;
         }
 
@@ -116,6 +123,7 @@ module _ (x : ℕ → ℕ) (gone : ℕ → Bool) (n w : ℕ) (how work : List �
               (ap (λ (z : ℕ). stray x n (turned r z)) e ∙ own-entry x n r (St .small) row (omega arith)) (St .own);
           remain = enter-none work work′ (3 * n) w held (turned r d) held′ E (λ (e : ℕ). cond (gone (rowOf e)) 1 0)
               (ap (λ (b : Bool). cond {A = ℕ} b 1 0) (ap gone (row-turned r d (omega (arith, St .small))) ∙ g)) (St .remain);
+          none = λ f z t. enter-none work work′ (3 * n) w held (turned r d) held′ E f (ap (λ (d : ℕ). f (turned r d)) e ∙ z) t;
           outside = E .outside;
           up = omega (arith, one, enter-up work work′ (3 * n) w held (turned r d) held′ E);
           more = λ l. omega (arith, one, enter-one work work′ (3 * n) w held (turned r d) held′ E (St .most) l);
@@ -166,6 +174,20 @@ module _ (x : ℕ → ℕ) (gone : ℕ → Bool) (n w : ℕ) (how work : List �
       bit s h (yes f) = omega (arith, ap (at how′) f, byte)
       bit s h (no f) = omega (arith, byte-other s f, St .bits s h)
 
+      -- all that are held are marked: those that were held, and the row
+      held-marked : total (λ (e : ℕ). 1 - at how′ (rowOf e)) (entries work′ (3 * n) held′) ≡ 0
+      held-marked =
+          K .none (λ (e : ℕ). 1 - at how′ (rowOf e)) (own-marked (rowOf (turned r (x r))) (row-turned r (x r) (omega (arith, St .small))))
+          (total-none (λ (e : ℕ). 1 - at how′ (rowOf e)) (λ (e : ℕ). 1 - at how (rowOf e)) (entries work (3 * n) held)
+          (λ e z p. stays (rowOf e) z p (ℕ-discrete (rowOf e) r)) (St .marked))
+        where
+          own-marked : (s : ℕ) → s ≡ r → 1 - at how′ s ≡ 0
+          own-marked s e = omega (arith, ap (at how′) e, byte)
+
+          stays : (s : ℕ) → 1 - at how s ≡ 0 → 0 < 1 - at how′ s → Dec (s ≡ r) → ⊥
+          stays s z p (yes e) = omega (arith, own-marked s e)
+          stays s z p (no e) = omega (arith, byte-other s e)
+
       -- what the search then knows
       after : Stands x gone n w how′ work′ held′
       after = record {
@@ -173,6 +195,7 @@ module _ (x : ℕ → ℕ) (gone : ℕ → Bool) (n w : ℕ) (how work : List �
         most = K .most;
         own = K .own;
         remain = K .remain;
+        marked = held-marked;
         near = λ s h p. near-all s h p (ℕ-discrete s r);
         bits = λ s h. bit s h (ℕ-discrete s r);
         bytes = omega (arith, ap length eh, length-set how r 1, St .bytes);
@@ -211,6 +234,26 @@ module _ (x : ℕ → ℕ) (gone : ℕ → Bool) (n w : ℕ) (how work : List �
         front = λ i h. K .outside .under i (omega arith);
       }
 
+-- ---- the row is listed first, which changes no answer
+module _ (x : ℕ → ℕ) (gone : ℕ → Bool) (n w : ℕ) (how work : List ℕ) (held : ℕ) (St : Stands x gone n w how work held) (r : ℕ) (row : r < n)
+    (how₁ work₁ : List ℕ) (met₁ : ℕ) (M : Marked n r how how₁ work work₁ met₁) where
+  -- what the search knows stays
+  pub stands-listed : Stands x gone n w how work₁ held
+  stands-listed = stands-stay n work work₁ (λ i lo hi. M .outside .under i hi) (M .outside .same) x gone w how held St
+
+  -- so does the last distance
+  pub last-listed : lastOf work₁ (3 * n) w held ≡ lastOf work (3 * n) w held
+  last-listed = last-stays n work work₁ (λ i lo hi. M .outside .under i hi) w held (omega arith)
+
+  -- THE ROW IS MEASURED
+  pub took-listed : x r ≤ maxDistance → (work′ : List ℕ) (held′ : ℕ) → Handled x gone n w r work₁ work′ held held′
+      → GrewAlone x gone n w how how₁ work work′ held held′ (λ (s : ℕ). is s r) × Listed n how₁ work′ met₁
+  took-listed near work′ held′ K = (
+    grew-listed x gone n w how how₁ work work₁ work′ held held′ (λ (s : ℕ). is s r) (omega (arith, St .most, St .wanted)) (M .outside)
+        (took x gone n w how work₁ held stands-listed r row (x r) refl near how₁ work′ held′ (M .byte) K),
+    listed-front n how₁ work₁ met₁ (M .listed) work′ (3 * n) (3 * n + (w + w)) (omega (arith, St .wanted)) (K .outside),
+  )
+
 -- ---- a row that is a centre: its distance is kept besides
 module _ (x : ℕ → ℕ) (gone : ℕ → Bool) (n w : ℕ) (how how′ work work₁ work₂ : List ℕ) (held held′ r d : ℕ) (row : r < n)
     (K : GrewAlone x gone n w how how′ work work₁ held held′ (λ (s : ℕ). is s r)) (e : d ≡ x r) (ew : work₂ ≡ set work₁ (2 * n + r) d) where
@@ -231,12 +274,16 @@ module _ (x : ℕ → ℕ) (gone : ℕ → Bool) (n w : ℕ) (how how′ work wo
   keeps s h f (yes q) = subst (λ (s : ℕ). kept work₂ n s ≡ x s) (sym q) own-kept
   keeps s h f (no q) = other (2 * n + s) (omega arith) ∙ K .grew .keeps s h f
 
+  -- the rows listed stay
+  pub centre-listed : {met : ℕ} → Listed n how′ work₁ met → Listed n how′ work₂ met
+  centre-listed {met} L = listed-stays n how′ work₁ met L work₂ (λ i h. other i (omega arith)) long
+
   -- THE CENTRE IS MEASURED
   pub centred : GrewCentres x gone n w how how′ work work₂ held held′ (λ (s : ℕ). is s r)
   centred = record {
     alone = record {
       grew = record {
-        stands = stands-stay n work₁ work₂ (λ i l. other i (omega arith)) long x gone w how′ held′ (K .grew .stands);
+        stands = stands-stay n work₁ work₂ (λ i lo hi. other i (omega arith)) long x gone w how′ held′ (K .grew .stands);
         keeps = λ s h f. keeps s h f (ℕ-discrete s r);
         since = record {
           bytes = K .grew .since .bytes;
@@ -247,8 +294,11 @@ module _ (x : ℕ → ℕ) (gone : ℕ → Bool) (n w : ℕ) (how how′ work wo
         most = K .grew .most;
         more = K .grew .more;
         best = λ H new.
-            let b = K .grew .best H new in
-            (held-stay n work₁ work₂ (λ i l. other i (omega arith)) x (metOf gone how′) w held′ (b .0), b .1);
+            let b = K .grew .best H new in (
+              held-stay n work₁ work₂ (λ i lo hi. other i (omega arith)) x (metOf gone how′) w held′
+                  (omega (arith, K .grew .stands .most, K .grew .stands .wanted)) (b .0),
+              b .1,
+            );
       };
       front = λ i h. other i (omega arith) ∙ K .front i h;
     };

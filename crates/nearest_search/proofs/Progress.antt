@@ -17,9 +17,11 @@ use Rattle.laws.proofs.Bags.{same-map, total-append, total-le, total-map, total
 use Rattle.laws.specs.Bags.{SameBag, total}
 use Rattle.measure.specs.Table.{from}
 use Rattle.nearest_search.proofs.Filling.{still-split}
+use Rattle.nearest_search.proofs.MetRows.{listed-front}
 use Rattle.nearest_search.proofs.Staying.{held-stay, ready-on, since-then, since-work, stands-stay}
 use Rattle.nearest_search.proofs.Weights.{amiss-on, cost, opened-amiss, opened-cost, opened-weight, some-weight}
 use Rattle.nearest_search.specs.Asked.{asks, positionsLeft}
+use Rattle.nearest_search.specs.Listed.{Listed}
 use Rattle.nearest_search.specs.Rounds.{CanTake, SearchEnd, SearchState, Taken, amiss, still}
 use Rattle.nearest_search.specs.Standing.{Since, Stands, metOf}
 use Rattle.queue.proofs.Queued.{entries-count}
@@ -95,19 +97,24 @@ module _ (t : List ℕ) (c : ℕ) (q w : List ℕ) (wanted : ℕ) (struck : List
 
       -- what the search knows stays
       popped-stands : Stands x (isIn struck) (n# w) wanted how work₁ held
-      popped-stands = stands-stay (n# w) work work₁ (λ i l. beyond i (omega arith)) (P .outside .same) x (isIn struck) wanted how held
+      popped-stands = stands-stay (n# w) work work₁ (λ i lo hi. beyond i (omega arith)) (P .outside .same) x (isIn struck) wanted how held
           (St .ready .stands)
 
       -- the best that were held are held
       popped-held : BestHeld x (metOf (isIn struck) how) (n# w) work (3 * n# w) wanted held
           → BestHeld x (metOf (isIn struck) how) (n# w) work₁ (3 * n# w) wanted held
-      popped-held H = held-stay (n# w) work work₁ (λ i l. beyond i (omega arith)) x (metOf (isIn struck) how) wanted held H
+      popped-held H = held-stay (n# w) work work₁ (λ i lo hi. beyond i (omega arith)) x (metOf (isIn struck) how) wanted held
+          (omega (arith, St .ready .stands .most, St .ready .stands .wanted)) H
 
       -- what lies beyond stays
       popped-since : (how₀ work₀ : List ℕ) → Since (n# w) how₀ how work₀ work → Since (n# w) how₀ how work₀ work₁
       popped-since how₀ work₀ since =
           since-then (n# w) how₀ how how work₀ work work₁ since
           (since-work (n# w) how work work₁ 0 (0 + (len + len)) (omega (arith, state-room)) (P .outside))
+
+      -- and the list of rows measured
+      pub popped-listed : (n met : ℕ) → n ≡ n# w → Listed n how work met → Listed n how work₁ met
+      popped-listed n met en L = listed-front n how work met L work₁ 0 (0 + (len + len)) (omega (arith, state-room)) (P .outside)
 
       -- no distance that was kept is lost
       popped-keeps : (r : ℕ) → r < n# w → kept work (n# w) r ≡ x r → kept work₁ (n# w) r ≡ x r

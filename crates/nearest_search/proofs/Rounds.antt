@@ -81,7 +81,7 @@ module _ (t : List ℕ) (c : ℕ) (q w : List ℕ) (wanted : ℕ) (struck : List
         ∙ ap (λ (v : ℕ). place (start# w k + suc i) (placeBound w b v (start# w k + suc i))) first-kept in
         let leafy : upto (placeOf w k b u) (count# w k - 1) ≡ opensAt w x (child# w k) k b u = ap (λ (q : ℕ). opensAt w x q k b u) (sym z) in
         let o = opened w x work work′ len (count# w k - 1) g last len′ (placeOf w k b u) M this (lastOf work′ (3 * n# w) wanted held)
-        (openedBy w x (node k b u)) (last-then w wanted work work′ held last n en el O) leafy in
+        (openedBy w x (node k b u)) (last-then w wanted work work′ held last n (omega (arith, T .ready .stands .wanted)) en el O) leafy in
         record {
           grew = grew-front x (isIn struck) (n# w) wanted how how work work work′ held held (measuredBy w (node k b u))
               (grew-none x (isIn struck) (n# w) wanted how work held (measuredBy w (node k b u)) (λ r. ap (λ (q : ℕ). measuresAt w q r) z)

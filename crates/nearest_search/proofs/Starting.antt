@@ -16,8 +16,10 @@ use Rattle.laws.specs.Upto.{sumTo}
 use Rattle.limits.specs.Limits.{maxRows}
 use Rattle.measure.specs.Table.{from}
 use Rattle.nearest_search.proofs.Filling.{root-row, still-root, sum-one}
+use Rattle.nearest_search.proofs.MetRows.{listed-blank}
 use Rattle.nearest_search.proofs.Staying.{centres-by, held-stay, ready-on, since-then, since-work, stands-stay}
 use Rattle.nearest_search.specs.Asked.{NearestAsked, asks, gone, positionsLeft, rowsIn}
+use Rattle.nearest_search.specs.Listed.{Listed}
 use Rattle.nearest_search.specs.Rounds.{SearchStart, SearchState, amiss, still}
 use Rattle.nearest_search.specs.Standing.{GrewCentres, Ready, Since, Stands, metOf}
 use Rattle.queue.proofs.Queued.{empty-queue}
@@ -35,6 +37,12 @@ pub blank-ready : (a : NearestAsked) (how work : List ℕ) → SearchStart a how
     → Ready (a .table) (a .columns) (circles# (a .index)) (a .query) (gone a) (rowsIn a) (a .wanted) how work 0
 blank-ready a how work B = record { stands = B .stands; columns = B .tested .columns; table = B .tested .table; query = B .query }
 
+-- and no row is listed
+pub blank-listed : (a : NearestAsked) (how work : List ℕ) (n : ℕ) → n ≡ rowsIn a → SearchStart a how work → Listed n how work 0
+blank-listed a how work n en B =
+    subst (λ (n : ℕ). Listed n how work 0) (sym en)
+    (listed-blank (rowsIn a) how work (B .stands .bytes) (B .stands .room) (B .stands .small) (B .blank))
+
 module _ (t : List ℕ) (c : ℕ) (q w : List ℕ) (wanted : ℕ) (struck : List ℕ) where
   -- how far the query is from a row
   abbrev x : ℕ → ℕ
@@ -48,6 +56,7 @@ module _ (t : List ℕ) (c : ℕ) (q w : List ℕ) (wanted : ℕ) (struck : List
     most = omega arith;
     own = refl;
     remain = refl;
+    marked = refl;
     near = λ r h p. absurd (omega (arith, z r h));
     bits = λ r h. omega (arith, z r h);
     bytes = hb;
@@ -80,7 +89,7 @@ module _ (t : List ℕ) (c : ℕ) (q w : List ℕ) (wanted : ℕ) (struck : List
 
       -- what the search then knows
       after : Stands x (isIn struck) (n# w) wanted how₁ work₂ held
-      after = stands-stay (n# w) work₁ work₂ (λ i l. beyond i (omega arith)) (P .outside .same) x (isIn struck) wanted how₁ held
+      after = stands-stay (n# w) work₁ work₂ (λ i lo hi. beyond i (omega arith)) (P .outside .same) x (isIn struck) wanted how₁ held
           (K .alone .grew .stands)
 
       -- the root alone waits
@@ -115,7 +124,8 @@ module _ (t : List ℕ) (c : ℕ) (q w : List ℕ) (wanted : ℕ) (struck : List
           × RunSoFar w (isIn struck) wanted x (items w x work₂ 1) (at how₁)
       runs =
           let b = K .alone .grew .best none-held (λ r l. bit (at how r) (is r (first# w 0)) (blank r l) (is-bit r (first# w 0))) in (
-            held-stay (n# w) work₁ work₂ (λ i l. beyond i (omega arith)) x (metOf (isIn struck) how₁) wanted held (b .0),
+            held-stay (n# w) work₁ work₂ (λ i lo hi. beyond i (omega arith)) x (metOf (isIn struck) how₁) wanted held
+                (omega (arith, K .alone .grew .stands .most, K .alone .grew .stands .wanted)) (b .0),
             record {
               left = [];
               run = record {

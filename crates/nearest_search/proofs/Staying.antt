@@ -1,5 +1,5 @@
 -- What a search knows stays where the words that tell it stay, and what lies beyond its rooms stays always. Assumes nothing.
-use Prim.Native.Nat.{_*_, _+_, _<_, _≤_, ℕ}
+use Prim.Native.Nat.{_*_, _+_, _-_, _<_, _≤_, ℕ}
 use Rattle.answers_held.specs.Answers.{BestHeld, distanceOf, lastOf, rowOf, stray}
 use Rattle.index_space.specs.Items.{greatestWord}
 use Rattle.laws.proofs.Outside.{outside-more}
@@ -11,7 +11,7 @@ use Rattle.queue.proofs.Entries.{entries-stay}
 use Rattle.queue.proofs.Queued.{queue-stays}
 use Rattle.queue.specs.Entry.{entryAt, packed}
 use Rattle.queue.specs.Queue.{Queue, entries}
-use Rattle.words.specs.Words.{circles#, n#}
+use Rattle.words.specs.Words.{at, circles#, n#}
 use lib.Dec.{ltb}
 use lib.ListN.{getD, length}
 use mathlib.Core.Bool.{Bool, cond}
@@ -20,30 +20,32 @@ use mathlib.Core.Path.{_∙_, _≡_, ap, ap₂, refl, subst, sym}
 use native.Mathlib.Omega.{arith}
 
 module _ (n : ℕ) (work work′ : List ℕ) where
-  -- ---- the words from 3n on stay
-  module _ (same : (i : ℕ) → 3 * n ≤ i → getD work′ i 0 ≡ getD work i 0) where
+  -- ---- the answers' words stay
+  module _ (same : (i : ℕ) → 3 * n ≤ i → i < 5 * n → getD work′ i 0 ≡ getD work i 0) where
     -- the answers stay
-    pub answers-stay : (k : ℕ) → entries work′ (3 * n) k ≡ entries work (3 * n) k
-    answers-stay k = entries-stay work work′ (3 * n) k (λ i lo hi. same i lo)
+    answers-stay : (k : ℕ) → k ≤ n → entries work′ (3 * n) k ≡ entries work (3 * n) k
+    answers-stay k h = entries-stay work work′ (3 * n) k (λ i lo hi. same i lo (omega arith))
 
     -- the best that were held are held
-    pub held-stay : (x m : ℕ → ℕ) (w held : ℕ) → BestHeld x m n work (3 * n) w held → BestHeld x m n work′ (3 * n) w held
-    held-stay x m w held H = record { floor = H .floor; bag = λ f. ap (total f) (answers-stay held) ∙ H .bag f; all = H .all }
+    pub held-stay : (x m : ℕ → ℕ) (w held : ℕ) → held ≤ n → BestHeld x m n work (3 * n) w held → BestHeld x m n work′ (3 * n) w held
+    held-stay x m w held h H = record { floor = H .floor; bag = λ f. ap (total f) (answers-stay held h) ∙ H .bag f; all = H .all }
 
     -- the last distance stays
-    pub last-stays : (w held : ℕ) → lastOf work′ (3 * n) w held ≡ lastOf work (3 * n) w held
+    pub last-stays : (w held : ℕ) → 1 ≤ n → lastOf work′ (3 * n) w held ≡ lastOf work (3 * n) w held
     unfolding entryAt lastOf
-    last-stays w held =
-        ap₂ (λ (a b : ℕ). cond (ltb held w) greatestWord (distanceOf (packed a b))) (same (3 * n + 1) (omega arith)) (same (3 * n) (omega arith))
+    last-stays w held h =
+        ap₂ (λ (a b : ℕ). cond (ltb held w) greatestWord (distanceOf (packed a b))) (same (3 * n + 1) (omega arith) (omega arith))
+        (same (3 * n) (omega arith) (omega arith))
 
     -- all that a search knows stays
     pub stands-stay : length work′ ≡ length work → (x : ℕ → ℕ) (gone : ℕ → Bool) (w : ℕ) (how : List ℕ) (held : ℕ) → Stands x gone n w how work held
         → Stands x gone n w how work′ held
     stands-stay long x gone w how held St = record {
-      queue = queue-stays work work′ (3 * n) held (λ i lo hi. same i lo) long (St .queue);
+      queue = queue-stays work work′ (3 * n) held (λ i lo hi. same i lo (omega (arith, St .most, St .wanted))) long (St .queue);
       most = St .most;
-      own = ap (total (stray x n)) (answers-stay held) ∙ St .own;
-      remain = ap (total (λ (e : ℕ). cond (gone (rowOf e)) 1 0)) (answers-stay held) ∙ St .remain;
+      own = ap (total (stray x n)) kept-all ∙ St .own;
+      remain = ap (total (λ (e : ℕ). cond (gone (rowOf e)) 1 0)) kept-all ∙ St .remain;
+      marked = ap (total (λ (e : ℕ). 1 - at how (rowOf e))) kept-all ∙ St .marked;
       near = St .near;
       bits = St .bits;
       bytes = St .bytes;
@@ -51,6 +53,9 @@ module _ (n : ℕ) (work work′ : List ℕ) where
       wanted = St .wanted;
       small = St .small;
     }
+      where
+        kept-all : entries work′ (3 * n) held ≡ entries work (3 * n) held
+        kept-all = answers-stay held (omega (arith, St .most, St .wanted))
 
 -- where the frontier's words stay, so does the frontier
 pub frontier-stays : (n : ℕ) (work work′ : List ℕ) (len : ℕ) → len ≤ n → ((i : ℕ) → i < 2 * n → getD work′ i 0 ≡ getD work i 0)
@@ -65,10 +70,10 @@ pub front-alone : (n len m : ℕ) (work work′ : List ℕ) → len + m ≤ n �
 front-alone n len m work work′ h = outside-more work work′ 0 (2 * n) 0 (len + m + (len + m)) (omega arith) (omega arith)
 
 -- so the last distance that the code found stays
-pub last-then : (w : List ℕ) (wanted : ℕ) (work work′ : List ℕ) (held last n : ℕ) → n ≡ n# w → last ≡ lastOf work (3 * n) wanted held
+pub last-then : (w : List ℕ) (wanted : ℕ) (work work′ : List ℕ) (held last n : ℕ) → 1 ≤ n# w → n ≡ n# w → last ≡ lastOf work (3 * n) wanted held
     → Outside work work′ 0 (2 * n# w) → last ≡ lastOf work′ (3 * n# w) wanted held
-last-then w wanted work work′ held last n en el O =
-    el ∙ ap (λ (n : ℕ). lastOf work (3 * n) wanted held) en ∙ sym (last-stays (n# w) work work′ (λ i l. O .over i (omega arith)) wanted held)
+last-then w wanted work work′ held last n some en el O =
+    el ∙ ap (λ (n : ℕ). lastOf work (3 * n) wanted held) en ∙ sym (last-stays (n# w) work work′ (λ i lo hi. O .over i (omega arith)) wanted held some)
 
 -- ---- what lies beyond stays
 -- where nothing is written

@@ -4,8 +4,9 @@ use Rattle.frontier.specs.Workspace.{workWords}
 use Rattle.index_space.specs.Fits.{IndexFits}
 use Rattle.laws.specs.Lists.{has}
 use Rattle.nearest_search.specs.Asked.{NearestAsked, NearestLent, away, gone, positionsLeft, rowsIn}
+use Rattle.nearest_search.specs.Listed.{Listed}
 use Rattle.tree.specs.Grove.{treeOf}
-use Rattle.tree.specs.Nearest.{answers, nearHow, remaining}
+use Rattle.tree.specs.Nearest.{answers, measured, nearHow, remaining}
 use Rattle.tree.specs.Tested.{Tested}
 use Rattle.words.specs.Words.{at, n#}
 use lib.Dec.{T}
@@ -46,13 +47,26 @@ pub record SoundAnswers (x : ℕ → ℕ) (gone : ℕ → Bool) (n left wanted :
   -- a how-byte is 3 exactly where its row is an answer, and else 0 or 1
   pub marks : (i : ℕ) → i < n → ((at (b′ .how) i ≡ 3) ↔ T (has i (take given (b′ .rows)))) × ((at (b′ .how) i ≡ 3 → ⊥) → at (b′ .how) i ≤ 1)
 
--- what such a search leaves, and gives: how many answers there are
-pub record FoundNearest (a : NearestAsked) (b b′ : NearestLent) (given : ℕ) : Type 0 where
-  -- the workspace is cleared, and what lies beyond stays
-  pub cleared : b′ .work ≡ replicate (6 * rowsIn a) 0 ++ drop (6 * rowsIn a) (b .work)
+-- what such a search leaves but for the workspace, and gives: how many answers there are, and how many rows it measured
+pub record FoundAnswers (a : NearestAsked) (b b′ : NearestLent) (given met : ℕ) : Type 0 where
+  -- what lies beyond stays
   pub beyond : (drop given (b′ .rows) ≡ drop given (b .rows)) × (drop given (b′ .distances) ≡ drop given (b .distances))
       × (drop (rowsIn a) (b′ .how) ≡ drop (rowsIn a) (b .how))
   pub bytes : length (b′ .how) ≡ length (b .how)
   pub sound : SoundAnswers (away a) (gone a) (rowsIn a) (positionsLeft a) (a .wanted) b′ given
+  -- the rows measured are those of the how-bytes 1 and 3
+  pub counted : met ≡ measured (take (rowsIn a) (b′ .how))
   -- for rows that the index fits, with which the lent ones agree where it counts, the answers and how-bytes are those of the definition
   pub found : (x′ : ℕ → ℕ) → IndexFits (a .index) (gone a) (a .wanted) (away a) x′ → Settled x′ (gone a) (a .index) (a .wanted) b b′ given
+
+-- and the workspace is cleared
+pub record FoundNearest (a : NearestAsked) (b b′ : NearestLent) (given met : ℕ) : Type 0 where
+  pub gave : FoundAnswers a b b′ given met
+  pub cleared : b′ .work ≡ replicate (6 * rowsIn a) 0 ++ drop (6 * rowsIn a) (b .work)
+
+-- or it is left as the search used it, and the rows measured are listed there: these alone are marked
+pub record FoundListed (a : NearestAsked) (b b′ : NearestLent) (given met : ℕ) : Type 0 where
+  pub gave : FoundAnswers a b b′ given met
+  pub listed : Listed (rowsIn a) (b′ .how) (b′ .work) met
+  pub words : length (b′ .work) ≡ length (b .work)
+  pub past : drop (6 * rowsIn a) (b′ .work) ≡ drop (6 * rowsIn a) (b .work)

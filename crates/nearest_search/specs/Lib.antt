@@ -2,3 +2,4 @@ pub mod Standing
 pub mod Asked
 pub mod Rounds
 pub mod Found
+pub mod Listed

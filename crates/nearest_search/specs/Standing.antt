@@ -16,12 +16,13 @@ use mathlib.Core.Bool.{Bool, cond}
 use mathlib.Core.List.{List}
 use mathlib.Core.Path.{_≡_}
 
--- Of n rows at x, at most w are held, none of them withdrawn. This holds on every index in shape, whether or not a row stands there twice.
+-- Of n rows at x, at most w are held, none of them withdrawn and all of them marked. This holds on every index in shape, whether or not a row stands there twice.
 pub record Stands (x : ℕ → ℕ) (gone : ℕ → Bool) (n w : ℕ) (how work : List ℕ) (held : ℕ) : Type 0 where
   pub queue : Queue work (3 * n) held
   pub most : held ≤ w
   pub own : total (stray x n) (entries work (3 * n) held) ≡ 0
   pub remain : total (λ (e : ℕ). cond (gone (rowOf e)) 1 0) (entries work (3 * n) held) ≡ 0
+  pub marked : total (λ (e : ℕ). 1 - at how (rowOf e)) (entries work (3 * n) held) ≡ 0
   pub near : (r : ℕ) → r < n → 0 < at how r → x r ≤ maxDistance
   pub bits : (r : ℕ) → r < n → at how r ≤ 1
   pub bytes : n ≤ length how

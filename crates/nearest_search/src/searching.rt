@@ -1,6 +1,9 @@
 // The search: best first, until what waits is farther than the last answer.
 ghost use Rattle.nearest_search.specs.Asked.{asks};
+ghost use Rattle.nearest_search.specs.Listed.{Listed};
 ghost use Rattle.nearest_search.specs.Rounds.{SearchEnd, SearchStart};
+ghost use Rattle.words.specs.Words.{n#};
+use crate::taking::Seen;
 use crate::taking::measure_centre;
 use crate::taking::take_item;
 use answers_held::last;
@@ -13,7 +16,8 @@ use words::places::node_first;
 use words::places::pair_at;
 use words::places::rows;
 
-// The best-first search of an index that is not empty, with all how-bytes 0: how many answers are held at its end.
+// The best-first search of an index that is not empty, with all how-bytes 0: how many answers are held at its end, and how many rows
+// are listed as measured.
 pub fn search(
     table: &[u16],
     c: usize,
@@ -23,22 +27,28 @@ pub fn search(
     withdrawn: &[u32],
     how: &mut [u8],
     work: &mut [u32],
-) -> usize
+) -> Seen
     requires { ⌜ SearchStart (asks (now table) c (now index) (now query) w (now withdrawn)) (now how) (now work) ⌝ }
     ensures { λ k. ⌜ SearchEnd (asks (now (table .entry)) c (now (index .entry)) (now (query .entry)) w (now (withdrawn .entry)))
-        (now (how .entry)) (now (how .exit)) (now (work .entry)) (now (work .exit)) k ⌝ }
+        (now (how .entry)) (now (how .exit)) (now (work .entry)) (now (work .exit)) (k .held)
+        × (Listed (n# (now (index .entry))) (now (how .exit)) (now (work .exit)) (k .met)) ⌝ }
 {
     let n = rows(index);
     let base = pair_at(index, 0);
     let first = node_first(index, 0);
     let o = circles(index);
-    let mut held = measure_centre(table, c, o, query, n, w, withdrawn, how, work, 0, first);
+    let seen = measure_centre(table, c, o, query, n, w, withdrawn, how, work, 0, 0, first);
+    let mut held = seen.held;
+    let mut met = seen.met;
     push(work, 0, 0, 0);
     let mut len = 1;
     while 0 < len {
         let e = pop(work, 0, len);
         if last(work, ANSWERS * n, w, held) < key_of(e) {
-            return held;
+            return Seen {
+                held: held,
+                met: met,
+            };
         }
         let sizes = take_item(
             table,
@@ -53,10 +63,15 @@ pub fn search(
             work,
             len - 1,
             held,
+            met,
             e,
         );
         len = sizes.len;
         held = sizes.held;
+        met = sizes.met;
     }
-    held
+    Seen {
+        held: held,
+        met: met,
+    }
 }

@@ -9,12 +9,14 @@ ghost use Rattle.limits.specs.Limits.{maxDistance};
 ghost use Rattle.measure.specs.Distance.{capped};
 ghost use Rattle.measure.specs.Table.{from};
 ghost use Rattle.nearest_search.specs.Asked.{asks};
+ghost use Rattle.nearest_search.specs.Listed.{Listed};
 ghost use Rattle.nearest_search.specs.Rounds.{CanTake, Taken};
 ghost use Rattle.nearest_search.specs.Standing.{GrewAlone, GrewCentres, Ready};
 ghost use Rattle.rowset.specs.Sets.{isIn};
 ghost use Rattle.words.specs.InShape.{InShape};
 ghost use Rattle.words.specs.Words.{N#, child#, circles#, first#, n#, pairAt};
 ghost use mathlib.Core.Path.{_≡_};
+use crate::listing::mark_row;
 use answers_held::enter;
 use answers_held::last;
 use answers_held::turn;
@@ -33,22 +35,30 @@ use words::places::node_child;
 use words::places::node_first;
 use words::places::word;
 
-// How many entries the frontier and the answers have.
+// How many entries the frontier, the answers and the list of rows measured have.
 pub struct Sizes {
     pub len: usize,
     pub held: usize,
+    pub met: usize,
 }
 
-// A row that is measured: how many answers are held then, and how far it is, or one more than the ceiling.
+// How many entries the answers and the list of rows measured have.
+pub struct Seen {
+    pub held: usize,
+    pub met: usize,
+}
+
+// A row that is measured: the same then, and how far it is, or one more than the ceiling.
 pub struct Measured {
     pub held: usize,
+    pub met: usize,
     pub distance: u32,
 }
 
 // No distance is above it.
 const NO_CEILING: u32 = 4_294_967_295;
 
-// Measures row r, the only place that does: it is marked, and entered among the answers, unless it is withdrawn or farther than the ceiling. The
+// Measures row r, the only place that does: it is marked and listed, and entered among the answers, unless it is withdrawn or farther than the ceiling. The
 // ceiling is no less than the last distance, so that such a row is no answer; at the last distance itself a lower-numbered row may tie.
 fn measure_row(
     table: &[u16],
@@ -61,33 +71,38 @@ fn measure_row(
     how: &mut [u8],
     work: &mut [u32],
     held: usize,
+    met: usize,
     r: usize,
     ceiling: u32,
 ) -> Measured
     requires { ⌜ Ready (now table) c circles (now query) (isIn (now withdrawn)) n w (now how) (now work) held ⌝ }
-    requires { ⌜ (r < n) × (lastOf (now work) (3 * n) w held ≤ ceiling) ⌝ }
+    requires { ⌜ (r < n) × (lastOf (now work) (3 * n) w held ≤ ceiling) × (Listed n (now how) (now work) met) ⌝ }
     ensures { λ m. ⌜ GrewAlone (from (now (table .entry)) c circles (now (query .entry))) (isIn (now (withdrawn .entry))) n w
         (now (how .entry)) (now (how .exit)) (now (work .entry)) (now (work .exit)) held (m .held) (λ (s : ℕ). is s r)
         × (m .distance ≡ capped ceiling (from (now (table .entry)) c circles (now (query .entry)) r))
-        × (from (now (table .entry)) c circles (now (query .entry)) r ≤ maxDistance) ⌝ }
+        × (from (now (table .entry)) c circles (now (query .entry)) r ≤ maxDistance)
+        × (Listed n (now (how .exit)) (now (work .exit)) (m .met)) ⌝ }
 {
     let d = query_distance_to(table, c, circles, query, r, ceiling);
-    how[r] = 1;
+    let now_met = mark_row(how, work, n, met, r);
     if ceiling < d {
         return Measured {
             held: held,
+            met: now_met,
             distance: d,
         };
     }
     if is_in(withdrawn, r) {
         return Measured {
             held: held,
+            met: now_met,
             distance: d,
         };
     }
     let k = enter(work, ANSWERS * n, w, held, turn(r as u32, d));
     Measured {
         held: k,
+        met: now_met,
         distance: d,
     }
 }
@@ -104,12 +119,14 @@ pub fn measure_centre(
     how: &mut [u8],
     work: &mut [u32],
     held: usize,
+    met: usize,
     r: usize,
-) -> usize
+) -> Seen
     requires { ⌜ Ready (now table) c circles (now query) (isIn (now withdrawn)) n w (now how) (now work) held ⌝ }
-    requires { ⌜ r < n ⌝ }
+    requires { ⌜ (r < n) × (Listed n (now how) (now work) met) ⌝ }
     ensures { λ k. ⌜ GrewCentres (from (now (table .entry)) c circles (now (query .entry))) (isIn (now (withdrawn .entry))) n w
-        (now (how .entry)) (now (how .exit)) (now (work .entry)) (now (work .exit)) held k (λ (s : ℕ). is s r) ⌝ }
+        (now (how .entry)) (now (how .exit)) (now (work .entry)) (now (work .exit)) held (k .held) (λ (s : ℕ). is s r)
+        × (Listed n (now (how .exit)) (now (work .exit)) (k .met)) ⌝ }
 {
     let m = measure_row(
         table,
@@ -122,11 +139,15 @@ pub fn measure_centre(
         how,
         work,
         held,
+        met,
         r,
         NO_CEILING,
     );
     work[DISTANCES * n + r] = m.distance;
-    m.held
+    Seen {
+        held: m.held,
+        met: m.met,
+    }
 }
 
 // Measures the firsts of the nodes from a + 1 up to e: the first child shares its parent's first, which is measured.
@@ -141,25 +162,47 @@ fn measure_centres(
     how: &mut [u8],
     work: &mut [u32],
     held: usize,
+    met: usize,
     a: usize,
     e: usize,
-) -> usize
+) -> Seen
     requires { ⌜ Ready (now table) c (circles# (now index)) (now query) (isIn (now withdrawn)) n w (now how) (now work) held ⌝ }
-    requires { ⌜ (InShape (now index)) × (n ≡ n# (now index)) × (a < e) × (e ≤ N# (now index)) ⌝ }
+    requires { ⌜ (InShape (now index)) × (n ≡ n# (now index)) × (a < e) × (e ≤ N# (now index))
+        × (Listed n (now how) (now work) met) ⌝ }
     ensures { λ k. ⌜ GrewCentres (from (now (table .entry)) c (circles# (now (index .entry))) (now (query .entry)))
         (isIn (now (withdrawn .entry))) n w
-        (now (how .entry)) (now (how .exit)) (now (work .entry)) (now (work .exit)) held k
-        (λ (s : ℕ). sumTo (λ (i : ℕ). is s (first# (now (index .entry)) (a + suc i))) (e - (a + 1))) ⌝ }
+        (now (how .entry)) (now (how .exit)) (now (work .entry)) (now (work .exit)) held (k .held)
+        (λ (s : ℕ). sumTo (λ (i : ℕ). is s (first# (now (index .entry)) (a + suc i))) (e - (a + 1)))
+        × (Listed n (now (how .exit)) (now (work .exit)) (k .met)) ⌝ }
 {
     let o = circles(index);
-    let mut k = held;
+    let mut now_held = held;
+    let mut now_met = met;
     let mut j = a + 1;
     while j < e {
         let r = node_first(index, j);
-        k = measure_centre(table, c, o, query, n, w, withdrawn, how, work, k, r);
+        let seen = measure_centre(
+            table,
+            c,
+            o,
+            query,
+            n,
+            w,
+            withdrawn,
+            how,
+            work,
+            now_held,
+            now_met,
+            r,
+        );
+        now_held = seen.held;
+        now_met = seen.met;
         j += 1;
     }
-    k
+    Seen {
+        held: now_held,
+        met: now_met,
+    }
 }
 
 // Opens the inner node k, which has the bound b: its centres are measured, and its children wait.
@@ -175,21 +218,23 @@ fn open_inner(
     work: &mut [u32],
     len: usize,
     held: usize,
+    met: usize,
     k: usize,
     b: u32,
 ) -> Sizes
     requires { ⌜ CanTake (asks (now table) c (now index) (now query) w (now withdrawn)) (now how) (now work) len held
         (node k b (from (now table) c (circles# (now index)) (now query) (first# (now index) k))) ⌝ }
-    requires { ⌜ (n ≡ n# (now index)) × (0 < child# (now index) k) ⌝ }
+    requires { ⌜ (n ≡ n# (now index)) × (0 < child# (now index) k) × (Listed n (now how) (now work) met) ⌝ }
     ensures { λ s. ⌜ Taken (now (index .entry)) (from (now (table .entry)) c (circles# (now (index .entry))) (now (query .entry)))
         (isIn (now (withdrawn .entry))) w
         (now (how .entry)) (now (how .exit))
         (now (work .entry)) (now (work .exit)) len (s .len) held (s .held)
-        (node k b (from (now (table .entry)) c (circles# (now (index .entry))) (now (query .entry)) (first# (now (index .entry)) k))) ⌝ }
+        (node k b (from (now (table .entry)) c (circles# (now (index .entry))) (now (query .entry)) (first# (now (index .entry)) k)))
+        × (Listed n (now (how .exit)) (now (work .exit)) (s .met)) ⌝ }
 {
     let a = node_child(index, k);
     let e = a + centres(index);
-    let now_held = measure_centres(
+    let seen = measure_centres(
         table,
         c,
         query,
@@ -200,15 +245,17 @@ fn open_inner(
         how,
         work,
         held,
+        met,
         a,
         e,
     );
     let y = nearest_centre(index, work, n, a, e);
-    let far = last(work, ANSWERS * n, w, now_held);
+    let far = last(work, ANSWERS * n, w, seen.held);
     let now_len = queue_children(index, work, n, len, a, e, b, y, far);
     Sizes {
         len: now_len,
-        held: now_held,
+        held: seen.held,
+        met: seen.met,
     }
 }
 
@@ -225,17 +272,19 @@ fn open_node(
     work: &mut [u32],
     len: usize,
     held: usize,
+    met: usize,
     k: usize,
     b: u32,
 ) -> Sizes
     requires { ⌜ CanTake (asks (now table) c (now index) (now query) w (now withdrawn)) (now how) (now work) len held
         (node k b (from (now table) c (circles# (now index)) (now query) (first# (now index) k))) ⌝ }
-    requires { ⌜ n ≡ n# (now index) ⌝ }
+    requires { ⌜ (n ≡ n# (now index)) × (Listed n (now how) (now work) met) ⌝ }
     ensures { λ s. ⌜ Taken (now (index .entry)) (from (now (table .entry)) c (circles# (now (index .entry))) (now (query .entry)))
         (isIn (now (withdrawn .entry))) w
         (now (how .entry)) (now (how .exit))
         (now (work .entry)) (now (work .exit)) len (s .len) held (s .held)
-        (node k b (from (now (table .entry)) c (circles# (now (index .entry))) (now (query .entry)) (first# (now (index .entry)) k))) ⌝ }
+        (node k b (from (now (table .entry)) c (circles# (now (index .entry))) (now (query .entry)) (first# (now (index .entry)) k)))
+        × (Listed n (now (how .exit)) (now (work .exit)) (s .met)) ⌝ }
 {
     if node_child(index, k) == 0 {
         let far = last(work, ANSWERS * n, w, held);
@@ -243,6 +292,7 @@ fn open_node(
         return Sizes {
             len: now_len,
             held: held,
+            met: met,
         };
     }
     open_inner(
@@ -257,6 +307,7 @@ fn open_node(
         work,
         len,
         held,
+        met,
         k,
         b,
     )
@@ -277,16 +328,18 @@ pub fn take_item(
     work: &mut [u32],
     len: usize,
     held: usize,
+    met: usize,
     e: u64,
 ) -> Sizes
     requires { ⌜ CanTake (asks (now table) c (now index) (now query) w (now withdrawn)) (now how) (now work) len held
         (itemOf (now index) (from (now table) c (circles# (now index)) (now query)) e) ⌝ }
-    requires { ⌜ (n ≡ n# (now index)) × (base ≡ pairAt (now index) 0) ⌝ }
+    requires { ⌜ (n ≡ n# (now index)) × (base ≡ pairAt (now index) 0) × (Listed n (now how) (now work) met) ⌝ }
     ensures { λ s. ⌜ Taken (now (index .entry)) (from (now (table .entry)) c (circles# (now (index .entry))) (now (query .entry)))
         (isIn (now (withdrawn .entry))) w
         (now (how .entry)) (now (how .exit))
         (now (work .entry)) (now (work .exit)) len (s .len) held (s .held)
-        (itemOf (now (index .entry)) (from (now (table .entry)) c (circles# (now (index .entry))) (now (query .entry))) e) ⌝ }
+        (itemOf (now (index .entry)) (from (now (table .entry)) c (circles# (now (index .entry))) (now (query .entry))) e)
+        × (Listed n (now (how .exit)) (now (work .exit)) (s .met)) ⌝ }
 {
     let id = id_of(e) as usize;
     if id < 2 * n {
@@ -302,6 +355,7 @@ pub fn take_item(
             work,
             len,
             held,
+            met,
             id,
             key_of(e),
         );
@@ -309,9 +363,24 @@ pub fn take_item(
     let r = word(index, base + 2 * (id - 2 * n));
     let o = circles(index);
     let far = last(work, ANSWERS * n, w, held);
-    let m = measure_row(table, c, o, query, n, w, withdrawn, how, work, held, r, far);
+    let m = measure_row(
+        table,
+        c,
+        o,
+        query,
+        n,
+        w,
+        withdrawn,
+        how,
+        work,
+        held,
+        met,
+        r,
+        far,
+    );
     Sizes {
         len: len,
         held: m.held,
+        met: m.met,
     }
 }

@@ -48,19 +48,13 @@ rows-requires c κs =
 find-requires : tie.Need-find-requires
 find-requires c κs = lent (c .before .before .before .before)
 
-tally-requires : tie.Need-tally-requires
-tally-requires c κs =
-    let f = c .before .before .before .before .before .before .before .before .before in
-    let l = asked f in
-    omega (arith, l .before .rows .ensures .0, f .find .ensures .bytes, lent l .bytes)
-
 returns-2 : tie.Need-returns-2
 returns-2 c =
-    let f = c .before .before .before .before .before .before .before .before .before .before in
+    let f = c .before .before .before .before .before .before .before .before in
     let l = asked f in
     let e = going l in
-    done-is (asking (start e)) (lending (start e)) (start e .pre) (e .before .refusal .ensures) _ _ _ _ _ _ (e .if1 .left)
-    (l .before .rows .ensures .0) (l .least .ensures) (f .find .ensures) (omega arith) (c .tally .ensures .1)
+    done-is (asking (start e)) (lending (start e)) (start e .pre) (e .before .refusal .ensures) _ _ _ _ _ _ _ (e .if1 .left)
+    (l .before .rows .ensures .0) (l .least .ensures) (f .find .ensures) (omega arith) (omega arith)
 
 pub answer-spec : {M : Type 1} → statement M
 answer-spec =
@@ -71,7 +65,6 @@ answer-spec =
     rows-requires
     (λ c κs. search needs)
     find-requires
-    tally-requires
     (λ c. search needs)
     (λ c. search needs)
     (λ c. search needs)

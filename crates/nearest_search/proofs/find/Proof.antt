@@ -1,9 +1,9 @@
--- `nearest_search::find` meets its contract: the search marks and holds, the rest hands out what is held and clears.
+-- `nearest_search::find` meets its contract: the how-bytes are cleared before the search, and the workspace after it.
 -- Assumes nothing.
-use Rattle.nearest_search.proofs.Finding.{begin-blank, found-at, found-none, gives}
-use Rattle.nearest_search.proofs.HowBytes.{wiped-as}
+use Rattle.nearest_search.proofs.Finding.{wiped-asks, wiped-found}
 use Rattle.nearest_search.proofs.find.Statement.{statement}
 use Rattle.nearest_search.proofs.find.Tie as tie
+use Rattle.nearest_search.specs.Asked.{NearestAsked, asks}
 use borrow.Author.Needs.{needs}
 use native.Mathlib.Omega.{arith}
 
@@ -14,12 +14,13 @@ start b = b .before .before .before .before .before .before .before .before .bef
 abbrev counted : tie.After-clear-bytes → tie.After-rows
 counted b = b .before .before
 
--- seen from the search: that wiping; and from the handing out: the search
-abbrev wiping : tie.After-search → tie.After-clear-bytes
-wiping s = s .before .before .before .before .before .before
+-- seen from the search: that wiping
+abbrev wiping : tie.After-find-blank → tie.After-clear-bytes
+wiping f = f .before .before .before .before .before .before .before
 
-abbrev sought : tie.After-give → tie.After-search
-sought g = g .before .before .before .before .before .before .before .before .before
+-- what is asked
+abbrev asking : tie.Start → NearestAsked
+asking s = asks (s .args .table .now) (s .args .c) (s .args .index .now) (s .args .query .now) (s .args .wanted) (s .args .withdrawn .now)
 
 rows-requires : tie.Need-rows-requires
 rows-requires c κs = omega (arith, c .before .before .before .before .before .before .before .before .pre .tested .shape .whole .words)
@@ -29,51 +30,28 @@ clear-bytes-requires c κs =
     let r = c .before in
     omega (arith, r .rows .ensures .0, r .before .before .before .before .before .before .before .before .before .pre .bytes)
 
-returns : tie.Need-returns
-returns c =
-    let b = c .before .before .before in
-    found-none _ _ _ _ _ _ _ _ _ _ (start b .pre) _ _ (counted b .rows .ensures .0) (c .if1 .taken) (b .clear-bytes .ensures)
-
-search-requires : tie.Need-search-requires
-search-requires c κs =
-    let b = c .before .before .before .before .before in
-    let rows = counted b .rows in
-    begin-blank _ _ _ _ _ _ _ _ _ _ (start b .pre) (omega (arith, rows .ensures .0)) _ _ (rows .ensures .0) (b .clear-bytes .ensures)
-
-mul-give : tie.Need-mul-give
-mul-give c =
-    let b = wiping (c .before .before .before .before .before .before .before .before) in
-    omega (arith, counted b .rows .ensures .0, start b .pre .tested .shape .whole .rows)
-
-give-requires : tie.Need-give-requires
-give-requires c κs =
-    let s = c .before .before .before .before .before .before .before .before in
-    let b = wiping s in
-    let rows = counted b .rows in
-    gives _ _ _ _ _ _ _ _ _ _ (start b .pre) (omega (arith, rows .ensures .0)) _ _ _ _
-    (wiped-as (start b .args .index .now) _ _ _ (rows .ensures .0) (b .clear-bytes .ensures)) (s .search .ensures) _ (rows .ensures .0)
+find-blank-requires : tie.Need-find-blank-requires
+find-blank-requires c κs =
+    let b = c .before .before .before .before .before .before in
+    wiped-asks (asking (start b)) _ _ _ _ _ _ (counted b .rows .ensures .0) (start b .pre) (b .clear-bytes .ensures)
 
 mul-clear-words : tie.Need-mul-clear-words
 mul-clear-words c =
-    let b = wiping (sought (c .before .before .before .before .before .before .before .before .before)) in
+    let b = wiping (c .before .before .before .before .before .before .before .before .before) in
     omega (arith, counted b .rows .ensures .0, start b .pre .tested .shape .whole .rows)
 
 clear-words-requires : tie.Need-clear-words-requires
 clear-words-requires c κs =
-    let g = c .before .before .before .before .before .before .before .before .before in
-    let s = sought g in
-    let b = wiping s in
-    omega (arith, counted b .rows .ensures .0, start b .pre .words, s .search .ensures .since .words, g .give .ensures .outside .same)
+    let f = c .before .before .before .before .before .before .before .before .before in
+    let b = wiping f in
+    omega (arith, counted b .rows .ensures .0, start b .pre .words, f .find-blank .ensures .words)
 
-returns-2 : tie.Need-returns-2
-returns-2 c =
-    let g = c .before .before .before .before .before .before .before .before .before .before .before .before in
-    let s = sought g in
-    let b = wiping s in
-    let rows = counted b .rows in
-    found-at _ _ _ _ _ _ _ _ _ _ (start b .pre) (omega (arith, rows .ensures .0)) _ _ _ _
-    (wiped-as (start b .args .index .now) _ _ _ (rows .ensures .0) (b .clear-bytes .ensures)) (s .search .ensures) _ _ _ _ _ _ (rows .ensures .0)
-    (g .give .ensures) (c .before .before .clear-words .ensures)
+returns : tie.Need-returns
+returns c =
+    let f = c .before .before .before .before .before .before .before .before .before .before .before .before in
+    let b = wiping f in
+    wiped-found (asking (start b)) _ _ _ _ _ _ (counted b .rows .ensures .0) (start b .pre) (b .clear-bytes .ensures) _ _ _ _ _ _ _
+    (f .find-blank .ensures) (c .before .before .clear-words .ensures)
 
 pub find-spec : {M : Type 1} → statement M
 find-spec =
@@ -81,15 +59,11 @@ find-spec =
     (tie.spec
     rows-requires
     clear-bytes-requires
-    (λ c. search needs)
-    returns
-    search-requires
-    mul-give
-    give-requires
+    find-blank-requires
     mul-clear-words
     clear-words-requires
     (λ c. search needs)
     (λ c. search needs)
     (λ c. search needs)
     (λ c. search needs)
-    returns-2)
+    returns)

@@ -5,13 +5,15 @@ use Rattle.frontier.specs.Waiting.{items}
 use Rattle.index_space.specs.Items.{greatestWord}
 use Rattle.laws.specs.Bags.{total}
 use Rattle.measure.specs.Table.{from}
-use Rattle.nearest_search.proofs.Progress.{ends, round, round-less, round-since, stops, takes}
-use Rattle.nearest_search.proofs.Starting.{begins-since, begins-state, blank-ready}
+use Rattle.nearest_search.proofs.MetRows.{listed-at, listed-front}
+use Rattle.nearest_search.proofs.Progress.{ends, popped-listed, round, round-less, round-since, stops, takes}
+use Rattle.nearest_search.proofs.Starting.{begins-since, begins-state, blank-listed, blank-ready}
 use Rattle.nearest_search.proofs.Staying.{ready-at, since-none}
 use Rattle.nearest_search.proofs.Weights.{cost}
 use Rattle.nearest_search.proofs.searching.search.Statement.{statement}
 use Rattle.nearest_search.proofs.searching.search.Tie as tie
 use Rattle.nearest_search.specs.Asked.{asks}
+use Rattle.nearest_search.specs.Listed.{Listed}
 use Rattle.nearest_search.specs.Rounds.{SearchState}
 use Rattle.nearest_search.specs.Standing.{Since}
 use Rattle.queue.proofs.Queued.{empty-queue}
@@ -21,11 +23,11 @@ use mathlib.Core.Path.{_∙_}
 use native.Mathlib.Omega.{arith}
 
 abbrev Inv-loop : tie.InvT-loop
-Inv-loop table c query index w withdrawn how₀ work₀ n base first o held₀ len₀ how work held len =
-    SearchState (asks table c index query w withdrawn) how work len held × Since (n# index) how₀ how work₀ work
+Inv-loop table c query index w withdrawn how₀ work₀ n base first o held₀ met₀ len₀ how work held met len =
+    SearchState (asks table c index query w withdrawn) how work len held × Since (n# index) how₀ how work₀ work × Listed n how work met
 
 abbrev μ-loop : tie.MeasureT-loop
-μ-loop table c query index w withdrawn how₀ work₀ n base first o held₀ len₀ how work held len = total (cost index)
+μ-loop table c query index w withdrawn how₀ work₀ n base first o held₀ met₀ len₀ how work held met len = total (cost index)
     (items index (from table c (circles# index) query) work len)
 
 -- seen from the loop: the root as it is queued, its first as it is measured, the number of rows as it is read, and the start
@@ -50,7 +52,7 @@ since : (l : tie.At-loop Inv-loop μ-loop)
     → Since (n# (start l .args .index .now)) (start l .args .how .now) (l .loop .how) (start l .args .work .now) (l .loop .work)
 since l =
     begins-since _ _ _ (start l .args .index .now) _ _ (start l .pre .filled) _ _ _ _ _ _ _ _ _ (counted l .rows .ensures .0)
-    (met l .before .before .before .circles .ensures) (met l .measure-centre .ensures) (queued l .push .ensures) _ _ (l .loop .inv .1)
+    (met l .before .before .before .circles .ensures) (met l .measure-centre .ensures .0) (queued l .push .ensures) _ _ (l .loop .inv .1)
 
 rows-requires : tie.Need-rows-requires Inv-loop μ-loop
 rows-requires c κs = omega (arith, c .before .before .before .before .before .before .pre .tested .shape .whole .words)
@@ -73,7 +75,10 @@ measure-centre-requires c κs =
     let node-first = c .before .before .before .node-first in
     let circles = c .before .before .circles in (
       ready-at _ _ _ (s .args .index .now) _ _ _ _ _ _ _ (rows .ensures .0) (circles .ensures) (blank-ready _ _ _ (s .pre)),
-      omega (arith, node-first .ensures .1, rows .ensures .0),
+      (
+        omega (arith, node-first .ensures .1, rows .ensures .0),
+        blank-listed _ _ _ _ (rows .ensures .0) (s .pre),
+      ),
     )
 
 push-requires : tie.Need-push-requires Inv-loop μ-loop
@@ -81,7 +86,7 @@ push-requires c κs =
     let m = c .before .before .before .before .before in
     let rows = m .before .before .before .before .before .before .rows in
     let pre = m .before .before .before .before .before .before .before .before .before .before .before .before .before .pre in
-    (empty-queue _ 0 (omega arith), omega (arith, m .measure-centre .ensures .alone .grew .stands .room, rows .ensures .0, pre .filled))
+    (empty-queue _ 0 (omega arith), omega (arith, m .measure-centre .ensures .0 .alone .grew .stands .room, rows .ensures .0, pre .filled))
 
 loop-holds : tie.Need-loop-holds Inv-loop μ-loop
 loop-holds c =
@@ -92,9 +97,10 @@ loop-holds c =
     let rows = m .before .before .before .before .before .before .rows in
     let s = m .before .before .before .before .before .before .before .before .before .before .before .before .before in (
       begins-state _ _ _ (s .args .index .now) _ _ (s .pre .filled) _ _ _ _ _ _ _ _ _ (rows .ensures .0) (circles .ensures)
-          (m .measure-centre .ensures)
+          (m .measure-centre .ensures .0)
           (p .push .ensures) (s .pre .tested .shape) (node-first .ensures .0) (s .pre .blank) (blank-ready _ _ _ (s .pre)),
       since-none _ _ _,
+      listed-front _ _ _ _ (m .measure-centre .ensures .1) _ _ _ (omega (arith, rows .ensures .0, s .pre .filled)) (p .push .ensures .outside),
     )
 
 pop-requires : tie.Need-pop-requires Inv-loop μ-loop
@@ -124,9 +130,13 @@ returns c =
     let word : c .before .key-of .result ≤ greatestWord = omega arith in
     let far : c .before .before .last .result < c .before .key-of .result = omega arith in
     let p = c .before .before .before .before .before .before in
-    let l = turn p in
-    stops _ _ _ _ _ _ (start l .pre .tested .shape) _ _ _ _ (l .loop .inv .0) _ _ (p .pop .ensures) (p .before .before .loop-test .taken) _ _ _
-    (counted l .rows .ensures .0) (c .before .before .last .ensures) (c .before .key-of .ensures) word far _ _ (since l)
+    let l = turn p in (
+      stops _ _ _ _ _ _ (start l .pre .tested .shape) _ _ _ _ (l .loop .inv .0) _ _ (p .pop .ensures) (p .before .before .loop-test .taken) _ _ _
+          (counted l .rows .ensures .0) (c .before .before .last .ensures) (c .before .key-of .ensures) word far _ _ (since l),
+      listed-at (start l .args .index .now) (counted l .rows .ensures .0)
+          (popped-listed _ _ _ _ _ _ (start l .pre .tested .shape) _ _ _ _ (l .loop .inv .0) _ _ (p .pop .ensures)
+          (p .before .before .loop-test .taken) _ _ (counted l .rows .ensures .0) (l .loop .inv .2)),
+    )
 
 sub-take-item : tie.Need-sub-take-item Inv-loop μ-loop
 sub-take-item c = omega (arith, c .before .before .before .before .before .before .before .before .before .before .loop-test .taken)
@@ -137,7 +147,12 @@ take-item-requires c κs =
     let l = turn p in (
       takes _ _ _ _ _ _ (start l .pre .tested .shape) _ _ _ _ (l .loop .inv .0) _ _ (p .pop .ensures) (p .before .before .loop-test .taken)
           (start l .pre .tested .edition),
-      (counted l .rows .ensures .0, met l .before .before .before .before .before .pair-at .ensures),
+      (
+        counted l .rows .ensures .0,
+        met l .before .before .before .before .before .pair-at .ensures,
+        popped-listed _ _ _ _ _ _ (start l .pre .tested .shape) _ _ _ _ (l .loop .inv .0) _ _ (p .pop .ensures)
+            (p .before .before .loop-test .taken) _ _ (counted l .rows .ensures .0) (l .loop .inv .2),
+      ),
     )
 
 loop-less : tie.Need-loop-less Inv-loop μ-loop
@@ -146,7 +161,7 @@ loop-less c =
     let p = t .before .before .before .before .before .before .before .before .before in
     let l = turn p in
     round-less _ _ _ _ _ _ (start l .pre .tested .shape) _ _ _ _ (l .loop .inv .0) _ _ (p .pop .ensures) (p .before .before .loop-test .taken) _ _ _ _
-    (t .take-item .ensures)
+    (t .take-item .ensures .0)
 
 loop-again : tie.Need-loop-again Inv-loop μ-loop
 loop-again c =
@@ -156,10 +171,11 @@ loop-again c =
     let key-of = t .before .before .before .before .key-of in
     let last = t .before .before .before .before .before .last in (
       round _ _ _ _ _ _ (start l .pre .tested .shape) _ _ _ _ (l .loop .inv .0) _ _ (p .pop .ensures) (p .before .before .loop-test .taken) _ _ _ _
-          (t .take-item .ensures) (start l .pre .filled) _ _ _ (counted l .rows .ensures .0) (last .ensures) (key-of .ensures) (omega arith) (omega arith),
+          (t .take-item .ensures .0) (start l .pre .filled) _ _ _ (counted l .rows .ensures .0) (last .ensures) (key-of .ensures) (omega arith) (omega arith),
       round-since _ _ _ _ _ _ (start l .pre .tested .shape) _ _ _ _ (l .loop .inv .0) _ _ (p .pop .ensures)
           (p .before .before .loop-test .taken) _ _ _ _
-          (t .take-item .ensures) _ _ (l .loop .inv .1),
+          (t .take-item .ensures .0) _ _ (l .loop .inv .1),
+      t .take-item .ensures .1,
     )
 
 same-length-3 : tie.Need-same-length-3 Inv-loop μ-loop
@@ -170,8 +186,10 @@ same-length-4 c = since (c .before) .words
 
 returns-2 : tie.Need-returns-2 Inv-loop μ-loop
 returns-2 c =
-    let l = c .before in
-    ends _ _ _ _ _ _ (start l .pre .tested .shape) _ _ _ _ (l .loop .inv .0) _ _ (since l) (omega arith)
+    let l = c .before in (
+      ends _ _ _ _ _ _ (start l .pre .tested .shape) _ _ _ _ (l .loop .inv .0) _ _ (since l) (omega arith),
+      listed-at (start l .args .index .now) (counted l .rows .ensures .0) (l .loop .inv .2),
+    )
 
 pub search-spec : {M : Type 1} → statement M
 search-spec =

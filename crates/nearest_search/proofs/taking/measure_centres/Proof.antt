@@ -6,17 +6,18 @@ use Rattle.nearest_search.proofs.Growing.{CentresTo, centres-done, cent
 use Rattle.nearest_search.proofs.Staying.{centres-by, ready-by, ready-on}
 use Rattle.nearest_search.proofs.taking.measure_centres.Statement.{statement}
 use Rattle.nearest_search.proofs.taking.measure_centres.Tie as tie
+use Rattle.nearest_search.specs.Listed.{Listed}
 use Rattle.rowset.specs.Sets.{isIn}
 use Rattle.words.specs.Words.{circles#}
 use borrow.Author.Needs.{needs}
 use native.Mathlib.Omega.{arith}
 
 abbrev Inv-loop : tie.InvT-loop
-Inv-loop table c query index n w withdrawn how₀ work₀ held a e o k₀ j₀ how work k j = CentresTo (from table c (circles# index) query)
-    (isIn withdrawn) index n w how₀ how work₀ work a e j held k
+Inv-loop table c query index n w withdrawn how₀ work₀ held met a e o held₀ met₀ j₀ how work now-held now-met j =
+    CentresTo (from table c (circles# index) query) (isIn withdrawn) index n w how₀ how work₀ work a e j held now-held × Listed n how work now-met
 
 abbrev μ-loop : tie.MeasureT-loop
-μ-loop table c query index n w withdrawn how₀ work₀ held a e o k₀ j₀ how work k j = e - j
+μ-loop table c query index n w withdrawn how₀ work₀ held met a e o held₀ met₀ j₀ how work now-held now-met j = e - j
 
 -- seen from the reading of the circles: the start
 abbrev start : tie.After-circles Inv-loop μ-loop → tie.Start Inv-loop μ-loop
@@ -28,7 +29,7 @@ circles-requires c κs = omega (arith, c .before .before .before .before .before
 loop-holds : tie.Need-loop-holds Inv-loop μ-loop
 loop-holds c =
     let pre = c .before .before .before .before .before .before .before .pre in
-    centres-start _ _ _ _ _ _ _ _ _ _ _ (omega arith) (pre .1 .2) (pre .0 .stands)
+    (centres-start _ _ _ _ _ _ _ _ _ _ _ (omega arith) (pre .1 .2) (pre .0 .stands), pre .1 .4)
 
 node-first-requires : tie.Need-node-first-requires Inv-loop μ-loop
 node-first-requires c κs =
@@ -42,8 +43,8 @@ measure-centre-requires c κs =
     let loop = c .before .before .before .before .loop in
     let node-first = c .before .before .node-first in (
       ready-by _ _ _ (start o .args .index .now) _ _ _ _ _ _ _ (o .circles .ensures)
-          (ready-on _ _ _ _ _ _ _ _ _ _ _ _ _ (pre .0) (loop .inv .took .alone .grew .stands)),
-      omega (arith, node-first .ensures .1, pre .1 .1),
+          (ready-on _ _ _ _ _ _ _ _ _ _ _ _ _ (pre .0) (loop .inv .0 .took .alone .grew .stands)),
+      (omega (arith, node-first .ensures .1, pre .1 .1), loop .inv .1),
     )
 
 loop-again : tie.Need-loop-again Inv-loop μ-loop
@@ -51,18 +52,21 @@ loop-again c =
     let loop = c .before .before .before .before .before .before .before .before .before .loop in
     let node-first = c .before .before .before .before .before .before .before .node-first in
     let measure-centre = c .before .before .before .before .measure-centre in
-    let o = c .before .before .before .before .before .before .before .before .before .before in
-    centres-step _ _ _ _ _ _ _ _ _ _ _ _ _ _ _ _ _ _ (loop .inv) (omega arith) (node-first .ensures .0)
-    (centres-by _ _ _ (start o .args .index .now) _ _ _ _ _ _ _ _ _ _ _ (o .circles .ensures) (measure-centre .ensures))
+    let o = c .before .before .before .before .before .before .before .before .before .before in (
+      centres-step _ _ _ _ _ _ _ _ _ _ _ _ _ _ _ _ _ _ (loop .inv .0)
+          (omega (arith, c .before .before .before .before .before .before .before .before .loop-test .taken)) (node-first .ensures .0)
+          (centres-by _ _ _ (start o .args .index .now) _ _ _ _ _ _ _ _ _ _ _ (o .circles .ensures) (measure-centre .ensures .0)),
+      measure-centre .ensures .1,
+    )
 
 same-length : tie.Need-same-length Inv-loop μ-loop
-same-length c = c .before .loop .inv .took .alone .grew .since .bytes
+same-length c = c .before .loop .inv .0 .took .alone .grew .since .bytes
 
 same-length-2 : tie.Need-same-length-2 Inv-loop μ-loop
-same-length-2 c = c .before .loop .inv .took .alone .grew .since .words
+same-length-2 c = c .before .loop .inv .0 .took .alone .grew .since .words
 
 returns : tie.Need-returns Inv-loop μ-loop
-returns c = centres-done _ _ _ _ _ _ _ _ _ _ _ _ _ _ (omega arith) (c .before .loop .inv)
+returns c = (centres-done _ _ _ _ _ _ _ _ _ _ _ _ _ _ (omega arith) (c .before .loop .inv .0), c .before .loop .inv .1)
 
 pub measure-centres-spec : {M : Type 1} → statement M
 measure-centres-spec =

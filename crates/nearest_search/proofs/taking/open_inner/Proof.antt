@@ -3,6 +3,7 @@
 -- Assumes nothing.
 use Rattle.frontier.proofs.Queueing.{node-words, room-less}
 use Rattle.nearest_search.proofs.InnerNodes.{inner-asks, inner-done, inner-then}
+use Rattle.nearest_search.proofs.MetRows.{listed-front}
 use Rattle.nearest_search.proofs.Rounds.{node-there}
 use Rattle.nearest_search.proofs.taking.open_inner.Statement.{statement}
 use Rattle.nearest_search.proofs.taking.open_inner.Tie as tie
@@ -31,7 +32,8 @@ measure-centres-requires : tie.Need-measure-centres-requires
 measure-centres-requires c κs =
     let e = c .before .before in
     let pre = start e .pre in
-    inner-asks _ _ _ _ _ _ _ _ _ _ _ _ (pre .0) (pre .1 .1) _ _ _ (pre .1 .0) (e .before .node-child .ensures .0) (e .centres .ensures .0)
+    let a = inner-asks _ _ _ _ _ _ _ _ _ _ _ _ (pre .0) (pre .1 .1) _ _ _ (pre .1 .0) (e .before .node-child .ensures .0) (e .centres .ensures .0) in
+    (a .0, (a .1 .0, a .1 .1, a .1 .2, a .1 .3, pre .1 .2))
 
 nearest-centre-requires : tie.Need-nearest-centre-requires
 nearest-centre-requires c κs =
@@ -41,7 +43,7 @@ nearest-centre-requires c κs =
     let child = e .before .node-child .ensures .0 in
     let a = inner-asks _ _ _ _ _ _ _ _ _ _ _ _ (pre .0) (pre .1 .1) _ _ _ (pre .1 .0) child (e .centres .ensures .0) in
     let r = inner-then _ _ _ _ _ _ _ _ _ _ _ _ (pre .0) (pre .1 .1) _ _ _ _ _ _ (pre .1 .0) child (e .centres .ensures .0)
-    (m .measure-centres .ensures) in
+    (m .measure-centres .ensures .0) in
     (a .1 .0, a .1 .1, a .1 .2, a .1 .3, r .words)
 
 mul-last : tie.Need-mul-last
@@ -52,7 +54,7 @@ mul-last c =
 last-requires : tie.Need-last-requires
 last-requires c κs =
     let m = c .before .before .before .before .before .before .before in
-    omega (arith, m .measure-centres .ensures .alone .grew .stands .room, m .measure-centres .ensures .alone .grew .stands .wanted)
+    omega (arith, m .measure-centres .ensures .0 .alone .grew .stands .room, m .measure-centres .ensures .0 .alone .grew .stands .wanted)
 
 queue-children-requires : tie.Need-queue-children-requires
 queue-children-requires c κs =
@@ -62,27 +64,33 @@ queue-children-requires c κs =
     let child = e .before .node-child .ensures .0 in
     let a = inner-asks _ _ _ _ _ _ _ _ _ _ _ _ (pre .0) (pre .1 .1) _ _ _ (pre .1 .0) child (e .centres .ensures .0) in
     let r = inner-then _ _ _ _ _ _ _ _ _ _ _ _ (pre .0) (pre .1 .1) _ _ _ _ _ _ (pre .1 .0) child (e .centres .ensures .0)
-    (m .measure-centres .ensures) in
+    (m .measure-centres .ensures .0) in
     (room-less _ _ _ _ _ _ r (omega (arith, e .centres .ensures .0)), (omega (arith, a .1 .2), omega (arith, a .1 .3)))
 
 same-length : tie.Need-same-length
 same-length c =
     let m = c .before .before .before .before .before .before .before .before .before .before .before .before in
-    m .measure-centres .ensures .alone .grew .since .bytes
+    m .measure-centres .ensures .0 .alone .grew .since .bytes
 
 same-length-2 : tie.Need-same-length-2
 same-length-2 c =
     let m = c .before .before .before .before .before .before .before .before .before .before .before .before in
-    c .before .before .queue-children .ensures .outside .same ∙ m .measure-centres .ensures .alone .grew .since .words
+    c .before .before .queue-children .ensures .outside .same ∙ m .measure-centres .ensures .0 .alone .grew .since .words
 
 returns : tie.Need-returns
 returns c =
     let m = c .before .before .before .before .before .before .before .before .before .before .before .before in
     let e = read m in
     let pre = start e .pre in
-    inner-done _ _ _ _ _ _ _ _ _ _ _ _ (pre .0) (pre .1 .1) _ _ _ _ _ _ _ _ _ _ _ (pre .1 .0) (e .before .node-child .ensures .0)
-    (e .centres .ensures .0) (omega (arith, e .centres .ensures .0)) (c .before .before .before .before .last .ensures) (m .measure-centres .ensures)
-    (c .before .before .before .before .before .before .nearest-centre .ensures) (c .before .before .queue-children .ensures)
+    let child = e .before .node-child .ensures .0 in
+    let q = c .before .before .queue-children .ensures in
+    let r = inner-then _ _ _ _ _ _ _ _ _ _ _ _ (pre .0) (pre .1 .1) _ _ _ _ _ _ (pre .1 .0) child (e .centres .ensures .0)
+    (m .measure-centres .ensures .0) in (
+      inner-done _ _ _ _ _ _ _ _ _ _ _ _ (pre .0) (pre .1 .1) _ _ _ _ _ _ _ _ _ _ _ (pre .1 .0) child
+          (e .centres .ensures .0) (omega (arith, e .centres .ensures .0)) (c .before .before .before .before .last .ensures)
+          (m .measure-centres .ensures .0) (c .before .before .before .before .before .before .nearest-centre .ensures) q,
+      listed-front _ _ _ _ (m .measure-centres .ensures .1) _ _ _ (omega (arith, r .fits, e .centres .ensures .0)) (q .outside),
+    )
 
 pub open-inner-spec : {M : Type 1} → statement M
 open-inner-spec =

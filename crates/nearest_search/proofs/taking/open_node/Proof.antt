@@ -1,6 +1,7 @@
 -- `nearest_search::taking::open_node` meets its contract: a leaf and an inner node are told apart by the first child.
 -- Assumes nothing.
 use Rattle.frontier.proofs.Queueing.{node-words, room-at}
+use Rattle.nearest_search.proofs.MetRows.{listed-front}
 use Rattle.nearest_search.proofs.Rounds.{node-there, taken-leaf}
 use Rattle.nearest_search.proofs.taking.open_node.Statement.{statement}
 use Rattle.nearest_search.proofs.taking.open_node.Tie as tie
@@ -15,17 +16,17 @@ node-child-requires c κs =
 mul-last : tie.Need-mul-last
 mul-last c =
     let pre = c .before .before .before .before .before .before .before .before .before .pre in
-    omega (arith, pre .1, pre .0 .room .shape .whole .rows)
+    omega (arith, pre .1 .0, pre .0 .room .shape .whole .rows)
 
 last-requires : tie.Need-last-requires
 last-requires c κs =
     let pre = c .before .before .before .before .before .before .before .before .before .pre in
-    omega (arith, pre .1, pre .0 .ready .stands .room, pre .0 .ready .stands .wanted)
+    omega (arith, pre .1 .0, pre .0 .ready .stands .room, pre .0 .ready .stands .wanted)
 
 open-leaf-requires : tie.Need-open-leaf-requires
 open-leaf-requires c κs =
     let pre = c .before .before .before .before .before .before .before .before .before .before .before .pre in
-    (room-at _ _ _ _ _ (pre .1) (pre .0 .room), node-there _ _ _ _ _ _ _ _ _ _ _ _ (pre .0))
+    (room-at _ _ _ _ _ (pre .1 .0) (pre .0 .room), node-there _ _ _ _ _ _ _ _ _ _ _ _ (pre .0))
 
 same-length : tie.Need-same-length
 same-length c = c .before .before .open-leaf .ensures .outside .same
@@ -37,19 +38,22 @@ returns c =
     let if1 = c .before .before .before .before .before .before .if1 in
     let last = c .before .before .before .before .last in
     let open-leaf = c .before .before .open-leaf in
-    taken-leaf _ _ _ _ _ _ _ _ _ _ _ _ (pre .0) (sym (node-child .ensures .0) ∙ if1 .taken) _ _ _ _ (pre .1) (last .ensures) (open-leaf .ensures)
+    let room = room-at _ _ _ _ _ (pre .1 .0) (pre .0 .room) in (
+      taken-leaf _ _ _ _ _ _ _ _ _ _ _ _ (pre .0) (sym (node-child .ensures .0) ∙ if1 .taken) _ _ _ _ (pre .1 .0) (last .ensures) (open-leaf .ensures),
+      listed-front _ _ _ _ (pre .1 .1) _ _ _ (omega (arith, room .fits)) (open-leaf .ensures .outside),
+    )
 
 open-inner-requires : tie.Need-open-inner-requires
 open-inner-requires c κs =
     let pre = c .before .before .before .before .before .before .before .before .before .before .pre in
     let node-child = c .before .before .before .node-child in
-    (pre .0, (pre .1, omega (arith, node-child .ensures .0)))
+    (pre .0, (pre .1 .0, omega (arith, node-child .ensures .0), pre .1 .1))
 
 same-length-2 : tie.Need-same-length-2
-same-length-2 c = c .before .before .before .before .open-inner .ensures .grew .since .bytes
+same-length-2 c = c .before .before .before .before .open-inner .ensures .0 .grew .since .bytes
 
 same-length-3 : tie.Need-same-length-3
-same-length-3 c = c .before .before .before .before .open-inner .ensures .grew .since .words
+same-length-3 c = c .before .before .before .before .open-inner .ensures .0 .grew .since .words
 
 returns-2 : tie.Need-returns-2
 returns-2 c = c .before .before .before .before .open-inner .ensures

@@ -38,21 +38,23 @@ open-node-requires : tie.Need-open-node-requires
 open-node-requires c κs =
     let i = c .before .before .before .before in
     let pre = start i .pre in
-    (node-takes _ _ _ _ _ _ _ _ _ _ _ _ _ (pre .1 .0) (i .id-of .ensures) (pre .0) _ (c .key-of .ensures) (omega arith), pre .1 .0)
+    (node-takes _ _ _ _ _ _ _ _ _ _ _ _ _ (pre .1 .0) (i .id-of .ensures) (pre .0) _ (c .key-of .ensures) (omega arith), (pre .1 .0, pre .1 .2))
 
 same-length : tie.Need-same-length
-same-length c = c .before .before .before .before .open-node .ensures .grew .since .bytes
+same-length c = c .before .before .before .before .open-node .ensures .0 .grew .since .bytes
 
 same-length-2 : tie.Need-same-length-2
-same-length-2 c = c .before .before .before .before .open-node .ensures .grew .since .words
+same-length-2 c = c .before .before .before .before .open-node .ensures .0 .grew .since .words
 
 returns : tie.Need-returns
 returns c =
     let o = c .before .before .before .before in
     let i = o .before .before .before .before .before in
-    let pre = start i .pre in
-    node-taken _ _ _ _ _ _ _ _ _ _ _ _ _ (pre .1 .0) (i .id-of .ensures) (pre .0) _ (o .before .key-of .ensures) (omega arith) _ _ _ _
-    (o .open-node .ensures)
+    let pre = start i .pre in (
+      node-taken _ _ _ _ _ _ _ _ _ _ _ _ _ (pre .1 .0) (i .id-of .ensures) (pre .0) _ (o .before .key-of .ensures) (omega arith) _ _ _ _
+          (o .open-node .ensures .0),
+      o .open-node .ensures .1,
+    )
 
 mul-word : tie.Need-mul-word
 mul-word c =
@@ -88,7 +90,7 @@ measure-row-requires c κs =
     let pre = start i .pre in
     let p = place-row _ _ _ _ _ _ _ _ _ _ _ _ _ (pre .1 .0) (i .id-of .ensures) (pre .0) (omega arith) _ _ (row w)
     (c .before .before .before .before .circles .ensures) in
-    (p .0, (p .1, omega (arith, c .before .before .last .ensures)))
+    (p .0, (p .1, omega (arith, c .before .before .last .ensures), pre .1 .2))
 
 same-length-3 : tie.Need-same-length-3
 same-length-3 c = c .before .before .before .before .measure-row .ensures .0 .grew .since .bytes
@@ -101,9 +103,11 @@ returns-2 c =
     let m = c .before .before .before .before in
     let w = m .before .before .before .before .before .before in
     let i = w .before .before in
-    let pre = start i .pre in
-    place-taken _ _ _ _ _ _ _ _ _ _ _ _ _ (pre .1 .0) (i .id-of .ensures) (pre .0) (omega arith) _ _ _ _ _ (row w)
-    (m .before .before .before .before .before .circles .ensures) (m .measure-row .ensures .0)
+    let pre = start i .pre in (
+      place-taken _ _ _ _ _ _ _ _ _ _ _ _ _ (pre .1 .0) (i .id-of .ensures) (pre .0) (omega arith) _ _ _ _ _ (row w)
+          (m .before .before .before .before .before .circles .ensures) (m .measure-row .ensures .0),
+      m .measure-row .ensures .3,
+    )
 
 pub take-item-spec : {M : Type 1} → statement M
 take-item-spec =
