@@ -68,10 +68,10 @@ module _ {t : List ℕ} {c o m n : ℕ} {room work : List ℕ} {s count made : �
   in-table : (i : ℕ) → i < n → InTable t c i
   in-table i h = omega (arith, row-ends c n i h, asked .table)
 
-  -- there are `early` entries or more, all of rows of the table
-  pub choose-ready : (3 * early ≤ length (runPart work s count)) × Entries (InTable t c) (runPart work s count)
+  -- there are `count` entries, all of rows of the table
+  pub choose-ready : (length (runPart work s count) ≡ 3 * count) × Entries (InTable t c) (runPart work s count)
   choose-ready = (
-    omega (arith, part-long, within),
+    part-long,
     subst (Entries (InTable t c)) (sym (asked .known))
         (under-entries (λ i. i < n) (InTable t c) in-table (d (head run)) (head run) run (asked .rows)),
   )

@@ -4,6 +4,7 @@ use Rattle.split.proofs.SplitRun.{choose-ready, share-ready, split-done
 use Rattle.split.proofs.split_run.Statement.{statement}
 use Rattle.split.proofs.split_run.Tie as tie
 use borrow.Author.Needs.{needs}
+use native.Mathlib.Omega.{arith}
 
 -- the start, seen from behind the rounds; and these, seen from behind the sharing out
 abbrev start : tie.After-choose → tie.Start
@@ -16,7 +17,8 @@ choose-requires : tie.Need-choose-requires
 choose-requires c κs =
     let s = c .before .before .before .before in
     let r = choose-ready (s .pre .0) (s .pre .1 .0) (s .pre .1 .1) in
-    ((s .pre .0 .columns, r .1), (s .pre .0 .share, s .pre .1 .0, r .0))
+    let k = s .pre .1 in
+    ((s .pre .0 .columns, r .1), (s .pre .0 .share, omega (arith, k .0, k .1), omega (arith, r .0, k .1)))
 
 share-requires : tie.Need-share-requires
 share-requires c κs =
