@@ -1,7 +1,6 @@
 -- A run whose centres are among its first rows: its children's runs have its rows. Assumes nothing.
 use Prim.Native.Nat.{_*_, _+_, _-_, _≤_, ℕ}
 use Rattle.laws.proofs.Lists.{tally-append, tally-length}
-use Rattle.laws.proofs.Shares.{heads-tally, share}
 use Rattle.laws.specs.Lists.{each, head, joined, keep, rest, tally}
 use Rattle.split.proofs.Held.{chosen, unchosen}
 use Rattle.split.proofs.Laid.{runs-long}
@@ -56,16 +55,7 @@ module _ (d : ℕ → ℕ → ℕ) where
           let cut : (f : ℕ → Bool) → tally f fore + tally f (drop early run) ≡ tally f run =
           λ (f : ℕ → Bool). sym (tally-append f fore (drop early run)) ∙ ap (tally f) (take-append-drop early run) in
           let run′ : Run fore = (omega (arith, fore-long), λ i. omega (arith, cut (eqb i), r .1 i)) in
-          let sharing : tally f (joined (splitAmong d m early run)) ≡ tally f among + tally f other =
-          ap (λ gs. tally f (joined gs)) among-is ∙ heads-tally f (λ a. keep (λ i. eqb (closest d among i) a) other) among
-          ∙ ap (λ n. tally f among + n) (share f (closest d among) other among (centres.one-centre d m one fore run′ (omega (arith, fore-long)))) in
-          omega (
-            arith,
-            sharing,
-            tally-append f (unchosen d m fore) (drop early run),
-            centres.chosen-tally d m f fore (omega (arith, fore-long)) (omega (arith, fore-long)),
-            cut f,
-          )
+          ap (λ gs. tally f (joined gs)) among-is ∙ centres.groups-tally d m one f fore (drop early run) run′ (omega (arith, fore-long)) ∙ cut f
 
       -- as many rows
       pub among-joined : Run run → length (joined (splitAmong d m early run)) ≡ length run

@@ -1,6 +1,7 @@
 -- A run's words through the rounds, the sharing out and the copy back. Assumes nothing.
 use Prim.Native.Nat.{_*_, _+_, _-_, _<_, _≤_, ℕ}
 use Rattle.laws.specs.Lists.{each, head}
+use Rattle.measure.proofs.Metric.{row-self}
 use Rattle.measure.proofs.Rows.{row-ends}
 use Rattle.measure.specs.Table.{between}
 use Rattle.rounds.proofs.Parts.{stretch-front}
@@ -8,7 +9,7 @@ use Rattle.rounds.specs.Entries.{Entries, InTable, roundsOf}
 use Rattle.rounds.specs.Stretch.{stretch}
 use Rattle.split.proofs.Among.{among, among-all, among-is, among-long, among-words-long, other}
 use Rattle.split.proofs.Held.{chosen-words, chosenWords}
-use Rattle.split.proofs.Laid.{laid-long, row-self, under-entries}
+use Rattle.split.proofs.Laid.{laid-long, under-entries}
 use Rattle.split.proofs.SplitWords.{group-nodes, group-words}
 use Rattle.split.specs.Places.{nodeAt}
 use Rattle.split.specs.Runs.{SplitAmong, Splittable, Splitted, laid, runAt, runNodes, splitAmong}

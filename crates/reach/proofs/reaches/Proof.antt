@@ -2,9 +2,9 @@
 -- left of the run.
 -- Assumes nothing.
 use Prim.Native.Nat.{_-_, ℕ}
+use Rattle.measure.proofs.Metric.{row-self}
 use Rattle.measure.specs.Table.{between}
 use Rattle.reach.proofs.Farthest.{Reaching, reach-done, reach-next, reach-one, reach-two}
-use Rattle.reach.proofs.Runs.{at-itself}
 use Rattle.reach.proofs.reaches.Statement.{statement}
 use Rattle.reach.proofs.reaches.Tie as tie
 use Rattle.words.specs.Words.{circles#}
@@ -37,7 +37,7 @@ returns : tie.Need-returns Inv-loop μ-loop
 returns c =
     let e = c .before in
     let s = start e in
-    reach-one (dist s) (s .args .index .now) (s .args .k) (at-itself (s .args .table .now) (s .args .c) (circles# (s .args .index .now)))
+    reach-one (dist s) (s .args .index .now) (s .args .k) (row-self (s .args .table .now) (s .args .c) (circles# (s .args .index .now)))
     (s .pre .0 .shape .node (s .args .k) (s .pre .1) .some)
     (omega (arith, c .if1 .taken, e .node-start .ensures .0, e .before .node-end .ensures))
 
@@ -62,7 +62,7 @@ loop-holds c =
     let e = ends (c .before) in
     let s = start e in
     let low = e .node-start .ensures .0 in
-    reach-two (dist s) (s .args .index .now) (s .args .k) (at-itself (s .args .table .now) (s .args .c) (circles# (s .args .index .now)))
+    reach-two (dist s) (s .args .index .now) (s .args .k) (row-self (s .args .table .now) (s .args .c) (circles# (s .args .index .now)))
     (omega (arith, c .before .before .if1 .left, e .before .node-end .ensures, low)) (omega (arith, low)) (e .before .before .node-first .ensures .0)
     (c .apart .ensures)
 
