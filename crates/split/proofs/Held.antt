@@ -123,7 +123,7 @@ module _ (d : ℕ → ℕ → ℕ) where
       ∙ rounds-held k a (cs ++ j ∷ []) (without j is) ls (bound - 3) (omega arith) (omega arith)
 
   -- a run's entries, while its first is the only centre
-  pub laid-held : (a : ℕ) (is : List ℕ) → each (λ i. i ∷ d a i ∷ a ∷ []) is ≡ each (held d (a ∷ [])) is
+  laid-held : (a : ℕ) (is : List ℕ) → each (λ i. i ∷ d a i ∷ a ∷ []) is ≡ each (held d (a ∷ [])) is
   laid-held a [] = refl
   laid-held a (i ∷ is) = ap₂ (λ (x : ℕ) (l : List ℕ). i ∷ x ∷ a ∷ l) (sym (nearness-closest d (a ∷ []) i (omega arith))) (laid-held a is)
 

@@ -67,7 +67,7 @@ module _ (d : ℕ → ℕ → ℕ) (z : ℕ) where
       go false ih = ih
 
 -- the front of a list and the rest of it
-pub tally-cut : (f : ℕ → Bool) (k : ℕ) (xs : List ℕ) → tally f (take k xs) + tally f (drop k xs) ≡ tally f xs
+tally-cut : (f : ℕ → Bool) (k : ℕ) (xs : List ℕ) → tally f (take k xs) + tally f (drop k xs) ≡ tally f xs
 tally-cut f k xs = sym (tally-append f (take k xs) (drop k xs)) ∙ ap (tally f) (take-append-drop k xs)
 
 -- centres that are chosen stand behind those that there are

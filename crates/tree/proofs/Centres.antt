@@ -99,7 +99,7 @@ module _ (d : ℕ → ℕ → ℕ) (m : ℕ) where
   rest-length (x ∷ run) h = omega arith
 
   -- the centres and the rows left are the run's rows
-  pub chosen-tally : (f : ℕ → Bool) (run : List ℕ) → 1 ≤ length run → m ≤ length run → tally f (chosen run) + tally f (left run) ≡ tally f run
+  chosen-tally : (f : ℕ → Bool) (run : List ℕ) → 1 ≤ length run → m ≤ length run → tally f (chosen run) + tally f (left run) ≡ tally f run
   unfolding chosen left
   chosen-tally f run h k = choose-tally d f (m - 1) (head run ∷ []) (rest run) (omega (arith, rest-length run h)) ∙ tally-split f run h
 
