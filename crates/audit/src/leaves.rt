@@ -29,9 +29,10 @@ fn leaf_wrong(table: &[u16], c: usize, index: &[u32], k: usize) -> usize
     }
     let f = node_first(index, k);
     let end = node_end(index, k);
+    let circles = words::places::circles(index);
     let mut p = node_start(index, k);
     while p < end {
-        if stored_at(index, p) != apart(table, c, index, f, p) {
+        if stored_at(index, p) != apart(table, c, circles, index, f, p) {
             return p;
         }
         p += 1;

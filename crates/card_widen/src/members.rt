@@ -13,13 +13,13 @@ use card_words::places::card_start;
 use measure::row_distance;
 use numbers::smaller;
 
-// The distance of row f from the row at position p.
-fn card_apart(table: &[u16], c: usize, image: &[u8], f: usize, p: usize) -> u32
+// The distance of row f from the row at position p. The card's circles are handed in, so that a loop over positions reads them once.
+fn card_apart(table: &[u16], c: usize, circles: u32, image: &[u8], f: usize, p: usize) -> u32
     requires { ⌜ Tabled (now table) c (now image) ⌝ }
-    requires { ⌜ (f < n# (cardWords (now image))) × (p < n# (cardWords (now image))) ⌝ }
+    requires { ⌜ (f < n# (cardWords (now image))) × (p < n# (cardWords (now image))) × (circles ≡ circles# (cardWords (now image))) ⌝ }
     ensures { λ r. ⌜ r ≡ between (now (table .entry)) c (circles# (cardWords (now (image .entry)))) f (row# (cardWords (now (image .entry))) p) ⌝ }
 {
-    row_distance(table, c, card_circles(image), f, card_row(image, p))
+    row_distance(table, c, circles, f, card_row(image, p))
 }
 
 // The least distance of a member of node k other than its first from it, 0 where there is none.
@@ -35,10 +35,11 @@ pub fn card_nearest(table: &[u16], c: usize, image: &[u8], k: usize) -> u32
         return 0;
     }
     let f = card_row(image, start);
-    let mut near = card_apart(table, c, image, f, second);
+    let circles = card_circles(image);
+    let mut near = card_apart(table, c, circles, image, f, second);
     let mut p = second + 1;
     while p < end {
-        near = smaller(near, card_apart(table, c, image, f, p));
+        near = smaller(near, card_apart(table, c, circles, image, f, p));
         p += 1;
     }
     near

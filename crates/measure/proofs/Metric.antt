@@ -68,7 +68,7 @@ apart-most false x y m hx hy = gap-less x y m hx hy
 -- ---- a row
 module _ (c o : ℕ) where
   -- a row is at 0 from itself
-  pub l1-self : (a : List ℕ) → l1 c o a a ≡ 0
+  l1-self : (a : List ℕ) → l1 c o a a ≡ 0
   unfolding l1
   l1-self a = sum-below-zero (λ j. apart (isCircle o j) (getD a j 0) (getD a j 0)) c (λ j h. apart-self (isCircle o j) (getD a j 0))
 
@@ -92,12 +92,17 @@ module _ (c o : ℕ) where
         sum-add f g c,
       )
 
+-- a row of a table is at 0 from itself, on the circle or off it
+pub row-self : (T : List ℕ) (c o i : ℕ) → between T c o i i ≡ 0
+unfolding between
+row-self T c o i = l1-self c o (row T c i)
+
 -- THE ROWS OF A TABLE ARE A SPACE, where its circular columns hold numbers of the circle
 pub metric : (T : List ℕ) (c o : ℕ) → Rounded T c o → Space (between T c o)
 unfolding between
 metric T c o r =
     record {
-      self = λ i. l1-self c o (row T c i);
+      self = row-self T c o;
       swap = λ i j. l1-swap c o (row T c i) (row T c j);
       triangle = λ i j k. l1-triangle c o (row T c i) (row T c j) (row T c k) (r i) (r j) (r k);
     }

@@ -47,21 +47,32 @@ fn firsts(index: &[u32], child: usize) -> [usize; Params::MOST_CENTRES]
 }
 
 // The row at p is closer to row f than to row g, from which it is x away. Row g is not measured again.
-fn is_closer(table: &[u16], c: usize, index: &[u32], f: usize, g: usize, x: u32, p: usize) -> bool
+fn is_closer(
+    table: &[u16],
+    c: usize,
+    circles: u32,
+    index: &[u32],
+    f: usize,
+    g: usize,
+    x: u32,
+    p: usize,
+) -> bool
     requires { ⌜ Tested (now index) (now table) c ⌝ }
-    requires { ⌜ (f < n# (now index)) × (p < n# (now index)) × (x ≡ between (now table) c (circles# (now index)) g (row# (now index) p)) ⌝ }
+    requires { ⌜ (f < n# (now index)) × (p < n# (now index)) × (x ≡ between (now table) c (circles# (now index)) g (row# (now index) p))
+        × (circles ≡ circles# (now index)) ⌝ }
     ensures { λ r. ⌜ r ≡ ltb (between (now (table .entry)) c (circles# (now (index .entry))) f (row# (now (index .entry)) p)) x ⌝ }
 {
     if f == g {
         return false;
     }
-    apart(table, c, index, f, p) < x
+    apart(table, c, circles, index, f, p) < x
 }
 
 // The row at p, which is x away from row g, is closer to the first of one of the m nodes from number `child` on: fs are these.
 fn closer_to_other(
     table: &[u16],
     c: usize,
+    circles: u32,
     index: &[u32],
     child: usize,
     fs: &[usize; Params::MOST_CENTRES],
@@ -71,14 +82,14 @@ fn closer_to_other(
 ) -> bool
     requires { ⌜ Tested (now index) (now table) c ⌝ }
     requires { ⌜ Firsts (now index) child (now fs) × (p < n# (now index))
-        × (x ≡ between (now table) c (circles# (now index)) g (row# (now index) p)) ⌝ }
+        × (x ≡ between (now table) c (circles# (now index)) g (row# (now index) p)) × (circles ≡ circles# (now index)) ⌝ }
     ensures { λ r. ⌜ r ≡ any (closer (between (now (table .entry)) c (circles# (now (index .entry)))) (now (index .entry)) p x)
         (range child (m# (now (index .entry)))) ⌝ }
 {
     let m = centres(index);
     let mut i = 0;
     while i < m {
-        if is_closer(table, c, index, fs[i], g, x, p) {
+        if is_closer(table, c, circles, index, fs[i], g, x, p) {
             return true;
         }
         i += 1;
@@ -105,10 +116,11 @@ fn child_stray(
     let j = child + a;
     let f = node_first(index, j);
     let end = node_end(index, j);
+    let circles = words::places::circles(index);
     let mut p = node_start(index, j);
     while p < end {
-        let x = apart(table, c, index, f, p);
-        if closer_to_other(table, c, index, child, fs, f, x, p) {
+        let x = apart(table, c, circles, index, f, p);
+        if closer_to_other(table, c, circles, index, child, fs, f, x, p) {
             return p;
         }
         p += 1;

@@ -9,7 +9,6 @@ ghost use mathlib.Core.Path.{_≡_};
 use measure::row_distance;
 use numbers::larger;
 use numbers::smaller;
-use words::places::circles;
 use words::places::node_count;
 use words::places::node_first;
 use words::places::node_start;
@@ -39,13 +38,13 @@ pub fn node_end(index: &[u32], k: usize) -> usize
     node_start(index, k) + node_count(index, k)
 }
 
-// The distance of row f from the row at position p.
-pub fn apart(table: &[u16], c: usize, index: &[u32], f: usize, p: usize) -> u32
+// The distance of row f from the row at position p. The index's circles are handed in, so that a loop over positions reads them once.
+pub fn apart(table: &[u16], c: usize, circles: u32, index: &[u32], f: usize, p: usize) -> u32
     requires { ⌜ Tested (now index) (now table) c ⌝ }
-    requires { ⌜ (f < n# (now index)) × (p < n# (now index)) ⌝ }
+    requires { ⌜ (f < n# (now index)) × (p < n# (now index)) × (circles ≡ circles# (now index)) ⌝ }
     ensures { λ r. ⌜ r ≡ between (now (table .entry)) c (circles# (now (index .entry))) f (row# (now (index .entry)) p) ⌝ }
 {
-    row_distance(table, c, circles(index), f, row_at(index, p))
+    row_distance(table, c, circles, f, row_at(index, p))
 }
 
 // How far node k's members are from its first. Each member but the first, which is at 0, is measured once.
@@ -60,11 +59,12 @@ pub fn reaches(table: &[u16], c: usize, index: &[u32], k: usize) -> Reached
     if end <= second {
         return Reached { far: 0, near: 0 };
     }
-    let mut far = apart(table, c, index, f, second);
+    let circles = words::places::circles(index);
+    let mut far = apart(table, c, circles, index, f, second);
     let mut near = far;
     let mut p = second + 1;
     while p < end {
-        let x = apart(table, c, index, f, p);
+        let x = apart(table, c, circles, index, f, p);
         far = larger(far, x);
         near = smaller(near, x);
         p += 1;

@@ -1,6 +1,6 @@
 -- A run in the workspace, an entry of three words for each member, and what the rounds do to the words: 01, The tree, centres. A working notion, on
 -- which no promise rests. Assumes nothing.
-use Prim.Native.Nat.{_*_, _+_, _≤_, suc, zero, ℕ}
+use Prim.Native.Nat.{_*_, _+_, _-_, _≤_, suc, zero, ℕ}
 use lib.Dec.{leb, ltb}
 use lib.ListN.{drop, getD, length, take}
 use mathlib.Core.Bool.{Bool, cond, false, true}
@@ -48,23 +48,27 @@ far (i ∷ x ∷ []) = 0
 far (i ∷ x ∷ a ∷ []) = 0
 far (i ∷ x ∷ a ∷ e ∷ es) = aheadOf i x (e ∷ es) (far (e ∷ es))
 
+-- the same where only the first `bound` words may be chosen from
+abbrev pub farIn : ℕ → List ℕ → ℕ
+farIn bound es = far (take bound es)
+
 -- the row that is chosen next
-abbrev pub next : List ℕ → ℕ
-next es = getD es (far es) 0
+abbrev pub next : ℕ → List ℕ → ℕ
+next bound es = getD es (farIn bound es) 0
 
 -- all entries but the one at word b
 abbrev pub allBut : ℕ → List ℕ → List ℕ
 allBut b es = take b es ++ drop (b + 3) es
 
--- the entries that wait after one round
-unfoldable pub others : (ℕ → ℕ → ℕ) → List ℕ → List ℕ
-others d es = nearAll d (next es) (allBut (far es) es)
+-- the entries that wait after one round: all of them learn, those behind `bound` too
+unfoldable pub others : (ℕ → ℕ → ℕ) → ℕ → List ℕ → List ℕ
+others d bound es = nearAll d (next bound es) (allBut (farIn bound es) es)
 
 -- one round: the chosen entry in front, the others behind it in their order
-abbrev pub roundOf : (ℕ → ℕ → ℕ) → List ℕ → List ℕ
-roundOf d es = own (next es) ++ others d es
+abbrev pub roundOf : (ℕ → ℕ → ℕ) → ℕ → List ℕ → List ℕ
+roundOf d bound es = own (next bound es) ++ others d bound es
 
 -- k rounds, each on what the one before left
-unfoldable pub roundsOf : (ℕ → ℕ → ℕ) → ℕ → List ℕ → List ℕ
-roundsOf d zero es = es
-roundsOf d (suc k) es = own (next es) ++ roundsOf d k (others d es)
+unfoldable pub roundsOf : (ℕ → ℕ → ℕ) → ℕ → ℕ → List ℕ → List ℕ
+roundsOf d zero bound es = es
+roundsOf d (suc k) bound es = own (next bound es) ++ roundsOf d k (bound - 3) (others d bound es)

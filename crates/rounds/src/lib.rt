@@ -30,7 +30,7 @@ fn nearer_one(table: &[u16], c: usize, circles: u32, centre: u32, entry: &mut [u
 }
 
 // The same for every entry.
-pub fn nearer(table: &[u16], c: usize, circles: u32, centre: u32, part: &mut [u32])
+fn nearer(table: &[u16], c: usize, circles: u32, centre: u32, part: &mut [u32])
     requires { ⌜ (c ≤ maxColumns) × InTable (now table) c centre × Entries (InTable (now table) c) (now part) ⌝ }
     ensures { λ _. ⌜ now (part .exit) ≡ nearAll (between (now (table .entry)) c circles) centre (now (part .entry)) ⌝ }
 {
@@ -95,28 +95,32 @@ fn shift(part: &mut [u32], b: usize)
     }
 }
 
-// One round: the entry that is farthest from the centres becomes a centre and moves to the front; the others keep their order and learn of it.
-fn round(table: &[u16], c: usize, circles: u32, part: &mut [u32])
-    requires { ⌜ (c ≤ maxColumns) × (3 ≤ length (now part)) × Entries (InTable (now table) c) (now part) ⌝ }
-    ensures { λ _. ⌜ now (part .exit) ≡ roundOf (between (now (table .entry)) c circles) (now (part .entry)) ⌝ }
+// One round: of the entries in the first `bound` words the one that is farthest from the centres becomes a centre and moves to the front; all
+// others keep their order and learn of it.
+fn round(table: &[u16], c: usize, circles: u32, bound: usize, part: &mut [u32])
+    requires { ⌜ (c ≤ maxColumns) × Entries (InTable (now table) c) (now part) ⌝ }
+    requires { ⌜ (3 ≤ bound) × (bound ≤ length (now part)) × (bound % 3 ≡ 0) ⌝ }
+    ensures { λ _. ⌜ now (part .exit) ≡ roundOf (between (now (table .entry)) c circles) bound (now (part .entry)) ⌝ }
 {
-    let b = farthest(part);
+    let b = farthest(&part[..bound]);
     let row = part[b];
     shift(part, b);
     put_entry(part, row, 0, row);
     nearer(table, c, circles, row, &mut part[3..]);
 }
 
-// The rounds that leave m centres at the front of a run whose first is at the front.
-pub fn choose(table: &[u16], c: usize, circles: u32, m: usize, run: &mut [u32])
-    requires { ⌜ (c ≤ maxColumns) × (1 ≤ m) × (3 * m ≤ length (now run)) × Entries (InTable (now table) c) (now run) ⌝ }
+// The rounds that leave m centres at the front of a run whose first is at the front. They are chosen among its first `early` rows; the entries
+// behind these learn of them in the same pass, so that `nearer` is called in one place and compiled there.
+pub fn choose(table: &[u16], c: usize, circles: u32, m: usize, early: usize, run: &mut [u32])
+    requires { ⌜ (c ≤ maxColumns) × Entries (InTable (now table) c) (now run) ⌝ }
+    requires { ⌜ (1 ≤ m) × (m ≤ early) × (3 * early ≤ length (now run)) ⌝ }
     ensures { λ _. ⌜ now (run .exit) ≡ take 3 (now (run .entry))
-        ++ roundsOf (between (now (table .entry)) c circles) (m - 1) (drop 3 (now (run .entry))) ⌝ }
+        ++ roundsOf (between (now (table .entry)) c circles) (m - 1) (3 * early - 3) (drop 3 (now (run .entry))) ⌝ }
 {
     let mut r = 1;
     while r < m {
         let at = 3 * r;
-        round(table, c, circles, &mut run[at..]);
+        round(table, c, circles, 3 * early - at, &mut run[at..]);
         r += 1;
     }
 }

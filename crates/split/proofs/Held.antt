@@ -1,14 +1,16 @@
 -- The rounds on the words of a run choose the centres of 01. Assumes nothing.
-use Prim.Native.Nat.{_+_, _-_, _≤_, suc, zero, ℕ}
+use Prim.Native.Nat.{_*_, _+_, _-_, _≤_, suc, zero, ℕ}
 use Rattle.laws.proofs.Joins.{each-append}
 use Rattle.laws.specs.Lists.{each, head, rest, without}
-use Rattle.rounds.specs.Entries.{ahead, aheadOf, allBut, far, nearAll, others, own, roundsOf}
+use Rattle.rounds.proofs.Entries.{but-append, but-long, far-place}
+use Rattle.rounds.specs.Entries.{ahead, aheadOf, allBut, far, farIn, nearAll, next, others, own, roundsOf}
 use Rattle.split.proofs.Closest.{held, near-held, nearness-closest}
 use Rattle.split.specs.Runs.{laid}
 use Rattle.tree.specs.Build.{choose, farther, farthest, nearness}
 use borrow.Author.Tests.{eq-eqb, le-leb, le-ltb, leb-false, leb-true, ltb-false, ltb-true, ne-eqb}
 use lib.Dec.{eqb, leb, ltb}
-use lib.ListN.{drop, getD, length, take}
+use lib.ListN.{List·getD-append, drop, getD, length, take, take-append-drop}
+use lib.Seq.{length-take-le, take-at}
 use mathlib.Core.Bool.{Bool, _&&_, _||_, cond, false, false≢true, true}
 use mathlib.Core.List.{List, [], _++_, _∷_, append-assoc}
 use mathlib.Core.Path.{_∙_, _≡_, ap, ap₂, refl, sym}
@@ -84,34 +86,44 @@ module _ (d : ℕ → ℕ → ℕ) where
       far-more cs i j is (each (held d cs) (j ∷ is)) (far (each (held d cs) (j ∷ is))) refl (far-held cs (j ∷ is) (omega arith))
 
   -- ---- the rounds choose the centres
-  -- one row taken out leaves at most one less
-  without-length : (j : ℕ) (is : List ℕ) → length is ≤ length (without j is) + 1
-  without-length j [] = omega arith
-  without-length j (i ∷ is) = go (eqb j i) (without-length j is)
-    where
-      go : (s : Bool) → length is ≤ length (without j is) + 1 → length (i ∷ is) ≤ length (cond s is (i ∷ without j is)) + 1
-      go true h = omega arith
-      go false h = omega arith
+  -- an entry has three words
+  held-long : (cs is : List ℕ) → length (each (held d cs) is) ≡ 3 * length is
+  held-long cs [] = refl
+  held-long cs (i ∷ is) = omega (arith, held-long cs is)
 
-  -- k rounds behind the centres' entries give what 01 chooses
-  rounds-held : (k a : ℕ) (cs is : List ℕ) → k ≤ length is
-      → each own (a ∷ cs) ++ roundsOf d k (each (held d (a ∷ cs)) is)
-      ≡ each own (choose d k (a ∷ cs) is .0) ++ each (held d (choose d k (a ∷ cs) is .0)) (choose d k (a ∷ cs) is .1)
+  -- k rounds behind the centres' entries give what 01 chooses among the rows is; the rows ls behind them wait too
+  rounds-held : (k a : ℕ) (cs is ls : List ℕ) (bound : ℕ) → k ≤ length is → bound ≡ 3 * length is
+      → each own (a ∷ cs) ++ roundsOf d k bound (each (held d (a ∷ cs)) (is ++ ls))
+      ≡ each own (choose d k (a ∷ cs) is .0) ++ each (held d (choose d k (a ∷ cs) is .0)) (choose d k (a ∷ cs) is .1 ++ ls)
   unfolding roundsOf others choose
-  rounds-held zero a cs is h = refl
-  rounds-held (suc k) a cs is h =
+  rounds-held zero a cs is ls bound h e = refl
+  rounds-held (suc k) a cs is ls bound h e =
       let j : ℕ = farthest d (a ∷ cs) is in
       let es : List ℕ = each (held d (a ∷ cs)) is in
+      let fs : List ℕ = each (held d (a ∷ cs)) ls in
+      let ws : List ℕ = each (held d (a ∷ cs)) (is ++ ls) in
+      let size : length es ≡ 3 * length is = held-long (a ∷ cs) is in
+      let whole : ws ≡ es ++ fs = each-append (held d (a ∷ cs)) is ls in
+      let place = far-place es (omega arith) (omega arith) in
       let f = far-held (a ∷ cs) is (omega arith) in
-      let waiting : others d es ≡ each (held d (a ∷ cs ++ j ∷ [])) (without j is) =
-      ap₂ (λ (x : ℕ) (l : List ℕ). nearAll d x l) (f .row) (f .left) ∙ near-held d a cs j (without j is) in
-      ap₂ (λ (x : ℕ) (l : List ℕ). each own (a ∷ cs) ++ (own x ++ roundsOf d k l)) (f .row) waiting
-      ∙ sym (append-assoc (each own (a ∷ cs)) (own j) (roundsOf d k (each (held d (a ∷ cs ++ j ∷ [])) (without j is))))
-      ∙ ap (λ (l : List ℕ). l ++ roundsOf d k (each (held d (a ∷ cs ++ j ∷ [])) (without j is))) (sym (each-append own (a ∷ cs) (j ∷ [])))
-      ∙ rounds-held k a (cs ++ j ∷ []) (without j is) (omega (arith, without-length j is))
+      let at : farIn bound ws ≡ far es = ap far (ap (take bound) whole ∙ take-at es fs bound (omega arith)) in
+      let row : next bound ws ≡ j =
+      ap₂ (λ (l : List ℕ) (b : ℕ). getD l b 0) whole at ∙ List·getD-append es fs 0 (far es) (omega (arith, place .0)) ∙ f .row in
+      let left : allBut (farIn bound ws) ws ≡ each (held d (a ∷ cs)) (without j is ++ ls) =
+      ap₂ allBut at whole ∙ but-append es fs (far es) (place .0) ∙ ap (λ (l : List ℕ). l ++ fs) (f .left)
+      ∙ sym (each-append (held d (a ∷ cs)) (without j is) ls) in
+      let waiting : others d bound ws ≡ each (held d (a ∷ cs ++ j ∷ [])) (without j is ++ ls) =
+      ap₂ (λ (x : ℕ) (l : List ℕ). nearAll d x l) row left ∙ near-held d a cs j (without j is ++ ls) in
+      let fewer : 3 * length (without j is) + 3 ≡ 3 * length is =
+      ap (λ (n : ℕ). n + 3) (sym (ap length (f .left) ∙ held-long (a ∷ cs) (without j is))) ∙ but-long es (far es) (place .0) ∙ size in
+      let rest : List ℕ = roundsOf d k (bound - 3) (each (held d (a ∷ cs ++ j ∷ [])) (without j is ++ ls)) in
+      ap₂ (λ (x : ℕ) (l : List ℕ). each own (a ∷ cs) ++ (own x ++ roundsOf d k (bound - 3) l)) row waiting
+      ∙ sym (append-assoc (each own (a ∷ cs)) (own j) rest)
+      ∙ ap (λ (l : List ℕ). l ++ rest) (sym (each-append own (a ∷ cs) (j ∷ [])))
+      ∙ rounds-held k a (cs ++ j ∷ []) (without j is) ls (bound - 3) (omega arith) (omega arith)
 
   -- a run's entries, while its first is the only centre
-  pub laid-held : (a : ℕ) (is : List ℕ) → each (λ i. i ∷ d a i ∷ a ∷ []) is ≡ each (held d (a ∷ [])) is
+  laid-held : (a : ℕ) (is : List ℕ) → each (λ i. i ∷ d a i ∷ a ∷ []) is ≡ each (held d (a ∷ [])) is
   laid-held a [] = refl
   laid-held a (i ∷ is) = ap₂ (λ (x : ℕ) (l : List ℕ). i ∷ x ∷ a ∷ l) (sym (nearness-closest d (a ∷ []) i (omega arith))) (laid-held a is)
 
@@ -124,13 +136,20 @@ module _ (d : ℕ → ℕ → ℕ) where
   abbrev pub unchosen : ℕ → List ℕ → List ℕ
   unchosen m run = choose d (m - 1) (head run ∷ []) (rest run) .1
 
-  -- its words: the centres in their order, then the other rows, each with its closest centre and the distance
-  abbrev pub chosenWords : ℕ → List ℕ → List ℕ
-  chosenWords m run = each own (chosen m run) ++ each (held d (chosen m run)) (unchosen m run)
+  -- its words where the centres are among its first `early` rows: the centres in their order, then the other rows, each with its closest centre and
+  -- the distance
+  abbrev pub chosenWords : ℕ → ℕ → List ℕ → List ℕ
+  chosenWords m early run =
+      let cs = chosen m (take early run) in
+      each own cs ++ each (held d cs) (unchosen m (take early run) ++ drop early run)
 
   -- THE ROUNDS ON A RUN'S WORDS: the centres of 01, and the rows that wait
-  pub chosen-words : (m : ℕ) (run : List ℕ) → 1 ≤ m → m ≤ length run → d (head run) (head run) ≡ 0
-      → take 3 (laid d run) ++ roundsOf d (m - 1) (drop 3 (laid d run)) ≡ chosenWords m run
-  chosen-words m [] h l z = absurd (omega arith)
-  chosen-words m (a ∷ is) h l z =
-      rw (z, laid-held a is) (rounds-held (m - 1) a [] is (omega arith))
+  pub chosen-words : (m early : ℕ) (run : List ℕ) → 1 ≤ m → m ≤ early → early ≤ length run → d (head run) (head run) ≡ 0
+      → take 3 (laid d run) ++ roundsOf d (m - 1) (3 * early - 3) (drop 3 (laid d run)) ≡ chosenWords m early run
+  chosen-words m zero run h s l z = absurd (omega arith)
+  chosen-words m (suc e) [] h s l z = absurd (omega arith)
+  chosen-words m (suc e) (a ∷ is) h s l z =
+      let size : length (take e is) ≡ e = length-take-le e is (omega arith) in
+      rw (z, laid-held a is)
+      (ap (λ (l : List ℕ). own a ++ roundsOf d (m - 1) (3 * suc e - 3) (each (held d (a ∷ [])) l)) (sym (take-append-drop e is))
+      ∙ rounds-held (m - 1) a [] (take e is) (drop e is) (3 * suc e - 3) (omega arith) (omega arith))

@@ -5,8 +5,6 @@ use Rattle.laws.proofs.Joins.{each-append}
 use Rattle.laws.proofs.Lists.{tally-length}
 use Rattle.laws.specs.Every.{Every}
 use Rattle.laws.specs.Lists.{each, greatest, head, joined}
-use Rattle.measure.proofs.Metric.{l1-self}
-use Rattle.measure.specs.Table.{between, row}
 use Rattle.rounds.specs.Entries.{Entries}
 use Rattle.split.specs.Runs.{laid, rows}
 use Rattle.tree.proofs.Grow.{split-tally}
@@ -16,11 +14,6 @@ use mathlib.Core.Bool.{true}
 use mathlib.Core.List.{List, [], _++_, _∷_, map}
 use mathlib.Core.Path.{_∙_, _≡_, ap, refl, sym}
 use native.Mathlib.Omega.{arith}
-
--- a row is at 0 from itself, on the circle or not
-pub row-self : (T : List ℕ) (c o i : ℕ) → between T c o i i ≡ 0
-unfolding between
-row-self T c o i = l1-self c o (row T c i)
 
 -- the entries of the rows xs at the distances f, all of centre a
 abbrev pub under : (ℕ → ℕ) → ℕ → List ℕ → List ℕ

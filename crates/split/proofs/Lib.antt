@@ -4,7 +4,6 @@ pub mod Laid
 pub mod Sharing
 pub mod Copied
 pub mod Parted
-pub mod Informing
 pub mod Among
 pub mod SplitWords
 pub mod SplitRun

@@ -1,43 +1,30 @@
 -- A run's words through the rounds, the sharing out and the copy back. Assumes nothing.
-use Prim.Native.Nat.{_*_, _+_, _-_, _<_, _≤_, suc, zero, ℕ}
-use Rattle.laws.proofs.Every.{every-drop, every-take}
+use Prim.Native.Nat.{_*_, _+_, _-_, _<_, _≤_, ℕ}
 use Rattle.laws.specs.Lists.{each, head}
+use Rattle.measure.proofs.Metric.{row-self}
 use Rattle.measure.proofs.Rows.{row-ends}
 use Rattle.measure.specs.Table.{between}
-use Rattle.rounds.proofs.Entries.{entries-append, rounds-entries}
 use Rattle.rounds.proofs.Parts.{stretch-front}
-use Rattle.rounds.specs.Entries.{Entries, InTable, own, roundsOf}
+use Rattle.rounds.specs.Entries.{Entries, InTable, roundsOf}
 use Rattle.rounds.specs.Stretch.{stretch}
-use Rattle.split.proofs.Among.{among, among-all, among-is, among-long, among-words, among-words-long, amongWords, other}
-use Rattle.split.proofs.Closest.{held}
-use Rattle.split.proofs.Held.{chosen-words, unchosen}
-use Rattle.split.proofs.Informing.{learnt-long}
-use Rattle.split.proofs.Laid.{laid-long, row-self, under, under-append, under-entries, under-long}
-use Rattle.split.proofs.Parted.{both-lent, both-put, part-lent}
+use Rattle.split.proofs.Among.{among, among-all, among-is, among-long, among-words-long, other}
+use Rattle.split.proofs.Held.{chosen-words, chosenWords}
+use Rattle.split.proofs.Laid.{laid-long, under-entries}
 use Rattle.split.proofs.SplitWords.{group-nodes, group-words}
-use Rattle.split.specs.Learning.{centreRows, learnt}
 use Rattle.split.specs.Places.{nodeAt}
 use Rattle.split.specs.Runs.{SplitAmong, Splittable, Splitted, laid, runAt, runNodes, splitAmong}
 use Rattle.split.specs.Shares.{Sharable, Shared, groupNodes, groupWords}
 use Rattle.tree.specs.Build.{split}
 use borrow.Rule.Slice.PartMut.{mid-len, midOf, post-is, putMid}
-use lib.ListN.{drop, length, length-append, length-drop, take, take-append-drop}
-use lib.Seq.{drop-at, drop-drop, length-take-le, take-append-add, take-append-le, take-at, take-take}
-use mathlib.Core.List.{List, [], _++_, _∷_, append-assoc}
-use mathlib.Core.Path.{_∙_, _≡_, ap, ap₂, refl, subst, sym}
+use lib.ListN.{drop, length, length-append, length-drop, take}
+use lib.Seq.{drop-at, length-take-le, take-append-add, take-append-le, take-at, take-take}
+use mathlib.Core.List.{List, _++_, append-assoc}
+use mathlib.Core.Path.{_∙_, _≡_, ap, ap₂, subst, sym}
 use native.Mathlib.Omega.{arith}
 
 -- the words of the run of `count` positions from s on, as they are lent
 abbrev pub runPart : List ℕ → ℕ → ℕ → List ℕ
 runPart work s count = midOf (3 * s) (3 * s + 3 * count - 3 * s) work
-
--- those of its first `early` rows
-abbrev pub earlyPart : List ℕ → ℕ → ℕ → List ℕ
-earlyPart work s early = midOf (3 * s) (3 * s + 3 * early - 3 * s) work
-
--- the run's, once these are ys
-abbrev pub informPart : List ℕ → ℕ → ℕ → ℕ → List ℕ → List ℕ
-informPart work s early count ys = midOf (3 * s) (3 * s + 3 * count - 3 * s) (putMid (3 * s) (3 * s + 3 * early - 3 * s) work ys)
 
 -- the workspace with other words in their place
 abbrev pub withPart : List ℕ → ℕ → ℕ → List ℕ → List ℕ
@@ -74,281 +61,168 @@ module _ {t : List ℕ} {c o m n : ℕ} {room work : List ℕ} {s count made : �
   run-long : length run ≡ count
   run-long = omega (arith, part-long, ap length (asked .known), laid-long d run)
 
-  -- where its early rows end
-  abbrev mid : ℕ
-  mid = 3 * s + 3 * early
-
-  -- the early rows' words
-  abbrev E : List ℕ
-  E = laid d (take early run)
-
-  -- those of the others
-  abbrev late : List ℕ
-  late = under (d (head run)) (head run) (drop early run)
-
-  -- there are early rows
-  head-is : head (take early run) ≡ head run
-  head-is = go early run (omega (arith, some, asked .share))
-    where
-      go : (k : ℕ) (xs : List ℕ) → 1 ≤ k → head (take k xs) ≡ head xs
-      go zero xs h = absurd (omega arith)
-      go (suc k) [] h = refl
-      go (suc k) (x ∷ xs) h = refl
-
-  -- and so many
-  early-long : length (take early run) ≡ early
-  early-long = length-take-le early run (omega (arith, run-long, within))
-
-  -- the workspace, cut before the run, behind its early rows and behind it
-  cut : work ≡ take lo work ++ (E ++ (late ++ drop hi work))
-  cut =
-      let k : lo + (hi - lo) ≡ hi = omega arith in
-      let a : ℕ = head run in
-      let known : stretch work lo hi ≡ E ++ late =
-      asked .known ∙ ap (under (d a) a) (sym (take-append-drop early run)) ∙ under-append (d a) a (take early run) (drop early run)
-      ∙ ap (λ (x : ℕ). under (d x) x (take early run) ++ late) (sym head-is) in
-      sym (take-append-drop lo work)
-      ∙ ap (λ (x : List ℕ). take lo work ++ x) (sym (take-append-drop (hi - lo) (drop lo work))
-      ∙ ap₂ (λ (x y : List ℕ). x ++ y) known (drop-drop (hi - lo) lo work ∙ ap (λ (x : ℕ). drop x work) k)
-      ∙ append-assoc E late (drop hi work))
-
   -- the words before the run
   fore : length (take lo work) ≡ lo
   fore = length-take-le lo work (omega (arith, reached))
-
-  -- the early rows' words end there
-  early-end : lo + length E ≡ mid
-  early-end = omega (arith, laid-long d (take early run), early-long)
-
-  -- and those of the others here
-  late-end : mid + length late ≡ hi
-  late-end = omega (arith, under-long (d (head run)) (head run) (drop early run), length-drop early run, run-long, within)
-
-  -- they are lent
-  early-lent : earlyPart work s early ≡ E
-  early-lent = part-lent (take lo work) E (late ++ drop hi work) work lo mid cut fore early-end
 
   -- a row below n is one of the table
   in-table : (i : ℕ) → i < n → InTable t c i
   in-table i h = omega (arith, row-ends c n i h, asked .table)
 
-  -- there are m entries or more, all of rows of the table
-  pub choose-ready : (3 * m ≤ length (earlyPart work s early)) × Entries (InTable t c) (earlyPart work s early)
+  -- there are `count` entries, all of rows of the table
+  pub choose-ready : (length (runPart work s count) ≡ 3 * count) × Entries (InTable t c) (runPart work s count)
   choose-ready = (
-    omega (arith, ap length early-lent, laid-long d (take early run), early-long, some),
-    subst (Entries (InTable t c)) (sym early-lent)
-        (under-entries (λ i. i < n) (InTable t c) in-table (d (head (take early run))) (head (take early run)) (take early run)
-        (every-take (λ i. i < n) early run (asked .rows))),
+    part-long,
+    subst (Entries (InTable t c)) (sym (asked .known))
+        (under-entries (λ i. i < n) (InTable t c) in-table (d (head run)) (head run) run (asked .rows)),
   )
 
   -- ---- after the rounds
-  module _ {ys : List ℕ} (long₁ : length ys ≡ length (earlyPart work s early))
-      (rounds : ys ≡ take 3 (earlyPart work s early) ++ roundsOf (between t c o) (m - 1) (drop 3 (earlyPart work s early))) where
-    -- the words of the early rows then
-    abbrev W : List ℕ
-    W = each own (among d m early run) ++ each (held d (among d m early run)) (unchosen d m (take early run))
+  module _ {ys : List ℕ} (long : length ys ≡ length (runPart work s count))
+      (rounds : ys ≡ take 3 (runPart work s count) ++ roundsOf (between t c o) (m - 1) (3 * early - 3) (drop 3 (runPart work s count))) where
+    -- the workspace then
+    abbrev after : List ℕ
+    after = withPart work s count ys
 
-    -- the early rows have their centres at their front
-    ys-are : ys ≡ W
+    -- the run has its centres at its front
+    ys-are : ys ≡ chosenWords d m early run
     ys-are =
-        rounds ∙ ap (λ (l : List ℕ). take 3 l ++ roundsOf d (m - 1) (drop 3 l)) early-lent
-        ∙ chosen-words d m (take early run) (asked .share) (omega (arith, early-long, some)) (row-self t c o (head (take early run)))
+        rounds ∙ ap (λ (l : List ℕ). take 3 l ++ roundsOf d (m - 1) (3 * early - 3) (drop 3 l)) (asked .known)
+        ∙ chosen-words d m early run (asked .share) some (omega (arith, run-long, within)) (row-self t c o (head run))
 
-    -- as many words as before
-    ys-long : length ys ≡ length E
-    ys-long = long₁ ∙ ap length early-lent
+    -- three words a row still
+    words-long : length (chosenWords d m early run) ≡ 3 * count
+    words-long = ap length (sym ys-are) ∙ long ∙ part-long
 
-    -- the run is lent
-    run-lent : informPart work s early count ys ≡ ys ++ late
-    run-lent = both-lent (take lo work) E late (drop hi work) work lo mid hi cut fore early-end late-end ys ys-long
+    -- the workspace, cut before the run and behind it
+    after-split : after ≡ take lo work ++ (ys ++ drop hi work)
+    after-split = ap (λ (l : List ℕ). take lo work ++ (ys ++ l)) (post-is lo hi work (omega arith))
 
-    -- all of rows of the table
-    pub inform-ready : (3 * early ≤ length (informPart work s early count ys)) × Entries (InTable t c) (informPart work s early count ys)
-    inform-ready = (
-      omega (arith, ap length run-lent, length-append ys late, ys-long, laid-long d (take early run), early-long),
-      subst (Entries (InTable t c)) (sym run-lent)
-          (entries-append (InTable t c) ys late
-          (subst (Entries (InTable t c)) (sym rounds)
-          (rounds-entries (InTable t c) d m (earlyPart work s early) (asked .share) (choose-ready .0) (choose-ready .1)))
-          (under-entries (λ i. i < n) (InTable t c) in-table (d (head run)) (head run) (drop early run)
-          (every-drop (λ i. i < n) early run (asked .rows)))),
-    )
+    -- before the run it is as it was
+    after-fore : take lo after ≡ take lo work
+    after-fore = ap (take lo) after-split ∙ take-at (take lo work) (ys ++ drop hi work) lo fore
 
-    -- ---- after the others have learnt of the centres
-    module _ {zs : List ℕ} (informed : zs ≡ take (3 * early) (informPart work s early count ys)
-        ++ learnt (between t c o) (centreRows (informPart work s early count ys) (m - 1)) (drop (3 * early) (informPart work s early count ys))) where
-      -- the workspace then
-      abbrev after : List ℕ
-      after = withPart work s count zs
+    -- the run has its words after the rounds
+    after-here : drop lo after ≡ chosenWords d m early run ++ drop hi work
+    after-here = ap (drop lo) after-split ∙ drop-at (take lo work) (ys ++ drop hi work) lo fore ∙ ap (λ (l : List ℕ). l ++ drop hi work) ys-are
 
-      -- as the code has it
-      pub after-is : putMid (3 * s) (3 * s + 3 * count - 3 * s) (putMid (3 * s) (3 * s + 3 * early - 3 * s) work ys) zs ≡ withPart work s count zs
-      after-is = both-put (take lo work) E late (drop hi work) work lo mid hi cut fore early-end late-end ys ys-long zs
+    -- behind the run it is as it was
+    after-back : drop hi after ≡ drop hi work
+    after-back =
+        ap (drop hi) (after-split ∙ sym (append-assoc (take lo work) ys (drop hi work)))
+        ∙ drop-at (take lo work ++ ys) (drop hi work) hi
+        (length-append (take lo work) ys ∙ omega (arith, fore, ap length ys-are, words-long))
 
-      -- the run's words: those of the early rows, and those of the others, which have learnt
-      zs-learnt : zs ≡ ys ++ learnt d (centreRows (ys ++ late) (m - 1)) late
-      zs-learnt =
-          let size : length ys ≡ 3 * early = omega (arith, ys-long, laid-long d (take early run), early-long) in
-          informed
-          ∙ ap (λ (x : List ℕ). take (3 * early) x ++ learnt d (centreRows x (m - 1)) (drop (3 * early) x)) run-lent
-          ∙ ap₂ (λ (x y : List ℕ). x ++ learnt d (centreRows (ys ++ late) (m - 1)) y) (take-at ys late (3 * early) size)
-          (drop-at ys late (3 * early) size)
+    -- and as long as it was
+    after-long : length after ≡ length work
+    after-long =
+        ap length after-split
+        ∙ omega (
+          arith,
+          length-append (take lo work) (ys ++ drop hi work),
+          length-append ys (drop hi work),
+          fore,
+          ap length ys-are,
+          words-long,
+          length-drop hi work,
+          reached,
+        )
 
-      -- which are these
-      zs-are : zs ≡ amongWords d m early run
-      zs-are =
-          zs-learnt
-          ∙ ap (λ (x : List ℕ). x ++ learnt d (centreRows (x ++ late) (m - 1)) late) ys-are
-          ∙ among-words d m early run (asked .share) some (omega (arith, run-long, within)) (head run) refl
+    -- the groups are the children's runs
+    groups-are : groupWords after m s count ≡ each (laid d) (splitAmong d m early run)
+    groups-are =
+        group-words d (row-self t c o) after m s count (among d m early run) (other d m early run) (drop hi work) (asked .share) (asked .centred)
+        (among-long d m early run (asked .share) some (omega (arith, run-long, within))) after-here words-long
+        ∙ ap (each (laid d)) (sym (among-is d m early run))
 
-      -- three words a row still
-      words-long : length (amongWords d m early run) ≡ 3 * count
-      words-long =
-          let size : length ys ≡ 3 * early = omega (arith, ys-long, laid-long d (take early run), early-long) in
-          let P : ℕ → Type 0 = InTable t c in
-          let e : Entries P late =
-          under-entries (λ i. i < n) P in-table (d (head run)) (head run) (drop early run) (every-drop (λ i. i < n) early run (asked .rows)) in
-          let cs : List ℕ = centreRows (ys ++ late) (m - 1) in
-          ap length (sym zs-are ∙ zs-learnt) ∙ length-append ys (learnt d cs late)
-          ∙ omega (arith, learnt-long P d cs late e, size, early-end, late-end)
+    -- and their nodes those of the runs
+    nodes-are : groupNodes after m s count ≡ runNodes d s (splitAmong d m early run)
+    nodes-are =
+        group-nodes d (row-self t c o) after m s count (among d m early run) (other d m early run) (drop hi work) (asked .share) (asked .centred)
+        (among-long d m early run (asked .share) some (omega (arith, run-long, within))) after-here words-long
+        ∙ ap (runNodes d s) (sym (among-is d m early run))
 
-      -- the workspace, cut before the run and behind it
-      after-split : after ≡ take lo work ++ (zs ++ drop hi work)
-      after-split = ap (λ (l : List ℕ). take lo work ++ (zs ++ l)) (post-is lo hi work (omega arith))
+    -- and take as many words as the run
+    groups-long : length (groupWords after m s count) ≡ 3 * count
+    groups-long =
+        ap length groups-are
+        ∙ among-words-long d m early run (asked .share) some (omega (arith, run-long, within)) (
+          omega
+              (arith, run-long, asked .share, asked .centred),
+          asked .once,
+        )
+        ∙ ap (λ (k : ℕ). 3 * k) run-long
 
-      -- before the run it is as it was
-      after-fore : take lo after ≡ take lo work
-      after-fore = ap (take lo) after-split ∙ take-at (take lo work) (zs ++ drop hi work) lo fore
+    -- they can be shared out
+    pub share-ready : Sharable room (withPart work s count ys) n m s count made
+    share-ready =
+        record {
+          few = asked .few;
+          centred = asked .centred;
+          inside = asked .inside;
+          halves = omega (arith, after-long, asked .halves);
+          tile = groups-long;
+          nodes = asked .nodes;
+        }
 
-      -- the run has its words after the rounds
-      after-here : drop lo after ≡ amongWords d m early run ++ drop hi work
-      after-here = ap (drop lo) after-split ∙ drop-at (take lo work) (zs ++ drop hi work) lo fore ∙ ap (λ (l : List ℕ). l ++ drop hi work) zs-are
+    -- ---- shared out to the second half, and copied back
+    module _ {room′ work₂ work₃ : List ℕ} (shared : Shared room (withPart work s count ys) n m s count made room′ work₂)
+        (copied : work₃ ≡ take (3 * s) work₂ ++ (stretch work₂ (3 * s + 3 * n) (3 * s + 3 * count + 3 * n) ++ drop (3 * s + 3 * count) work₂)) where
+      -- where the groups go
+      abbrev base : ℕ
+      base = 3 * (n + s)
 
-      -- behind the run it is as it was
-      after-back : drop hi after ≡ drop hi work
-      after-back =
-          ap (drop hi) (after-split ∙ sym (append-assoc (take lo work) zs (drop hi work)))
-          ∙ drop-at (take lo work ++ zs) (drop hi work) hi
-          (length-append (take lo work) zs ∙ omega (arith, fore, ap length zs-are, words-long))
+      -- their words
+      abbrev G : List ℕ
+      G = groupWords after m s count
 
-      -- and as long as it was
-      after-long : length after ≡ length work
-      after-long =
-          ap length after-split
-          ∙ omega (
-            arith,
-            length-append (take lo work) (zs ++ drop hi work),
-            length-append zs (drop hi work),
-            fore,
-            ap length zs-are,
-            words-long,
-            length-drop hi work,
-            reached,
-          )
+      -- there is room for them
+      base-fits : base ≤ length after
+      base-fits = omega (arith, after-long, asked .inside, asked .halves)
 
-      -- the groups are the children's runs
-      groups-are : groupWords after m s count ≡ each (laid d) (splitAmong d m early run)
-      groups-are =
-          group-words d (row-self t c o) after m s count (among d m early run) (other d m early run) (drop hi work) (asked .share) (asked .centred)
-          (among-long d m early run (asked .share) some (omega (arith, run-long, within))) after-here words-long
-          ∙ ap (each (laid d)) (sym (among-is d m early run))
+      -- what stands before the run is as it was
+      second-fore : take lo work₂ ≡ take lo work
+      second-fore =
+          ap (take lo) (shared .words)
+          ∙ take-append-le lo (take base after) (G ++ drop (base + 3 * count) after) (omega (arith, length-take-le base after base-fits))
+          ∙ take-take lo base after (omega arith) ∙ after-fore
 
-      -- and their nodes those of the runs
-      nodes-are : groupNodes after m s count ≡ runNodes d s (splitAmong d m early run)
-      nodes-are =
-          group-nodes d (row-self t c o) after m s count (among d m early run) (other d m early run) (drop hi work) (asked .share) (asked .centred)
-          (among-long d m early run (asked .share) some (omega (arith, run-long, within))) after-here words-long
-          ∙ ap (runNodes d s) (sym (among-is d m early run))
+      -- the groups stand in the second half
+      second-groups : stretch work₂ (3 * s + 3 * n) (3 * s + 3 * count + 3 * n) ≡ G
+      second-groups =
+          let at : 3 * s + 3 * n ≡ base = omega arith in
+          let k : 3 * s + 3 * count + 3 * n - (3 * s + 3 * n) ≡ 3 * count = omega arith in
+          ap₂ (λ (x y : ℕ). take x (drop y work₂)) k at
+          ∙ ap (take (3 * count)) (ap (drop base) (shared .words)
+          ∙ drop-at (take base after) (G ++ drop (base + 3 * count) after) base (length-take-le base after base-fits))
+          ∙ take-at G (drop (base + 3 * count) after) (3 * count) groups-long
 
-      -- and take as many words as the run
-      groups-long : length (groupWords after m s count) ≡ 3 * count
-      groups-long =
-          ap length groups-are
-          ∙ among-words-long d m early run (asked .share) some (omega (arith, run-long, within)) (
-            omega
-                (arith, run-long, asked .share, asked .centred),
-            asked .once,
-          )
-          ∙ ap (λ (k : ℕ). 3 * k) run-long
+      -- what stands behind the run in the first half is as it was
+      second-back : stretch work₂ hi (3 * n) ≡ stretch work hi (3 * n)
+      second-back =
+          stretch-front work₂ after (G ++ drop (base + 3 * count) after) hi (3 * n) base (omega arith) base-fits (shared .words)
+          ∙ ap (take (3 * n - hi)) after-back
 
-      -- they can be shared out
-      pub share-ready : Sharable room (putMid (3 * s) (3 * s + 3 * count - 3 * s) (putMid (3 * s)
-          (3 * s + 3 * early - 3 * s) work ys) zs) n m s count made
-      share-ready =
-          rw after-is
+      -- the groups stand where the run stood
+      third : work₃ ≡ (take lo work ++ G) ++ drop hi work₂
+      third =
+          copied ∙ ap₂ (λ (a b : List ℕ). a ++ (b ++ drop hi work₂)) second-fore second-groups ∙ sym (append-assoc (take lo work) G (drop hi work₂))
+
+      -- the first half of the workspace then
+      third-half : take (3 * n) work₃ ≡ take lo work ++ (G ++ stretch work hi (3 * n))
+      third-half =
+          let l : length (take lo work ++ G) ≡ hi = length-append (take lo work) G ∙ omega (arith, fore, groups-long) in
+          let k : 3 * n ≡ length (take lo work ++ G) + (3 * n - hi) = omega (arith, asked .inside) in
+          ap₂ take k third ∙ take-append-add (take lo work ++ G) (drop hi work₂) (3 * n - hi)
+          ∙ append-assoc (take lo work) G (stretch work₂ hi (3 * n)) ∙ ap (λ (x : List ℕ). take lo work ++ (G ++ x)) second-back
+
+      -- THE SPLIT OF ONE RUN
+      pub split-done : SplitAmong t c o m early n room work s count made room′ work₃
+      split-done =
           record {
-            few = asked .few;
-            centred = asked .centred;
-            inside = asked .inside;
-            halves = omega (arith, after-long, asked .halves);
-            tile = groups-long;
-            nodes = asked .nodes;
+            words = third-half ∙ ap (λ (x : List ℕ). take lo work ++ (x ++ stretch work hi (3 * n))) groups-are;
+            nodes = shared .nodes ∙ ap (λ (x : List ℕ). take (nodeAt made) room ++ (x ++ drop (nodeAt (made + m)) room)) nodes-are;
           }
-
-      -- ---- shared out to the second half, and copied back
-      module _ {room′ work₂ work₃ : List ℕ} (shared′ : Shared room (putMid (3 * s) (3 * s + 3 * count - 3 * s) (putMid (3 * s)
-          (3 * s + 3 * early - 3 * s) work ys) zs) n m s count made
-          room′ work₂)
-          (copied : work₃ ≡ take (3 * s) work₂ ++ (stretch work₂ (3 * s + 3 * n) (3 * s + 3 * count + 3 * n) ++ drop (3 * s + 3 * count) work₂)) where
-        -- the same over the workspace as it is named here
-        shared : Shared room (withPart work s count zs) n m s count made room′ work₂
-        shared = subst (λ (x : List ℕ). Shared room x n m s count made room′ work₂) after-is shared′
-
-        -- where the groups go
-        abbrev base : ℕ
-        base = 3 * (n + s)
-
-        -- their words
-        abbrev G : List ℕ
-        G = groupWords after m s count
-
-        -- there is room for them
-        base-fits : base ≤ length after
-        base-fits = omega (arith, after-long, asked .inside, asked .halves)
-
-        -- what stands before the run is as it was
-        second-fore : take lo work₂ ≡ take lo work
-        second-fore =
-            ap (take lo) (shared .words)
-            ∙ take-append-le lo (take base after) (G ++ drop (base + 3 * count) after) (omega (arith, length-take-le base after base-fits))
-            ∙ take-take lo base after (omega arith) ∙ after-fore
-
-        -- the groups stand in the second half
-        second-groups : stretch work₂ (3 * s + 3 * n) (3 * s + 3 * count + 3 * n) ≡ G
-        second-groups =
-            let at : 3 * s + 3 * n ≡ base = omega arith in
-            let k : 3 * s + 3 * count + 3 * n - (3 * s + 3 * n) ≡ 3 * count = omega arith in
-            ap₂ (λ (x y : ℕ). take x (drop y work₂)) k at
-            ∙ ap (take (3 * count)) (ap (drop base) (shared .words)
-            ∙ drop-at (take base after) (G ++ drop (base + 3 * count) after) base (length-take-le base after base-fits))
-            ∙ take-at G (drop (base + 3 * count) after) (3 * count) groups-long
-
-        -- what stands behind the run in the first half is as it was
-        second-back : stretch work₂ hi (3 * n) ≡ stretch work hi (3 * n)
-        second-back =
-            stretch-front work₂ after (G ++ drop (base + 3 * count) after) hi (3 * n) base (omega arith) base-fits (shared .words)
-            ∙ ap (take (3 * n - hi)) after-back
-
-        -- the groups stand where the run stood
-        third : work₃ ≡ (take lo work ++ G) ++ drop hi work₂
-        third =
-            copied ∙ ap₂ (λ (a b : List ℕ). a ++ (b ++ drop hi work₂)) second-fore second-groups ∙ sym (append-assoc (take lo work) G (drop hi work₂))
-
-        -- the first half of the workspace then
-        third-half : take (3 * n) work₃ ≡ take lo work ++ (G ++ stretch work hi (3 * n))
-        third-half =
-            let l : length (take lo work ++ G) ≡ hi = length-append (take lo work) G ∙ omega (arith, fore, groups-long) in
-            let k : 3 * n ≡ length (take lo work ++ G) + (3 * n - hi) = omega (arith, asked .inside) in
-            ap₂ take k third ∙ take-append-add (take lo work ++ G) (drop hi work₂) (3 * n - hi)
-            ∙ append-assoc (take lo work) G (stretch work₂ hi (3 * n)) ∙ ap (λ (x : List ℕ). take lo work ++ (G ++ x)) second-back
-
-        -- THE SPLIT OF ONE RUN
-        pub split-done : SplitAmong t c o m early n room work s count made room′ work₃
-        split-done =
-            record {
-              words = third-half ∙ ap (λ (x : List ℕ). take lo work ++ (x ++ stretch work hi (3 * n))) groups-are;
-              nodes = shared .nodes ∙ ap (λ (x : List ℕ). take (nodeAt made) room ++ (x ++ drop (nodeAt (made + m)) room)) nodes-are;
-            }
 
 -- WHERE ANY ROW MAY BECOME A CENTRE, THE RUNS ARE THOSE OF 01's SPLIT
 pub split-all : {t : List ℕ} {c o m n : ℕ} {room work : List ℕ} {s count made : ℕ} → Splittable t c o m n room work s count made

@@ -1,4 +1,3 @@
 pub mod Places
 pub mod Shares
 pub mod Runs
-pub mod Learning

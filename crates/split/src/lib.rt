@@ -1,10 +1,6 @@
 // The split of one run: its centres are chosen, and its entries go to the second half of the workspace, group by group, and back.
-ghost use Prim.Native.Nat.{_*_, _+_, _-_, _≤_};
-ghost use Rattle.limits.specs.Limits.{maxColumns};
-ghost use Rattle.measure.specs.Table.{between};
-ghost use Rattle.rounds.specs.Entries.{Entries, InTable};
+ghost use Prim.Native.Nat.{_+_, _≤_};
 ghost use Rattle.rounds.specs.Stretch.{stretch};
-ghost use Rattle.split.specs.Learning.{centreRows, learnt};
 ghost use Rattle.split.specs.Runs.{SplitAmong, Splittable};
 ghost use Rattle.split.specs.Shares.{Sharable, Shared};
 ghost use lib.ListN.{drop, length, take};
@@ -12,27 +8,11 @@ ghost use mathlib.Core.List.{_++_};
 ghost use mathlib.Core.Path.{_≡_};
 use groups::gather;
 use rounds::choose;
-use rounds::nearer;
 use words::places::HEADER;
 use words::writing::put_node;
 
 // How many words a node has while the tree grows: those of edition 2.
 pub const WIDTH: usize = 5;
-
-// The entries behind the first `early` learn of the m centres at the front of a run, but for the first, which they know.
-fn inform(table: &[u16], c: usize, circles: u32, m: usize, early: usize, run: &mut [u32])
-    requires { ⌜ (c ≤ maxColumns) × (1 ≤ m) × (m ≤ early) × (3 * early ≤ length (now run)) × Entries (InTable (now table) c) (now run) ⌝ }
-    ensures { λ _. ⌜ now (run .exit) ≡ take (3 * early) (now (run .entry))
-        ++ learnt (between (now (table .entry)) c circles) (centreRows (now (run .entry)) (m - 1)) (drop (3 * early) (now (run .entry))) ⌝ }
-{
-    let late = 3 * early;
-    let mut r = 1;
-    while r < m {
-        let centre = run[3 * r];
-        nearer(table, c, circles, centre, &mut run[late..]);
-        r += 1;
-    }
-}
 
 // Copies the words from `lo + over` on back to lo, as far as hi.
 pub fn copy_back(work: &mut [u32], lo: usize, hi: usize, over: usize)
@@ -99,10 +79,8 @@ pub fn split_run(
         (now (room .exit)) (now (work .exit)) ⌝ }
 {
     let lo = 3 * s;
-    let mid = lo + 3 * early;
     let hi = lo + 3 * count;
-    choose(table, c, circles, m, &mut work[lo..mid]);
-    inform(table, c, circles, m, early, &mut work[lo..hi]);
+    choose(table, c, circles, m, early, &mut work[lo..hi]);
     share(room, work, n, m, s, count, made);
     copy_back(work, lo, hi, 3 * n);
 }

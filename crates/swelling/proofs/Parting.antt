@@ -4,17 +4,17 @@ use Rattle.appending.proofs.Lowest.{orderly-length, orderly-tally}
 use Rattle.appending.specs.Append.{lowestAt, orderly}
 use Rattle.laws.proofs.Every.{every-all, every-both, every-map, every-of}
 use Rattle.laws.proofs.Joins.{keep-append}
-use Rattle.laws.proofs.Lists.{tally-append, tally-length}
+use Rattle.laws.proofs.Lists.{tally-append}
 use Rattle.laws.proofs.Maps.{map-agree}
-use Rattle.laws.proofs.Shares.{every-∀, heads-tally, part-times, share}
+use Rattle.laws.proofs.Shares.{every-∀, part-times}
 use Rattle.laws.specs.Every.{Every}
 use Rattle.laws.specs.Lists.{all, head, joined, keep, rest, tally, times, without}
 use Rattle.swelling.specs.Swell.{parts}
-use Rattle.tree.proofs.Centres.{chosen, chosen-length, chosen-tally, left, one-centre, split-is}
+use Rattle.tree.proofs.Centres.{chosen, groups-tally, left, one-centre, split-is}
 use Rattle.tree.specs.Build.{Run, choose, closest, farthest, split}
 use borrow.Author.Tests.{le-leb, leb-false, leb-true}
 use lib.Dec.{eqb, leb}
-use lib.ListN.{drop, drop-of-length-le, getD, length, length-append, take, take-append-drop}
+use lib.ListN.{drop, drop-of-length-le, getD, length, take, take-append-drop}
 use lib.Seq.{drop-append-le, length-take-le, take-all, take-append-le}
 use mathlib.Core.Bool.{Bool, _&&_, cond, false, true}
 use mathlib.Core.List.{List, [], _++_, _∷_, append-assoc, append-nil, map}
@@ -67,7 +67,7 @@ module _ (d : ℕ → ℕ → ℕ) (z : ℕ) where
       go false ih = ih
 
 -- the front of a list and the rest of it
-pub tally-cut : (f : ℕ → Bool) (k : ℕ) (xs : List ℕ) → tally f (take k xs) + tally f (drop k xs) ≡ tally f xs
+tally-cut : (f : ℕ → Bool) (k : ℕ) (xs : List ℕ) → tally f (take k xs) + tally f (drop k xs) ≡ tally f xs
 tally-cut f k xs = sym (tally-append f (take k xs) (drop k xs)) ∙ ap (tally f) (take-append-drop k xs)
 
 -- centres that are chosen stand behind those that there are
@@ -162,17 +162,8 @@ module _ (d : ℕ → ℕ → ℕ) (m l : ℕ) where
     -- THE PARTS HAVE THE RUN'S ROWS
     pub parts-tally : (f : ℕ → Bool) → tally f (joined (parts d m l run)) ≡ tally f run
     parts-tally f =
-        let cs : List ℕ = centres run in
-        let all′ : tally f (joined (parts d m l run)) ≡ tally f cs + tally f (others run) =
-        ap (λ gs. tally f (joined gs)) (parts-is run) ∙ heads-tally f (λ a. keep (λ i. eqb (closest d cs i) a) (others run)) cs
-        ∙ ap (λ n. tally f cs + n) (share f (closest d cs) (others run) cs centre-once) in
-        omega (
-          arith,
-          all′,
-          tally-append f (left d m (early run)) (drop (suc l) run),
-          chosen-tally d m f (early run) (early-run .0) (omega (arith, early-length)),
-          early-tally f,
-        )
+        ap (λ gs. tally f (joined gs)) (parts-is run)
+        ∙ groups-tally d m m1 f (early run) (drop (suc l) run) early-run (omega (arith, early-length)) ∙ early-tally f
 
     -- none is empty, and no row is in one twice
     pub parts-runs : Every Run (parts d m l run)

@@ -2,9 +2,9 @@
 use Prim.Native.Nat.{_+_, _-_, _≤_, suc, zero, ℕ}
 use Rattle.laws.proofs.Every.{every-of}
 use Rattle.laws.proofs.Lists.{tally-append, tally-length}
-use Rattle.laws.proofs.Shares.{tally-split, without-tally}
+use Rattle.laws.proofs.Shares.{heads-tally, share, tally-split, without-tally}
 use Rattle.laws.specs.Every.{Every}
-use Rattle.laws.specs.Lists.{head, keep, rest, tally, times, without}
+use Rattle.laws.specs.Lists.{head, joined, keep, rest, tally, times, without}
 use Rattle.tree.specs.Build.{Run, choose, closest, farthest, nearness, split}
 use borrow.Author.Tests.{eq-eqb, leb-false, leb-true}
 use lib.Dec.{eqb, leb, ltb}
@@ -99,7 +99,7 @@ module _ (d : ℕ → ℕ → ℕ) (m : ℕ) where
   rest-length (x ∷ run) h = omega arith
 
   -- the centres and the rows left are the run's rows
-  pub chosen-tally : (f : ℕ → Bool) (run : List ℕ) → 1 ≤ length run → m ≤ length run → tally f (chosen run) + tally f (left run) ≡ tally f run
+  chosen-tally : (f : ℕ → Bool) (run : List ℕ) → 1 ≤ length run → m ≤ length run → tally f (chosen run) + tally f (left run) ≡ tally f run
   unfolding chosen left
   chosen-tally f run h k = choose-tally d f (m - 1) (head run ∷ []) (rest run) (omega (arith, rest-length run h)) ∙ tally-split f run h
 
@@ -114,3 +114,12 @@ module _ (d : ℕ → ℕ → ℕ) (m : ℕ) where
     one-centre run r k i =
         let c : ℕ = closest d (chosen run) i in
         omega (arith, closest-in d (chosen run) i (omega (arith, chosen-length run)), chosen-tally (eqb c) run (r .0) k, r .1 c)
+
+    -- the centres' groups of the rows left and of rows that come behind them have all these rows
+    pub groups-tally : (f : ℕ → Bool) (run more : List ℕ) → Run run → m ≤ length run
+        → tally f (joined (map (λ a. a ∷ keep (λ i. eqb (closest d (chosen run) i) a) (left run ++ more)) (chosen run))) ≡ tally f run + tally f more
+    groups-tally f run more r k =
+        let cs : List ℕ = chosen run in
+        heads-tally f (λ a. keep (λ i. eqb (closest d cs i) a) (left run ++ more)) cs
+        ∙ ap (λ n. tally f cs + n) (share f (closest d cs) (left run ++ more) cs (one-centre run r k))
+        ∙ omega (arith, tally-append f (left run) more, chosen-tally f run (r .0) k)

@@ -1,14 +1,14 @@
 -- The tree that the build grows is well made: its runs have the rows that there were. Assumes nothing.
-use Prim.Native.Nat.{_+_, _-_, _≤_, suc, zero, ℕ}
+use Prim.Native.Nat.{_+_, _≤_, suc, zero, ℕ}
 use Rattle.laws.proofs.Every.{every-all, every-both, every-map, every-of, greatest-under, lowest-under}
 use Rattle.laws.proofs.Lists.{map-id, paired, tally-append, tally-length}
-use Rattle.laws.proofs.Shares.{every-∀, heads-tally, part-times, share}
+use Rattle.laws.proofs.Shares.{every-∀, part-times}
 use Rattle.laws.proofs.Tests.{holds}
 use Rattle.laws.proofs.Times.{tally-lefts}
 use Rattle.laws.specs.Every.{Every}
 use Rattle.laws.specs.Lists.{head, joined, keep, rest, tally, times}
 use Rattle.limits.specs.Limits.{maxDistance}
-use Rattle.tree.proofs.Centres.{chosen, chosen-length, chosen-tally, groupOf, left, one-centre, split-is}
+use Rattle.tree.proofs.Centres.{chosen, chosen-length, groupOf, groups-tally, left, split-is}
 use Rattle.tree.proofs.Encode.{Even}
 use Rattle.tree.proofs.Full.{Full}
 use Rattle.tree.proofs.Shaped.{Fine, Small}
@@ -19,8 +19,9 @@ use borrow.Author.Tests.{leb-false}
 use lib.Dec.{T, eqb, leb}
 use lib.ListN.{length, length-map}
 use mathlib.Core.Bool.{Bool, _||_, cond, false, or-true, true}
-use mathlib.Core.List.{List, [], _∷_, foldr, map}
+use mathlib.Core.List.{List, [], _∷_, append-nil, foldr, map}
 use mathlib.Core.Path.{_∙_, _≡_, ap, refl, subst, sym}
+use native.Mathlib.Nat.{add-zero}
 use native.Mathlib.Omega.{arith}
 
 -- the rows of a leaf, and of the nodes after it
@@ -56,8 +57,9 @@ module _ (d : ℕ → ℕ → ℕ) (m l : ℕ) (m1 : 1 ≤ m) (ml : m ≤ l) whe
   pub split-tally : (f : ℕ → Bool) (run : List ℕ) → Run run → m ≤ length run → tally f (joined (split d m run)) ≡ tally f run
   split-tally f run r k =
       let cs : List ℕ = chosen d m run in
-      ap (λ gs. tally f (joined gs)) (split-is d m run) ∙ heads-tally f (λ a. keep (λ i. eqb (closest d cs i) a) (left d m run)) cs
-      ∙ ap (λ n. tally f cs + n) (share f (closest d cs) (left d m run) cs (one-centre d m m1 run r k)) ∙ chosen-tally d m f run (r .0) k
+      ap (λ gs. tally f (joined gs)) (split-is d m run)
+      ∙ ap (λ (is : List ℕ). tally f (joined (map (λ a. a ∷ keep (λ i. eqb (closest d cs i) a) is) cs))) (sym (append-nil (left d m run)))
+      ∙ groups-tally d m m1 f run [] r k ∙ add-zero (tally f run)
 
   -- there are m of them
   pub split-length : (run : List ℕ) → length (split d m run) ≡ m

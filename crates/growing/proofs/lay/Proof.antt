@@ -4,9 +4,9 @@ use Prim.Native.Nat.{_-_}
 use Rattle.growing.proofs.Laying.{Laying, laying-done, laying-start, laying-step}
 use Rattle.growing.proofs.lay.Statement.{statement}
 use Rattle.growing.proofs.lay.Tie as tie
+use Rattle.measure.proofs.Metric.{row-self}
 use Rattle.measure.proofs.Rows.{row-ends}
 use Rattle.measure.specs.Table.{between}
-use Rattle.split.proofs.Laid.{row-self}
 use borrow.Author.Needs.{needs}
 use native.Mathlib.Omega.{arith}
 

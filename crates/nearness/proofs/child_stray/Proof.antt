@@ -17,14 +17,18 @@ use mathlib.Core.Path.{subst, sym}
 use native.Mathlib.Omega.{arith}
 
 abbrev Inv-loop : tie.InvT-loop
-Inv-loop table c index fs k a child j f end p₀ p = (p ≤ end) × First (kidStrays (between table c (circles# index)) index k j) (start# index j) p p
+Inv-loop table c index fs k a child j f end circles p₀ p = (p ≤ end) × First (kidStrays (between table c (circles# index)) index k j) (start# index j) p p
 
 abbrev μ-loop : tie.MeasureT-loop
-μ-loop table c index fs k a child j f end p₀ p = end - p
+μ-loop table c index fs k a child j f end circles p₀ p = end - p
+
+-- the reading of the circles, seen from the loop
+abbrev round : tie.At-loop Inv-loop μ-loop → tie.After-circles Inv-loop μ-loop
+round l = l .before .before
 
 -- the reading of the child's first, seen from the loop
 abbrev first : tie.At-loop Inv-loop μ-loop → tie.After-node-first Inv-loop μ-loop
-first l = l .before .before .before
+first l = l .before .before .before .before
 
 -- the start, seen from the reading of the first child's number
 abbrev start : tie.After-node-child Inv-loop μ-loop → tie.Start Inv-loop μ-loop
@@ -61,8 +65,11 @@ node-first-requires c κs = (start c .pre .0 .shape, kid c .node)
 node-end-requires : tie.Need-node-end-requires Inv-loop μ-loop
 node-end-requires c κs = omega (arith, kid (c .before) .node, start (c .before) .pre .0 .shape .whole .words)
 
+circles-requires : tie.Need-circles-requires Inv-loop μ-loop
+circles-requires c κs = omega (arith, start (c .before .before) .pre .0 .shape .whole .words)
+
 node-start-requires : tie.Need-node-start-requires Inv-loop μ-loop
-node-start-requires c κs = omega (arith, kid (c .before .before) .node, start (c .before .before) .pre .0 .shape .whole .words)
+node-start-requires c κs = omega (arith, kid (c .before .before .before) .node, start (c .before .before .before) .pre .0 .shape .whole .words)
 
 loop-holds : tie.Need-loop-holds Inv-loop μ-loop
 loop-holds c = (omega arith, rw (c .node-start .ensures .0) (search-start _ _))
@@ -70,7 +77,7 @@ loop-holds c = (omega arith, rw (c .node-start .ensures .0) (search-start _ _))
 apart-requires : tie.Need-apart-requires Inv-loop μ-loop
 apart-requires c κs =
     let f = first (c .before) in
-    (start (f .before) .pre .0, (f .node-first .ensures .1, omega (arith, inside (f .before))))
+    (start (f .before) .pre .0, (f .node-first .ensures .1, omega (arith, inside (f .before)), round (c .before) .circles .ensures))
 
 closer-to-other-requires : tie.Need-closer-to-other-requires Inv-loop μ-loop
 closer-to-other-requires c κs =
@@ -78,7 +85,7 @@ closer-to-other-requires c κs =
     let f = first l in
     let n = f .before in
     let fs = subst (λ (i : ℕ). Firsts (words n) i (start n .args .fs .now)) (sym (n .node-child .ensures .0)) (start n .pre .1 .3) in
-    (start n .pre .0, (fs, omega (arith, inside n), c .apart .ensures))
+    (start n .pre .0, (fs, omega (arith, inside n), c .apart .ensures, round l .circles .ensures))
 
 returns : tie.Need-returns Inv-loop μ-loop
 returns c =
@@ -120,6 +127,7 @@ child-stray-spec =
     add-j
     node-first-requires
     node-end-requires
+    circles-requires
     node-start-requires
     loop-holds
     apart-requires

@@ -16,11 +16,11 @@ use native.Mathlib.Nat.{add-zero}
 use native.Mathlib.Omega.{arith}
 
 abbrev Inv-loop : tie.InvT-loop
-Inv-loop table c index child fs g x p m i₀ i =
+Inv-loop table c circles index child fs g x p m i₀ i =
     (i ≤ m) × (m ≡ m# index) × First (closer (between table c (circles# index)) index p x) child (child + i) (child + i)
 
 abbrev μ-loop : tie.MeasureT-loop
-μ-loop table c index child fs g x p m i₀ i = m - i
+μ-loop table c circles index child fs g x p m i₀ i = m - i
 
 -- the start, seen from the loop
 abbrev start : tie.At-loop Inv-loop μ-loop → tie.Start Inv-loop μ-loop
@@ -61,7 +61,7 @@ is-closer-requires : tie.Need-is-closer-requires Inv-loop μ-loop
 is-closer-requires c κs =
     let l = c .before .before in
     let s = start l in
-    (s .pre .0, (s .pre .1 .0 .low (l .loop .i) (omega (arith, l .loop .inv .1)), s .pre .1 .1, s .pre .1 .2))
+    (s .pre .0, (s .pre .1 .0 .low (l .loop .i) (omega (arith, l .loop .inv .1)), s .pre .1 .1, s .pre .1 .2, s .pre .1 .3))
 
 returns : tie.Need-returns Inv-loop μ-loop
 returns c =

@@ -15,7 +15,7 @@ returns c =
 apart-requires : tie.Need-apart-requires
 apart-requires c κs =
     let s = c .before .before .before in
-    (s .pre .0, (s .pre .1 .0, s .pre .1 .1))
+    (s .pre .0, (s .pre .1 .0, s .pre .1 .1, s .pre .1 .3))
 
 returns-2 : tie.Need-returns-2
 returns-2 c = rw (c .apart .ensures)

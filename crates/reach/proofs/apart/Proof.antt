@@ -8,12 +8,9 @@ use borrow.Author.Needs.{needs}
 use mathlib.Core.Path.{_∙_, ap₂}
 use native.Mathlib.Omega.{arith}
 
-circles-requires : tie.Need-circles-requires
-circles-requires c κs = omega (arith, c .before .before .pre .0 .shape .whole .words)
-
 row-distance-requires : tie.Need-row-distance-requires
 row-distance-requires c κs =
-    let s = c .before .before .before .before in
+    let s = c .before .before .before in
     let a = s .args in
     let P = s .pre .0 in
     let fits = in-table P in
@@ -26,8 +23,9 @@ row-distance-requires c κs =
 returns : tie.Need-returns
 returns c =
     let r = c .before in
-    let a = r .before .before .before .before .args in
-    c .row-distance .ensures .0 ∙ ap₂ (λ o j. between (a .table .now) (a .c) o (a .f) j) (r .before .circles .ensures) (r .row-at .ensures .0)
+    let s = r .before .before .before in
+    let a = s .args in
+    c .row-distance .ensures .0 ∙ ap₂ (λ o j. between (a .table .now) (a .c) o (a .f) j) (s .pre .1 .2) (r .row-at .ensures .0)
 
 pub apart-spec : {M : Type 1} → statement M
-apart-spec = tie.close (tie.spec circles-requires (λ c κs. search needs) row-distance-requires returns)
+apart-spec = tie.close (tie.spec (λ c κs. search needs) row-distance-requires returns)

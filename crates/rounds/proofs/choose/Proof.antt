@@ -9,21 +9,21 @@ use Rattle.rounds.specs.Entries.{InTable}
 use borrow.Author.Needs.{needs}
 
 abbrev Inv-loop : tie.InvT-loop
-Inv-loop table c circles m run₀ r₀ run r = Choosing (InTable table c) (between table c circles) m run₀ run r
+Inv-loop table c circles m early run₀ r₀ run r = Choosing (InTable table c) (between table c circles) m early run₀ run r
 
 abbrev μ-loop : tie.MeasureT-loop
-μ-loop table c circles m run₀ r₀ run r = m - r
+μ-loop table c circles m early run₀ r₀ run r = m - r
 
 loop-holds : tie.Need-loop-holds Inv-loop μ-loop
 loop-holds c =
     let s = c .before .before in
-    choosing-start _ _ _ (s .args .run .now) (s .pre .1) (s .pre .2) (s .pre .3)
+    choosing-start _ _ _ _ (s .args .run .now) (s .pre .1 .0) (s .pre .1 .1) (s .pre .1 .2) (s .pre .0 .1)
 
 round-requires : tie.Need-round-requires Inv-loop μ-loop
 round-requires c κs =
     let s = c .before .before in
     let r = choosing-requires (s .loop .inv) (search needs) in
-    (s .before .before .before .pre .0, r .0, r .1)
+    ((s .before .before .before .pre .0 .0, r .0), (r .1, r .2, r .3))
 
 loop-again : tie.Need-loop-again Inv-loop μ-loop
 loop-again c =
@@ -39,6 +39,8 @@ choose-spec =
     Inv-loop
     μ-loop
     loop-holds
+    (λ c. search needs)
+    (λ c. search needs)
     (λ c. search needs)
     (λ c. search needs)
     (λ c. search needs)

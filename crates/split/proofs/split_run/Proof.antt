@@ -1,49 +1,38 @@
--- `split::split_run` meets its contract: the rounds, what the others learn, the sharing out and the copy back give the runs of the centres.
+-- `split::split_run` meets its contract: the rounds, the sharing out and the copy back give the runs of the centres.
 -- Assumes nothing.
-use Rattle.split.proofs.SplitRun.{choose-ready, inform-ready, share-ready, split-done}
+use Rattle.split.proofs.SplitRun.{choose-ready, share-ready, split-done}
 use Rattle.split.proofs.split_run.Statement.{statement}
 use Rattle.split.proofs.split_run.Tie as tie
 use borrow.Author.Needs.{needs}
+use native.Mathlib.Omega.{arith}
 
--- the start, seen from behind the rounds; those, seen from behind what the others learn; and this, seen from behind the sharing out
+-- the start, seen from behind the rounds; and these, seen from behind the sharing out
 abbrev start : tie.After-choose → tie.Start
 start c = c .before .before .before .before .before
 
-abbrev chosen : tie.After-inform → tie.After-choose
-chosen c = c .before .before .before .before
-
-abbrev informed : tie.After-share → tie.After-inform
-informed c = c .before .before .before .before .before
+abbrev chosen : tie.After-share → tie.After-choose
+chosen c = c .before .before .before .before .before
 
 choose-requires : tie.Need-choose-requires
 choose-requires c κs =
     let s = c .before .before .before .before in
     let r = choose-ready (s .pre .0) (s .pre .1 .0) (s .pre .1 .1) in
-    (s .pre .0 .columns, s .pre .0 .share, r .0, r .1)
-
-inform-requires : tie.Need-inform-requires
-inform-requires c κs =
-    let k = c .before .before .before in
-    let s = start k in
-    let r = inform-ready (s .pre .0) (s .pre .1 .0) (s .pre .1 .1) (search needs) (k .choose .ensures) in
-    (s .pre .0 .columns, s .pre .0 .share, s .pre .1 .0, r .0, r .1)
+    let k = s .pre .1 in
+    ((s .pre .0 .columns, r .1), (s .pre .0 .share, omega (arith, k .0, k .1), omega (arith, r .0, k .1)))
 
 share-requires : tie.Need-share-requires
 share-requires c κs =
-    let i = c .before .before .before .before in
-    let k = chosen i in
+    let k = c .before .before .before .before in
     let s = start k in
-    share-ready (s .pre .0) (s .pre .1 .0) (s .pre .1 .1) (search needs) (k .choose .ensures) (i .inform .ensures)
+    share-ready (s .pre .0) (s .pre .1 .0) (s .pre .1 .1) (search needs) (k .choose .ensures)
 
 returns : tie.Need-returns
 returns c =
     let b = c .before .before in
     let h = b .before .before .before .before .before .before in
-    let i = informed h in
-    let k = chosen i in
+    let k = chosen h in
     let s = start k in
-    split-done (s .pre .0) (s .pre .1 .0) (s .pre .1 .1) (search needs) (k .choose .ensures) (i .inform .ensures)
-    (h .share .ensures) (b .copy-back .ensures)
+    split-done (s .pre .0) (s .pre .1 .0) (s .pre .1 .1) (search needs) (k .choose .ensures) (h .share .ensures) (b .copy-back .ensures)
 
 pub split-run-spec : {M : Type 1} → statement M
 split-run-spec =
@@ -56,14 +45,7 @@ split-run-spec =
     (λ c. search needs)
     (λ c. search needs)
     (λ c. search needs)
-    (λ c. search needs)
-    (λ c. search needs)
     choose-requires
-    (λ c. search needs)
-    (λ c. search needs)
-    (λ c. search needs)
-    (λ c. search needs)
-    inform-requires
     share-requires
     (λ c. search needs)
     (λ c κs. search needs)

@@ -17,14 +17,18 @@ use mathlib.Core.Path.{_≡_}
 use native.Mathlib.Omega.{arith}
 
 abbrev Inv-loop : tie.InvT-loop
-Inv-loop table c index k n f end p₀ p = (p ≤ end) × First (leafWrong (between table c (circles# index)) index k) (start# index k) p p
+Inv-loop table c index k n f end circles p₀ p = (p ≤ end) × First (leafWrong (between table c (circles# index)) index k) (start# index k) p p
 
 abbrev μ-loop : tie.MeasureT-loop
-μ-loop table c index k n f end p₀ p = end - p
+μ-loop table c index k n f end circles p₀ p = end - p
+
+-- the reading of the circles, seen from the loop
+abbrev round : tie.At-loop Inv-loop μ-loop → tie.After-circles Inv-loop μ-loop
+round l = l .before .before
 
 -- the branch of a leaf, seen from the loop
 abbrev branch : tie.At-loop Inv-loop μ-loop → tie.Else1 Inv-loop μ-loop
-branch l = l .before .before .before .before
+branch l = l .before .before .before .before .before
 
 -- the start, seen from that branch
 abbrev start : tie.Else1 Inv-loop μ-loop → tie.Start Inv-loop μ-loop
@@ -63,7 +67,7 @@ apart-requires : tie.Need-apart-requires Inv-loop μ-loop
 apart-requires c κs =
     let l = c .before .before in
     let s = start (branch l) in
-    (s .pre .0, (l .before .before .before .node-first .ensures .1, omega (arith, run-inside s)))
+    (s .pre .0, (round l .before .before .node-first .ensures .1, omega (arith, run-inside s), round l .circles .ensures))
 
 returns-2 : tie.Need-returns-2 Inv-loop μ-loop
 returns-2 c =
@@ -71,7 +75,7 @@ returns-2 c =
     let e = branch l in
     let s = start e in
     leaf-stop (dist s) (s .args .index .now) (s .args .k) (l .loop .p) (l .loop .inv .1) (is-leaf e) (omega arith)
-    (l .before .before .before .node-first .ensures .0) (c .before .before .stored-at .ensures) (c .before .apart .ensures) (run-inside s)
+    (round l .before .before .node-first .ensures .0) (c .before .before .stored-at .ensures) (c .before .apart .ensures) (run-inside s)
     (c .if2 .taken)
 
 loop-again : tie.Need-loop-again Inv-loop μ-loop
@@ -81,7 +85,7 @@ loop-again c =
     let s = start e in (
       omega arith,
       leaf-on (dist s) (s .args .index .now) (s .args .k) (l .loop .p) (l .loop .inv .1) (is-leaf e) (omega arith)
-          (l .before .before .before .node-first .ensures .0) (c .before .before .stored-at .ensures) (c .before .apart .ensures) (c .if2 .left),
+          (round l .before .before .node-first .ensures .0) (c .before .before .stored-at .ensures) (c .before .apart .ensures) (c .if2 .left),
     )
 
 returns-3 : tie.Need-returns-3 Inv-loop μ-loop
@@ -101,6 +105,7 @@ leaf-wrong-spec =
     (λ c κs. search needs)
     (λ c κs. search needs)
     returns
+    (λ c κs. search needs)
     (λ c κs. search needs)
     (λ c κs. search needs)
     (λ c κs. search needs)

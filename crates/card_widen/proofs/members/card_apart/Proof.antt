@@ -10,7 +10,7 @@ use native.Mathlib.Omega.{arith}
 
 row-distance-requires : tie.Need-row-distance-requires
 row-distance-requires c κs =
-    let s = c .before .before .before .before in
+    let s = c .before .before .before in
     let a = s .args in
     let P = s .pre .0 in
     let fits = row-there (a .table .now) (a .c) (a .image .now) P in
@@ -23,8 +23,9 @@ row-distance-requires c κs =
 returns : tie.Need-returns
 returns c =
     let r = c .before in
-    let a = r .before .before .before .before .args in
-    c .row-distance .ensures .0 ∙ ap₂ (λ o j. between (a .table .now) (a .c) o (a .f) j) (r .before .card-circles .ensures) (r .card-row .ensures .0)
+    let s = r .before .before .before in
+    let a = s .args in
+    c .row-distance .ensures .0 ∙ ap₂ (λ o j. between (a .table .now) (a .c) o (a .f) j) (s .pre .1 .2) (r .card-row .ensures .0)
 
 pub card-apart-spec : {M : Type 1} → statement M
-card-apart-spec = tie.close (tie.spec (λ c κs. search needs) (λ c κs. search needs) row-distance-requires returns)
+card-apart-spec = tie.close (tie.spec (λ c κs. search needs) row-distance-requires returns)

@@ -15,10 +15,10 @@ use mathlib.Core.Path.{_∙_, _≡_, ap}
 use native.Mathlib.Omega.{arith}
 
 abbrev Inv-loop : tie.InvT-loop
-Inv-loop table c image k start end second f near₀ p₀ near p = NearTo (between table c (circles# (cardWords image))) (cardWords image) k p near
+Inv-loop table c image k start end second f circles near₀ p₀ near p = NearTo (between table c (circles# (cardWords image))) (cardWords image) k p near
 
 abbrev μ-loop : tie.MeasureT-loop
-μ-loop table c image k start end second f near₀ p₀ near p = end - p
+μ-loop table c image k start end second f circles near₀ p₀ near p = end - p
 
 -- the distance between the table's rows
 abbrev dist : tie.Start Inv-loop μ-loop → ℕ → ℕ → ℕ
@@ -41,7 +41,7 @@ abbrev ends : tie.After-card-row Inv-loop μ-loop → tie.After-card-count Inv-l
 ends c = c .before .before
 
 abbrev past : tie.At-loop Inv-loop μ-loop → tie.After-card-row Inv-loop μ-loop
-past l = l .before .before
+past l = l .before .before .before
 
 -- the row that is read is the node's first
 first-is : (c : tie.After-card-row Inv-loop μ-loop) → c .card-row .result ≡ first# (words (start (ends c))) (start (ends c) .args .k)
@@ -71,14 +71,15 @@ card-row-requires c κs =
 
 card-apart-requires : tie.Need-card-apart-requires Inv-loop μ-loop
 card-apart-requires c κs =
-    let e = ends c in
+    let r = c .before in
+    let e = ends r in
     let s = start e in
     let low = e .before .card-start .ensures .0 in
-    (s .pre .0, (first-low c, omega (arith, node s .run, c .before .if1 .left, e .card-count .ensures .0, low)))
+    (s .pre .0, (first-low r, omega (arith, node s .run, r .before .if1 .left, e .card-count .ensures .0, low), c .card-circles .ensures))
 
 loop-holds : tie.Need-loop-holds Inv-loop μ-loop
 loop-holds c =
-    let r = c .before in
+    let r = c .before .before in
     let e = ends r in
     let s = start e in
     let low = e .before .card-start .ensures .0 in
@@ -91,7 +92,8 @@ card-apart-requires-2 c κs =
     let e = ends r in
     let s = start e in
     let low = e .before .card-start .ensures .0 in
-    (s .pre .0, (first-low r, omega (arith, node s .run, c .loop-test .taken, e .card-count .ensures .0, low)))
+    let round = c .before .before .before .card-circles .ensures in
+    (s .pre .0, (first-low r, omega (arith, node s .run, c .loop-test .taken, e .card-count .ensures .0, low), round))
 
 loop-again : tie.Need-loop-again Inv-loop μ-loop
 loop-again c =
@@ -123,6 +125,7 @@ card-nearest-spec =
     (λ c. search needs)
     returns
     card-row-requires
+    (λ c κs. search needs)
     card-apart-requires
     (λ c. search needs)
     loop-holds
