@@ -44,7 +44,14 @@ pub fn enter(list: &mut [u32], d: u32, row: usize)
 }
 
 // A row that was measured, where x is the number that measuring gave: in where that is at most r, and only if it is not withdrawn.
-pub fn mark_measured(x: u32, row: usize, r: u32, withdrawn: &[u32], how: &mut [u8], list: &mut [u32])
+pub fn mark_measured(
+    x: u32,
+    row: usize,
+    r: u32,
+    withdrawn: &[u32],
+    how: &mut [u8],
+    list: &mut [u32],
+)
     requires { ⌜ row < maxRows ⌝ }
     ensures { λ _. ⌜ Leaves (isIn (now (withdrawn .entry))) (λ (i : ℕ). x) ((row, cond (leb x r) 3 1) ∷ []) (now (how .entry)) (now (how .exit))
         (now (list .entry)) (now (list .exit)) ⌝ }

@@ -20,6 +20,7 @@ use Rattle.nearest_search.proofs.Filling.{left-zero, sum-one}
 use Rattle.nearest_search.proofs.Growing.{grew-listed}
 use Rattle.nearest_search.proofs.MetRows.{listed-front, listed-stays}
 use Rattle.nearest_search.proofs.Staying.{held-stay, last-stays, stands-stay}
+use Rattle.nearest_search.specs.Handled.{Handled}
 use Rattle.nearest_search.specs.Listed.{Listed, Marked}
 use Rattle.nearest_search.specs.Standing.{GrewAlone, GrewCentres, Stands, metOf}
 use Rattle.queue.specs.Entry.{entryAt}
@@ -47,20 +48,6 @@ pub exact : (ceiling v d : ℕ) → v ≡ capped ceiling d → d ≤ maxDistance
 exact ceiling v d e h l = omega arith
 
 -- ---- what becomes of the answers as row r is measured
--- at most it is entered, and where it remains and fewer than w are held even then, it is; where it is new, the best are held again
-pub record Handled (x : ℕ → ℕ) (gone : ℕ → Bool) (n w r : ℕ) (work work′ : List ℕ) (held held′ : ℕ) : Type 0 where
-  pub queue : Queue work′ (3 * n) held′
-  pub most : held′ ≤ w
-  pub own : total (stray x n) (entries work′ (3 * n) held′) ≡ 0
-  pub remain : total (λ (e : ℕ). cond (gone (rowOf e)) 1 0) (entries work′ (3 * n) held′) ≡ 0
-  -- what neither the row nor any that was held has, none has then
-  pub none : (f : ℕ → ℕ) → f (turned r (x r)) ≡ 0 → total f (entries work (3 * n) held) ≡ 0 → total f (entries work′ (3 * n) held′) ≡ 0
-  pub outside : Outside work work′ (3 * n) (3 * n + (w + w))
-  pub up : held′ ≤ held + liveOf gone r
-  pub more : held′ < w → held′ ≡ held + liveOf gone r
-  pub best : (m m′ : ℕ → ℕ) → BestHeld x m n work (3 * n) w held → m r ≡ 0 → ((s : ℕ) → m′ s ≡ m s + leftOf gone (λ (s : ℕ). is s r) s)
-      → BestHeld x m′ n work′ (3 * n) w held′
-
 -- a row that remains counts itself
 left-live : (gone : ℕ → Bool) (r s : ℕ) → gone r ≡ false → leftOf gone (λ (s : ℕ). is s r) s ≡ is s r
 left-live gone r s e = go (ℕ-discrete s r)

@@ -1,4 +1,5 @@
 pub mod Standing
+pub mod Handled
 pub mod Asked
 pub mod Rounds
 pub mod Found

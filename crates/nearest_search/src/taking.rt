@@ -1,14 +1,14 @@
 // Taking what waits: a row is measured, a leaf is opened, an inner node is opened.
 ghost use Prim.Native.Nat.{_+_, _-_, _*_, _<_, _≤_, suc, ℕ};
-ghost use Rattle.answers_held.specs.Answers.{lastOf};
+ghost use Rattle.answers_held.specs.Answers.{HeldQueue};
 ghost use Rattle.frontier.specs.Waiting.{itemOf};
 ghost use Rattle.index_space.specs.Items.{node};
 ghost use Rattle.laws.specs.Bags.{is};
 ghost use Rattle.laws.specs.Upto.{sumTo};
-ghost use Rattle.limits.specs.Limits.{maxDistance};
-ghost use Rattle.measure.specs.Distance.{capped};
+ghost use Rattle.limits.specs.Limits.{maxRows};
 ghost use Rattle.measure.specs.Table.{from};
 ghost use Rattle.nearest_search.specs.Asked.{asks};
+ghost use Rattle.nearest_search.specs.Handled.{Enters};
 ghost use Rattle.nearest_search.specs.Listed.{Listed};
 ghost use Rattle.nearest_search.specs.Rounds.{CanTake, Taken};
 ghost use Rattle.nearest_search.specs.Standing.{GrewAlone, GrewCentres, Ready};
@@ -25,7 +25,9 @@ use frontier::open_leaf;
 use frontier::queue_children;
 use frontier::workspace::ANSWERS;
 use frontier::workspace::DISTANCES;
-use measure::query_distance_to;
+use measure::distance_to;
+use measure::query_distance;
+use measure::row_of;
 use queue::id_of;
 use queue::key_of;
 use rowset::is_in;
@@ -48,63 +50,23 @@ pub struct Seen {
     pub met: usize,
 }
 
-// A row that is measured: the same then, and how far it is, or one more than the ceiling.
-pub struct Measured {
-    pub held: usize,
-    pub met: usize,
-    pub distance: u32,
-}
-
-// No distance is above it.
-const NO_CEILING: u32 = 4_294_967_295;
-
-// Measures row r, the only place that does: it is marked and listed, and entered among the answers, unless it is withdrawn or farther than the ceiling. The
-// ceiling is no less than the last distance, so that such a row is no answer; at the last distance itself a lower-numbered row may tie.
-fn measure_row(
-    table: &[u16],
-    c: usize,
-    circles: u32,
-    query: &[u16],
+// Enters row r, which is at d, among the answers, unless it is withdrawn: how many are held then.
+fn enter_row(
     n: usize,
     w: usize,
     withdrawn: &[u32],
-    how: &mut [u8],
     work: &mut [u32],
     held: usize,
-    met: usize,
     r: usize,
-    ceiling: u32,
-) -> Measured
-    requires { ⌜ Ready (now table) c circles (now query) (isIn (now withdrawn)) n w (now how) (now work) held ⌝ }
-    requires { ⌜ (r < n) × (lastOf (now work) (3 * n) w held ≤ ceiling) × (Listed n (now how) (now work) met) ⌝ }
-    ensures { λ m. ⌜ GrewAlone (from (now (table .entry)) c circles (now (query .entry))) (isIn (now (withdrawn .entry))) n w
-        (now (how .entry)) (now (how .exit)) (now (work .entry)) (now (work .exit)) held (m .held) (λ (s : ℕ). is s r)
-        × (m .distance ≡ capped ceiling (from (now (table .entry)) c circles (now (query .entry)) r))
-        × (from (now (table .entry)) c circles (now (query .entry)) r ≤ maxDistance)
-        × (Listed n (now (how .exit)) (now (work .exit)) (m .met)) ⌝ }
+    d: u32,
+) -> usize
+    requires { ⌜ HeldQueue (now work) (3 * n) w held × (r < n) × (n ≤ maxRows) ⌝ }
+    ensures { λ k. ⌜ Enters (isIn (now (withdrawn .entry))) n w r d (now (work .entry)) (now (work .exit)) held k ⌝ }
 {
-    let d = query_distance_to(table, c, circles, query, r, ceiling);
-    let now_met = mark_row(how, work, n, met, r);
-    if ceiling < d {
-        return Measured {
-            held: held,
-            met: now_met,
-            distance: d,
-        };
-    }
     if is_in(withdrawn, r) {
-        return Measured {
-            held: held,
-            met: now_met,
-            distance: d,
-        };
+        return held;
     }
-    let k = enter(work, ANSWERS * n, w, held, turn(r as u32, d));
-    Measured {
-        held: k,
-        met: now_met,
-        distance: d,
-    }
+    enter(work, ANSWERS * n, w, held, turn(r as u32, d))
 }
 
 // Measures row r, which is a centre, in full: its distance is kept, for the bounds of its node and of what is below it.
@@ -128,25 +90,51 @@ pub fn measure_centre(
         (now (how .entry)) (now (how .exit)) (now (work .entry)) (now (work .exit)) held (k .held) (λ (s : ℕ). is s r)
         × (Listed n (now (how .exit)) (now (work .exit)) (k .met)) ⌝ }
 {
-    let m = measure_row(
-        table,
-        c,
-        circles,
-        query,
-        n,
-        w,
-        withdrawn,
-        how,
-        work,
-        held,
-        met,
-        r,
-        NO_CEILING,
-    );
-    work[DISTANCES * n + r] = m.distance;
+    let d = query_distance(table, c, circles, query, r);
+    let now_met = mark_row(how, work, n, met, r);
+    let now_held = enter_row(n, w, withdrawn, work, held, r, d);
+    work[DISTANCES * n + r] = d;
     Seen {
-        held: m.held,
-        met: m.met,
+        held: now_held,
+        met: now_met,
+    }
+}
+
+// Measures row r of a leaf, as far as the last distance: beyond that it is no answer. At the last distance itself it may be one, before a
+// higher-numbered row.
+fn measure_row(
+    table: &[u16],
+    c: usize,
+    circles: u32,
+    query: &[u16],
+    n: usize,
+    w: usize,
+    withdrawn: &[u32],
+    how: &mut [u8],
+    work: &mut [u32],
+    held: usize,
+    met: usize,
+    r: usize,
+) -> Seen
+    requires { ⌜ Ready (now table) c circles (now query) (isIn (now withdrawn)) n w (now how) (now work) held ⌝ }
+    requires { ⌜ (r < n) × (Listed n (now how) (now work) met) ⌝ }
+    ensures { λ k. ⌜ GrewAlone (from (now (table .entry)) c circles (now (query .entry))) (isIn (now (withdrawn .entry))) n w
+        (now (how .entry)) (now (how .exit)) (now (work .entry)) (now (work .exit)) held (k .held) (λ (s : ℕ). is s r)
+        × (Listed n (now (how .exit)) (now (work .exit)) (k .met)) ⌝ }
+{
+    let far = last(work, ANSWERS * n, w, held);
+    let d = distance_to(query, row_of(table, c, r), circles, far);
+    let now_met = mark_row(how, work, n, met, r);
+    if far < d {
+        return Seen {
+            held: held,
+            met: now_met,
+        };
+    }
+    let now_held = enter_row(n, w, withdrawn, work, held, r, d);
+    Seen {
+        held: now_held,
+        met: now_met,
     }
 }
 
@@ -362,25 +350,10 @@ pub fn take_item(
     }
     let r = word(index, base + 2 * (id - 2 * n));
     let o = circles(index);
-    let far = last(work, ANSWERS * n, w, held);
-    let m = measure_row(
-        table,
-        c,
-        o,
-        query,
-        n,
-        w,
-        withdrawn,
-        how,
-        work,
-        held,
-        met,
-        r,
-        far,
-    );
+    let seen = measure_row(table, c, o, query, n, w, withdrawn, how, work, held, met, r);
     Sizes {
         len: len,
-        held: m.held,
-        met: m.met,
+        held: seen.held,
+        met: seen.met,
     }
 }

@@ -1,48 +1,74 @@
--- `nearest_search::taking::measure_centre` meets its contract: the distance is kept as it was measured.
+-- `nearest_search::taking::measure_centre` meets its contract: the row is marked and listed, and entered at its distance unless it is withdrawn; the
+-- distance is kept as it was measured.
 -- Assumes nothing.
-use Rattle.answers_held.proofs.LastOf.{last-word}
+use Rattle.measure.proofs.Rows.{row-ends}
 use Rattle.measure.specs.Table.{from}
-use Rattle.nearest_search.proofs.OneRow.{centre-listed, centred}
+use Rattle.nearest_search.proofs.OneRow.{centre-listed, centred, room-to-enter, stands-listed, took-listed}
 use Rattle.nearest_search.proofs.taking.measure_centre.Statement.{statement}
 use Rattle.nearest_search.proofs.taking.measure_centre.Tie as tie
-use mathlib.Core.Path.{_≡_, refl}
+use borrow.Author.Needs.{needs}
+use mathlib.Core.Path.{refl}
 use native.Mathlib.Omega.{arith}
 
--- seen from the measuring: the start
-abbrev start : tie.After-measure-row → tie.Start
-start m = m .before .before .before .before .before .before .before .before
+-- seen from the measuring: the start; from the marking: the measuring; and from the row entered: the marking
+abbrev start : tie.After-query-distance → tie.Start
+start q = q .before .before .before .before .before .before
 
-measure-row-requires : tie.Need-measure-row-requires
-measure-row-requires c κs =
-    let pre = c .before .before .before .before .before .before .before .pre in
-    (pre .0, (pre .1 .0, last-word _ _ _ _, pre .1 .1))
+abbrev met : tie.After-mark-row → tie.After-query-distance
+met m = m .before .before .before
+
+abbrev marked : tie.After-enter-row → tie.After-mark-row
+marked e = e .before .before .before .before .before .before
+
+query-distance-requires : tie.Need-query-distance-requires
+query-distance-requires c κs =
+    let s = c .before .before .before .before .before in
+    (s .pre .0 .columns, omega (arith, row-ends (s .args .c) _ _ (s .pre .1 .0), s .pre .0 .table), s .pre .0 .query)
+
+mark-row-requires : tie.Need-mark-row-requires
+mark-row-requires c κs =
+    let pre = start (c .before .before) .pre in
+    (pre .1 .1, (pre .1 .0, pre .0 .stands .bits _ (pre .1 .0)))
+
+enter-row-requires : tie.Need-enter-row-requires
+enter-row-requires c κs =
+    let m = c .before .before .before .before .before in
+    let pre = start (met m) .pre in
+    (room-to-enter _ _ _ _ _ _ _ (stands-listed _ _ _ _ _ _ _ (pre .0 .stands) _ (pre .1 .0) _ _ _ (m .mark-row .ensures)) _ (pre .1 .0), pre .1 .0, pre .0 .stands .small)
 
 mul-work : tie.Need-mul-work
-mul-work c = omega (arith, start (c .before .before .before .before) .pre .0 .stands .small)
+mul-work c = omega (arith, start (met (marked (c .before .before))) .pre .0 .stands .small)
 
 add-work : tie.Need-add-work
 add-work c =
-    let pre = start (c .before .before .before .before) .pre in
+    let pre = start (met (marked (c .before .before))) .pre in
     omega (arith, pre .0 .stands .small, pre .1 .0)
 
 mul-work-2 : tie.Need-mul-work-2
 mul-work-2 c =
-    let pre = start (c .before .before .before .before) .pre in
+    let pre = start (met (marked (c .before .before))) .pre in
     omega (arith, pre .0 .stands .small, pre .1 .0)
 
 slice-write-work : tie.Need-slice-write-work
 slice-write-work c =
-    let m = c .before .before .before .before in
-    omega (arith, m .measure-row .ensures .0 .grew .stands .room, start m .pre .1 .0)
+    let e = c .before .before in
+    let m = marked e in
+    let pre = start (met m) .pre in
+    omega (arith, pre .0 .stands .room, pre .1 .0, e .enter-row .kept .1 .1 .1 .0, m .mark-row .kept .1 .0)
 
 returns : tie.Need-returns
 returns c =
-    let m = c .before .before .before .before in
-    let e = m .measure-row .ensures in
-    let whole : m .measure-row .result .distance ≡ from (start m .args .table .now) (start m .args .c) (start m .args .circles)
-    (start m .args .query .now) (start m .args .r) = omega (arith, e .1, e .2) in (
-      centred _ _ _ _ _ _ _ _ _ _ _ _ _ (start m .pre .1 .0) (e .0) whole refl,
-      centre-listed _ _ _ _ _ _ _ _ _ _ _ _ _ (start m .pre .1 .0) (e .0) whole refl (e .3),
+    let e = c .before .before in
+    let m = marked e in
+    let q = met m in
+    let s = start q in
+    let d = q .query-distance .ensures in
+    let M = m .mark-row .ensures in
+    let S = stands-listed _ _ _ _ _ _ _ (s .pre .0 .stands) _ (s .pre .1 .0) _ _ _ M in
+    let g = took-listed _ _ _ _ _ _ _ (s .pre .0 .stands) _ (s .pre .1 .0) _ _ _ M (omega (arith, d .0, d .1)) _ _
+    (e .enter-row .ensures (from (s .args .table .now) (s .args .c) (s .args .circles) (s .args .query .now)) (s .args .how .now) S (d .0) (d .1)) in (
+      centred _ _ _ _ _ _ _ _ _ _ _ _ _ (s .pre .1 .0) (g .0) (d .0) refl,
+      centre-listed _ _ _ _ _ _ _ _ _ _ _ _ _ (s .pre .1 .0) (g .0) (d .0) refl (g .1),
     )
 
 same-length : tie.Need-same-length
@@ -55,7 +81,9 @@ pub measure-centre-spec : {M : Type 1} → statement M
 measure-centre-spec =
     tie.close
     (tie.spec
-    measure-row-requires
+    query-distance-requires
+    mark-row-requires
+    enter-row-requires
     mul-work
     add-work
     mul-work-2

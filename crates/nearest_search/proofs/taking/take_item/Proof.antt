@@ -73,24 +73,14 @@ word-requires c κs = omega (arith, there c, start (c .before) .pre .1 .1)
 circles-requires : tie.Need-circles-requires
 circles-requires c κs = omega (arith, start (c .before .before) .pre .0 .room .shape .whole .words)
 
-mul-last : tie.Need-mul-last
-mul-last c =
-    let pre = start (c .before .before .before .before) .pre in
-    omega (arith, pre .1 .0, pre .0 .room .shape .whole .rows)
-
-last-requires : tie.Need-last-requires
-last-requires c κs =
-    let pre = start (c .before .before .before .before) .pre in
-    omega (arith, pre .1 .0, pre .0 .ready .stands .room, pre .0 .ready .stands .wanted)
-
 measure-row-requires : tie.Need-measure-row-requires
 measure-row-requires c κs =
-    let w = c .before .before .before .before .before in
+    let w = c .before .before .before in
     let i = w .before .before in
     let pre = start i .pre in
     let p = place-row _ _ _ _ _ _ _ _ _ _ _ _ _ (pre .1 .0) (i .id-of .ensures) (pre .0) (omega arith) _ _ (row w)
-    (c .before .before .before .before .circles .ensures) in
-    (p .0, (p .1, omega (arith, c .before .before .last .ensures), pre .1 .2))
+    (c .before .before .circles .ensures) in
+    (p .0, (p .1, pre .1 .2))
 
 same-length-3 : tie.Need-same-length-3
 same-length-3 c = c .before .before .before .before .measure-row .ensures .0 .grew .since .bytes
@@ -101,12 +91,12 @@ same-length-4 c = c .before .before .before .before .measure-row .ensures .0 .gr
 returns-2 : tie.Need-returns-2
 returns-2 c =
     let m = c .before .before .before .before in
-    let w = m .before .before .before .before .before .before in
+    let w = m .before .before .before .before in
     let i = w .before .before in
     let pre = start i .pre in (
       place-taken _ _ _ _ _ _ _ _ _ _ _ _ _ (pre .1 .0) (i .id-of .ensures) (pre .0) (omega arith) _ _ _ _ _ (row w)
-          (m .before .before .before .before .before .circles .ensures) (m .measure-row .ensures .0),
-      m .measure-row .ensures .3,
+          (m .before .before .before .circles .ensures) (m .measure-row .ensures .0),
+      m .measure-row .ensures .1,
     )
 
 pub take-item-spec : {M : Type 1} → statement M
@@ -127,8 +117,6 @@ take-item-spec =
     add-word
     word-requires
     circles-requires
-    mul-last
-    last-requires
     measure-row-requires
     same-length-3
     same-length-4
