@@ -9,7 +9,7 @@ ghost use Rattle.limits.specs.Limits.{maxDistance};
 ghost use Rattle.measure.specs.Distance.{capped};
 ghost use Rattle.measure.specs.Table.{from};
 ghost use Rattle.nearest_search.specs.Asked.{asks};
-ghost use Rattle.nearest_search.specs.Listed.{Listed};
+ghost use Rattle.nearest_search.specs.Listed.{ListedTo};
 ghost use Rattle.nearest_search.specs.Rounds.{CanTake, Taken};
 ghost use Rattle.nearest_search.specs.Standing.{GrewAlone, GrewCentres, Ready};
 ghost use Rattle.rowset.specs.Sets.{isIn};
@@ -35,23 +35,23 @@ use words::places::node_child;
 use words::places::node_first;
 use words::places::word;
 
-// How many entries the frontier, the answers and the list of rows measured have.
+// How many entries the frontier and the answers have, and the word behind the list of rows measured.
 pub struct Sizes {
     pub len: usize,
     pub held: usize,
-    pub met: usize,
+    pub next: usize,
 }
 
-// How many entries the answers and the list of rows measured have.
+// How many entries the answers have, and the word behind the list of rows measured.
 pub struct Seen {
     pub held: usize,
-    pub met: usize,
+    pub next: usize,
 }
 
 // A row that is measured: the same then, and how far it is, or one more than the ceiling.
 pub struct Measured {
     pub held: usize,
-    pub met: usize,
+    pub next: usize,
     pub distance: u32,
 }
 
@@ -71,38 +71,38 @@ fn measure_row(
     how: &mut [u8],
     work: &mut [u32],
     held: usize,
-    met: usize,
+    next: usize,
     r: usize,
     ceiling: u32,
 ) -> Measured
     requires { ⌜ Ready (now table) c circles (now query) (isIn (now withdrawn)) n w (now how) (now work) held ⌝ }
-    requires { ⌜ (r < n) × (lastOf (now work) (3 * n) w held ≤ ceiling) × (Listed n (now how) (now work) met) ⌝ }
+    requires { ⌜ (r < n) × (lastOf (now work) (3 * n) w held ≤ ceiling) × (ListedTo n (now how) (now work) next) ⌝ }
     ensures { λ m. ⌜ GrewAlone (from (now (table .entry)) c circles (now (query .entry))) (isIn (now (withdrawn .entry))) n w
         (now (how .entry)) (now (how .exit)) (now (work .entry)) (now (work .exit)) held (m .held) (λ (s : ℕ). is s r)
         × (m .distance ≡ capped ceiling (from (now (table .entry)) c circles (now (query .entry)) r))
         × (from (now (table .entry)) c circles (now (query .entry)) r ≤ maxDistance)
-        × (Listed n (now (how .exit)) (now (work .exit)) (m .met)) ⌝ }
+        × (ListedTo n (now (how .exit)) (now (work .exit)) (m .next)) ⌝ }
 {
     let d = query_distance_to(table, c, circles, query, r, ceiling);
-    let now_met = mark_row(how, work, n, met, r);
+    let now_next = mark_row(how, work, n, next, r);
     if ceiling < d {
         return Measured {
             held: held,
-            met: now_met,
+            next: now_next,
             distance: d,
         };
     }
     if is_in(withdrawn, r) {
         return Measured {
             held: held,
-            met: now_met,
+            next: now_next,
             distance: d,
         };
     }
     let k = enter(work, ANSWERS * n, w, held, turn(r as u32, d));
     Measured {
         held: k,
-        met: now_met,
+        next: now_next,
         distance: d,
     }
 }
@@ -119,14 +119,14 @@ pub fn measure_centre(
     how: &mut [u8],
     work: &mut [u32],
     held: usize,
-    met: usize,
+    next: usize,
     r: usize,
 ) -> Seen
     requires { ⌜ Ready (now table) c circles (now query) (isIn (now withdrawn)) n w (now how) (now work) held ⌝ }
-    requires { ⌜ (r < n) × (Listed n (now how) (now work) met) ⌝ }
+    requires { ⌜ (r < n) × (ListedTo n (now how) (now work) next) ⌝ }
     ensures { λ k. ⌜ GrewCentres (from (now (table .entry)) c circles (now (query .entry))) (isIn (now (withdrawn .entry))) n w
         (now (how .entry)) (now (how .exit)) (now (work .entry)) (now (work .exit)) held (k .held) (λ (s : ℕ). is s r)
-        × (Listed n (now (how .exit)) (now (work .exit)) (k .met)) ⌝ }
+        × (ListedTo n (now (how .exit)) (now (work .exit)) (k .next)) ⌝ }
 {
     let m = measure_row(
         table,
@@ -139,14 +139,14 @@ pub fn measure_centre(
         how,
         work,
         held,
-        met,
+        next,
         r,
         NO_CEILING,
     );
     work[DISTANCES * n + r] = m.distance;
     Seen {
         held: m.held,
-        met: m.met,
+        next: m.next,
     }
 }
 
@@ -162,22 +162,22 @@ fn measure_centres(
     how: &mut [u8],
     work: &mut [u32],
     held: usize,
-    met: usize,
+    next: usize,
     a: usize,
     e: usize,
 ) -> Seen
     requires { ⌜ Ready (now table) c (circles# (now index)) (now query) (isIn (now withdrawn)) n w (now how) (now work) held ⌝ }
     requires { ⌜ (InShape (now index)) × (n ≡ n# (now index)) × (a < e) × (e ≤ N# (now index))
-        × (Listed n (now how) (now work) met) ⌝ }
+        × (ListedTo n (now how) (now work) next) ⌝ }
     ensures { λ k. ⌜ GrewCentres (from (now (table .entry)) c (circles# (now (index .entry))) (now (query .entry)))
         (isIn (now (withdrawn .entry))) n w
         (now (how .entry)) (now (how .exit)) (now (work .entry)) (now (work .exit)) held (k .held)
         (λ (s : ℕ). sumTo (λ (i : ℕ). is s (first# (now (index .entry)) (a + suc i))) (e - (a + 1)))
-        × (Listed n (now (how .exit)) (now (work .exit)) (k .met)) ⌝ }
+        × (ListedTo n (now (how .exit)) (now (work .exit)) (k .next)) ⌝ }
 {
     let o = circles(index);
     let mut now_held = held;
-    let mut now_met = met;
+    let mut now_next = next;
     let mut j = a + 1;
     while j < e {
         let r = node_first(index, j);
@@ -192,16 +192,16 @@ fn measure_centres(
             how,
             work,
             now_held,
-            now_met,
+            now_next,
             r,
         );
         now_held = seen.held;
-        now_met = seen.met;
+        now_next = seen.next;
         j += 1;
     }
     Seen {
         held: now_held,
-        met: now_met,
+        next: now_next,
     }
 }
 
@@ -218,19 +218,19 @@ fn open_inner(
     work: &mut [u32],
     len: usize,
     held: usize,
-    met: usize,
+    next: usize,
     k: usize,
     b: u32,
 ) -> Sizes
     requires { ⌜ CanTake (asks (now table) c (now index) (now query) w (now withdrawn)) (now how) (now work) len held
         (node k b (from (now table) c (circles# (now index)) (now query) (first# (now index) k))) ⌝ }
-    requires { ⌜ (n ≡ n# (now index)) × (0 < child# (now index) k) × (Listed n (now how) (now work) met) ⌝ }
+    requires { ⌜ (n ≡ n# (now index)) × (0 < child# (now index) k) × (ListedTo n (now how) (now work) next) ⌝ }
     ensures { λ s. ⌜ Taken (now (index .entry)) (from (now (table .entry)) c (circles# (now (index .entry))) (now (query .entry)))
         (isIn (now (withdrawn .entry))) w
         (now (how .entry)) (now (how .exit))
         (now (work .entry)) (now (work .exit)) len (s .len) held (s .held)
         (node k b (from (now (table .entry)) c (circles# (now (index .entry))) (now (query .entry)) (first# (now (index .entry)) k)))
-        × (Listed n (now (how .exit)) (now (work .exit)) (s .met)) ⌝ }
+        × (ListedTo n (now (how .exit)) (now (work .exit)) (s .next)) ⌝ }
 {
     let a = node_child(index, k);
     let e = a + centres(index);
@@ -245,7 +245,7 @@ fn open_inner(
         how,
         work,
         held,
-        met,
+        next,
         a,
         e,
     );
@@ -255,7 +255,7 @@ fn open_inner(
     Sizes {
         len: now_len,
         held: seen.held,
-        met: seen.met,
+        next: seen.next,
     }
 }
 
@@ -272,19 +272,19 @@ fn open_node(
     work: &mut [u32],
     len: usize,
     held: usize,
-    met: usize,
+    next: usize,
     k: usize,
     b: u32,
 ) -> Sizes
     requires { ⌜ CanTake (asks (now table) c (now index) (now query) w (now withdrawn)) (now how) (now work) len held
         (node k b (from (now table) c (circles# (now index)) (now query) (first# (now index) k))) ⌝ }
-    requires { ⌜ (n ≡ n# (now index)) × (Listed n (now how) (now work) met) ⌝ }
+    requires { ⌜ (n ≡ n# (now index)) × (ListedTo n (now how) (now work) next) ⌝ }
     ensures { λ s. ⌜ Taken (now (index .entry)) (from (now (table .entry)) c (circles# (now (index .entry))) (now (query .entry)))
         (isIn (now (withdrawn .entry))) w
         (now (how .entry)) (now (how .exit))
         (now (work .entry)) (now (work .exit)) len (s .len) held (s .held)
         (node k b (from (now (table .entry)) c (circles# (now (index .entry))) (now (query .entry)) (first# (now (index .entry)) k)))
-        × (Listed n (now (how .exit)) (now (work .exit)) (s .met)) ⌝ }
+        × (ListedTo n (now (how .exit)) (now (work .exit)) (s .next)) ⌝ }
 {
     if node_child(index, k) == 0 {
         let far = last(work, ANSWERS * n, w, held);
@@ -292,7 +292,7 @@ fn open_node(
         return Sizes {
             len: now_len,
             held: held,
-            met: met,
+            next: next,
         };
     }
     open_inner(
@@ -307,7 +307,7 @@ fn open_node(
         work,
         len,
         held,
-        met,
+        next,
         k,
         b,
     )
@@ -328,18 +328,18 @@ pub fn take_item(
     work: &mut [u32],
     len: usize,
     held: usize,
-    met: usize,
+    next: usize,
     e: u64,
 ) -> Sizes
     requires { ⌜ CanTake (asks (now table) c (now index) (now query) w (now withdrawn)) (now how) (now work) len held
         (itemOf (now index) (from (now table) c (circles# (now index)) (now query)) e) ⌝ }
-    requires { ⌜ (n ≡ n# (now index)) × (base ≡ pairAt (now index) 0) × (Listed n (now how) (now work) met) ⌝ }
+    requires { ⌜ (n ≡ n# (now index)) × (base ≡ pairAt (now index) 0) × (ListedTo n (now how) (now work) next) ⌝ }
     ensures { λ s. ⌜ Taken (now (index .entry)) (from (now (table .entry)) c (circles# (now (index .entry))) (now (query .entry)))
         (isIn (now (withdrawn .entry))) w
         (now (how .entry)) (now (how .exit))
         (now (work .entry)) (now (work .exit)) len (s .len) held (s .held)
         (itemOf (now (index .entry)) (from (now (table .entry)) c (circles# (now (index .entry))) (now (query .entry))) e)
-        × (Listed n (now (how .exit)) (now (work .exit)) (s .met)) ⌝ }
+        × (ListedTo n (now (how .exit)) (now (work .exit)) (s .next)) ⌝ }
 {
     let id = id_of(e) as usize;
     if id < 2 * n {
@@ -355,7 +355,7 @@ pub fn take_item(
             work,
             len,
             held,
-            met,
+            next,
             id,
             key_of(e),
         );
@@ -374,13 +374,13 @@ pub fn take_item(
         how,
         work,
         held,
-        met,
+        next,
         r,
         far,
     );
     Sizes {
         len: len,
         held: m.held,
-        met: m.met,
+        next: m.next,
     }
 }
