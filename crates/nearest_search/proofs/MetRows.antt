@@ -10,7 +10,7 @@ use Rattle.laws.specs.Outside.{Outside}
 use Rattle.laws.specs.Upto.{sumTo}
 use Rattle.limits.specs.Limits.{maxRows}
 use Rattle.nearest_search.proofs.HowBytes.{wiped-length, wiped-past, wiped-zero}
-use Rattle.nearest_search.specs.Listed.{Blank, Listed, Marked, ifMarked}
+use Rattle.nearest_search.specs.Listed.{Blank, Listed, ListedTo, Marked, ifMarked}
 use Rattle.tallies.proofs.Tallies.{bit-most, tally-next}
 use Rattle.tree.specs.Nearest.{isMeasured, measured}
 use Rattle.words.specs.Words.{at, n#}
@@ -53,9 +53,15 @@ listed-blank n how work hb wb small blank = record {
   small = small;
 }
 
--- the same list, for the number of rows as the code holds it
-pub listed-at : (w : List ℕ) {n : ℕ} {how work : List ℕ} {met : ℕ} → n ≡ n# w → Listed n how work met → Listed (n# w) how work met
-listed-at w {n} {how} {work} {met} en L = subst (λ (n : ℕ). Listed n how work met) en L
+-- the same, by the word behind the list
+pub blank-next : (n : ℕ) (how work : List ℕ) (next : ℕ) → next ≡ 5 * n → Listed n how work 0 → ListedTo n how work next
+blank-next n how work next e L =
+    let z : 0 ≡ next - 5 * n = omega arith in
+    record { start = omega arith; listed = subst (Listed n how work) z L }
+
+-- and for the number of rows as the code holds it
+pub listed-at : (w : List ℕ) {n : ℕ} {how work : List ℕ} {next : ℕ} → n ≡ n# w → ListedTo n how work next → ListedTo (n# w) how work next
+listed-at w {n} {how} {work} {next} en L = subst (λ (n : ℕ). ListedTo n how work next) en L
 
 -- ---- the list as it stands
 module _ (n : ℕ) (how work : List ℕ) (met : ℕ) (L : Listed n how work met) where
@@ -88,10 +94,6 @@ module _ (n : ℕ) (how work : List ℕ) (met : ℕ) (L : Listed n how work met)
     words = omega (arith, L .words);
     small = L .small;
   }
-
-  -- as they do where what stands before the list is written
-  pub listed-front : (work′ : List ℕ) (lo hi : ℕ) → hi ≤ 5 * n → Outside work work′ lo hi → Listed n how work′ met
-  listed-front work′ lo hi h O = listed-stays work′ (λ i l. O .over i (omega arith)) (O .same)
 
   -- and where the same rows are marked, in whatever way
   pub listed-as : (how′ : List ℕ) → length how′ ≡ length how → ((r : ℕ) → r < n → ltb 0 (at how′ r) ≡ ltb 0 (at how r)) → Listed n how′ work met
@@ -144,39 +146,70 @@ module _ (n : ℕ) (how work : List ℕ) (met : ℕ) (L : Listed n how work met)
           )
 
       -- IT IS LISTED BEHIND THE OTHERS
-      pub listed-more : (k v met′ : ℕ) → k ≡ 5 * n + met → v ≡ r → met′ ≡ met + 1 → Marked n r how (set how r 1) work (set work k v) met′
-      listed-more k v met′ ek ev em = subst (Marked n r how (set how r 1) work (set work k v)) (sym em) (record {
-        byte = refl;
-        outside = outside-set work (5 * n) (6 * n) k v (omega arith) (omega (arith, listed-room));
-        listed = record {
-          rows = λ f.
-              sum-next (λ (i : ℕ). f (getD (set work k v) (5 * n + i) 0)) met
-              ∙ ap₂ (λ (a b : ℕ). a + b)
-              (sum-below-same (λ (i : ℕ). f (getD (set work k v) (5 * n + i) 0)) (λ (i : ℕ). f (listedAt i)) met
-              (λ i l. ap f (getD-set-other work k (5 * n + i) v 0 (omega arith))) ∙ L .rows f)
-              (ap f here) ∙ sym (more f);
-          bytes = omega (arith, length-set how r 1, L .bytes);
-          words = omega (arith, length-set work k v, L .words);
-          small = L .small;
-        };
-      })
+      listed-one : (k v : ℕ) → k ≡ 5 * n + met → v ≡ r → Listed n (set how r 1) (set work k v) (met + 1)
+      listed-one k v ek ev = record {
+        rows = λ f.
+            sum-next (λ (i : ℕ). f (getD (set work k v) (5 * n + i) 0)) met
+            ∙ ap₂ (λ (a b : ℕ). a + b)
+            (sum-below-same (λ (i : ℕ). f (getD (set work k v) (5 * n + i) 0)) (λ (i : ℕ). f (listedAt i)) met
+            (λ i l. ap f (getD-set-other work k (5 * n + i) v 0 (omega arith))) ∙ L .rows f)
+            (ap f here) ∙ sym (more f);
+        bytes = omega (arith, length-set how r 1, L .bytes);
+        words = omega (arith, length-set work k v, L .words);
+        small = L .small;
+      }
         where
           here : getD (set work k v) (5 * n + met) 0 ≡ r
           here =
               ap (λ (i : ℕ). getD (set work k v) i 0) (sym ek) ∙ getD-set-same work k v 0 (omega (arith, L .words, listed-room)) ∙ ev
 
-    -- where it was, all stays
-    pub listed-again : at how r ≤ 1 → at how r ≢ 0 → Marked n r how how work work met
-    listed-again bit old = record {
-      byte = ext-getD 0 how (set how r 1) (sym (length-set how r 1)) (λ s l. same s (ℕ-discrete s r));
-      outside = outside-same work (5 * n) (6 * n);
-      listed = L;
-    }
+    -- where it was, its how-byte stays
+    byte-again : at how r ≤ 1 → at how r ≢ 0 → how ≡ set how r 1
+    byte-again bit old = ext-getD 0 how (set how r 1) (sym (length-set how r 1)) (λ s l. same s (ℕ-discrete s r))
       where
         same : (s : ℕ) → Dec (s ≡ r) → at how s ≡ at (set how r 1) s
         same s (yes e) =
             subst (λ (s : ℕ). at how s ≡ at (set how r 1) s) (sym e) (omega (arith, getD-set-same how r 1 0 (omega (arith, L .bytes))))
         same s (no e) = sym (getD-set-other how r s 1 0 e)
+
+-- ---- the list, by the word behind it
+module _ (n : ℕ) (how work : List ℕ) (next : ℕ) (L : ListedTo n how work next) where
+  -- how many are listed
+  abbrev met : ℕ
+  met = next - 5 * n
+
+  -- the list stays where what stands before it is written
+  pub listed-front : (work′ : List ℕ) (lo hi : ℕ) → hi ≤ 5 * n → Outside work work′ lo hi → ListedTo n how work′ next
+  listed-front work′ lo hi h O =
+      record { start = L .start; listed = listed-stays n how work met (L .listed) work′ (λ i l. O .over i (omega arith)) (O .same) }
+
+  -- row r is marked
+  module _ (r : ℕ) (row : r < n) where
+    -- where it was not: the word behind the list is one of the workspace
+    pub next-room : at how r ≡ 0 → next < 6 * n
+    next-room new = omega (arith, listed-room n how work met (L .listed) r row new, L .start)
+
+    -- and the row is listed there
+    pub marked-new : at how r ≡ 0 → (v next′ : ℕ) → v ≡ r → next′ ≡ next + 1 → Marked n r how (set how r 1) work (set work next v) next′
+    marked-new new v next′ ev en =
+        let count : met + 1 ≡ next′ - 5 * n = omega (arith, L .start) in
+        record {
+          byte = refl;
+          outside = outside-set work (5 * n) (6 * n) next v (L .start) (next-room new);
+          listed = record {
+            start = omega (arith, L .start);
+            listed = subst (Listed n (set how r 1) (set work next v)) count
+                (listed-one n how work met (L .listed) r row new next v (omega (arith, L .start)) ev);
+          };
+        }
+
+    -- where it was, all stays
+    pub marked-again : at how r ≤ 1 → at how r ≢ 0 → Marked n r how how work work next
+    marked-again bit old = record {
+      byte = byte-again n how work met (L .listed) r row bit old;
+      outside = outside-same work (5 * n) (6 * n);
+      listed = L;
+    }
 
 -- ---- the rows listed are unmarked, one after the other
 -- the first i are: a row has its how-byte unless it is one of them

@@ -11,17 +11,17 @@ use Rattle.frontier.specs.Workspace.{kept}
 use Rattle.index_space.specs.Items.{leftOf, liveOf}
 use Rattle.laws.proofs.Bags.{total-none}
 use Rattle.laws.proofs.Ones.{is-bit, is-not, is-same, is-self}
-use Rattle.laws.proofs.Outside.{outside-same}
+use Rattle.laws.proofs.Outside.{outside-same, outside-set}
 use Rattle.laws.specs.Bags.{is, total}
 use Rattle.laws.specs.Outside.{Outside}
 use Rattle.limits.specs.Limits.{maxDistance}
 use Rattle.measure.specs.Distance.{capped}
 use Rattle.nearest_search.proofs.Filling.{left-zero, sum-one}
 use Rattle.nearest_search.proofs.Growing.{grew-listed}
-use Rattle.nearest_search.proofs.MetRows.{listed-front, listed-stays}
+use Rattle.nearest_search.proofs.MetRows.{listed-front}
 use Rattle.nearest_search.proofs.Staying.{held-stay, last-stays, stands-stay}
 use Rattle.nearest_search.specs.Handled.{Handled}
-use Rattle.nearest_search.specs.Listed.{Listed, Marked}
+use Rattle.nearest_search.specs.Listed.{ListedTo, Marked}
 use Rattle.nearest_search.specs.Standing.{GrewAlone, GrewCentres, Stands, metOf}
 use Rattle.queue.specs.Entry.{entryAt}
 use Rattle.queue.specs.Queue.{Queue, entries}
@@ -223,7 +223,7 @@ module _ (x : ℕ → ℕ) (gone : ℕ → Bool) (n w : ℕ) (how work : List �
 
 -- ---- the row is listed first, which changes no answer
 module _ (x : ℕ → ℕ) (gone : ℕ → Bool) (n w : ℕ) (how work : List ℕ) (held : ℕ) (St : Stands x gone n w how work held) (r : ℕ) (row : r < n)
-    (how₁ work₁ : List ℕ) (met₁ : ℕ) (M : Marked n r how how₁ work work₁ met₁) where
+    (how₁ work₁ : List ℕ) (next₁ : ℕ) (M : Marked n r how how₁ work work₁ next₁) where
   -- what the search knows stays
   pub stands-listed : Stands x gone n w how work₁ held
   stands-listed = stands-stay n work work₁ (λ i lo hi. M .outside .under i hi) (M .outside .same) x gone w how held St
@@ -234,11 +234,11 @@ module _ (x : ℕ → ℕ) (gone : ℕ → Bool) (n w : ℕ) (how work : List �
 
   -- THE ROW IS MEASURED
   pub took-listed : x r ≤ maxDistance → (work′ : List ℕ) (held′ : ℕ) → Handled x gone n w r work₁ work′ held held′
-      → GrewAlone x gone n w how how₁ work work′ held held′ (λ (s : ℕ). is s r) × Listed n how₁ work′ met₁
+      → GrewAlone x gone n w how how₁ work work′ held held′ (λ (s : ℕ). is s r) × ListedTo n how₁ work′ next₁
   took-listed near work′ held′ K = (
     grew-listed x gone n w how how₁ work work₁ work′ held held′ (λ (s : ℕ). is s r) (omega (arith, St .most, St .wanted)) (M .outside)
         (took x gone n w how work₁ held stands-listed r row (x r) refl near how₁ work′ held′ (M .byte) K),
-    listed-front n how₁ work₁ met₁ (M .listed) work′ (3 * n) (3 * n + (w + w)) (omega (arith, St .wanted)) (K .outside),
+    listed-front n how₁ work₁ next₁ (M .listed) work′ (3 * n) (3 * n + (w + w)) (omega (arith, St .wanted)) (K .outside),
   )
 
 -- ---- a row that is a centre: its distance is kept besides
@@ -262,8 +262,10 @@ module _ (x : ℕ → ℕ) (gone : ℕ → Bool) (n w : ℕ) (how how′ work wo
   keeps s h f (no q) = other (2 * n + s) (omega arith) ∙ K .grew .keeps s h f
 
   -- the rows listed stay
-  pub centre-listed : {met : ℕ} → Listed n how′ work₁ met → Listed n how′ work₂ met
-  centre-listed {met} L = listed-stays n how′ work₁ met L work₂ (λ i h. other i (omega arith)) long
+  pub centre-listed : {next : ℕ} → ListedTo n how′ work₁ next → ListedTo n how′ work₂ next
+  centre-listed {next} L =
+      listed-front n how′ work₁ next L work₂ (2 * n) (3 * n) (omega arith)
+      (subst (λ (l : List ℕ). Outside work₁ l (2 * n) (3 * n)) (sym ew) (outside-set work₁ (2 * n) (3 * n) (2 * n + r) d (omega arith) (omega arith)))
 
   -- THE CENTRE IS MEASURED
   pub centred : GrewCentres x gone n w how how′ work work₂ held held′ (λ (s : ℕ). is s r)

@@ -21,7 +21,7 @@ use Rattle.nearest_search.proofs.MetRows.{listed-front}
 use Rattle.nearest_search.proofs.Staying.{held-stay, ready-on, since-then, since-work, stands-stay}
 use Rattle.nearest_search.proofs.Weights.{amiss-on, cost, opened-amiss, opened-cost, opened-weight, some-weight}
 use Rattle.nearest_search.specs.Asked.{asks, positionsLeft}
-use Rattle.nearest_search.specs.Listed.{Listed}
+use Rattle.nearest_search.specs.Listed.{ListedTo}
 use Rattle.nearest_search.specs.Rounds.{CanTake, SearchEnd, SearchState, Taken, amiss, still}
 use Rattle.nearest_search.specs.Standing.{Since, Stands, metOf}
 use Rattle.queue.proofs.Queued.{entries-count}
@@ -113,8 +113,8 @@ module _ (t : List ℕ) (c : ℕ) (q w : List ℕ) (wanted : ℕ) (struck : List
           (since-work (n# w) how work work₁ 0 (0 + (len + len)) (omega (arith, state-room)) (P .outside))
 
       -- and the list of rows measured
-      pub popped-listed : (n met : ℕ) → n ≡ n# w → Listed n how work met → Listed n how work₁ met
-      popped-listed n met en L = listed-front n how work met L work₁ 0 (0 + (len + len)) (omega (arith, state-room)) (P .outside)
+      pub popped-listed : (n next : ℕ) → n ≡ n# w → ListedTo n how work next → ListedTo n how work₁ next
+      popped-listed n next en L = listed-front n how work next L work₁ 0 (0 + (len + len)) (omega (arith, state-room)) (P .outside)
 
       -- no distance that was kept is lost
       popped-keeps : (r : ℕ) → r < n# w → kept work (n# w) r ≡ x r → kept work₁ (n# w) r ≡ x r

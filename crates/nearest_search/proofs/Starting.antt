@@ -16,10 +16,10 @@ use Rattle.laws.specs.Upto.{sumTo}
 use Rattle.limits.specs.Limits.{maxRows}
 use Rattle.measure.specs.Table.{from}
 use Rattle.nearest_search.proofs.Filling.{root-row, still-root, sum-one}
-use Rattle.nearest_search.proofs.MetRows.{listed-blank}
+use Rattle.nearest_search.proofs.MetRows.{blank-next, listed-blank}
 use Rattle.nearest_search.proofs.Staying.{centres-by, held-stay, ready-on, since-then, since-work, stands-stay}
 use Rattle.nearest_search.specs.Asked.{NearestAsked, asks, gone, positionsLeft, rowsIn}
-use Rattle.nearest_search.specs.Listed.{Listed}
+use Rattle.nearest_search.specs.Listed.{Listed, ListedTo}
 use Rattle.nearest_search.specs.Rounds.{SearchStart, SearchState, amiss, still}
 use Rattle.nearest_search.specs.Standing.{GrewCentres, Ready, Since, Stands, metOf}
 use Rattle.queue.proofs.Queued.{empty-queue}
@@ -38,10 +38,12 @@ pub blank-ready : (a : NearestAsked) (how work : List ℕ) → SearchStart a how
 blank-ready a how work B = record { stands = B .stands; columns = B .tested .columns; table = B .tested .table; query = B .query }
 
 -- and no row is listed
-pub blank-listed : (a : NearestAsked) (how work : List ℕ) (n : ℕ) → n ≡ rowsIn a → SearchStart a how work → Listed n how work 0
-blank-listed a how work n en B =
-    subst (λ (n : ℕ). Listed n how work 0) (sym en)
-    (listed-blank (rowsIn a) how work (B .stands .bytes) (B .stands .room) (B .stands .small) (B .blank))
+pub blank-listed : (a : NearestAsked) (how work : List ℕ) (n next : ℕ) → n ≡ rowsIn a → next ≡ 5 * n → SearchStart a how work
+    → ListedTo n how work next
+blank-listed a how work n next en e B =
+    blank-next n how work next e
+    (subst (λ (n : ℕ). Listed n how work 0) (sym en)
+    (listed-blank (rowsIn a) how work (B .stands .bytes) (B .stands .room) (B .stands .small) (B .blank)))
 
 module _ (t : List ℕ) (c : ℕ) (q w : List ℕ) (wanted : ℕ) (struck : List ℕ) where
   -- how far the query is from a row

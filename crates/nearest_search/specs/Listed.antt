@@ -1,5 +1,5 @@
 -- The rows measured, listed in the workspace: by the list a search can be undone without a pass over all rows. Assumes nothing.
-use Prim.Native.Nat.{_+_, _<_, _≤_, ℕ}
+use Prim.Native.Nat.{_+_, _-_, _<_, _≤_, ℕ}
 use Rattle.frontier.specs.Workspace.{metAt, workWords}
 use Rattle.laws.specs.Outside.{Outside}
 use Rattle.laws.specs.Upto.{sumTo}
@@ -27,8 +27,13 @@ pub record Listed (n : ℕ) (how work : List ℕ) (met : ℕ) : Type 0 where
   pub words : workWords n ≤ length work
   pub small : n ≤ maxRows
 
+-- the same, told by the word behind the list, as the search holds it
+pub record ListedTo (n : ℕ) (how work : List ℕ) (next : ℕ) : Type 0 where
+  pub start : metAt n ≤ next
+  pub listed : Listed n how work (next - metAt n)
+
 -- Row r is marked, and listed with the others; no other word is touched but those of the list.
-pub record Marked (n r : ℕ) (how how′ work work′ : List ℕ) (met′ : ℕ) : Type 0 where
+pub record Marked (n r : ℕ) (how how′ work work′ : List ℕ) (next′ : ℕ) : Type 0 where
   pub byte : how′ ≡ set how r 1
   pub outside : Outside work work′ (metAt n) (workWords n)
-  pub listed : Listed n how′ work′ met′
+  pub listed : ListedTo n how′ work′ next′

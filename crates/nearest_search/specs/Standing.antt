@@ -16,7 +16,8 @@ use mathlib.Core.Bool.{Bool, cond}
 use mathlib.Core.List.{List}
 use mathlib.Core.Path.{_≡_}
 
--- Of n rows at x, at most w are held, none of them withdrawn and all of them marked. This holds on every index in shape, whether or not a row stands there twice.
+-- Of n rows at x, at most w are held, none of them withdrawn and all of them marked. This holds on every index in shape, whether or not a row stands
+-- there twice.
 pub record Stands (x : ℕ → ℕ) (gone : ℕ → Bool) (n w : ℕ) (how work : List ℕ) (held : ℕ) : Type 0 where
   pub queue : Queue work (3 * n) held
   pub most : held ≤ w

@@ -9,6 +9,7 @@ use buffers::clear_bytes;
 use buffers::clear_words;
 use frontier::workspace::ANSWERS;
 use frontier::workspace::END;
+use frontier::workspace::MET;
 
 pub mod listing;
 mod searching;
@@ -51,9 +52,10 @@ pub fn find_blank(
     }
     let seen = search(table, c, query, index, wanted, withdrawn, how, work);
     give(rows, distances, how, work, ANSWERS * n, seen.held);
+    let measured = seen.next - MET * n;
     Counts {
         given: seen.held,
-        measured: seen.met,
+        measured: measured,
     }
 }
 

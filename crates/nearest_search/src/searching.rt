@@ -1,6 +1,6 @@
 // The search: best first, until what waits is farther than the last answer.
 ghost use Rattle.nearest_search.specs.Asked.{asks};
-ghost use Rattle.nearest_search.specs.Listed.{Listed};
+ghost use Rattle.nearest_search.specs.Listed.{ListedTo};
 ghost use Rattle.nearest_search.specs.Rounds.{SearchEnd, SearchStart};
 ghost use Rattle.words.specs.Words.{n#};
 use crate::taking::Seen;
@@ -8,6 +8,7 @@ use crate::taking::measure_centre;
 use crate::taking::take_item;
 use answers_held::last;
 use frontier::workspace::ANSWERS;
+use frontier::workspace::MET;
 use queue::key_of;
 use queue::pop;
 use queue::push;
@@ -16,8 +17,8 @@ use words::places::node_first;
 use words::places::pair_at;
 use words::places::rows;
 
-// The best-first search of an index that is not empty, with all how-bytes 0: how many answers are held at its end, and how many rows
-// are listed as measured.
+// The best-first search of an index that is not empty, with all how-bytes 0: how many answers are held at its end, and the word
+// behind the list of rows measured.
 pub fn search(
     table: &[u16],
     c: usize,
@@ -31,15 +32,28 @@ pub fn search(
     requires { ⌜ SearchStart (asks (now table) c (now index) (now query) w (now withdrawn)) (now how) (now work) ⌝ }
     ensures { λ k. ⌜ SearchEnd (asks (now (table .entry)) c (now (index .entry)) (now (query .entry)) w (now (withdrawn .entry)))
         (now (how .entry)) (now (how .exit)) (now (work .entry)) (now (work .exit)) (k .held)
-        × (Listed (n# (now (index .entry))) (now (how .exit)) (now (work .exit)) (k .met)) ⌝ }
+        × (ListedTo (n# (now (index .entry))) (now (how .exit)) (now (work .exit)) (k .next)) ⌝ }
 {
     let n = rows(index);
     let base = pair_at(index, 0);
     let first = node_first(index, 0);
     let o = circles(index);
-    let seen = measure_centre(table, c, o, query, n, w, withdrawn, how, work, 0, 0, first);
+    let seen = measure_centre(
+        table,
+        c,
+        o,
+        query,
+        n,
+        w,
+        withdrawn,
+        how,
+        work,
+        0,
+        MET * n,
+        first,
+    );
     let mut held = seen.held;
-    let mut met = seen.met;
+    let mut next = seen.next;
     push(work, 0, 0, 0);
     let mut len = 1;
     while 0 < len {
@@ -47,7 +61,7 @@ pub fn search(
         if last(work, ANSWERS * n, w, held) < key_of(e) {
             return Seen {
                 held: held,
-                met: met,
+                next: next,
             };
         }
         let sizes = take_item(
@@ -63,15 +77,15 @@ pub fn search(
             work,
             len - 1,
             held,
-            met,
+            next,
             e,
         );
         len = sizes.len;
         held = sizes.held;
-        met = sizes.met;
+        next = sizes.next;
     }
     Seen {
         held: held,
-        met: met,
+        next: next,
     }
 }

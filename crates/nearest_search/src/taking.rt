@@ -9,7 +9,7 @@ ghost use Rattle.limits.specs.Limits.{maxRows};
 ghost use Rattle.measure.specs.Table.{from};
 ghost use Rattle.nearest_search.specs.Asked.{asks};
 ghost use Rattle.nearest_search.specs.Handled.{Enters};
-ghost use Rattle.nearest_search.specs.Listed.{Listed};
+ghost use Rattle.nearest_search.specs.Listed.{ListedTo};
 ghost use Rattle.nearest_search.specs.Rounds.{CanTake, Taken};
 ghost use Rattle.nearest_search.specs.Standing.{GrewAlone, GrewCentres, Ready};
 ghost use Rattle.rowset.specs.Sets.{isIn};
@@ -37,17 +37,17 @@ use words::places::node_child;
 use words::places::node_first;
 use words::places::word;
 
-// How many entries the frontier, the answers and the list of rows measured have.
+// How many entries the frontier and the answers have, and the word behind the list of rows measured.
 pub struct Sizes {
     pub len: usize,
     pub held: usize,
-    pub met: usize,
+    pub next: usize,
 }
 
-// How many entries the answers and the list of rows measured have.
+// How many entries the answers have, and the word behind the list of rows measured.
 pub struct Seen {
     pub held: usize,
-    pub met: usize,
+    pub next: usize,
 }
 
 // Enters row r, which is at d, among the answers, unless it is withdrawn: how many are held then.
@@ -81,22 +81,22 @@ pub fn measure_centre(
     how: &mut [u8],
     work: &mut [u32],
     held: usize,
-    met: usize,
+    next: usize,
     r: usize,
 ) -> Seen
     requires { ⌜ Ready (now table) c circles (now query) (isIn (now withdrawn)) n w (now how) (now work) held ⌝ }
-    requires { ⌜ (r < n) × (Listed n (now how) (now work) met) ⌝ }
+    requires { ⌜ (r < n) × (ListedTo n (now how) (now work) next) ⌝ }
     ensures { λ k. ⌜ GrewCentres (from (now (table .entry)) c circles (now (query .entry))) (isIn (now (withdrawn .entry))) n w
         (now (how .entry)) (now (how .exit)) (now (work .entry)) (now (work .exit)) held (k .held) (λ (s : ℕ). is s r)
-        × (Listed n (now (how .exit)) (now (work .exit)) (k .met)) ⌝ }
+        × (ListedTo n (now (how .exit)) (now (work .exit)) (k .next)) ⌝ }
 {
     let d = query_distance(table, c, circles, query, r);
-    let now_met = mark_row(how, work, n, met, r);
+    let now_next = mark_row(how, work, n, next, r);
     let now_held = enter_row(n, w, withdrawn, work, held, r, d);
     work[DISTANCES * n + r] = d;
     Seen {
         held: now_held,
-        met: now_met,
+        next: now_next,
     }
 }
 
@@ -113,28 +113,28 @@ fn measure_row(
     how: &mut [u8],
     work: &mut [u32],
     held: usize,
-    met: usize,
+    next: usize,
     r: usize,
 ) -> Seen
     requires { ⌜ Ready (now table) c circles (now query) (isIn (now withdrawn)) n w (now how) (now work) held ⌝ }
-    requires { ⌜ (r < n) × (Listed n (now how) (now work) met) ⌝ }
+    requires { ⌜ (r < n) × (ListedTo n (now how) (now work) next) ⌝ }
     ensures { λ k. ⌜ GrewAlone (from (now (table .entry)) c circles (now (query .entry))) (isIn (now (withdrawn .entry))) n w
         (now (how .entry)) (now (how .exit)) (now (work .entry)) (now (work .exit)) held (k .held) (λ (s : ℕ). is s r)
-        × (Listed n (now (how .exit)) (now (work .exit)) (k .met)) ⌝ }
+        × (ListedTo n (now (how .exit)) (now (work .exit)) (k .next)) ⌝ }
 {
     let far = last(work, ANSWERS * n, w, held);
     let d = distance_to(query, row_of(table, c, r), circles, far);
-    let now_met = mark_row(how, work, n, met, r);
+    let now_next = mark_row(how, work, n, next, r);
     if far < d {
         return Seen {
             held: held,
-            met: now_met,
+            next: now_next,
         };
     }
     let now_held = enter_row(n, w, withdrawn, work, held, r, d);
     Seen {
         held: now_held,
-        met: now_met,
+        next: now_next,
     }
 }
 
@@ -150,22 +150,22 @@ fn measure_centres(
     how: &mut [u8],
     work: &mut [u32],
     held: usize,
-    met: usize,
+    next: usize,
     a: usize,
     e: usize,
 ) -> Seen
     requires { ⌜ Ready (now table) c (circles# (now index)) (now query) (isIn (now withdrawn)) n w (now how) (now work) held ⌝ }
     requires { ⌜ (InShape (now index)) × (n ≡ n# (now index)) × (a < e) × (e ≤ N# (now index))
-        × (Listed n (now how) (now work) met) ⌝ }
+        × (ListedTo n (now how) (now work) next) ⌝ }
     ensures { λ k. ⌜ GrewCentres (from (now (table .entry)) c (circles# (now (index .entry))) (now (query .entry)))
         (isIn (now (withdrawn .entry))) n w
         (now (how .entry)) (now (how .exit)) (now (work .entry)) (now (work .exit)) held (k .held)
         (λ (s : ℕ). sumTo (λ (i : ℕ). is s (first# (now (index .entry)) (a + suc i))) (e - (a + 1)))
-        × (Listed n (now (how .exit)) (now (work .exit)) (k .met)) ⌝ }
+        × (ListedTo n (now (how .exit)) (now (work .exit)) (k .next)) ⌝ }
 {
     let o = circles(index);
     let mut now_held = held;
-    let mut now_met = met;
+    let mut now_next = next;
     let mut j = a + 1;
     while j < e {
         let r = node_first(index, j);
@@ -180,16 +180,16 @@ fn measure_centres(
             how,
             work,
             now_held,
-            now_met,
+            now_next,
             r,
         );
         now_held = seen.held;
-        now_met = seen.met;
+        now_next = seen.next;
         j += 1;
     }
     Seen {
         held: now_held,
-        met: now_met,
+        next: now_next,
     }
 }
 
@@ -206,19 +206,19 @@ fn open_inner(
     work: &mut [u32],
     len: usize,
     held: usize,
-    met: usize,
+    next: usize,
     k: usize,
     b: u32,
 ) -> Sizes
     requires { ⌜ CanTake (asks (now table) c (now index) (now query) w (now withdrawn)) (now how) (now work) len held
         (node k b (from (now table) c (circles# (now index)) (now query) (first# (now index) k))) ⌝ }
-    requires { ⌜ (n ≡ n# (now index)) × (0 < child# (now index) k) × (Listed n (now how) (now work) met) ⌝ }
+    requires { ⌜ (n ≡ n# (now index)) × (0 < child# (now index) k) × (ListedTo n (now how) (now work) next) ⌝ }
     ensures { λ s. ⌜ Taken (now (index .entry)) (from (now (table .entry)) c (circles# (now (index .entry))) (now (query .entry)))
         (isIn (now (withdrawn .entry))) w
         (now (how .entry)) (now (how .exit))
         (now (work .entry)) (now (work .exit)) len (s .len) held (s .held)
         (node k b (from (now (table .entry)) c (circles# (now (index .entry))) (now (query .entry)) (first# (now (index .entry)) k)))
-        × (Listed n (now (how .exit)) (now (work .exit)) (s .met)) ⌝ }
+        × (ListedTo n (now (how .exit)) (now (work .exit)) (s .next)) ⌝ }
 {
     let a = node_child(index, k);
     let e = a + centres(index);
@@ -233,7 +233,7 @@ fn open_inner(
         how,
         work,
         held,
-        met,
+        next,
         a,
         e,
     );
@@ -243,7 +243,7 @@ fn open_inner(
     Sizes {
         len: now_len,
         held: seen.held,
-        met: seen.met,
+        next: seen.next,
     }
 }
 
@@ -260,19 +260,19 @@ fn open_node(
     work: &mut [u32],
     len: usize,
     held: usize,
-    met: usize,
+    next: usize,
     k: usize,
     b: u32,
 ) -> Sizes
     requires { ⌜ CanTake (asks (now table) c (now index) (now query) w (now withdrawn)) (now how) (now work) len held
         (node k b (from (now table) c (circles# (now index)) (now query) (first# (now index) k))) ⌝ }
-    requires { ⌜ (n ≡ n# (now index)) × (Listed n (now how) (now work) met) ⌝ }
+    requires { ⌜ (n ≡ n# (now index)) × (ListedTo n (now how) (now work) next) ⌝ }
     ensures { λ s. ⌜ Taken (now (index .entry)) (from (now (table .entry)) c (circles# (now (index .entry))) (now (query .entry)))
         (isIn (now (withdrawn .entry))) w
         (now (how .entry)) (now (how .exit))
         (now (work .entry)) (now (work .exit)) len (s .len) held (s .held)
         (node k b (from (now (table .entry)) c (circles# (now (index .entry))) (now (query .entry)) (first# (now (index .entry)) k)))
-        × (Listed n (now (how .exit)) (now (work .exit)) (s .met)) ⌝ }
+        × (ListedTo n (now (how .exit)) (now (work .exit)) (s .next)) ⌝ }
 {
     if node_child(index, k) == 0 {
         let far = last(work, ANSWERS * n, w, held);
@@ -280,7 +280,7 @@ fn open_node(
         return Sizes {
             len: now_len,
             held: held,
-            met: met,
+            next: next,
         };
     }
     open_inner(
@@ -295,7 +295,7 @@ fn open_node(
         work,
         len,
         held,
-        met,
+        next,
         k,
         b,
     )
@@ -316,18 +316,18 @@ pub fn take_item(
     work: &mut [u32],
     len: usize,
     held: usize,
-    met: usize,
+    next: usize,
     e: u64,
 ) -> Sizes
     requires { ⌜ CanTake (asks (now table) c (now index) (now query) w (now withdrawn)) (now how) (now work) len held
         (itemOf (now index) (from (now table) c (circles# (now index)) (now query)) e) ⌝ }
-    requires { ⌜ (n ≡ n# (now index)) × (base ≡ pairAt (now index) 0) × (Listed n (now how) (now work) met) ⌝ }
+    requires { ⌜ (n ≡ n# (now index)) × (base ≡ pairAt (now index) 0) × (ListedTo n (now how) (now work) next) ⌝ }
     ensures { λ s. ⌜ Taken (now (index .entry)) (from (now (table .entry)) c (circles# (now (index .entry))) (now (query .entry)))
         (isIn (now (withdrawn .entry))) w
         (now (how .entry)) (now (how .exit))
         (now (work .entry)) (now (work .exit)) len (s .len) held (s .held)
         (itemOf (now (index .entry)) (from (now (table .entry)) c (circles# (now (index .entry))) (now (query .entry))) e)
-        × (Listed n (now (how .exit)) (now (work .exit)) (s .met)) ⌝ }
+        × (ListedTo n (now (how .exit)) (now (work .exit)) (s .next)) ⌝ }
 {
     let id = id_of(e) as usize;
     if id < 2 * n {
@@ -343,17 +343,30 @@ pub fn take_item(
             work,
             len,
             held,
-            met,
+            next,
             id,
             key_of(e),
         );
     }
     let r = word(index, base + 2 * (id - 2 * n));
     let o = circles(index);
-    let seen = measure_row(table, c, o, query, n, w, withdrawn, how, work, held, met, r);
+    let seen = measure_row(
+        table,
+        c,
+        o,
+        query,
+        n,
+        w,
+        withdrawn,
+        how,
+        work,
+        held,
+        next,
+        r,
+    );
     Sizes {
         len: len,
         held: seen.held,
-        met: seen.met,
+        next: seen.next,
     }
 }

@@ -40,16 +40,26 @@ give-requires : tie.Need-give-requires
 give-requires c κs =
     let s = c .before .before .before .before .before .before .before .before in
     let r = counted s in
-    gives _ _ _ _ _ _ _ _ _ _ (start r .pre .0) (omega (arith, r .rows .ensures .0)) _ _ _ _ (s .search .ensures .0) (s .search .ensures .1) _
+    gives _ _ _ _ _ _ _ _ _ _ (start r .pre .0) (omega (arith, r .rows .ensures .0)) _ _ _ _ (s .search .ensures .0) (s .search .ensures .1 .listed) _
     (r .rows .ensures .0)
+
+mul-measured : tie.Need-mul-measured
+mul-measured c =
+    let r = counted (sought (c .before .before .before .before .before .before .before .before)) in
+    omega (arith, r .rows .ensures .0, start r .pre .0 .tested .shape .whole .rows)
+
+sub-measured : tie.Need-sub-measured
+sub-measured c =
+    let s = sought (c .before .before .before .before .before .before .before .before .before) in
+    omega (arith, counted s .rows .ensures .0, s .search .ensures .1 .start)
 
 returns-2 : tie.Need-returns-2
 returns-2 c =
-    let g = c .before .before .before .before .before .before .before .before in
+    let g = c .before .before .before .before .before .before .before .before .before in
     let s = sought g in
     let r = counted s in
-    found-at _ _ _ _ _ _ _ _ _ _ (start r .pre .0) (omega (arith, r .rows .ensures .0)) _ _ _ _ (s .search .ensures .0) (s .search .ensures .1)
-    _ _ _ _ _ (r .rows .ensures .0) (g .give .ensures)
+    found-at _ _ _ _ _ _ _ _ _ _ (start r .pre .0) (omega (arith, r .rows .ensures .0)) _ _ _ _ (s .search .ensures .0)
+    (s .search .ensures .1 .listed) _ _ _ _ _ _ (r .rows .ensures .0) (omega (arith, r .rows .ensures .0)) (g .give .ensures)
 
 pub find-blank-spec : {M : Type 1} → statement M
 find-blank-spec =
@@ -60,6 +70,8 @@ find-blank-spec =
     search-requires
     mul-give
     give-requires
+    mul-measured
+    sub-measured
     (λ c. search needs)
     (λ c. search needs)
     (λ c. search needs)

@@ -13,7 +13,7 @@ use Rattle.nearest_search.proofs.Weights.{cost}
 use Rattle.nearest_search.proofs.searching.search.Statement.{statement}
 use Rattle.nearest_search.proofs.searching.search.Tie as tie
 use Rattle.nearest_search.specs.Asked.{asks}
-use Rattle.nearest_search.specs.Listed.{Listed}
+use Rattle.nearest_search.specs.Listed.{ListedTo}
 use Rattle.nearest_search.specs.Rounds.{SearchState}
 use Rattle.nearest_search.specs.Standing.{Since}
 use Rattle.queue.proofs.Queued.{empty-queue}
@@ -23,11 +23,11 @@ use mathlib.Core.Path.{_∙_}
 use native.Mathlib.Omega.{arith}
 
 abbrev Inv-loop : tie.InvT-loop
-Inv-loop table c query index w withdrawn how₀ work₀ n base first o held₀ met₀ len₀ how work held met len =
-    SearchState (asks table c index query w withdrawn) how work len held × Since (n# index) how₀ how work₀ work × Listed n how work met
+Inv-loop table c query index w withdrawn how₀ work₀ n base first o held₀ next₀ len₀ how work held next len =
+    SearchState (asks table c index query w withdrawn) how work len held × Since (n# index) how₀ how work₀ work × ListedTo n how work next
 
 abbrev μ-loop : tie.MeasureT-loop
-μ-loop table c query index w withdrawn how₀ work₀ n base first o held₀ met₀ len₀ how work held met len = total (cost index)
+μ-loop table c query index w withdrawn how₀ work₀ n base first o held₀ next₀ len₀ how work held next len = total (cost index)
     (items index (from table c (circles# index) query) work len)
 
 -- seen from the loop: the root as it is queued, its first as it is measured, the number of rows as it is read, and the start
@@ -68,6 +68,11 @@ node-first-requires c κs =
 circles-requires : tie.Need-circles-requires Inv-loop μ-loop
 circles-requires c κs = omega (arith, c .before .before .before .before .before .before .before .before .before .pre .tested .shape .whole .words)
 
+mul-measure-centre : tie.Need-mul-measure-centre Inv-loop μ-loop
+mul-measure-centre c =
+    let pre = c .before .before .before .before .before .before .before .before .before .before .before .before .pre in
+    omega (arith, c .before .before .before .before .before .rows .ensures .0, pre .tested .shape .whole .rows)
+
 measure-centre-requires : tie.Need-measure-centre-requires Inv-loop μ-loop
 measure-centre-requires c κs =
     let s = c .before .before .before .before .before .before .before .before .before .before .before .before in
@@ -77,7 +82,7 @@ measure-centre-requires c κs =
       ready-at _ _ _ (s .args .index .now) _ _ _ _ _ _ _ (rows .ensures .0) (circles .ensures) (blank-ready _ _ _ (s .pre)),
       (
         omega (arith, node-first .ensures .1, rows .ensures .0),
-        blank-listed _ _ _ _ (rows .ensures .0) (s .pre),
+        blank-listed _ _ _ _ _ (rows .ensures .0) (omega arith) (s .pre),
       ),
     )
 
@@ -201,6 +206,7 @@ search-spec =
     pair-at-requires
     node-first-requires
     circles-requires
+    mul-measure-centre
     measure-centre-requires
     push-requires
     loop-holds

@@ -6,18 +6,18 @@ use Rattle.nearest_search.proofs.Growing.{CentresTo, centres-done, cent
 use Rattle.nearest_search.proofs.Staying.{centres-by, ready-by, ready-on}
 use Rattle.nearest_search.proofs.taking.measure_centres.Statement.{statement}
 use Rattle.nearest_search.proofs.taking.measure_centres.Tie as tie
-use Rattle.nearest_search.specs.Listed.{Listed}
+use Rattle.nearest_search.specs.Listed.{ListedTo}
 use Rattle.rowset.specs.Sets.{isIn}
 use Rattle.words.specs.Words.{circles#}
 use borrow.Author.Needs.{needs}
 use native.Mathlib.Omega.{arith}
 
 abbrev Inv-loop : tie.InvT-loop
-Inv-loop table c query index n w withdrawn how₀ work₀ held met a e o held₀ met₀ j₀ how work now-held now-met j =
-    CentresTo (from table c (circles# index) query) (isIn withdrawn) index n w how₀ how work₀ work a e j held now-held × Listed n how work now-met
+Inv-loop table c query index n w withdrawn how₀ work₀ held next a e o held₀ next₀ j₀ how work now-held now-next j =
+    CentresTo (from table c (circles# index) query) (isIn withdrawn) index n w how₀ how work₀ work a e j held now-held × ListedTo n how work now-next
 
 abbrev μ-loop : tie.MeasureT-loop
-μ-loop table c query index n w withdrawn how₀ work₀ held met a e o held₀ met₀ j₀ how work now-held now-met j = e - j
+μ-loop table c query index n w withdrawn how₀ work₀ held next a e o held₀ next₀ j₀ how work now-held now-next j = e - j
 
 -- seen from the reading of the circles: the start
 abbrev start : tie.After-circles Inv-loop μ-loop → tie.Start Inv-loop μ-loop
