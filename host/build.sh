@@ -8,6 +8,7 @@
 # CC, EMULATOR: another compiler or emulator. BOURASCUL_ARCHIVE: an archive to link in the place of rt's.
 # SECOND_CC: the compiler that the bench's yardstick is compiled by as well (clang beside gcc, gcc beside clang, where there is one).
 # BOURASCUL_OTHER: an archive of the library at another commit, for the bench to time beside this one.
+# BOURASCUL_OLDER: the same, of a commit before R-1, whose calls take no circles and no set (host/older.c gives them today's parameters).
 set -eu
 cd "$(dirname "$0")/.."
 
@@ -68,14 +69,18 @@ yardstick() {
     $1 -std=c99 -O3 $checks -fPIE -Wall -Wextra -Wpedantic -Ihost -DPLAIN_BY="$2" -c -o "$out/$2.o" host/plain_by.c
 }
 
-# The other archive as one object, in which every name but the calls is local, and these begin with other_.
+# The other archive $1 as one object, in which every name but the calls is local, and these begin with other_; but for the calls $2, which
+# begin with older_.
 rename_other() {
-    "$("$cc" -print-prog-name=ld)" -r --whole-archive "$BOURASCUL_OTHER" -o "$out/other.o"
+    "$("$cc" -print-prog-name=ld)" -r --whole-archive "$1" -o "$out/other.o"
     objcopy=$("$cc" -print-prog-name=objcopy)
     for call in build check write read radius nearest; do
-        "$objcopy" --redefine-sym "bourascul_$call=other_$call" "$out/other.o"
+        case " $2 " in
+        *" $call "*) "$objcopy" --redefine-sym "bourascul_$call=older_$call" "$out/other.o" ;;
+        *) "$objcopy" --redefine-sym "bourascul_$call=other_$call" "$out/other.o" ;;
+        esac
     done
-    "$objcopy" --wildcard --keep-global-symbol='other_*' "$out/other.o"
+    "$objcopy" --wildcard --keep-global-symbol='other_*' --keep-global-symbol='older_*' "$out/other.o"
 }
 
 with='' libraries=''
@@ -101,8 +106,11 @@ if [ -z "$checks" ] && has "${second%% *}" && yardstick "$second" plain_second 2
 else
     echo "host: the yardstick by one compiler alone"
 fi
-if [ -n "${BOURASCUL_OTHER:-}" ]; then
-    rename_other
+if [ -n "${BOURASCUL_OLDER:-}" ]; then
+    rename_other "$BOURASCUL_OLDER" 'build radius nearest'
+    with="$with $out/other.o host/older.c -DBENCH_OTHER"
+elif [ -n "${BOURASCUL_OTHER:-}" ]; then
+    rename_other "$BOURASCUL_OTHER" ''
     with="$with $out/other.o -DBENCH_OTHER"
 fi
 libraries=-lm
