@@ -17,7 +17,7 @@ use queue::push;
 use words::places::node_count;
 use words::places::node_first;
 use words::places::node_start;
-use words::places::stored_at;
+use words::places::pair_at;
 
 pub mod workspace;
 
@@ -51,10 +51,13 @@ fn queue_rows(
     ensures { λ r. ⌜ More (now (work .entry)) (now (work .exit)) len (e - (s + 1)) (λ (i : ℕ). placed (now (index .entry)) b x (s + suc i))
         last r ⌝ }
 {
+    // The positions' words do not move as entries are queued, which the compiler cannot tell.
+    let base = pair_at(index, 0);
     let mut size = len;
     let mut p = s + 1;
     while p < e {
-        let key = place_bound(b, x, stored_at(index, p));
+        let stored = index[base + 2 * p + 1];
+        let key = place_bound(b, x, stored);
         size = push_due(work, size, last, key, (2 * n + p) as u32);
         p += 1;
     }
