@@ -16,6 +16,18 @@ use mathlib.Core.Path.{_∙_, _≡_, ap, refl, subst, sym}
 use native.Mathlib.Decide.{ℕ-discrete}
 use native.Mathlib.Omega.{arith}
 
+-- a number from 1 on is one more than another
+pub one-more : (column j : ℕ) → 1 ≤ column → eqb (column - 1) j ≡ eqb column (suc j)
+one-more column j h = go (ℕ-discrete (column - 1) j)
+  where
+    go : Dec (column - 1 ≡ j) → eqb (column - 1) j ≡ eqb column (suc j)
+    go (yes e) = eq-eqb (column - 1) j e ∙ sym (eq-eqb column (suc j) (omega arith))
+    go (no e) = ne-eqb (column - 1) j e ∙ sym (ne-eqb column (suc j) (λ q. e (omega (arith, q))))
+
+-- and 0 is none
+not-zero : (column j : ℕ) → column ≡ 0 → false ≡ eqb column (suc j)
+not-zero column j e = sym (ne-eqb column (suc j) (λ q. absurd (omega (arith, e, q))))
+
 -- ---- one item
 module _ (names : List ℕ) (c : ℕ) (list : List ℕ) (i : ℕ) (there : Bool) (start end : ℕ) (f : Found 44 list i there start end) where
   -- the column that was said of its bytes is the item's
@@ -29,9 +41,15 @@ module _ (names : List ℕ) (c : ℕ) (list : List ℕ) (i : ℕ) (there : Bool)
   says-none j e = rw (sym (f .has) ∙ e) refl
 
   -- it is there: it says column j, or another
-  pub says-some : (j column : ℕ) → there ≡ true → column ≡ itemSays names c list i → eqb column (suc j) ≡ says names c list j i
+  says-some : (j column : ℕ) → there ≡ true → column ≡ itemSays names c list i → eqb column (suc j) ≡ says names c list j i
   unfolding says
   says-some j column e h = rw (sym (f .has) ∙ e, h) refl
+
+  pub says-zero : (j : ℕ) {column : ℕ} → there ≡ true → column ≡ itemSays names c list i → column ≡ 0 → false ≡ says names c list j i
+  says-zero j {column} e h z = not-zero column j z ∙ says-some j column e h
+
+  pub says-one : (j : ℕ) {column : ℕ} → there ≡ true → column ≡ itemSays names c list i → 1 ≤ column → eqb (column - 1) j ≡ says names c list j i
+  says-one j {column} e h z = one-more column j z ∙ says-some j column e h
 
   module _ (chosen : List ℕ) (k : ℕ) where
     -- nothing is wrong with an item that is not there
@@ -49,18 +67,6 @@ module _ (names : List ℕ) (c : ℕ) (list : List ℕ) (i : ℕ) (there : Bool)
         → v ≡ itemTrouble names c list chosen k i
     unfolding itemTrouble
     trouble-column e h s t = t ∙ rw (sym (f .has) ∙ e, lt-ltb i 16 h, s) refl
-
--- a number from 1 on is one more than another
-pub one-more : (column j : ℕ) → 1 ≤ column → eqb (column - 1) j ≡ eqb column (suc j)
-one-more column j h = go (ℕ-discrete (column - 1) j)
-  where
-    go : Dec (column - 1 ≡ j) → eqb (column - 1) j ≡ eqb column (suc j)
-    go (yes e) = eq-eqb (column - 1) j e ∙ sym (eq-eqb column (suc j) (omega arith))
-    go (no e) = ne-eqb (column - 1) j e ∙ sym (ne-eqb column (suc j) (λ q. e (omega (arith, q))))
-
--- and 0 is none
-pub not-zero : (column j : ℕ) → column ≡ 0 → false ≡ eqb column (suc j)
-not-zero column j e = sym (ne-eqb column (suc j) (λ q. absurd (omega (arith, e, q))))
 
 -- ---- one column
 module _ (chosen : List ℕ) (k column : ℕ) where
@@ -107,20 +113,21 @@ module _ (names : List ℕ) (c : ℕ) (list chosen : List ℕ) (k : ℕ) where
 
   pub right-all : {i : ℕ} → Right i → i ≡ 17 → i ≡ wrongItem names c list chosen k
   unfolding wrongItem
-  right-all {i} r e = subst (λ (x : ℕ). x ≡ firstTo bad x) e (sym r) ∙ ap (firstTo bad) refl
+  right-all {i} r e = e ∙ sym (subst (λ (x : ℕ). firstTo bad x ≡ x) e r)
 
   -- ---- the call
   -- the first wrong item is wrong
   first-wrong : {i : ℕ} → i ≡ wrongItem names c list chosen k → i < 17 → itemTrouble names c list chosen k i ≡ 0 → ⊥
   unfolding wrongItem
   first-wrong {i} e h z =
-      let w = first-passes bad 17 (omega (arith, e)) in
-      absurd (subst T (sym (subst (λ (x : ℕ). bad x ≡ true) (sym e) w) ∙ rw z refl) tt)
+      let w : bad i ≡ true = subst (λ (x : ℕ). bad x ≡ true) (sym e) (first-passes bad 17 (omega (arith, e))) in
+      let n : bad i ≡ false = rw z refl in
+      absurd (subst T (sym w ∙ n) tt)
 
   -- so it is there
-  wrong-there : {i : ℕ} → (itemTrouble names c list chosen k i ≡ 0 → ⊥) → hasPiece 44 list i ≡ true
+  wrong-there : (i : ℕ) → (itemTrouble names c list chosen k i ≡ 0 → ⊥) → hasPiece 44 list i ≡ true
   unfolding itemTrouble
-  wrong-there {i} n = go (hasPiece 44 list i) n
+  wrong-there i n = go (hasPiece 44 list i) n
     where
       go : (b : Bool) → (cond b (cond (ltb i mostItems) (columnTrouble chosen k (itemSays names c list i)) 14) 0 ≡ 0 → ⊥) → b ≡ true
       go true n = refl
@@ -131,7 +138,7 @@ module _ (names : List ℕ) (c : ℕ) (list chosen : List ℕ) (k : ℕ) where
       → v ≡ itemTrouble names c list chosen k i → Circled names c list chosen k v start end 0
   circled-wrong {i} {v} {start} {end} {there} e h f t =
       let n = first-wrong e (omega arith) in
-      let at = f .spot (f .has ∙ wrong-there n) in
+      let at = f .spot (f .has ∙ wrong-there i n) in
       record {
         said = t ∙ sym (rw (sym e, lt-ltb i 17 (omega arith)) refl);
         spot = λ z. (at .0 ∙ ap (beginOf 44 list) e, at .1, refl);

@@ -22,12 +22,12 @@ module _ {names : List ℕ} {c : ℕ} {list chosen : List ℕ} {k : ℕ} where
   -- a set of 32 bits has none at or above the chosen columns: a build takes it
   pub circles-fit : {set : ℕ} → Bits names c list chosen k set → set < 4_294_967_296 → k ≤ 16 → circlesOk k set ≡ true
   circles-fit {set} b s h =
-      let low = low-word set k s (omega arith) (λ i l m. no-digit set i (b i ∙ rw (le-ltb i k l) refl)) in
+      let low = low-word set k s (omega arith) (λ i l m. no-digit set i (b .each i ∙ rw (le-ltb i k l) refl)) in
       rw (div-eq-of-lt low) refl
 
   -- A PLACE IS A CIRCLE EXACTLY IF AN ITEM SAYS ITS COLUMN
   pub circle-said : {set : ℕ} → Bits names c list chosen k set → (j : ℕ) → j < k → isCircle set j ≡ isSaid names c list (getD chosen j 0)
-  circle-said b j h = b j ∙ rw (lt-ltb j k h) refl
+  circle-said b j h = b .each j ∙ rw (lt-ltb j k h) refl
 
   -- NO SECOND OUTCOME FITS
   pub circles-only : {w₁ w₂ s₁ s₂ e₁ e₂ o₁ o₂ : ℕ} → Circled names c list chosen k w₁ s₁ e₁ o₁ → Circled names c list chosen k w₂ s₂ e₂ o₂
@@ -41,7 +41,7 @@ module _ {names : List ℕ} {c : ℕ} {list chosen : List ℕ} {k : ℕ} where
             e,
             x .0 ∙ sym (y .0),
             x .1 ∙ sym (y .1),
-            same-digits 32 o₁ o₂ h g (λ i l. alike (digit o₁ i) (digit o₂ i) (omega arith) (omega arith) (a .bits z i ∙ sym (b .bits (sym e ∙ z) i))),
+            same-digits 32 o₁ o₂ h g (λ i l. alike (digit o₁ i) (digit o₂ i) (omega arith) (omega arith) (a .bits z .each i ∙ sym (b .bits (sym e ∙ z) .each i))),
           )
         where
           alike : (x y : ℕ) → x < 2 → y < 2 → eqb x 1 ≡ eqb y 1 → x ≡ y

@@ -47,8 +47,8 @@ module _ (names : List ℕ) (c : ℕ) (list chosen : List ℕ) (k : ℕ) where
   wrongItem = firstTo (λ i. not (eqb (itemTrouble i) 0)) (suc mostItems)
 
 -- THE SET OF CIRCLES: the bit of place j is on exactly if one of the k columns is chosen there and an item says it
-abbrev pub Bits : List ℕ → ℕ → List ℕ → List ℕ → ℕ → ℕ → Type 0
-Bits names c list chosen k set = (j : ℕ) → isCircle set j ≡ (ltb j k && isSaid names c list (getD chosen j 0))
+pub record Bits (names : List ℕ) (c : ℕ) (list chosen : List ℕ) (k set : ℕ) : Type 0 where
+  pub each : (j : ℕ) → isCircle set j ≡ (ltb j k && isSaid names c list (getD chosen j 0))
 
 -- for every list: what is wrong and where that stands, or the set of circles
 pub record Circled (names : List ℕ) (c : ℕ) (list chosen : List ℕ) (k wrong start end set : ℕ) : Type 0 where

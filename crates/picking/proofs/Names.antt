@@ -10,7 +10,7 @@ use borrow.Author.Tests.{le-ltb, lt-ltb}
 use lib.Dec.{eqb, ltb}
 use mathlib.Core.Bool.{Bool, _&&_, _||_, cond, false, true}
 use mathlib.Core.List.{List}
-use mathlib.Core.Path.{_∙_, _≡_, ap, refl, subst, sym}
+use mathlib.Core.Path.{_∙_, _≡_, ap, ap₂, refl, sym}
 use native.Mathlib.Numerals.{add-one}
 use native.Mathlib.Omega.{arith}
 
@@ -27,7 +27,7 @@ module _ (l name : List ℕ) (found column start end : ℕ) (s : start ≡ spanO
     unfolding isNamed fieldIn
     told =
         rw (lt-ltb (spanOf l (column - 1) .0) (spanOf l (column - 1) .1) (omega (arith, s, e)))
-        (sym (same-told r p name t ∙ ap (λ (x : List ℕ). same x name) (q ∙ rw (s, e) refl)))
+        (sym (same-told r p name t ∙ ap (λ (x : List ℕ). same x name) (q ∙ ap₂ (partOf l) s e)))
 
     -- it is another
     pub named-other : r ≡ false → found ≡ withName l name found column

@@ -1,40 +1,31 @@
-use borrow.Author.Needs.{needs}
+-- `picking::choosing::column_said` meets its contract: a name is looked up, and a number is a column or none.
+-- Assumes nothing.
+use Rattle.picking.proofs.Names.{said-beyond, said-name, said-number, said-wide}
 use Rattle.picking.proofs.choosing.column_said.Statement.{statement}
 use Rattle.picking.proofs.choosing.column_said.Tie as tie
-use Rattle.picking.proofs.choosing.column_said.Reads as reads
-use Rattle.picking.proofs.choosing.column_said.Lts as lts
-use Rattle.asking.proofs.numbers.number.Reads as number-reads
-use Rattle.picking.proofs.fields.column_of.Reads as column-of-reads
+use borrow.Author.Needs.{needs}
+use native.Mathlib.Omega.{arith}
 
--- src/choosing.rt:68:9
-number-requires : tie.Need-number-requires
-number-requires c κs = search needs
-
--- src/choosing.rt:70:9
-column-of-requires : tie.Need-column-of-requires
-column-of-requires c κs = search needs
-
--- src/choosing.rt:70:9
 returns : tie.Need-returns
-returns c = search needs
+returns c = (said-name _ _ _ _ (c .before .before .number .ensures .0) (omega arith) (c .column-of .ensures .0), c .column-of .ensures .1)
 
--- src/choosing.rt:72:18
-cast-column : tie.Need-cast-column
-cast-column c = search needs
-
--- src/choosing.rt:74:9
 returns-2 : tie.Need-returns-2
-returns-2 c = search needs
+returns-2 c = (said-wide _ _ _ _ (c .before .before .number .ensures .0) (omega arith) (omega arith), omega arith)
 
--- src/choosing.rt:77:9
 returns-3 : tie.Need-returns-3
-returns-3 c = search needs
+returns-3 c = (said-beyond _ _ _ _ (c .before .before .before .number .ensures .0) (omega arith) (omega arith) (omega arith), omega arith)
 
--- src/choosing.rt:65:1
 returns-4 : tie.Need-returns-4
-returns-4 c = search needs
+returns-4 c = (said-number _ _ _ _ (c .before .before .before .number .ensures .0) (omega arith) (omega arith) (omega arith), omega arith)
 
 pub column-said-spec : {M : Type 1} → statement M
 column-said-spec =
     tie.close
-    (tie.spec number-requires column-of-requires returns cast-column returns-2 returns-3 returns-4)
+    (tie.spec
+    (λ c κs. search needs)
+    (λ c κs. search needs)
+    returns
+    (λ c. search needs)
+    returns-2
+    returns-3
+    returns-4)

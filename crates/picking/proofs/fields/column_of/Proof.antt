@@ -24,7 +24,7 @@ loop-again c = (names-next _ _ _ _ _ (c .before .before .loop .inv .0) (c .with-
 returns : tie.Need-returns Inv-loop μ-loop
 returns c =
     let l = c .before .loop in
-    let a = c .before .before .before .args in
+    let a = c .before .before .before .before .args in
     let e : l .k ≡ 16 = omega (arith, l .inv .2) in
     (l .inv .0 ∙ ap (λ (x : ℕ). namedTo (a .line .now) (a .name .now) x) e, l .inv .1)
 
