@@ -15,7 +15,7 @@ enum {
     MOST_NUMBERS = 1 << 20,
     EDITION = 2,  /* what both programs build */
     NODE_WORDS = 5,
-    CENTRES = 4,  /* what the analyst's program builds with */
+    CENTRES = 2,  /* what the analyst's program builds with */
     LEAF = 1024,
     MOST_ROWS = 1 << 16,
     MOST_FIELDS = 16,

@@ -138,7 +138,7 @@ fn round() {
         b"season.csv\x00like\x00288,774\x00120\x00--circle\x005,heading\x00--columns\x001,2,4,5\x00--by\x00distance\x00",
     );
     ask(
-        b"season.csv\x00like\x00=0,3590\x0030\x00--circle\x00heading\x00--columns\x00fan_pressure,heading\x00--lines\x00",
+        b"season.csv\x00like\x00=424,3590\x0030\x00--circle\x00heading\x00--columns\x00fan_pressure,heading\x00--lines\x00",
     );
     ask(
         b"season.csv\x00like\x00916\x0050\x00--columns\x00heading,speed,5\x00--circle\x00heading\x00",
