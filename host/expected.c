@@ -15,7 +15,7 @@ enum {
     MOST_NUMBERS = 1 << 20,
     EDITION = 2,  /* what both programs build */
     NODE_WORDS = 5,
-    CENTRES = 4,  /* what the analyst's program builds with */
+    CENTRES = 2,  /* what the analyst's program builds with */
     LEAF = 1024,
     MOST_ROWS = 1 << 16,
     MOST_FIELDS = 16,
@@ -106,9 +106,9 @@ static size_t order[MOST_ROWS];       /* the answers, by row number */
 static uint32_t away[MOST_ROWS];      /* the distance of each row */
 
 static const struct { const char *name; int takes; } options[] = {
-    { "--columns", 1 }, { "--label", 1 }, { "--by", 1 }, { "--count", 0 }, { "--csv", 0 }, { "--lines", 0 }
+    { "--columns", 1 }, { "--circle", 1 }, { "--label", 1 }, { "--by", 1 }, { "--count", 0 }, { "--csv", 0 }, { "--lines", 0 }
 };
-enum { COLUMNS, LABEL, BY, COUNT, CSV, LINES, OPTIONS };
+enum { COLUMNS, CIRCLE, LABEL, BY, COUNT, CSV, LINES, OPTIONS };
 
 static char *plain[4], *given[OPTIONS]; /* FILE, the way, WHAT, the amount; the options' values, "" for those without */
 
@@ -212,6 +212,20 @@ static uint32_t choose(const char *list, size_t label)
     }
 }
 
+/* Of the k chosen columns, those that the list says are circles, as bits. */
+static uint32_t circles_of(const char *list, uint32_t k)
+{
+    uint32_t set = 0;
+    while (list != NULL) {
+        size_t length = strcspn(list, ","), column = column_of(list, length);
+        for (uint32_t j = 0; j < k; j++)
+            if (chosen[j] == column)
+                set |= (uint32_t)1 << j;
+        list = list[length] == 0 ? NULL : list + length + 1;
+    }
+    return set;
+}
+
 static void fill_table(uint32_t k)
 {
     size_t length;
@@ -303,14 +317,14 @@ static void print_answers(size_t found, size_t label)
 }
 
 /* How many distances the searches measure, by the naive index and searches. */
-static size_t measured_by(uint32_t k, const uint16_t *query, size_t queries, int like, uint32_t amount)
+static size_t measured_by(uint32_t k, uint32_t circles, const uint16_t *query, size_t queries, int like, uint32_t amount)
 {
     struct naive_table table = { number, rows * k, k };
     struct naive_room room = { room_for(12 * rows + 8, 4), 12 * rows + 8 }, work = { room_for(6 * rows, 4), 6 * rows };
     struct naive_room answers = { room_for(rows, 4), rows }, distances = { room_for(rows, 4), rows };
     struct naive_set none = { room_for(rows / 32 + 1, 4), (rows + 31) / 32 };
     struct naive_bytes how = { room_for(rows, 1), rows };
-    struct naive_index index = { room.words, naive_build(table, CENTRES, LEAF, 0, EDITION, room, work).one };
+    struct naive_index index = { room.words, naive_build(table, CENTRES, LEAF, circles, EDITION, room, work).one };
     size_t measured = 0;
     for (size_t i = 0; i < queries; i++) {
         struct naive_query asked = { query + i * k, k };
@@ -326,14 +340,14 @@ static int minutes(int count, char **word)
     take_words(count, word);
     read_lines(plain[0]);
     size_t label = given[LABEL] == NULL ? MOST_FIELDS : column_of(given[LABEL], strlen(given[LABEL])), found = 0;
-    uint32_t k = choose(given[COLUMNS], label), amount = (uint32_t)strtoul(plain[3], NULL, 10);
+    uint32_t k = choose(given[COLUMNS], label), circles = circles_of(given[CIRCLE], k), amount = (uint32_t)strtoul(plain[3], NULL, 10);
     fill_table(k);
     size_t queries = fill_queries(plain[2], k, query);
     int like = strcmp(plain[1], "like") == 0;
     for (size_t i = 0; i < rows; i++) {
         away[i] = UINT32_MAX;
         for (size_t j = 0; j < queries; j++) {
-            uint32_t d = naive_distance(query + j * k, number + i * k, k, 0);
+            uint32_t d = naive_distance(query + j * k, number + i * k, k, circles);
             away[i] = d < away[i] ? d : away[i];
         }
         if (!like || away[i] <= amount)
@@ -347,7 +361,7 @@ static int minutes(int count, char **word)
         printf("%zu\n", found);
     else
         print_answers(found, label);
-    print_found(found, measured_by(k, query, queries, like, amount));
+    print_found(found, measured_by(k, circles, query, queries, like, amount));
     printf("status %d\n", found == 0);
     return 0;
 }

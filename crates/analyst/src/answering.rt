@@ -116,14 +116,14 @@ fn lesser(a: u32, b: u32) -> u32 {
 }
 
 // The distance of two rows of the same columns.
-fn apart(a: &[u16], b: &[u16]) -> u32 {
+fn apart(a: &[u16], b: &[u16], circles: u32) -> u32 {
     if a.len() != b.len() {
         return FAR;
     }
     if 16 < a.len() {
         return FAR;
     }
-    distance(a, b, 0)
+    distance(a, b, circles)
 }
 
 // Where the row of c columns behind place `at` ends; the end where there is none.
@@ -138,13 +138,13 @@ fn row_end(length: usize, at: usize, c: usize) -> usize
 }
 
 // The least distance of a row from the queries, one of c numbers after the other.
-fn least_distance(row: &[u16], c: usize, queries: &[u16], count: usize) -> u32 {
+fn least_distance(row: &[u16], c: usize, circles: u32, queries: &[u16], count: usize) -> u32 {
     let mut least = FAR;
     let mut at = 0;
     let mut i = 0;
     while i < count {
         let end = row_end(queries.len(), at, c);
-        least = lesser(least, apart(row, numbers_part(queries, at, end)));
+        least = lesser(least, apart(row, numbers_part(queries, at, end), circles));
         at = end;
         i += 1;
     }
@@ -208,17 +208,25 @@ fn keep_row(
 }
 
 // The distance of a row that is marked; another is not measured.
-fn marked_distance(mark: u8, row: &[u16], c: usize, queries: &[u16], count: usize) -> u32 {
+fn marked_distance(
+    mark: u8,
+    row: &[u16],
+    c: usize,
+    circles: u32,
+    queries: &[u16],
+    count: usize,
+) -> u32 {
     if mark != 1 {
         return FAR;
     }
-    least_distance(row, c, queries, count)
+    least_distance(row, c, circles, queries, count)
 }
 
-// Keeps the rows of c columns that are marked, with their distances, in row order. Gives how many.
+// Keeps the rows of c columns, of which some are circles, that are marked, with their distances, in row order. Gives how many.
 pub fn keep_marked(
     table: &[u16],
     c: usize,
+    circles: u32,
     queries: &[u16],
     count: usize,
     marks: &[u8],
@@ -234,7 +242,14 @@ pub fn keep_marked(
     while i < last {
         let end = row_end(table.len(), at, c);
         let mark = marks[i];
-        let away = marked_distance(mark, numbers_part(table, at, end), c, queries, count);
+        let away = marked_distance(
+            mark,
+            numbers_part(table, at, end),
+            c,
+            circles,
+            queries,
+            count,
+        );
         kept = keep_row(i, mark, away, rows, distances, kept);
         at = end;
         i += 1;

@@ -4,6 +4,8 @@ use crate::saying::say;
 use crate::saying::say_count;
 use crate::saying::say_number;
 use sheet::Reader;
+use statuses::no_room;
+use statuses::text_faulty;
 
 // A row that has another count than the rows above, or than the names if it is the first row.
 fn say_uneven(file: i32, count: usize, columns: usize, rows: usize) {
@@ -61,10 +63,10 @@ pub fn status_of(fault: u32) -> u32
     ensures { λ r. ⌜ r ≤ 4 ⌝ }
 {
     if fault == sheet::TOO_MANY_ROWS {
-        return 4;
+        return no_room();
     }
     if fault == sheet::TABLE_SHORT {
-        return 4;
+        return no_room();
     }
-    3
+    text_faulty()
 }

@@ -18,6 +18,8 @@ use asking::pieces::bytes_of;
 use asking::pieces::end_from;
 use asking::pieces::least;
 use asking::pieces::part;
+use circling::Circles;
+use circling::circles_of;
 use finder::find_nearest;
 use finder::mark_near;
 use lines::put_bytes;
@@ -36,17 +38,11 @@ use reading::Sheet;
 use saying::say;
 use saying::say_number;
 use saying::say_quoted;
-
-// The statuses.
-pub const ANSWERED: u32 = 0;
-
-pub const NOTHING_FOUND: u32 = 1;
-
-pub const ASKED_WRONGLY: u32 = 2;
-
-pub const TEXT_FAULTY: u32 = 3;
-
-pub const NO_ROOM: u32 = 4;
+use statuses::answered;
+use statuses::asked_wrongly;
+use statuses::no_room;
+use statuses::nothing_found;
+use statuses::text_faulty;
 
 // The descriptor at which the launcher listens for the status, since a program of the kit has no exit status; where nobody does, nothing is written.
 pub const STATUS_FILE: i32 = 3;
@@ -91,7 +87,7 @@ fn line_of_rows(names: bool) -> usize
 }
 
 // A number times its factor is too great for the table.
-fn say_product(file: i32, row: usize, names: bool, column: usize) {
+fn say_product(file: i32, row: usize, names: bool, column: usize, circle: bool) {
     say(file, b"line ");
     let line = line_of_rows(names);
     if row <= 1_048_576 {
@@ -100,6 +96,13 @@ fn say_product(file: i32, row: usize, names: bool, column: usize) {
     say(file, b", column ");
     if column <= 16 {
         say_number(file, column + 1);
+    }
+    if circle {
+        say(
+            file,
+            b": a number times its factor above 3,599, in a circle\n",
+        );
+        return;
     }
     say(file, b": a number times its factor above 65,535\n");
 }
@@ -144,6 +147,7 @@ fn put_named(
     text: &[u8],
     sheet: Sheet,
     what: &[u8],
+    circles: u32,
     choice: Choice,
     table: &[u16],
     starts: &mut [u32],
@@ -159,7 +163,7 @@ fn put_named(
     }
     if sign == 0 {
         let factors = choice.factors;
-        return naming::put_values(behind(what, 0), factors, k, queries);
+        return naming::put_values(behind(what, 0), circles, factors, k, queries);
     }
     put_labelled(text, sheet, what, table, k, starts, queries)
 }
@@ -178,7 +182,7 @@ fn refuse(file: i32, number: u32) -> u32
     say(file, b"refused ");
     say_number(file, number as usize);
     say(file, b"\n");
-    NO_ROOM
+    no_room()
 }
 
 // Keeps where the rows' lines start, if these are to be shown.
@@ -225,7 +229,11 @@ fn write_given(
 {
     write_rows(plan, text, starts, rows, distances, given);
     saying::say_found(plan.err, given, measured, plan.n);
-    if given == 0 { NOTHING_FOUND } else { ANSWERED }
+    if given == 0 {
+        nothing_found()
+    } else {
+        answered()
+    }
 }
 
 // Puts the answers in the order that is asked for.
@@ -256,6 +264,7 @@ fn write_marked(
     let kept = keep_marked(
         table,
         plan.k,
+        plan.circles,
         queries,
         plan.queries,
         part(marks, 0, plan.n),
@@ -265,9 +274,6 @@ fn write_marked(
     order(plan.by_distance, rows, distances, kept, work);
     write_given(plan, text, starts, rows, distances, kept, measured)
 }
-
-// No column of the text is a circle.
-const NO_CIRCLES: u32 = 0;
 
 // As many words as the set of the most rows has.
 const SET_WORDS: usize = 32_768;
@@ -309,7 +315,7 @@ fn answer_like(
     let found = mark_near(
         table,
         plan.k,
-        NO_CIRCLES,
+        plan.circles,
         queries,
         plan.number,
         &struck[0..end],
@@ -356,7 +362,7 @@ fn answer_nearest(
     let found = find_nearest(
         table,
         plan.k,
-        NO_CIRCLES,
+        plan.circles,
         query,
         wanted,
         &struck[0..end],
@@ -388,6 +394,7 @@ fn plan_of(q: Question, ends: Ends, sheet: Sheet) -> Plan {
         from: sheet.from,
         names: sheet.names,
         label: sheet.reader.label,
+        circles: 0,
         k: 0,
         n: sheet.reader.rows,
         used: 0,
@@ -431,12 +438,13 @@ fn answer(
     answer_nearest(plan, text, table, queries, room, work, how, rows, distances)
 }
 
-// The plan for so many columns, and so many numbers of the table.
-fn with_table(plan: Plan, k: usize, used: usize) -> Plan
+// The plan for so many columns, of which some are circles, and so many numbers of the table.
+fn with_table(plan: Plan, circles: u32, k: usize, used: usize) -> Plan
     requires { ⌜ k ≤ 16 ⌝ }
     ensures { λ r. ⌜ r .k ≤ 16 ⌝ }
 {
     let mut full = plan;
+    full.circles = circles;
     full.k = k;
     full.used = used;
     full
@@ -472,10 +480,10 @@ fn say_trouble(plan: Plan, named: Named, what: &[u8], n: usize, k: usize) -> u32
 {
     let wrong = trouble_of(plan.asks, named);
     if wrong == 0 {
-        return ANSWERED;
+        return answered();
     }
     telling::say_named_wrong(plan.err, wrong, named.more, what, n, k);
-    ASKED_WRONGLY
+    asked_wrongly()
 }
 
 // Puts the queries that the question is about. Gives how many; 0 where something is wrong with them, and is said.
@@ -492,7 +500,16 @@ fn put_queries(
     requires { ⌜ (choice .k * sheet .reader .rows ≤ length (now table)) × (choice .k ≤ maxColumns) × (length (now queries) ≡ 1024) ⌝ }
     ensures { λ r. ⌜ r ≤ 64 ⌝ }
 {
-    let named = put_named(text, sheet, what, choice, table, starts, queries);
+    let named = put_named(
+        text,
+        sheet,
+        what,
+        plan.circles,
+        choice,
+        table,
+        starts,
+        queries,
+    );
     let status = say_trouble(plan, named, what, sheet.reader.rows, choice.k);
     if status != 0 {
         return 0;
@@ -518,7 +535,7 @@ fn answer_queries(
     ensures { λ r. ⌜ r ≤ 4 ⌝ }
 {
     if count == 0 {
-        return ASKED_WRONGLY;
+        return asked_wrongly();
     }
     let end = product(plan.k, count);
     answer(
@@ -575,6 +592,7 @@ fn ask_rows(
     what: &[u8],
     plan: Plan,
     sheet: Sheet,
+    circles: u32,
     choice: Choice,
     text: &[u8],
     table: &[u16],
@@ -601,7 +619,7 @@ fn ask_rows(
     }
     ask_named(
         what,
-        with_table(plan, k, used),
+        with_table(plan, circles, k, used),
         sheet,
         choice,
         text,
@@ -616,7 +634,7 @@ fn ask_rows(
 }
 
 // Chooses the columns, in place. Gives the status, 0 where they are chosen.
-fn choose_columns(file: i32, sheet: Sheet, choice: Choice, table: &mut [u16]) -> u32
+fn choose_columns(file: i32, sheet: Sheet, circles: u32, choice: Choice, table: &mut [u16]) -> u32
     ensures { λ r. ⌜ r ≤ 4 ⌝ }
 {
     let chosen = choice.chosen;
@@ -625,20 +643,23 @@ fn choose_columns(file: i32, sheet: Sheet, choice: Choice, table: &mut [u16]) ->
         table,
         sheet.reader.columns,
         sheet.reader.rows,
+        circles,
         chosen,
         factors,
         choice.k,
     );
     let number = chose.number;
     if number == 0 {
-        return ANSWERED;
+        return answered();
     }
+    let column = chose.column;
     say_unchosen(
         file,
         number,
         chose.row,
         sheet.names,
-        chosen_at(choice, chose.column),
+        chosen_at(choice, column),
+        bit_of(circles, column),
     )
 }
 
@@ -648,7 +669,7 @@ fn say_choice(file: i32, choice: Choice, list: &[u8], text: &[u8]) -> u32
 {
     let wrong = choice.wrong;
     if wrong == 0 {
-        return ANSWERED;
+        return answered();
     }
     telling::say_columns_wrong(
         file,
@@ -656,7 +677,40 @@ fn say_choice(file: i32, choice: Choice, list: &[u8], text: &[u8]) -> u32
         part(list, choice.start, choice.end),
         places::first_line(text),
     );
-    ASKED_WRONGLY
+    asked_wrongly()
+}
+
+// The circles among the columns that count: those of the list, or none.
+fn circles_asked(words: &[u8], q: Question, names: &[u8], c: usize, choice: Choice) -> Circles
+    requires { ⌜ choice .k ≤ 16 ⌝ }
+{
+    if !q.circle.there {
+        return Circles {
+            wrong: 0,
+            start: 0,
+            end: 0,
+            set: 0,
+        };
+    }
+    let chosen = choice.chosen;
+    circles_of(names, c, bytes_of(words, q.circle), chosen, choice.k)
+}
+
+// Says what is wrong with the list of circles. Gives the status, 0 where nothing is.
+fn say_circles(file: i32, circled: Circles, list: &[u8], text: &[u8]) -> u32
+    ensures { λ r. ⌜ r ≤ 4 ⌝ }
+{
+    let wrong = circled.wrong;
+    if wrong == 0 {
+        return answered();
+    }
+    telling::say_circles_wrong(
+        file,
+        wrong,
+        part(list, circled.start, circled.end),
+        places::first_line(text),
+    );
+    asked_wrongly()
 }
 
 // Answers a question about a text that was read into the table.
@@ -688,7 +742,19 @@ fn ask_sheet(
     if wrong != 0 {
         return wrong;
     }
-    let unchosen = choose_columns(ends.err, sheet, choice, table);
+    let circled = circles_asked(
+        words,
+        q,
+        names_of(text, sheet.names),
+        reader.columns,
+        choice,
+    );
+    let unround = say_circles(ends.err, circled, bytes_of(words, q.circle), text);
+    if unround != 0 {
+        return unround;
+    }
+    let circles = circled.set;
+    let unchosen = choose_columns(ends.err, sheet, circles, choice, table);
     if unchosen != 0 {
         return unchosen;
     }
@@ -696,6 +762,7 @@ fn ask_sheet(
         bytes_of(words, q.what),
         plan_of(q, ends, sheet),
         sheet,
+        circles,
         choice,
         text,
         table,
@@ -737,7 +804,7 @@ fn say_label(file: i32, wrong: u32, words: &[u8], q: Question, text: &[u8]) -> u
     ensures { λ r. ⌜ r ≤ 4 ⌝ }
 {
     if wrong == 0 {
-        return ANSWERED;
+        return answered();
     }
     telling::say_columns_wrong(
         file,
@@ -745,7 +812,7 @@ fn say_label(file: i32, wrong: u32, words: &[u8], q: Question, text: &[u8]) -> u
         bytes_of(words, q.label),
         places::first_line(text),
     );
-    ASKED_WRONGLY
+    asked_wrongly()
 }
 
 // Answers a question about a text whose column of labels is known (0: there is none).
@@ -846,19 +913,27 @@ fn chosen_at(choice: Choice, j: usize) -> usize {
     }
 }
 
+// Place j of the chosen columns is a circle.
+fn bit_of(circles: u32, j: usize) -> bool {
+    if choosing::MOST_COLUMNS <= j {
+        return false;
+    }
+    (circles >> j) % 2 == 1
+}
+
 // The columns could not be chosen: a product is too great, or there are more or fewer columns than can be.
-fn say_unchosen(file: i32, number: u32, row: usize, names: bool, column: usize) -> u32
+fn say_unchosen(file: i32, number: u32, row: usize, names: bool, column: usize, circle: bool) -> u32
     ensures { λ r. ⌜ r ≤ 4 ⌝ }
 {
     if number == 2 {
-        say_product(file, row, names, column);
-        return TEXT_FAULTY;
+        say_product(file, row, names, column, circle);
+        return text_faulty();
     }
     say(
         file,
         b"as many columns can be chosen as the text has, and one at least\n",
     );
-    ASKED_WRONGLY
+    asked_wrongly()
 }
 
 // Reads the text of an open file, and answers. The file is closed before.
@@ -882,13 +957,13 @@ fn ask_file(
     libc::close(file);
     if !came.whole {
         say_quoted(ends.err, b"", bytes_of(words, q.file), b" can't be read");
-        return ASKED_WRONGLY;
+        return asked_wrongly();
     }
     if !came.fits {
         say(ends.err, b"the text is longer than ");
         saying::say_grouped(ends.err, text.len());
         say(ends.err, b" bytes\n");
-        return NO_ROOM;
+        return no_room();
     }
     let length = came.length;
     ask_text(
@@ -936,17 +1011,17 @@ pub fn run(
     ensures { λ r. ⌜ r ≤ 4 ⌝ }
 {
     if tells(words, ends.out) {
-        return ANSWERED;
+        return answered();
     }
     let q = asking::ask(words);
     if q.wrong != 0 {
         telling::say_asked_wrong(ends.err, words, q);
-        return ASKED_WRONGLY;
+        return asked_wrongly();
     }
     let file = opened(bytes_of(words, q.file));
     if file < 0 {
         say_quoted(ends.err, b"can't open ", bytes_of(words, q.file), b"");
-        return ASKED_WRONGLY;
+        return asked_wrongly();
     }
     ask_file(
         words,
@@ -1006,5 +1081,5 @@ pub fn refuse_words(err: i32) -> u32
     ensures { λ r. ⌜ r ≤ 4 ⌝ }
 {
     say(err, b"the arguments are too long\n");
-    ASKED_WRONGLY
+    asked_wrongly()
 }

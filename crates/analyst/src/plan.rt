@@ -1,8 +1,8 @@
 // What is to be done once the text is read and the question is understood.
 
 // Where answers go and where all else; what is asked for and its number; how answers are shown; where the first
-// row's line starts, and whether names stand before it; the column of labels (0: none); the chosen columns, the rows, how many numbers of the table
-// these are, and how many queries there are.
+// row's line starts, and whether names stand before it; the column of labels (0: none); which places of the chosen columns are
+// circles; the chosen columns, the rows, how many numbers of the table these are, and how many queries there are.
 pub struct Plan {
     pub out: i32,
     pub err: i32,
@@ -15,6 +15,7 @@ pub struct Plan {
     pub from: usize,
     pub names: bool,
     pub label: usize,
+    pub circles: u32,
     pub k: usize,
     pub n: usize,
     pub used: usize,

@@ -47,6 +47,10 @@ pub(crate) fn say_help(file: i32) {
     );
     say(
         file,
+        b"  --circle NAME,..            of these, those that go round: circles of 3,600 tenths of a degree\n",
+    );
+    say(
+        file,
         b"  --label NAME                a column that is no number and does not count: it is shown, and asked by: time=2026-04-12T07:31\n",
     );
     say(
@@ -68,14 +72,14 @@ pub(crate) fn say_asked_wrong(file: i32, words: &[u8], q: Question) {
             file,
             b"there is no option ",
             word,
-            b"; there are --columns, --label, --count, --csv, --lines, --by, --help and --version",
+            b"; there are --columns, --circle, --label, --count, --csv, --lines, --by, --help and --version",
         );
     } else if q.wrong == asking::NO_VALUE {
         say_quoted(
             file,
             b"",
             word,
-            b" needs a value: --columns speed,fan_pressure*2, --label time, --by distance",
+            b" needs a value: --columns speed,fan_pressure*2, --circle heading, --label time, --by distance",
         );
     } else if q.wrong == asking::TWICE {
         say_quoted(file, b"", word, b" is given twice");
@@ -154,6 +158,22 @@ pub(crate) fn say_columns_wrong(file: i32, wrong: u32, item: &[u8], names: &[u8]
     }
 }
 
+// What is wrong with an item of the list of circles.
+pub(crate) fn say_circles_wrong(file: i32, wrong: u32, item: &[u8], names: &[u8]) {
+    if wrong == circling::NOT_COUNTED {
+        say_quoted(
+            file,
+            b"a circle is one of the columns that count, and ",
+            item,
+            b" is not",
+        );
+    } else if wrong == choosing::TOO_MANY {
+        say(file, b"at most 16 circles can be named\n");
+    } else {
+        say_columns_wrong(file, wrong, item, names);
+    }
+}
+
 // What is wrong with what is asked about; `more` says which row, which value or how many.
 pub(crate) fn say_named_wrong(file: i32, wrong: u32, more: usize, what: &[u8], n: usize, k: usize) {
     if wrong == naming::NO_ROW {
@@ -171,6 +191,13 @@ pub(crate) fn say_named_wrong(file: i32, wrong: u32, more: usize, what: &[u8], n
         say(file, b"value ");
         say_number(file, more);
         say(file, b" times its factor is no whole number up to 65,535\n");
+    } else if wrong == naming::OFF_CIRCLE {
+        say(file, b"value ");
+        say_number(file, more);
+        say(
+            file,
+            b" times its factor is no number of a circle, which has 3,600\n",
+        );
     } else if wrong == naming::TOO_FEW_VALUES {
         say(file, b"there are ");
         say_count(file, k, b"column");

@@ -42,7 +42,7 @@ same-told r xs ys h = go r (same xs ys) refl refl
 -- ---- pieces
 module _ (b : ℕ) (t : List ℕ) (i : ℕ) (there : Bool) (start end : ℕ) (f : Found b t i there start end) where
   -- a piece that is there is a part of the text
-  part-piece : there ≡ true → partOf t start end ≡ pieceOf b t i
+  pub part-piece : there ≡ true → partOf t start end ≡ pieceOf b t i
   unfolding partOf pieceOf
   part-piece e =
       let x : min end (length t) ≡ end = omega (arith, f .inside .1) in

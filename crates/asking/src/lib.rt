@@ -43,11 +43,13 @@ const BY: u32 = 2;
 
 const LABEL: u32 = 3;
 
-const COUNT: u32 = 4;
+const CIRCLE: u32 = 4;
 
-const CSV: u32 = 5;
+const COUNT: u32 = 5;
 
-const LINES: u32 = 6;
+const CSV: u32 = 6;
+
+const LINES: u32 = 7;
 
 // More words than this are too many.
 const MOST_WORDS: usize = 32;
@@ -62,6 +64,7 @@ pub struct Question {
     pub amount: Piece,
     pub columns: Piece,
     pub label: Piece,
+    pub circle: Piece,
     pub by_distance: bool,
     pub count: bool,
     pub csv: bool,
@@ -82,6 +85,7 @@ fn nothing_asked() -> Question {
         amount: no_piece(),
         columns: no_piece(),
         label: no_piece(),
+        circle: no_piece(),
         by_distance: false,
         count: false,
         csv: false,
@@ -126,6 +130,9 @@ fn option_of(word: &[u8]) -> u32 {
     if check::same(word, b"--label") {
         return LABEL;
     }
+    if check::same(word, b"--circle") {
+        return CIRCLE;
+    }
     if check::same(word, b"--count") {
         return COUNT;
     }
@@ -159,6 +166,9 @@ fn has_value(q: Question, option: u32) -> bool {
     if option == LABEL {
         return q.label.there;
     }
+    if option == CIRCLE {
+        return q.circle.there;
+    }
     q.by_distance
 }
 
@@ -178,7 +188,7 @@ fn with_option(words: &[u8], q: Question, w: Piece) -> Question {
     if option == 0 {
         return wrong_at(q, NO_OPTION, w);
     }
-    if option <= LABEL {
+    if option <= CIRCLE {
         return with_awaited(q, option, w);
     }
     with_flag(q, option)
@@ -200,11 +210,13 @@ fn with_value(words: &[u8], q: Question, w: Piece) -> Question {
     if q.awaits == BY {
         return with_order(words, q, w);
     }
-    let label = q.awaits == LABEL;
+    let option = q.awaits;
     let mut n = q;
     n.awaits = 0;
-    if label {
+    if option == LABEL {
         n.label = w;
+    } else if option == CIRCLE {
+        n.circle = w;
     } else {
         n.columns = w;
     }

@@ -1,13 +1,10 @@
 -- The chosen rows laid one after the other into the table that they are taken from. Assumes nothing.
 use Prim.Native.Nat.{_*_, _+_, _-_, _<_, _≤_, suc, zero, ℕ}
-use Rattle.columns.proofs.Firsts.{first-below}
 use Rattle.columns.proofs.Items.{items-length, items-stored}
-use Rattle.columns.specs.Chosen.{Choice, chosenRow, chosenTable, itemsOf, overIn, overRow, rowsBy, timesFactor}
+use Rattle.columns.specs.Chosen.{Choice, Small, SmallRows, chosenRow, chosenTable, itemsOf, rowsBy, timesFactor}
 use Rattle.limits.specs.Limits.{maxColumns}
 use Rattle.measure.proofs.Rows.{row-ends, row-length}
 use Rattle.measure.specs.Table.{row}
-use borrow.Author.Tests.{ltb-false}
-use lib.Dec.{ltb}
 use lib.ListN.{drop, getD, length, length-append, length-drop, length-set, set, take}
 use lib.Seq.{drop-at, drop-drop, length-paste, paste, take-at}
 use mathlib.Core.List.{List, [], _++_, append-assoc}
@@ -17,24 +14,18 @@ use native.Mathlib.Numerals.{add-one, unary-clauses}
 use native.Mathlib.Omega.{arith}
 
 -- ---- one row
--- no product of a row is too great
-pub product-small : (r chosen factors : List ℕ) (k j : ℕ) → k ≤ overIn r chosen factors k → j < k → timesFactor r chosen factors j ≤ 65535
-unfolding overIn
-product-small r chosen factors k j h l =
-    ltb-false 65535 (timesFactor r chosen factors j) (first-below (λ (i : ℕ). ltb 65535 (timesFactor r chosen factors i)) k j (omega arith))
-
 -- j of its chosen columns are taken
 pub record Taken (r chosen factors : List ℕ) (k : ℕ) (out₀ out : List ℕ) (j : ℕ) : Type 0 where
   pub bound : j ≤ k
   pub choice : Choice (length r) chosen k
-  pub small : k ≤ overIn r chosen factors k
+  pub small : Small r chosen factors k
   pub long : length out ≡ 16
   pub slots : length out₀ ≡ 16
   pub content : out ≡ itemsOf (timesFactor r chosen factors) j ++ drop j out₀
 
 module _ {r chosen factors : List ℕ} {k : ℕ} where
   -- none
-  pub taken-start : (out₀ : List ℕ) → length out₀ ≡ 16 → Choice (length r) chosen k → k ≤ overIn r chosen factors k → Taken r chosen factors k out₀ out₀ 0
+  pub taken-start : (out₀ : List ℕ) → length out₀ ≡ 16 → Choice (length r) chosen k → Small r chosen factors k → Taken r chosen factors k out₀ out₀ 0
   unfolding itemsOf
   taken-start out₀ e C s = record { bound = omega arith; choice = C; small = s; long = e; slots = e; content = refl }
 
@@ -50,10 +41,6 @@ module _ {r chosen factors : List ℕ} {k : ℕ} where
           slots = T .slots;
           content = items-stored (timesFactor r chosen factors) j v out out₀ (omega (arith, T .choice .few, T .slots)) (T .content) e;
         }
-
-    -- its product is small
-    pub taken-small : j < k → timesFactor r chosen factors j ≤ 65535
-    taken-small l = product-small r chosen factors k j (T .small) l
 
     -- all k
     pub taken-all : k ≤ j → (length out ≡ 16) × (take k out ≡ chosenRow r chosen factors k)
@@ -99,14 +86,14 @@ pub record Laid (t : List ℕ) (c n : ℕ) (chosen factors : List ℕ) (k : ℕ)
   pub choice : Choice c chosen k
   pub narrow : k ≤ c
   pub room : c * n ≤ length t
-  pub small : n ≤ overRow t c chosen factors k n
+  pub small : SmallRows t c chosen factors k n
   pub place : at ≡ k * i
   pub long : length u ≡ length t
   pub content : u ≡ chosenTable t c chosen factors k i ++ drop (k * i) t
 
 module _ {t : List ℕ} {c n : ℕ} {chosen factors : List ℕ} {k : ℕ} where
   -- none
-  pub laid-start : Choice c chosen k → k ≤ c → c * n ≤ length t → n ≤ overRow t c chosen factors k n → Laid t c n chosen factors k t 0 0
+  pub laid-start : Choice c chosen k → k ≤ c → c * n ≤ length t → SmallRows t c chosen factors k n → Laid t c n chosen factors k t 0 0
   unfolding chosenTable rowsBy
   laid-start C h l s =
       record { bound = omega arith; choice = C; narrow = h; room = l; small = s; place = omega arith; long = refl; content = simp unary-clauses refl }
@@ -134,16 +121,9 @@ module _ {t : List ℕ} {c n : ℕ} {chosen factors : List ℕ} {k : ℕ} where
             ∙ drop-drop d (k * i) t
             ∙ ap (λ (x : ℕ). drop x t) (sym e)
 
-    -- and its products are small
-    pub laid-small : k ≤ overIn (row t c i) chosen factors k
-    unfolding overRow
-    laid-small =
-        ltb-false (overIn (row t c i) chosen factors k) k
-        (first-below (λ (j : ℕ). ltb (overIn (row t c j) chosen factors k) k) n i (omega (arith, L .small)))
-
-    -- so are those of what is read there
-    pub laid-over : {r : List ℕ} → r ≡ row u c i → k ≤ overIn r chosen factors k
-    laid-over {r} e = subst (λ (x : List ℕ). k ≤ overIn x chosen factors k) (sym (e ∙ laid-row)) laid-small
+    -- and the products of what is read there are small
+    pub laid-small : {r : List ℕ} → r ≡ row u c i → Small r chosen factors k
+    laid-small {r} e = subst (λ (x : List ℕ). Small x chosen factors k) (sym (e ∙ laid-row)) (L .small i l)
 
     -- whose chosen columns are the row's
     pub laid-chosen : {r xs : List ℕ} → xs ≡ chosenRow r chosen factors k → r ≡ row u c i → xs ≡ chosenRow (row t c i) chosen factors k

@@ -1,6 +1,6 @@
 // Which products are too great, and the table of the chosen columns.
-ghost use Prim.Native.Nat.{_*_, _+_, _≤_};
-ghost use Rattle.columns.specs.Chosen.{Choice, chosenRow, chosenTable, fitting, outside, overIn, overRow};
+ghost use Prim.Native.Nat.{_*_, _+_, _<_, _≤_};
+ghost use Rattle.columns.specs.Chosen.{Choice, Small, SmallRows, chosenRow, chosenTable, fitting, most, outside, overIn, overRow};
 ghost use Rattle.limits.specs.Limits.{maxColumns};
 ghost use lib.ListN.{drop, length, take};
 ghost use lib.Seq.{paste};
@@ -10,7 +10,13 @@ use limits::Params;
 use limits::is_within;
 use measure::row_of;
 
-const MOST: u64 = 65_535;
+// The greatest product at place j of the chosen columns, in a circle the last tenth of a degree. Without a branch, since every product is held to it.
+pub fn most(circles: u32, j: usize) -> u32
+    requires { ⌜ j < maxColumns ⌝ }
+    ensures { λ r. ⌜ r ≡ most circles j ⌝ }
+{
+    65_535 - 61_936 * ((circles >> j) % 2)
+}
 
 // The first of the k chosen columns that is not one of c, or k.
 fn first_outside(c: usize, chosen: [usize; 16], k: usize) -> usize
@@ -50,14 +56,20 @@ fn product(x: u16, factor: u32) -> u64
     x as u64 * factor as u64
 }
 
-// The place of the first chosen column whose product is above 65,535, or k.
-pub fn first_over(row: &[u16], chosen: [usize; 16], factors: [u32; 16], k: usize) -> usize
+// The place of the first chosen column whose product is too great, or k.
+pub fn first_over(
+    row: &[u16],
+    circles: u32,
+    chosen: [usize; 16],
+    factors: [u32; 16],
+    k: usize,
+) -> usize
     requires { ⌜ Choice (length (now row)) chosen k ⌝ }
-    ensures { λ r. ⌜ r ≡ overIn (now (row .entry)) chosen factors k ⌝ }
+    ensures { λ r. ⌜ r ≡ overIn (now (row .entry)) circles chosen factors k ⌝ }
 {
     let mut j = 0;
     while j < k {
-        if MOST < product(row[chosen[j]], factors[j]) {
+        if (most(circles, j) as u64) < product(row[chosen[j]], factors[j]) {
             return j;
         }
         j += 1;
@@ -65,21 +77,22 @@ pub fn first_over(row: &[u16], chosen: [usize; 16], factors: [u32; 16], k: usize
     k
 }
 
-// The first row with a product above 65,535, or n.
+// The first row with a product that is too great, or n.
 pub fn first_row_over(
     table: &[u16],
     c: usize,
     n: usize,
+    circles: u32,
     chosen: [usize; 16],
     factors: [u32; 16],
     k: usize,
 ) -> usize
     requires { ⌜ Choice c chosen k × (c * n ≤ length (now table)) ⌝ }
-    ensures { λ r. ⌜ r ≡ overRow (now (table .entry)) c chosen factors k n ⌝ }
+    ensures { λ r. ⌜ r ≡ overRow (now (table .entry)) c circles chosen factors k n ⌝ }
 {
     let mut i = 0;
     while i < n {
-        if first_over(row_of(table, c, i), chosen, factors, k) < k {
+        if first_over(row_of(table, c, i), circles, chosen, factors, k) < k {
             return i;
         }
         i += 1;
@@ -89,7 +102,7 @@ pub fn first_row_over(
 
 // The chosen columns of a row, times their factors.
 fn chosen_row(row: &[u16], chosen: [usize; 16], factors: [u32; 16], k: usize) -> [u16; 16]
-    requires { ⌜ Choice (length (now row)) chosen k × (k ≤ overIn (now row) chosen factors k) ⌝ }
+    requires { ⌜ Choice (length (now row)) chosen k × Small (now row) chosen factors k ⌝ }
     ensures { λ r. ⌜ (length r ≡ 16) × (take k r ≡ chosenRow (now (row .entry)) chosen factors k) ⌝ }
 {
     let mut out: [u16; 16] = [0; 16];
@@ -122,7 +135,7 @@ pub fn choose_rows(
     factors: [u32; 16],
     k: usize,
 )
-    requires { ⌜ Choice c chosen k × (k ≤ c) × (c * n ≤ length (now table)) × (n ≤ overRow (now table) c chosen factors k n) ⌝ }
+    requires { ⌜ Choice c chosen k × (k ≤ c) × (c * n ≤ length (now table)) × SmallRows (now table) c chosen factors k n ⌝ }
     ensures { λ _. ⌜ now (table .exit) ≡ chosenTable (now (table .entry)) c chosen factors k n ++ drop (k * n) (now (table .entry)) ⌝ }
 {
     let mut at = 0;

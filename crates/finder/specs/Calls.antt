@@ -11,7 +11,7 @@ use mathlib.Core.Path.{_≡_}
 
 -- what the index is built with: the centres of an inner node
 abbrev pub centres : ℕ
-centres = 4
+centres = 2
 
 -- and the rows of a leaf
 abbrev pub leafRows : ℕ

@@ -13,7 +13,7 @@ use rowset::set_bad;
 mod rounds;
 
 // Centres of an inner node, and rows of a leaf: what measures best for one build and one search.
-const CENTRES: usize = 4;
+const CENTRES: usize = 2;
 
 const LEAF: usize = 1024;
 

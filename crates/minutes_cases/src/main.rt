@@ -127,6 +127,56 @@ fn labels_wrong() {
     ask(b"tags\x00like\x000\x0012\x00--label\x00a7\x00");
 }
 
+fn round() {
+    ask(
+        b"season.csv\x00nearest\x00916\x004\x00--columns\x00speed,shaft_turns,fan_pressure,heading\x00--circle\x00heading\x00",
+    );
+    ask(
+        b"season.csv\x00nearest\x00916\x004\x00--columns\x00speed,shaft_turns,fan_pressure,heading\x00",
+    );
+    ask(
+        b"season.csv\x00like\x00288,774\x00120\x00--circle\x005,heading\x00--columns\x001,2,4,5\x00--by\x00distance\x00",
+    );
+    ask(
+        b"season.csv\x00like\x00=424,3590\x0030\x00--circle\x00heading\x00--columns\x00fan_pressure,heading\x00--lines\x00",
+    );
+    ask(
+        b"season.csv\x00like\x00916\x0050\x00--columns\x00heading,speed,5\x00--circle\x00heading\x00",
+    );
+    ask(b"season.csv\x00like\x001046\x00300\x00--circle\x00heading\x00--count\x00");
+    ask(b"compass\x00nearest\x000\x004\x00--columns\x001*10,2\x00--circle\x001\x00");
+    ask(
+        b"compass\x00like\x00=359,7\x0020\x00--columns\x001*10,2\x00--circle\x001\x00--by\x00distance\x00",
+    );
+    ask(b"compass\x00like\x000\x0040\x00--columns\x001*10,2\x00");
+}
+
+fn circles_wrong() {
+    ask(b"seam.csv\x00like\x000\x009\x00--circle\x00heading\x00");
+    ask(b"seam.csv\x00like\x000\x009\x00--columns\x00speed*900,heading\x00--circle\x001,2\x00");
+    ask(b"seam.csv\x00like\x000\x009\x00--columns\x00heading*20,speed\x00--circle\x00speed\x00");
+    ask(b"compass\x00like\x00=360,7\x009\x00--columns\x001*10,2\x00--circle\x001\x00");
+    ask(
+        b"season.csv\x00like\x00=0,3600\x009\x00--columns\x00speed,heading\x00--circle\x00heading\x00",
+    );
+    ask(
+        b"season.csv\x00like\x00=0,70000\x009\x00--columns\x00speed,heading\x00--circle\x00heading\x00",
+    );
+    ask(b"season.csv\x00like\x001046\x0012\x00--columns\x00speed\x00--circle\x00heading\x00");
+    ask(
+        b"season.csv\x00like\x001046\x0012\x00--columns\x00heading,speed\x00--circle\x00heading,fan_pressure\x00",
+    );
+    ask(b"season.csv\x00like\x001046\x0012\x00--circle\x00wind\x00");
+    ask(b"season.csv\x00like\x001046\x0012\x00--circle\x00heading*2\x00");
+    ask(b"season.csv\x00like\x001046\x0012\x00--circle\x00heading,\x00");
+    ask(b"season.csv\x00like\x001046\x0012\x00--circle\x007\x00");
+    ask(b"season.csv\x00like\x001046\x0012\x00--circle\x00");
+    ask(b"season.csv\x00like\x001046\x0012\x00--circle\x005\x00--circle\x005\x00");
+    ask(b"season.csv\x00like\x001046\x0012\x00--circle\x005,5,5,5,5,5,5,5,5,5,5,5,5,5,5,5,5\x00");
+    ask(b"twice.csv\x00like\x000\x0012\x00--circle\x00speed\x00");
+    ask(b"hours.csv\x00like\x000\x0012\x00--label\x00time\x00--circle\x00time\x00");
+}
+
 fn asked_wrongly() {
     ask(b"");
     ask(b"season.csv\x00");
@@ -245,6 +295,8 @@ fn main() {
     by_what_stands();
     labelled();
     labels_wrong();
+    round();
+    circles_wrong();
     asked_wrongly();
     options_wrong();
     rows_wrong();

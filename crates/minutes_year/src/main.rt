@@ -44,7 +44,7 @@ fn status_of(words: &[u8], whole: bool) -> u32 {
         return analyst::refuse_words(libc::STDERR_FILENO);
     }
     if analyst::tells(words, libc::STDOUT_FILENO) {
-        return analyst::ANSWERED;
+        return statuses::answered();
     }
     answer(words, words.len() / MOST_BYTES)
 }

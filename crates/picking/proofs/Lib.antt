@@ -1,3 +1,4 @@
 pub mod Lines
+pub mod Names
 pub mod Orders
 pub mod Spots

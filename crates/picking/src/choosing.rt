@@ -1,6 +1,8 @@
 // The columns that are asked for, each with its factor.
 ghost use Prim.Native.Nat.{_≤_};
+ghost use Rattle.picking.specs.Names.{columnSaid};
 ghost use lib.ListN.{length};
+ghost use mathlib.Core.Path.{_≡_};
 use crate::fields::column_of;
 use asking::numbers::NO_NUMBER;
 use asking::numbers::number;
@@ -61,7 +63,7 @@ fn wrong_item(choice: Choice, wrong: u32, start: usize, end: usize) -> Choice
 
 // The column that a word says, by its number from 1 or by its name: 0 if there is none, 17 if there are two of this name.
 pub fn column_said(names: &[u8], word: &[u8], c: usize) -> usize
-    ensures { λ r. ⌜ r ≤ 17 ⌝ }
+    ensures { λ r. ⌜ (r ≡ columnSaid (now (names .entry)) (now (word .entry)) c) × (r ≤ 17) ⌝ }
 {
     let said = number(word);
     if NO_NUMBER <= said {

@@ -2,6 +2,7 @@
 ghost use Prim.Native.Nat.{_-_, _≤_};
 ghost use Rattle.asking.specs.Pieces.{placeFrom};
 ghost use Rattle.picking.specs.Lines.{between, spanOf, stopping};
+ghost use Rattle.picking.specs.Names.{namedTo, withName};
 ghost use lib.ListN.{length};
 ghost use mathlib.Core.Path.{_≡_};
 use asking::pieces::part;
@@ -66,7 +67,7 @@ pub fn field_of(line: &[u8], column: usize) -> Span
 // The column found so far, or this one, if its field is the name: 17 where two are.
 fn with_field(line: &[u8], name: &[u8], found: usize, column: usize) -> usize
     requires { ⌜ (found ≤ 17) × (column ≤ 16) ⌝ }
-    ensures { λ r. ⌜ r ≤ 17 ⌝ }
+    ensures { λ r. ⌜ (r ≡ withName (now (line .entry)) (now (name .entry)) found column) × (r ≤ 17) ⌝ }
 {
     let spot = field_of(line, column);
     if spot.end <= spot.start {
@@ -80,13 +81,13 @@ fn with_field(line: &[u8], name: &[u8], found: usize, column: usize) -> usize
 
 // The column, from 1 on, whose field is just these bytes: 0 if there is none, 17 if there are two or more.
 pub fn column_of(line: &[u8], name: &[u8]) -> usize
-    ensures { λ r. ⌜ r ≤ 17 ⌝ }
+    ensures { λ r. ⌜ (r ≡ namedTo (now (line .entry)) (now (name .entry)) 16) × (r ≤ 17) ⌝ }
 {
     let mut found = 0;
-    let mut column = 1;
-    while column <= MOST_FIELDS {
-        found = with_field(line, name, found, column);
-        column += 1;
+    let mut k = 0;
+    while k < MOST_FIELDS {
+        found = with_field(line, name, found, k + 1);
+        k += 1;
     }
     found
 }

@@ -10,6 +10,7 @@ use asking::numbers::NO_NUMBER;
 use asking::numbers::number;
 use asking::pieces::least;
 use asking::pieces::piece_at;
+use columns::choice::most;
 use measure::row_of;
 
 // As many queries as a question may have, and the numbers that these are at most.
@@ -31,6 +32,8 @@ pub const TOO_FEW_VALUES: u32 = 25;
 pub const NOT_ONE: u32 = 26;
 
 pub const NO_LABEL: u32 = 27;
+
+pub const OFF_CIRCLE: u32 = 28;
 
 // How many queries were put, or what is wrong, and a number that says more of it.
 pub struct Named {
@@ -135,8 +138,14 @@ fn times(value: u32, factor: u32) -> u32
     product as u32
 }
 
-// Puts the values of a list, parted by commas, each times its factor: one for each of the k chosen columns.
-pub fn put_values(list: &[u8], factors: [u32; MOST_COLUMNS], k: usize, queries: &mut [u16]) -> Named
+// Puts the values of a list, parted by commas, each times its factor: one for each of the k chosen columns, of which some are circles.
+pub fn put_values(
+    list: &[u8],
+    circles: u32,
+    factors: [u32; MOST_COLUMNS],
+    k: usize,
+    queries: &mut [u16],
+) -> Named
     requires { ⌜ (k ≤ maxColumns) × (length (now queries) ≡ 1024) ⌝ }
     ensures { λ r. ⌜ r .count ≤ 64 ⌝ }
 {
@@ -151,6 +160,9 @@ pub fn put_values(list: &[u8], factors: [u32; MOST_COLUMNS], k: usize, queries: 
         let value = times(number(&list[start..end]), factors[i]);
         if 65_535 < value {
             return named_wrong(NOT_A_VALUE, i + 1);
+        }
+        if most(circles, i) < value {
+            return named_wrong(OFF_CIRCLE, i + 1);
         }
         queries[i] = value as u16;
         i += 1;

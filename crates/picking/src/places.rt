@@ -54,7 +54,7 @@ fn body_end(t: &[u8], at: usize) -> usize
 }
 
 // The line at `at`.
-fn line_at(t: &[u8], at: usize) -> &[u8]
+pub fn line_at(t: &[u8], at: usize) -> &[u8]
     requires { ⌜ at ≤ length (now t) ⌝ }
     ensures { λ r. ⌜ now r ≡ lineAt (now (t .entry)) at ⌝ }
 {

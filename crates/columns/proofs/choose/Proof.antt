@@ -1,6 +1,6 @@
 -- `columns::choose` meets its contract: no choice, a product too great, and the table of the chosen columns.
 -- Assumes nothing.
-use Rattle.columns.proofs.Choosing.{choice-of, chose-done, chose-none, chose-over, fit-of}
+use Rattle.columns.proofs.Choosing.{all-passed, choice-of, chose-done, chose-none, chose-over, fit-of, rows-small}
 use Rattle.columns.proofs.choose.Statement.{statement}
 use Rattle.columns.proofs.choose.Tie as tie
 use Rattle.laws.proofs.Tests.{no, yes}
@@ -36,7 +36,8 @@ returns-2 c =
 choose-rows-requires : tie.Need-choose-rows-requires
 choose-rows-requires c κs =
     let f = fit-of _ _ _ _ _ (yes (c .before .before .before .before .before .fits2 .ensures) (c .before .before .before .before .if1 .left)) in
-    (f .choice, f .narrow, f .room, omega (arith, c .before .before .first-row-over .ensures))
+    let v = c .before .before .first-row-over in
+    (f .choice, f .narrow, f .room, rows-small _ _ _ _ _ _ _ (all-passed (v .ensures) (omega arith)))
 
 returns-3 : tie.Need-returns-3
 returns-3 c =

@@ -7,10 +7,10 @@ use borrow.Author.Needs.{needs}
 use lib.ListN.{length}
 
 abbrev Inv-loop : tie.InvT-loop
-Inv-loop row c queries count least₀ at₀ i₀ least at i = (at ≤ length queries) × (i ≤ count)
+Inv-loop row c circles queries count least₀ at₀ i₀ least at i = (at ≤ length queries) × (i ≤ count)
 
 abbrev μ-loop : tie.MeasureT-loop
-μ-loop row c queries count least₀ at₀ i₀ least at i = count - i
+μ-loop row c circles queries count least₀ at₀ i₀ least at i = count - i
 
 pub least-distance-spec : {M : Type 1} → statement M
 least-distance-spec =

@@ -2,7 +2,7 @@
 -- Assumes nothing.
 use Prim.Native.Nat.{_-_}
 use Rattle.columns.proofs.Choosing.{choice-of}
-use Rattle.columns.proofs.Laying.{Laid, laid-all, laid-chosen, laid-fits, laid-next, laid-over, laid-start, laid-there}
+use Rattle.columns.proofs.Laying.{Laid, laid-all, laid-chosen, laid-fits, laid-next, laid-small, laid-start, laid-there}
 use Rattle.columns.proofs.choice.choose_rows.Statement.{statement}
 use Rattle.columns.proofs.choice.choose_rows.Tie as tie
 use borrow.Author.Needs.{needs}
@@ -25,7 +25,7 @@ chosen-row-requires c κs =
     let l = c .before .before .before .loop in
     let row = c .row-of .ensures in (
       choice-of (c .row-of .result .now) (l .inv .choice) (row .1),
-      laid-over (l .inv) (omega arith) (row .0),
+      laid-small (l .inv) (omega arith) (row .0),
     )
 
 put-row-requires : tie.Need-put-row-requires Inv-loop μ-loop

@@ -1,7 +1,7 @@
 -- `columns::choice::chosen_row` meets its contract: the chosen columns taken so far.
 -- Assumes nothing.
 use Prim.Native.Nat.{_-_}
-use Rattle.columns.proofs.Laying.{Taken, taken-all, taken-next, taken-small, taken-start}
+use Rattle.columns.proofs.Laying.{Taken, taken-all, taken-next, taken-start}
 use Rattle.columns.proofs.choice.chosen_row.Statement.{statement}
 use Rattle.columns.proofs.choice.chosen_row.Tie as tie
 use borrow.Author.Needs.{needs}
@@ -27,7 +27,9 @@ mul-product-2 : tie.Need-mul-product-2 Inv-loop μ-loop
 mul-product-2 c = let l = c .before .loop in omega (arith, l .inv .choice .inside (l .j) (omega arith))
 
 cast-out : tie.Need-cast-out Inv-loop μ-loop
-cast-out c = omega (arith, c .product .ensures, taken-small (c .before .before .before .loop .inv) (omega arith))
+cast-out c =
+    let l = c .before .before .before .loop in
+    omega (arith, c .product .ensures, l .inv .small (l .j) (omega arith))
 
 loop-again : tie.Need-loop-again Inv-loop μ-loop
 loop-again c = taken-next (c .before .before .before .loop .inv) (omega arith) (c .product .ensures)

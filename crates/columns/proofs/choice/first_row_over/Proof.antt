@@ -8,10 +8,10 @@ use borrow.Author.Needs.{needs}
 use native.Mathlib.Omega.{arith}
 
 abbrev Inv-loop : tie.InvT-loop
-Inv-loop table c n chosen factors k i₀ i = Passed table c n chosen factors k i
+Inv-loop table c n circles chosen factors k i₀ i = Passed table c n circles chosen factors k i
 
 abbrev μ-loop : tie.MeasureT-loop
-μ-loop table c n chosen factors k i₀ i = n - i
+μ-loop table c n circles chosen factors k i₀ i = n - i
 
 loop-holds : tie.Need-loop-holds Inv-loop μ-loop
 loop-holds c = passed-start (c .before .pre .0) (c .before .pre .1)

@@ -1,15 +1,32 @@
 -- `picking::fields::column_of` meets its contract: each turn looks at one field.
 -- Assumes nothing.
-use Prim.Native.Nat.{_-_, _≤_}
+use Prim.Native.Nat.{_-_, _≤_, ℕ}
+use Rattle.picking.proofs.Names.{names-next, names-none}
 use Rattle.picking.proofs.fields.column_of.Statement.{statement}
 use Rattle.picking.proofs.fields.column_of.Tie as tie
+use Rattle.picking.specs.Names.{namedTo}
 use borrow.Author.Needs.{needs}
+use mathlib.Core.Path.{_∙_, _≡_, ap}
+use native.Mathlib.Omega.{arith}
 
 abbrev Inv-loop : tie.InvT-loop
-Inv-loop line name found₀ column₀ found column = (found ≤ 17) × (column ≤ 17)
+Inv-loop line name found₀ k₀ found k = (found ≡ namedTo line name k) × (found ≤ 17) × (k ≤ 16)
 
 abbrev μ-loop : tie.MeasureT-loop
-μ-loop line name found₀ column₀ found column = 17 - column
+μ-loop line name found₀ k₀ found k = 16 - k
+
+loop-holds : tie.Need-loop-holds Inv-loop μ-loop
+loop-holds c = (names-none _ _, omega arith, omega arith)
+
+loop-again : tie.Need-loop-again Inv-loop μ-loop
+loop-again c = (names-next _ _ _ _ _ (c .before .before .loop .inv .0) (c .with-field .ensures .0), omega arith, omega arith)
+
+returns : tie.Need-returns Inv-loop μ-loop
+returns c =
+    let l = c .before .loop in
+    let a = c .before .before .before .before .args in
+    let e : l .k ≡ 16 = omega (arith, l .inv .2) in
+    (l .inv .0 ∙ ap (λ (x : ℕ). namedTo (a .line .now) (a .name .now) x) e, l .inv .1)
 
 pub column-of-spec : {M : Type 1} → statement M
 column-of-spec =
@@ -17,9 +34,10 @@ column-of-spec =
     (tie.spec
     Inv-loop
     μ-loop
+    loop-holds
     (λ c. search needs)
     (λ c κs. search needs)
     (λ c. search needs)
     (λ c. search needs)
-    (λ c. search needs)
-    (λ c. search needs))
+    loop-again
+    returns)
