@@ -60,47 +60,55 @@ module _ (t w : List ℕ) (last : Bool) where
       either false e = e
 
 -- ---- a run of more than l rows, which stands in order at position s
-module _ {t w : List ℕ} {n : ℕ} (T : Task t w n) {run : List ℕ} (R : Run run) (low : Every (λ i. i < n) run) (large : l# w < length run)
-    (late : Late (l# w) run) {room work : List ℕ} {s made : ℕ} (inside : s + length run ≤ n) (halves : 6 * n ≤ length work)
-    (nodes : nodeAt (made + m# w) ≤ length room)
-    (stands : stretch work (3 * s) (3 * s + 3 * length run) ≡ laid (between t (c# w) (circles# w)) (orderly run)) where
+pub record Ready (t w : List ℕ) (n : ℕ) (run room work : List ℕ) (s made : ℕ) : Type 0 where
+  pub task : Task t w n
+  pub good : Run run
+  pub low : Every (λ i. i < n) run
+  pub large : l# w < length run
+  pub late : Late (l# w) run
+  pub inside : s + length run ≤ n
+  pub halves : 6 * n ≤ length work
+  pub nodes : nodeAt (made + m# w) ≤ length room
+  pub stands : stretch work (3 * s) (3 * s + 3 * length run) ≡ laid (between t (c# w) (circles# w)) (orderly run)
+
+module _ {t w : List ℕ} {n : ℕ} {run room work : List ℕ} {s made : ℕ} (g : Ready t w n run room work s made) where
   -- how far two rows are apart
   abbrev D : ℕ → ℕ → ℕ
   D = between t (c# w) (circles# w)
 
   -- the centres are two or more, and no more than a leaf has rows
   two : 2 ≤ m# w
-  two = T .shape .whole .fan .0
+  two = g .task .shape .whole .fan .0
 
   fan : m# w ≤ l# w
-  fan = T .shape .whole .leaf .0
+  fan = g .task .shape .whole .leaf .0
 
   -- its rows are read in order
   read : runAt work s (length run) ≡ orderly run
-  read = ap rows stands ∙ under-rows (D (lists.head (orderly run))) (lists.head (orderly run)) (orderly run)
+  read = ap rows (g .stands) ∙ under-rows (D (lists.head (orderly run))) (lists.head (orderly run)) (orderly run)
 
   -- it can be split
   pub run-ready : Splittable t (c# w) (circles# w) (m# w) n room work s (length run) made
   run-ready =
       record {
-        columns = T .shape .whole .columns .1;
-        few = T .few;
-        table = T .table;
+        columns = g .task .shape .whole .columns .1;
+        few = g .task .few;
+        table = g .task .table;
         share = omega (arith, two);
-        centred = omega (arith, fan);
-        inside = inside;
-        halves = halves;
-        nodes = nodes;
-        known = stands ∙ ap (laid D) (sym read);
-        rows = rw read (every-same (λ i. i < n) run (orderly run) (λ i. orderly-tally (eqb i) run (R .0)) low);
-        once = rw read (λ i. omega (arith, orderly-tally (eqb i) run (R .0), R .1 i));
+        centred = omega (arith, fan, g .large);
+        inside = g .inside;
+        halves = g .halves;
+        nodes = g .nodes;
+        known = g .stands ∙ ap (laid D) (sym read);
+        rows = rw read (every-same (λ i. i < n) run (orderly run) (λ i. orderly-tally (eqb i) run (g .good .0)) (g .low));
+        once = rw read (λ i. omega (arith, orderly-tally (eqb i) run (g .good .0), g .good .1 i));
       }
 
   -- its parts are in order
   parts-order : Every (λ q. orderly q ≡ q) (parts (between t (c# w) (circles# w)) (m# w) (l# w) run)
   parts-order =
       every-both Run (λ q. Ascends (rest q)) (λ q. orderly q ≡ q) (λ q r a. orderly-same q (r .0) a) (parts D (m# w) (l# w) run)
-      (parts-runs D (m# w) (l# w) (omega (arith, two)) fan run R large) (parts-ascend D (m# w) (l# w) run large late)
+      (parts-runs D (m# w) (l# w) (omega (arith, two)) fan run (g .good) (g .large)) (parts-ascend D (m# w) (l# w) run (g .large) (g .late))
 
   -- IT IS
   pub run-done : {room′ work′ : List ℕ} (last : Bool)
@@ -111,7 +119,7 @@ module _ {t w : List ℕ} {n : ℕ} (T : Task t w n) {run : List ℕ} (R : Run r
       let up : l# w + 1 ≡ suc (l# w) = omega arith in
       let gs : List (List ℕ) = parts D (m# w) (l# w) run in
       let same : splitAmong D (m# w) (l# w + 1) (runAt work s (length run)) ≡ gs =
-      ap₂ (λ (i : ℕ) (x : List ℕ). splitAmong D (m# w) i x) up read ∙ sym (late-parts D (m# w) (l# w) run large late) in
+      ap₂ (λ (i : ℕ) (x : List ℕ). splitAmong D (m# w) i x) up read ∙ sym (late-parts D (m# w) (l# w) run (g .large) (g .late)) in
       record {
         nodes =
             got .nodes

@@ -188,9 +188,8 @@ module _ {t w : List ℕ} {n : ℕ} {room work : List ℕ} {o s count made : ℕ
         (copied : W₃ ≡ take (3 * s) W₂ ++ (stretch W₂ (3 * s + 3 * n) (3 * (s + count) + 3 * n) ++ drop (3 * (s + count)) W₂)) where
       -- the children stand in the second half
       dealt : KidsDealt t w o n last (g .zs) room W₁ s made room′ W₂
-      dealt =
-          deal
-          (record { zs = g .zs; deals = old-kids .deals; fits = omega (arith, g .fits, g .size); nodes = g .nodes; small = g .small })
+      unfolding old-kids
+      dealt = deal old-kids
 
       -- their words
       abbrev P : List ℕ
