@@ -35,7 +35,7 @@ current-append (x ∷ xs) ys = go (x .0) (current-append xs ys)
     go false e = e
 
 -- pieces of the level at hand are these
-fresh-pieces : (qs : List Piece) → pieces (fresh qs) ≡ qs
+pub fresh-pieces : (qs : List Piece) → pieces (fresh qs) ≡ qs
 fresh-pieces [] = refl
 fresh-pieces (q ∷ qs) = ap (λ (l : List Piece). q ∷ l) (fresh-pieces qs)
 

@@ -1,47 +1,41 @@
-use borrow.Author.Needs.{needs}
+-- `deepening::deepen` meets its contract: the levels above `depth` are opened (`Goes`), and behind the last the whole tree stands.
+-- Assumes nothing.
+use Prim.Native.Nat.{_-_}
+use Rattle.deepening.proofs.Deepening.{Goes, goes-done, goes-level, goes-start, goes-step}
 use Rattle.deepening.proofs.deepen.Statement.{statement}
 use Rattle.deepening.proofs.deepen.Tie as tie
-use Rattle.deepening.proofs.deepen.Reads as reads
-use Rattle.deepening.proofs.deepen.Lts as lts
-use Rattle.deepening.proofs.level.Reads as level-reads
+use Rattle.limits.specs.Limits.{maxDepth}
+use borrow.Author.Needs.{needs}
+use lib.ListN.{length}
+use mathlib.Core.Path.{_≡_, refl}
 
 abbrev Inv-loop : tie.InvT-loop
-Inv-loop table index n room₀ work₀ lo₀ hi₀ depth₀ room work lo hi depth = ?
+Inv-loop table index n room₀ work₀ lo₀ hi₀ depth₀ room work lo hi depth =
+    (length room ≡ length room₀) × (length work ≡ length work₀) × Goes table index n room₀ work₀ room work lo hi depth
 
 abbrev μ-loop : tie.MeasureT-loop
-μ-loop table index n room₀ work₀ lo₀ hi₀ depth₀ room work lo hi depth = ?
+μ-loop table index n room₀ work₀ lo₀ hi₀ depth₀ room work lo hi depth = maxDepth - depth
 
--- src/lib.rt:40:5
+-- the start, seen from the loop
+abbrev start : tie.At-loop Inv-loop μ-loop → tie.Start Inv-loop μ-loop
+start c = c .before .before .before .before .before
+
 loop-holds : tie.Need-loop-holds Inv-loop μ-loop
-loop-holds c = search needs
+loop-holds c = (search needs, search needs, λ g. goes-start g)
 
--- src/lib.rt:41:9
-add-depth : tie.Need-add-depth Inv-loop μ-loop
-add-depth c = search needs
-
--- src/lib.rt:42:13
 level-requires : tie.Need-level-requires Inv-loop μ-loop
-level-requires c κs = search needs
+level-requires c κs =
+    let s = c .before .before .before in
+    goes-level (s .loop .inv .2 (start s .pre)) (search needs) refl
 
--- src/lib.rt:40:5
-loop-less : tie.Need-loop-less Inv-loop μ-loop
-loop-less c = search needs
-
--- src/lib.rt:40:5
 loop-again : tie.Need-loop-again Inv-loop μ-loop
-loop-again c = search needs
+loop-again c =
+    let l = c .before .before .before .before in
+    let s = l .before .before .before .before in
+    (search needs, search needs, λ g. goes-step (s .loop .inv .2 g) (search needs) refl (l .level .ensures))
 
--- src/lib.rt:32:1
-same-length : tie.Need-same-length Inv-loop μ-loop
-same-length c = search needs
-
--- src/lib.rt:32:1
-same-length-2 : tie.Need-same-length-2 Inv-loop μ-loop
-same-length-2 c = search needs
-
--- src/lib.rt:32:1
 returns : tie.Need-returns Inv-loop μ-loop
-returns c = search needs
+returns c = λ g. goes-done (c .before .loop .inv .2 g) (search needs)
 
 pub deepen-spec : {M : Type 1} → statement M
 deepen-spec =
@@ -50,10 +44,10 @@ deepen-spec =
     Inv-loop
     μ-loop
     loop-holds
-    add-depth
+    (λ c. search needs)
     level-requires
-    loop-less
+    (λ c. search needs)
     loop-again
-    same-length
-    same-length-2
+    (λ c. search needs)
+    (λ c. search needs)
     returns)

@@ -1,47 +1,37 @@
-use borrow.Author.Needs.{needs}
+-- `deepening::level` meets its contract: the nodes before k are opened (`Turn`), and behind the last the stage is one level down.
+-- Assumes nothing.
+use Prim.Native.Nat.{_-_}
+use Rattle.deepening.proofs.Levelling.{Turn, levelling-done, levelling-open, levelling-start, levelling-step}
 use Rattle.deepening.proofs.level.Statement.{statement}
 use Rattle.deepening.proofs.level.Tie as tie
-use Rattle.deepening.proofs.level.Reads as reads
-use Rattle.deepening.proofs.level.Lts as lts
-use Rattle.opening.proofs.open_piece.Reads as open-piece-reads
+use borrow.Author.Needs.{needs}
+use lib.ListN.{length}
+use mathlib.Core.Path.{_≡_}
 
 abbrev Inv-loop : tie.InvT-loop
-Inv-loop table index n last room₀ work₀ lo hi made₀ k₀ room work made k = ?
+Inv-loop table index n last room₀ work₀ lo hi made₀ k₀ room work made k =
+    (length room ≡ length room₀) × (length work ≡ length work₀) × Turn table index n last room₀ work₀ lo hi room work made k
 
 abbrev μ-loop : tie.MeasureT-loop
-μ-loop table index n last room₀ work₀ lo hi made₀ k₀ room work made k = ?
+μ-loop table index n last room₀ work₀ lo hi made₀ k₀ room work made k = hi - k
 
--- src/lib.rt:24:5
 loop-holds : tie.Need-loop-holds Inv-loop μ-loop
-loop-holds c = search needs
+loop-holds c = (search needs, search needs, λ g. levelling-start g)
 
--- src/lib.rt:25:9
 open-piece-requires : tie.Need-open-piece-requires Inv-loop μ-loop
-open-piece-requires c κs = search needs
+open-piece-requires c κs =
+    let s = c .before .before .before in
+    let g = s .before .before .before .before .before .pre in
+    levelling-open g (s .loop .inv .2 g) (search needs)
 
--- src/lib.rt:26:9
-add-k : tie.Need-add-k Inv-loop μ-loop
-add-k c = search needs
-
--- src/lib.rt:24:5
-loop-less : tie.Need-loop-less Inv-loop μ-loop
-loop-less c = search needs
-
--- src/lib.rt:24:5
 loop-again : tie.Need-loop-again Inv-loop μ-loop
-loop-again c = search needs
+loop-again c =
+    let n = c .before .before .before .before in
+    let s = n .before .before .before .before in
+    (search needs, search needs, λ g. levelling-step g (s .loop .inv .2 g) (search needs) (search needs) (n .open-piece .ensures))
 
--- src/lib.rt:8:1
-same-length : tie.Need-same-length Inv-loop μ-loop
-same-length c = search needs
-
--- src/lib.rt:8:1
-same-length-2 : tie.Need-same-length-2 Inv-loop μ-loop
-same-length-2 c = search needs
-
--- src/lib.rt:8:1
 returns : tie.Need-returns Inv-loop μ-loop
-returns c = search needs
+returns c = λ g. levelling-done g (c .before .loop .inv .2 g) (search needs)
 
 pub level-spec : {M : Type 1} → statement M
 level-spec =
@@ -51,9 +41,9 @@ level-spec =
     μ-loop
     loop-holds
     open-piece-requires
-    add-k
-    loop-less
+    (λ c. search needs)
+    (λ c. search needs)
     loop-again
-    same-length
-    same-length-2
+    (λ c. search needs)
+    (λ c. search needs)
     returns)
