@@ -154,6 +154,19 @@ module _ (t w : List ℕ) where
         ∙ ap₂ (λ (a b : List ℕ). a ++ b) (piece-pairs q (take i ws) (h .0) (k .1)) (last-pairs qs (drop i ws) (h .1) (k .2))
         ∙ sym (each-append pairWords (ownMembers d w q) (each (λ p. membersFrom d w 0 p) qs))
 
+    -- as many members as rows
+    piece-many : (q : Piece) → Sound t w n 0 q → length (ownMembers d w q) ≡ sizeOf w q
+    piece-many (old s o zs) h = absurd (last-none s o zs h)
+    piece-many (grown s R run) h = length-map run (λ i. (i, d (head run) i))
+    piece-many (settled s R es) h = refl
+
+    last-many : (qs : List Piece) → Every (Sound t w n 0) qs → length (each (λ p. membersFrom d w 0 p) qs) ≡ sizes w qs
+    unfolding membersFrom
+    last-many [] h = refl
+    last-many (q ∷ qs) h =
+        length-append (ownMembers d w q) (each (λ p. membersFrom d w 0 p) qs)
+        ∙ ap₂ (λ (a b : ℕ). a + b) (piece-many q (h .0)) (last-many qs (h .1))
+
 -- `depth` levels are opened: with what is to come below, nodes and members are those of the whole
 pub record Going (t w : List ℕ) (n : ℕ) (root : Piece) (origin room work : List ℕ) (lo hi depth : ℕ) : Type 0 where
   pub before : List Node
@@ -237,6 +250,8 @@ module _ {t w : List ℕ} {n : ℕ} {root : Piece} {origin room work : List ℕ}
       (last-nodes t w (s .task) (current (inv .tiles)) (current-every (Sound t w n 0) (inv .tiles) (s .sound)))
       ∙ ap (λ (i : ℕ). inv .before ++ levelsFrom D w i hi (current (inv .tiles))) (sym z) ∙ inv .nodes in
       let ps : List Piece = pieces (inv .tiles) in
+      let members : each (λ p. membersFrom D w 0 p) ps ≡ membersFrom D w maxDepth root =
+      ap (λ (i : ℕ). each (λ p. membersFrom D w i p) ps) (sym z) ∙ inv .members in
       let some : Every (λ q. 1 ≤ sizeOf w q) ps = every-of (Sound t w n 0) (λ q. 1 ≤ sizeOf w q) (λ q k. sound-some (s .task) 0 q k) ps (s .sound) in
       record {
         nodes = s .nodes ∙ ap (withNodes origin) ns;
@@ -254,5 +269,12 @@ module _ {t w : List ℕ} {n : ℕ} {root : Piece} {origin room work : List ℕ}
             );
         pairs =
             last-pairs t w (s .task) ps (take (3 * n) work) (s .sound) (s .stand)
-            ∙ ap (each pairWords) (ap (λ (i : ℕ). each (λ p. membersFrom D w i p) ps) (sym z) ∙ inv .members);
+            ∙ ap (each pairWords) members;
+        many =
+            ap length (sym members) ∙ last-many t w (s .task) ps (s .sound)
+            ∙ omega (
+              arith,
+              stand-long t w true ps (take (3 * n) work) (s .stand),
+              length-take-le (3 * n) work (omega (arith, s .halves)),
+            );
       }

@@ -65,6 +65,7 @@ pub record Layered (t w : List ℕ) (n : ℕ) (root : Piece) (origin room work :
   pub count : made ≡ length (levelsFrom (between t (c# w) (circles# w)) w maxDepth 1 (root ∷ []))
   pub few : made ≤ 2 * n
   pub pairs : pairsIn (take (3 * n) work) ≡ each pairWords (membersFrom (between t (c# w) (circles# w)) w maxDepth root)
+  pub many : length (membersFrom (between t (c# w) (circles# w)) w maxDepth root) ≡ n
 
 -- it does so, whatever the root and the room before
 abbrev pub Leveled : List ℕ → List ℕ → ℕ → List ℕ → List ℕ → List ℕ → List ℕ → ℕ → Type 0
