@@ -1,4 +1,4 @@
--- The call's outcomes: a refusal, the build of one row, and the index that a row has joined. Assumes nothing.
+-- The call's outcomes: the build of one row, and the index that a row has joined. Assumes nothing.
 use Prim.Native.Nat.{_*_, _+_, _<_, _≤_, ℕ}
 use Rattle.append.proofs.Refusals.{Clear, clear}
 use Rattle.append.specs.Calls.{Appends}
@@ -28,22 +28,6 @@ use mathlib.Core.List.{List, _++_}
 use mathlib.Core.Logic.{_≢_}
 use mathlib.Core.Path.{_∙_, _≡_, ap, refl, subst, sym}
 use native.Mathlib.Omega.{arith}
-
--- ---- a refusal
--- both rooms are as they were, and the counts are 0: the contract is met
-pub refused-appends : {T : List ℕ} {c : ℕ} {w room work : List ℕ} {k number words nodes : ℕ} → ((i : ℕ) → getD T i 0 ≤ 65535)
-    → k ≡ saidAppend T c w (length room) (length work) .0 → k ≢ 0 → (number ≡ k) × (words ≡ 0) × (nodes ≡ 0)
-    → Appends T c w room work room work number words nodes
-refused-appends {T} {number = number} narrow q h r =
-    let f : eqb number 0 ≡ false = ne-eqb number 0 (λ z. h (sym (r .0) ∙ z)) in
-    record {
-      said = r .0 ∙ q;
-      counted = (rw f (r .1), rw f (r .2));
-      index = rw f;
-      narrow = sixteen T narrow;
-      small = (omega (arith, r .1), omega (arith, r .2));
-      cleared = rw f;
-    }
 
 -- ---- nothing is refused
 pub record Passed (T : List ℕ) (c : ℕ) (w room work : List ℕ) : Type 0 where
