@@ -18,23 +18,24 @@ use Rattle.swelling.proofs.Routed.{routed, routed-all}
 use Rattle.swelling.specs.Pieces.{Piece, kidFor, kidsFrom}
 use Rattle.tree.specs.Encode.{Node, nodeWords}
 use Rattle.words.proofs.Tiles.{tile-none, tile-tail}
-use Rattle.words.specs.Shape.{tile}
-use Rattle.words.specs.Words.{c#, child#, circles#, count#, first#, m#, start#}
+use Rattle.words.specs.InShape.{InShape}
+use Rattle.words.specs.Shape.{inner, tile}
+use Rattle.words.specs.Words.{N#, c#, child#, circles#, count#, first#, m#, start#}
 use lib.Dec.{T, eqb}
 use lib.ListN.{drop, drop-of-length-le, length, length-append, length-drop, length-map, take, take-append-drop}
 use lib.Seq.{drop-append-le, drop-at, drop-drop, length-take-le, take-add, take-append-le, take-at, take-length, take-take}
-use mathlib.Core.Bool.{Bool}
+use mathlib.Core.Bool.{Bool, true}
 use mathlib.Core.List.{List, [], _++_, _∷_, append-assoc, append-nil, map}
 use mathlib.Core.Path.{_∙_, _≡_, ap, ap₂, refl, subst, sym}
 use native.Mathlib.Omega.{arith}
 
 -- the sizes of two stretches of pieces
-sizes-append : (w : List ℕ) (ps qs : List Piece) → sizes w (ps ++ qs) ≡ sizes w ps + sizes w qs
+pub sizes-append : (w : List ℕ) (ps qs : List Piece) → sizes w (ps ++ qs) ≡ sizes w ps + sizes w qs
 sizes-append w [] qs = omega arith
 sizes-append w (p ∷ ps) qs = omega (arith, sizes-append w ps qs)
 
 -- one piece more stands behind the others
-stand-last : (t w : List ℕ) (last : Bool) (qs : List Piece) (q : Piece) (xs ys : List ℕ) → StandAll t w last qs xs → length ys ≡ 3 * sizeOf w q
+pub stand-last : (t w : List ℕ) (last : Bool) (qs : List Piece) (q : Piece) (xs ys : List ℕ) → StandAll t w last qs xs → length ys ≡ 3 * sizeOf w q
     → Stands t (c# w) w last q ys → StandAll t w last (qs ++ q ∷ []) (xs ++ ys)
 stand-last t w last [] q xs ys a l s =
     let k : ℕ = 3 * sizeOf w q in
@@ -62,6 +63,25 @@ kids-sizes t w place zs s o k (suc j) a e h =
       piece-size t w s o here,
     )
 
+-- THE CHILDREN OF AN INNER NODE HAVE ITS ROWS AND THE NEW ONES
+pub dealt-sizes : (t w : List ℕ) → InShape w → (o : ℕ) → o < N# w → inner w o ≡ true → (zs : List ℕ) (s : ℕ)
+    → sizes w (kidPieces t w o zs s) ≡ count# w o + length zs
+dealt-sizes t w S o there is zs s =
+    let d : ℕ → ℕ → ℕ = between t (c# w) (circles# w) in
+    let K = S .node o there .kids is in
+    let one : (z : ℕ) → kidFor d w o z < m# w =
+    λ z.
+    let xs : List ℕ = map (λ f. d f z) (map (first# w) (range (child# w o) (m# w))) in
+    let long : length xs ≡ m# w =
+    length-map (map (first# w) (range (child# w o) (m# w))) (λ f. d f z) ∙ length-map (range (child# w o) (m# w)) (first# w)
+    ∙ range-length (child# w o) (m# w) in
+    omega (arith, lowest-there xs (omega (arith, S .whole .fan .0))) in
+    omega (
+      arith,
+      kids-sizes t w (kidFor d w o) zs s (child# w o) 0 (m# w) (start# w o) (start# w o + count# w o) (K .tiled),
+      routed-all (kidFor d w o) zs (m# w) one,
+    )
+
 module _ {t w : List ℕ} {o n lo hi : ℕ} {room₀ work₀ : List ℕ} {s made : ℕ} (g : KidsAsk t w o n lo hi room₀ work₀ s made) where
   -- how far two rows are apart
   abbrev d : ℕ → ℕ → ℕ
@@ -77,21 +97,7 @@ module _ {t w : List ℕ} {o n lo hi : ℕ} {room₀ work₀ : List ℕ} {s made
 
   -- have all rows
   all-sizes : sizes w all ≡ count# w o + length (g .zs)
-  all-sizes =
-      let S = g .deals .shape in
-      let K = S .node o (g .deals .there) .kids (g .deals .inner) in
-      let one : (z : ℕ) → place z < m# w =
-      λ z.
-      let xs : List ℕ = map (λ f. d f z) (map (first# w) (range (child# w o) (m# w))) in
-      let long : length xs ≡ m# w =
-      length-map (map (first# w) (range (child# w o) (m# w))) (λ f. d f z) ∙ length-map (range (child# w o) (m# w)) (first# w)
-      ∙ range-length (child# w o) (m# w) in
-      omega (arith, lowest-there xs (omega (arith, S .whole .fan .0))) in
-      omega (
-        arith,
-        kids-sizes t w place (g .zs) s (child# w o) 0 (m# w) (start# w o) (start# w o + count# w o) (K .tiled),
-        routed-all place (g .zs) (m# w) one,
-      )
+  all-sizes = dealt-sizes t w (g .deals .shape) o (g .deals .there) (g .deals .inner) (g .zs) s
 
   module _ (last : Bool) where
     -- the first k children are dealt out, as far as position `at`

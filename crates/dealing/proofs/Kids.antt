@@ -59,7 +59,7 @@ pub node-room : (room : List ℕ) (k : ℕ) → length (midOf (nodeAt k) (length
 node-room room k = ap length (mid-end (nodeAt k) room) ∙ length-drop (nodeAt k) room
 
 -- some of ascending rows ascend
-ascends-keep : (f : ℕ → Bool) (zs : List ℕ) → Ascends zs → Ascends (keep f zs)
+pub ascends-keep : (f : ℕ → Bool) (zs : List ℕ) → Ascends zs → Ascends (keep f zs)
 ascends-keep f [] h = tt
 ascends-keep f (z ∷ zs) h = go (f z) (ascends-keep f zs (h .1))
   where

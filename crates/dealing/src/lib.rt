@@ -78,7 +78,7 @@ fn reach_with(index: &[u32], q: usize, g: Group) -> Reach
 }
 
 // Lays node q, behind whose own entries its new rows stand: a leaf whole, and of an inner node nothing. Gives its mark while it waits.
-fn settle(table: &[u16], index: &[u32], q: usize, last: bool, part: &mut [u32]) -> u32
+pub fn settle(table: &[u16], index: &[u32], q: usize, last: bool, part: &mut [u32]) -> u32
     requires { ⌜ Takes (now table) (c# (now index)) (now index) q (now part) ⌝ }
     ensures { λ r. ⌜ Settles (now (table .entry)) (now (index .entry)) q last (now (part .entry)) (now (part .exit)) r ⌝ }
 {

@@ -24,7 +24,7 @@ keep-agree f g [] h = refl
 keep-agree f g (i ∷ is) h = ap₂ (λ (s : Bool) (ks : List ℕ). cond s (i ∷ ks) ks) (h .0) (keep-agree f g is (h .1))
 
 -- what holds of all holds without one
-every-without : (P : ℕ → Type 0) (j : ℕ) (is : List ℕ) → Every P is → Every P (without j is)
+pub every-without : (P : ℕ → Type 0) (j : ℕ) (is : List ℕ) → Every P is → Every P (without j is)
 every-without P j [] h = tt
 every-without P j (i ∷ is) h = go (eqb j i) (every-without P j is (h .1))
   where

@@ -1,5 +1,6 @@
 -- The words of an index with several rows more, as one pass over the levels can write them. Assumes nothing.
 use Prim.Native.Nat.{_+_, _-_, _≤_, suc, zero, ℕ}
+use Rattle.appending.proofs.Back.{tree-fits}
 use Rattle.laws.specs.Every.{Every}
 use Rattle.laws.specs.Lists.{each, head, range}
 use Rattle.levels.specs.Singles.{Single, singles}
@@ -7,7 +8,7 @@ use Rattle.limits.specs.Limits.{maxDepth}
 use Rattle.measure.specs.Table.{between, rowsOf}
 use Rattle.swelling.proofs.Levelled.{Stands, forest-singles, grown-stand, kids, kids-are, nodeOf, one, opens-stand, root-alone, root-stands, rows-numbered}
 use Rattle.swelling.proofs.Parting.{parts-runs}
-use Rattle.swelling.proofs.Swelled.{rows-at-once}
+use Rattle.swelling.proofs.Swelled.{shape-at-once}
 use Rattle.swelling.proofs.Swelling.{forest}
 use Rattle.swelling.specs.Pieces.{Piece, byLevels, grown, grownFrom, membersFrom, old, opens, pieceOf, settled, written}
 use Rattle.swelling.specs.Rows.{appendedRows}
@@ -17,10 +18,11 @@ use Rattle.tree.specs.Encode.{Node, encode}
 use Rattle.tree.specs.Grove.{Grove, bare, entries, fork, leaf, treeOf}
 use Rattle.words.proofs.InShape.{in-shape}
 use Rattle.words.specs.InShape.{InShape}
-use Rattle.words.specs.Shape.{shapeOk}
+use Rattle.words.specs.Shape.{shapeOk, treeFits}
 use Rattle.words.specs.Words.{circles#, l#, m#, n#, wholeOk}
 use borrow.Author.Tests.{leb-false}
 use lib.Dec.{leb}
+use lib.Dec as dec
 use lib.ListN.{length}
 use mathlib.Core.Bool.{Bool, cond, false, true}
 use mathlib.Core.List.{List, [], _++_, _∷_, append-nil, map}
@@ -83,13 +85,16 @@ module _ (d : ℕ → ℕ → ℕ) (w : List ℕ) (S : InShape w) where
       singles-members 0 (swollenTree d (m# w) (l# w) zs (treeOf w)) ∙ ap membersOf (root-alone d w S zs h)
       ∙ append-nil (entries (nodeOf d w S maxDepth p bare)) ∙ piece-members maxDepth p (root-stands d w S zs h)
 
+-- the same where the shape is read node by node
+pub shape-written : (T : List ℕ) (c : ℕ) (w : List ℕ) (S : InShape w) → dec.T (treeFits w) → 1 ≤ n# w → appendedRows T c w ≡ byLevels T c w
+unfolding encode
+shape-written T c w S fits h =
+    let zs : List ℕ = range (n# w) (rowsOf T c - n# w) in
+    shape-at-once T c w S fits h
+    ∙ ap₂ (λ (ns : List Node) (ms : List (ℕ × ℕ)). written c (circles# w) (m# w) (l# w) ns ms) (rows-numbered (between T c (circles# w)) w S zs h)
+    (rows-members (between T c (circles# w)) w S zs h)
+
 -- THE WORDS OF ALL ROWS, WHERE THE INDEX HAS A ROW, ARE THOSE THAT ONE PASS OVER THE LEVELS MAKES
 pub rows-written : (T : List ℕ) (c : ℕ) (w : List ℕ) → wholeOk w ≡ true → shapeOk w ≡ true → 1 ≤ n# w
     → appendedRows T c w ≡ byLevels T c w
-unfolding encode
-rows-written T c w whole shape h =
-    let zs : List ℕ = range (n# w) (rowsOf T c - n# w) in
-    let S : InShape w = in-shape w whole shape in
-    rows-at-once T c w whole shape h
-    ∙ ap₂ (λ (ns : List Node) (ms : List (ℕ × ℕ)). written c (circles# w) (m# w) (l# w) ns ms) (rows-numbered (between T c (circles# w)) w S zs h)
-    (rows-members (between T c (circles# w)) w S zs h)
+rows-written T c w whole shape h = shape-written T c w (in-shape w whole shape) (tree-fits w shape) h

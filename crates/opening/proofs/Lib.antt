@@ -1,0 +1,3 @@
+pub mod Late
+pub mod Olds
+pub mod Grown
