@@ -1,6 +1,6 @@
 -- Why an append is refused: one law for each return of the code, and what holds where nothing is refused. Assumes nothing.
 use Prim.Native.Nat.{_*_, _+_, _-_, _≤_, ℕ}
-use Rattle.append.proofs.Faults.{few-columns, free, free-none, none-new, of-circles, of-index, of-numbers, there}
+use Rattle.append.proofs.Faults.{Free, few-columns, free, free-none, none-new, of-circles, of-index, of-numbers, there}
 use Rattle.append.specs.Numbers.{saidAppend}
 use Rattle.build.specs.Numbers.{roomOf, writerAsks}
 use Rattle.limits.proofs.Numbers.{Sized}
@@ -75,10 +75,14 @@ module _ (T : List ℕ) (c : ℕ) (w : List ℕ) (room work : ℕ) where
         by-circles = of-circles T c w room work (eqb n 0) (n - 1) e z some (ap (λ (k : ℕ). k - 1) q) f y
 
   -- none
-  pub clear : saidAppend T c w room work .0 ≡ 0 → Clear T c w room work
+  pub freed : saidAppend T c w room work .0 ≡ 0 → Free T c w room work (eqb n 0) (n - 1)
   unfolding saidAppend
+  freed = free T c w room work (eqb n 0) (n - 1)
+
+  -- the index has one row less then
+  pub clear : saidAppend T c w room work .0 ≡ 0 → Clear T c w room work
   clear z =
-      let F = free T c w room work (eqb n 0) (n - 1) z in
+      let F = freed z in
       let some : n ≡ 0 → ⊥ = eqb-false n 0 (F .some) in
       record {
         table = F .table;
