@@ -191,14 +191,15 @@ static bool take_night(struct trial *t, uint32_t rows)
     return true;
 }
 
-/* So many rows at once, then all calls on what comes out. */
-static void night(struct trial *t, uint32_t rows)
+/* So many rows at once, then all calls on what comes out. False where the call is refused. */
+static bool night(struct trial *t, uint32_t rows)
 {
     if (!take_night(t, rows))
-        return;
+        return false;
     draw_query(&t->draw, &sample);
     struct lot lot = fair_lot(&t->draw, &sample);
     every_call(t, &lot);
+    return true;
 }
 
 /* How many rows: one, few, or many. */
@@ -234,9 +235,9 @@ void nights_from_none(struct trial *t, uint32_t limit)
     draw_sample_of(d, &sample, all);
     sample.n = 0;
     index_built(&sample);
-    while (sample.n < all) {
-        uint32_t rows = draw_rows(d, all - sample.n);
-        night(t, rows < all - sample.n ? rows : all - sample.n);
+    for (bool taken = true; taken && sample.n < all;) {
+        uint32_t left = all - sample.n, rows = draw_rows(d, left);
+        taken = night(t, rows < left ? rows : left);
     }
 }
 

@@ -90,7 +90,7 @@ module _ {t : List ℕ} {c : ℕ} {w room work : List ℕ} (J : Puttable t c w r
         }
 
     -- so that rows can be appended in turn
-    part : Part t c w
+    pub part : Part t c w
     part =
         record {
           accepted = accepted;
