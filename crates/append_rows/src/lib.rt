@@ -68,7 +68,13 @@ fn put_rows(table: &[u16], c: usize, index: &[u32], room: &mut [u32], work: &mut
 }
 
 // Writes the index with all of the table's rows in it that it has not into the room.
-pub fn append_rows(table: &[u16], c: usize, index: &[u32], room: &mut [u32], work: &mut [u32]) -> Built
+pub fn append_rows(
+    table: &[u16],
+    c: usize,
+    index: &[u32],
+    room: &mut [u32],
+    work: &mut [u32],
+) -> Built
     ensures { λ r. ⌜ AppendsRows (now (table .entry)) c (now (index .entry)) (now (room .entry)) (now (work .entry)) (now (room .exit)) (now (work .exit))
         (r .number) (r .words) (r .nodes) ⌝ }
 {
