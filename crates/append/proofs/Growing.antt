@@ -112,6 +112,13 @@ module _ {says : List ℕ → ℕ → List ℕ → ℕ → ℕ → Said} {grown 
       let n : words ≡ length B = rw q at (b .counted .0) in
       omega (arith, ap length i ∙ length-append B (drop (length B) room))
 
+  -- ON A REFUSAL NOTHING HAS CHANGED, AND THE COUNTS ARE 0
+  pub grows-refused : {T : List ℕ} {c : ℕ} {w room work room′ work′ : List ℕ} {number words nodes : ℕ}
+      → Grows says grown T c w room work room′ work′ number words nodes → number ≢ 0 → (words ≡ 0) × (nodes ≡ 0) × (room′ ≡ room) × (work′ ≡ work)
+  grows-refused {number = number} b h =
+      let f : eqb number 0 ≡ false = ne-eqb number 0 h in
+      (rw f at (b .counted .0), rw f at (b .counted .1), rw f at (b .index), rw f at (b .cleared))
+
   -- NO SECOND OUTCOME FITS
   pub grows-only : {T : List ℕ} {c : ℕ} {w room work room₁ work₁ room₂ work₂ : List ℕ} {number₁ words₁ nodes₁ number₂ words₂ nodes₂ : ℕ}
       → Grows says grown T c w room work room₁ work₁ number₁ words₁ nodes₁ → Grows says grown T c w room work room₂ work₂ number₂ words₂ nodes₂

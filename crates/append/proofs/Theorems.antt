@@ -1,7 +1,7 @@
 -- The theorems on the call: what it wrote is accepted where the old index was, all other groups keep their order, and no second outcome fits.
 -- Assumes nothing.
 use Prim.Native.Nat.{_*_, _+_, _≤_, ℕ}
-use Rattle.append.proofs.Growing.{grows-only, grows-there}
+use Rattle.append.proofs.Growing.{grows-only, grows-refused, grows-there}
 use Rattle.append.proofs.Refusals.{Clear, clear}
 use Rattle.append.specs.Calls.{Appends}
 use Rattle.appending.proofs.Appending.{Longer, append-accepted as words-accepted, append-header, append-length, append-one as words-one, append-order as words-order, longer-of}
@@ -20,6 +20,7 @@ use lib.ListN.{drop, length, length-drop, take, take-append-drop}
 use lib.Seq.{length-take-le}
 use mathlib.Core.Bool.{false}
 use mathlib.Core.List.{List, _++_}
+use mathlib.Core.Logic.{_≢_}
 use mathlib.Core.Path.{_∙_, _≡_, ap, subst, sym}
 use native.Mathlib.Nat.{div-add-mod, mod-add-div, mul-add}
 use native.Mathlib.Omega.{arith}
@@ -82,6 +83,11 @@ module _ {T : List ℕ} {c : ℕ} {w room work room′ work′ : List ℕ} {numb
     -- ONE GROUP TAKES THE ROW, AND IS SPLIT WHERE IT MUST BE; ALL OTHERS STAY AS THEY ARE, IN THEIR ORDER
     pub append-order : 1 ≤ n# w → Order (between T c (circles# w)) (m# w) (l# w) (n# w) 0 (treeOf w) (treeOf (take words room′))
     append-order h = rw append-there (words-order longer h)
+
+-- ON A REFUSAL NOTHING HAS CHANGED, AND THE COUNTS ARE 0
+pub append-refused : {T : List ℕ} {c : ℕ} {w room work room′ work′ : List ℕ} {number words nodes : ℕ}
+    → Appends T c w room work room′ work′ number words nodes → number ≢ 0 → (words ≡ 0) × (nodes ≡ 0) × (room′ ≡ room) × (work′ ≡ work)
+append-refused b h = grows-refused b h
 
 -- NO SECOND OUTCOME FITS
 pub append-only : (T : List ℕ) (c : ℕ) (w room work room₁ work₁ room₂ work₂ : List ℕ) (number₁ words₁ nodes₁ number₂ words₂ nodes₂ : ℕ)

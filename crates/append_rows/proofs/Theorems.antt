@@ -2,7 +2,7 @@
 -- Assumes nothing.
 use Prim.Native.Nat.{_*_, _+_, _-_, _≤_, suc, ℕ}
 use Rattle.append.proofs.Faults.{Free}
-use Rattle.append.proofs.Growing.{grows-only, grows-there}
+use Rattle.append.proofs.Growing.{grows-only, grows-refused, grows-there}
 use Rattle.append_rows.proofs.Outcomes.{rows-one}
 use Rattle.append_rows.proofs.Refusals.{clear}
 use Rattle.append_rows.proofs.Turning.{Headed, turns-headed, turns-written}
@@ -22,6 +22,7 @@ use lib.Dec.{leb}
 use lib.ListN.{length, take}
 use mathlib.Core.Bool.{false}
 use mathlib.Core.List.{List}
+use mathlib.Core.Logic.{_≢_}
 use mathlib.Core.Path.{_∙_, _≡_, ap, subst, sym}
 use native.Mathlib.Nat.{mod-add-div}
 use native.Mathlib.Omega.{arith}
@@ -92,6 +93,11 @@ module _ {T : List ℕ} {c : ℕ} {w room work room′ work′ : List ℕ} {numb
         let same : inTurn T c (suc k) w ≡ take words room′ = ap (λ (j : ℕ). inTurn T c j w) left ∙ rows-in-turn part ∙ sym append-rows-there in
         subst (λ (n : ℕ). Headed T c n w (take words room′)) all
         (subst (Headed T c (n# w + suc k) w) same (turns-headed T c k w part (omega (arith, all))))
+
+-- ON A REFUSAL NOTHING HAS CHANGED, AND THE COUNTS ARE 0
+pub append-rows-refused : {T : List ℕ} {c : ℕ} {w room work room′ work′ : List ℕ} {number words nodes : ℕ}
+    → AppendsRows T c w room work room′ work′ number words nodes → number ≢ 0 → (words ≡ 0) × (nodes ≡ 0) × (room′ ≡ room) × (work′ ≡ work)
+append-rows-refused b h = grows-refused b h
 
 -- NO SECOND OUTCOME FITS
 pub append-rows-only : (T : List ℕ) (c : ℕ) (w room work room₁ work₁ room₂ work₂ : List ℕ) (number₁ words₁ nodes₁ number₂ words₂ nodes₂ : ℕ)
