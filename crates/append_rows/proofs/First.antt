@@ -20,9 +20,11 @@ use Rattle.tree.specs.Check.{Accepted, faults}
 use Rattle.words.proofs.Headers.{words-whole}
 use Rattle.words.proofs.InShape.{in-shape}
 use Rattle.words.specs.InShape.{InShape}
-use Rattle.words.specs.Words.{N#, circles#, l#, m#, n#}
+use Rattle.words.specs.Shape.{shapeOk}
+use Rattle.words.specs.Words.{N#, circles#, l#, m#, n#, wordsOk}
 use lib.ListN.{List·getD-eq-default, drop, getD, length, length-take, take}
 use lib.Seq.{getD-take}
+use mathlib.Core.Bool.{true}
 use mathlib.Core.List.{List, [], _++_}
 use mathlib.Core.Path.{_∙_, _≡_, ap, subst, sym}
 use native.Mathlib.Decide.{decLt}
@@ -33,6 +35,12 @@ use native.Mathlib.Omega.{arith}
 no-rows : (d : ℕ → ℕ → ℕ) (w : List ℕ) → n# w ≡ 0 → N# w ≡ 0 → faults d w ≡ []
 unfolding faults
 no-rows d w e f = rw (e, f)
+
+-- AN INDEX WITHOUT ROWS IS ACCEPTED WHERE IT IS IN SHAPE
+pub none-accepted : (d : ℕ → ℕ → ℕ) (w : List ℕ) → wordsOk w ≡ true → shapeOk w ≡ true → n# w ≡ 0 → Accepted d w
+none-accepted d w whole shape e =
+    let S : InShape w = in-shape w (words-whole w whole .1) shape in
+    record { words = words-whole w whole .1; shape = shape; sound = no-rows d w e (omega (arith, S .whole .nodes)) }
 
 -- the numbers of a table's front have 16 bits where the table's have
 narrow-part : (k : ℕ) (t : List ℕ) → ((i : ℕ) → getD t i 0 ≤ 65535) → (i : ℕ) → getD (take k t) i 0 ≤ 65535
@@ -60,14 +68,14 @@ module _ {t : List ℕ} {c : ℕ} {w room work : List ℕ} (J : Puttable t c w r
       omega (arith, mul-one c, J .rows)
 
   -- where it has a row, all of them can join it
-  pub some-joinable : (n# w ≡ 0 → ⊥) → RowsJoinable t c w room work
-  some-joinable h =
+  pub some-joinable : {k : ℕ} → k ≡ n# w → (k ≡ 0 → ⊥) → RowsJoinable t c w room work
+  some-joinable e h =
       record {
         shape = shape-is;
         tree = tree-fits w (J .shape);
         edition = words-whole w (J .whole) .0;
         columns = J .columns;
-        some = positive (n# w) h;
+        some = positive (n# w) (λ z. h (e ∙ z));
         more = J .more;
         few = J .few;
         table = omega (arith, J .rows);
@@ -82,12 +90,7 @@ module _ {t : List ℕ} {c : ℕ} {w room work : List ℕ} (J : Puttable t c w r
   module _ (e : n# w ≡ 0) (narrow : (i : ℕ) → getD t i 0 ≤ 65535) where
     -- the full check accepts it with no row
     accepted : Accepted (between (firstRows t c (n# w)) c (circles# w)) w
-    accepted =
-        record {
-          words = words-whole w (J .whole) .1;
-          shape = J .shape;
-          sound = no-rows (between (firstRows t c (n# w)) c (circles# w)) w e (omega (arith, shape-is .whole .nodes));
-        }
+    accepted = none-accepted (between (firstRows t c (n# w)) c (circles# w)) w (J .whole) (J .shape) e
 
     -- so that rows can be appended in turn
     pub part : Part t c w

@@ -3,6 +3,7 @@
 use Prim.Native.Nat.{_*_, _+_, _-_, _≤_, suc, ℕ}
 use Rattle.append.proofs.Faults.{Free}
 use Rattle.append.proofs.Growing.{grows-only, grows-refused, grows-there}
+use Rattle.append_rows.proofs.First.{none-accepted}
 use Rattle.append_rows.proofs.Outcomes.{rows-one}
 use Rattle.append_rows.proofs.Refusals.{clear}
 use Rattle.append_rows.proofs.Turning.{Headed, turns-headed, turns-written}
@@ -60,6 +61,10 @@ module _ {T : List ℕ} {c : ℕ} {w room work room′ work′ : List ℕ} {numb
   -- the table before the rows came
   abbrev pub older : List ℕ
   older = firstRows T c (n# w)
+
+  -- an index without rows is accepted, so that what follows holds of it
+  pub append-rows-none : n# w ≡ 0 → Accepted (between older c (circles# w)) w
+  append-rows-none = none-accepted (between older c (circles# w)) w (cleared .whole) (cleared .shape)
 
   module _ (accepted : Accepted (between older c (circles# w)) w) where
     -- rows can be appended to the index in turn

@@ -73,7 +73,7 @@ put-rows-requires : tie.Need-put-rows-requires
 put-rows-requires c κs =
     let i = c .before .before in
     let n = i .before in
-    puttable (none (n .before)) (n .rows-in .ensures) (i .if2 .left)
+    puttable (none (n .before)) (n .rows-in .ensures) (omega (arith, i .if2 .left))
 
 mul-t10 : tie.Need-mul-t10
 mul-t10 c =

@@ -8,7 +8,7 @@ use Rattle.words.specs.Words.{n#}
 use borrow.Author.Needs.{needs}
 use lib.ListN.{getD}
 use lib.Seq.{length-take-le}
-use mathlib.Core.Path.{_∙_, _≡_, sym}
+use mathlib.Core.Path.{_≡_, sym}
 use native.Mathlib.Omega.{arith}
 
 -- the start, seen from behind the first row's build
@@ -19,7 +19,7 @@ start c = c .before .before .before .before .before .before .before .before .bef
 none : (c : tie.After-build) → n# (start c .args .index .now) ≡ 0
 none c =
     let i = c .before .before .before .before .before .before .before in
-    sym (i .before .rows .ensures .0) ∙ i .if1 .left
+    omega (arith, i .before .rows .ensures .0, i .if1 .left)
 
 -- the table's numbers have 16 bits
 narrow : (c : tie.After-build) (i : ℕ) → getD (start c .args .table .now) i 0 ≤ 65535
@@ -31,7 +31,7 @@ rows-requires c κs = header-there (c .before .before .before .before .pre)
 fill-rows-requires : tie.Need-fill-rows-requires
 fill-rows-requires c κs =
     let i = c .before .before in
-    some-joinable (i .before .before .before .before .before .before .pre) (λ z. i .if1 .taken (i .before .rows .ensures .0 ∙ z))
+    some-joinable (i .before .before .before .before .before .before .pre) (i .before .rows .ensures .0) (omega (arith, i .if1 .taken))
 
 slice-aggregate-build : tie.Need-slice-aggregate-build
 slice-aggregate-build c = sym (length-take-le _ _ (row-there (c .before .before .before .before .before .before .before .pre)))

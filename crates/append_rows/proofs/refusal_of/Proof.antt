@@ -23,7 +23,7 @@ returns-4 c =
     let n = c .before .before .before in
     let e = n .before .before .before in
     by-index _ _ _ _ _ (e .before .writer-number .ensures) (e .if1 .left) (n .rows-in .ensures) (n .before .rows .ensures .0)
-    (c .before .before .if3 .left) (c .before .index-number .ensures) (omega arith)
+    (omega (arith, c .before .before .if3 .left)) (c .before .index-number .ensures) (omega arith)
 
 circle-number-requires : tie.Need-circle-number-requires
 circle-number-requires c κs =
@@ -38,7 +38,7 @@ returns-5 c =
     let n = i .before .before in
     let e = n .before .before .before in
     by-circles _ _ _ _ _ (e .before .writer-number .ensures) (e .if1 .left) (n .rows-in .ensures) (n .before .rows .ensures .0)
-    (i .before .if3 .left) (i .index-number .ensures) (omega arith) (o .circles .ensures) (c .circle-number .ensures)
+    (omega (arith, i .before .if3 .left)) (i .index-number .ensures) (omega arith) (o .circles .ensures) (c .circle-number .ensures)
 
 pub refusal-of-spec : {M : Type 1} → statement M
 refusal-of-spec =
