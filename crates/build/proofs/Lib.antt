@@ -1,6 +1,7 @@
 pub mod Numbering
 pub mod Positions
 pub mod Pairing
+pub mod Framed
 pub mod Whole
 pub mod Refusals
 pub mod Outcomes

@@ -2,6 +2,7 @@
 use Prim.Native.Nat.{_*_, _+_, _-_, _≤_, suc, zero, ℕ}
 use Rattle.buffers.proofs.Whole.{wiped-whole}
 use Rattle.buffers.specs.Wiped.{wiped}
+use Rattle.build.proofs.Framed.{framed}
 use Rattle.build.proofs.Numbering.{numbered-levels}
 use Rattle.build.proofs.Positions.{entries-leaves, pairs-laid, pairsOf}
 use Rattle.growing.proofs.Rooting.{root-run}
@@ -10,7 +11,6 @@ use Rattle.growing.specs.Rooted.{Layered, Room, rootItem}
 use Rattle.growing.specs.Levels.{allNodes, leaves}
 use Rattle.growing.specs.Stages.{Fit, withNodes}
 use Rattle.laws.proofs.Lists.{tally-length}
-use Rattle.laws.proofs.Parts.{put-more}
 use Rattle.laws.proofs.Ranges.{range-length}
 use Rattle.laws.specs.Lists.{each, range}
 use Rattle.limits.specs.Limits.{maxDepth}
@@ -117,66 +117,11 @@ module _ {t : List ℕ} {c o m l n : ℕ} {origin work₀ : List ℕ} (asked : R
   abbrev ns : List Node
   ns = numbered tree
 
-  -- the room as the tree grew, cut behind the nodes
-  grown-front : List ℕ
-  grown-front = take 8 origin ++ each (nodeWords 2) ns
-
-  -- there is room for a header
-  eight : 8 ≤ length origin
-  eight = omega (arith, asked .space)
-
-  -- as far as the nodes' end
-  grown-long : length grown-front ≡ nodeAt made
-  unfolding grown-front
-  grown-long =
-      length-append (take 8 origin) (each (nodeWords 2) ns)
-      ∙ omega (arith, length-take-le 8 origin eight, each-words 2 ns (omega arith, omega arith), grown .count)
-
-  -- behind the nodes the room is as it was
-  grown-cut : room ≡ grown-front ++ drop (nodeAt made) origin
-  unfolding grown-front
-  grown-cut =
-      grown .nodes ∙ ap (λ (k : ℕ). take 8 origin ++ (each (nodeWords 2) ns ++ drop (nodeAt k) origin)) (sym (grown .count))
-      ∙ sym (append-assoc (take 8 origin) (each (nodeWords 2) ns) (drop (nodeAt made) origin))
-
-  -- and so it is behind the positions
-  grown-behind : drop (nodeAt made + 2 * n) room ≡ drop (nodeAt made + 2 * n) origin
-  grown-behind =
-      let here : nodeAt made + 2 * n ≡ length grown-front + 2 * n = ap (λ (k : ℕ). k + 2 * n) (sym grown-long) in
-      ap₂ drop here grown-cut ∙ drop-append-add grown-front (drop (nodeAt made) origin) (2 * n) ∙ drop-drop (2 * n) (nodeAt made) origin
-
-  -- behind the header stand the nodes
-  grown-nodes : drop 8 room ≡ each (nodeWords 2) ns ++ drop (nodeAt made) room
-  unfolding grown-front
-  grown-nodes =
-      let behind : drop (nodeAt made) room ≡ drop (nodeAt made) origin =
-      ap (drop (nodeAt made)) grown-cut ∙ drop-at grown-front (drop (nodeAt made) origin) (nodeAt made) grown-long in
-      ap (drop 8) (grown-cut ∙ append-assoc (take 8 origin) (each (nodeWords 2) ns) (drop (nodeAt made) origin))
-      ∙ drop-at (take 8 origin) (each (nodeWords 2) ns ++ drop (nodeAt made) origin) 8 (length-take-le 8 origin eight)
-      ∙ ap (λ (x : List ℕ). each (nodeWords 2) ns ++ x) (sym behind)
-
-  -- the words before the positions
-  abbrev front : List ℕ
-  front = headerOf n c o m l made ++ each (nodeWords 2) ns
-
-  -- as far as the nodes' end
-  front-long : length front ≡ nodeAt made
-  front-long =
-      length-append (headerOf n c o m l made) (each (nodeWords 2) ns)
-      ∙ omega (arith, each-words 2 ns (omega arith, omega arith), grown .count)
-
-  -- the header is written
-  headed : {room₂ : List ℕ} → room₂ ≡ headerOf n c o m l made ++ drop 8 room → room₂ ≡ front ++ drop (nodeAt made) room
-  headed q =
-      q ∙ ap (λ (x : List ℕ). headerOf n c o m l made ++ x) grown-nodes
-      ∙ sym (append-assoc (headerOf n c o m l made) (each (nodeWords 2) ns) (drop (nodeAt made) room))
-
-  -- with the positions they are the words of 01
-  words-are : front ++ each pairWords (entries tree) ≡ encode 2 c o m l tree
+  -- header, nodes and positions are the words of 01
+  words-are : headerOf n c o m l made ++ (each (nodeWords 2) ns ++ each pairWords (entries tree)) ≡ encode 2 c o m l tree
   unfolding encode
   words-are =
-      append-assoc (headerOf n c o m l made) (each (nodeWords 2) ns) (each pairWords (entries tree))
-      ∙ ap₂ (λ (i j : ℕ). headerOf i c o m l j ++ (each (nodeWords 2) ns ++ each pairWords (entries tree)))
+      ap₂ (λ (i j : ℕ). headerOf i c o m l j ++ (each (nodeWords 2) ns ++ each pairWords (entries tree)))
       (sym (positions (between t c o) m l (one fit) (fit .leafy) n)) (grown .count)
 
   -- THE WHOLE INDEX STANDS IN THE ROOM
@@ -189,12 +134,10 @@ module _ {t : List ℕ} {c o m l n : ℕ} {origin work₀ : List ℕ} (asked : R
       let pairs : pairsIn (stretch work 0 (3 * n)) ≡ each pairWords (entries tree) = ap (λ (k : ℕ). pairsIn (take k work)) z ∙ grown .pairs in
       record {
         index =
-            put-more front (each pairWords (entries tree)) room room₂ ys at (2 * n) (front-long ∙ sym place)
-            (omega (arith, place, same, positions-fit asked made (grown .few))) (headed q ∙ ap (λ (k : ℕ). front ++ drop k room) (sym place))
+            framed origin ns made (grown .nodes) (grown .count) (headerOf n c o m l made) refl (each pairWords (entries tree)) (2 * n)
+            (positions-fit asked made (grown .few)) same q place
             (f ∙ ap (λ (x : List ℕ). x ++ drop (2 * n) (midOf at (length room₂ - at) room₂)) pairs)
-            ∙ ap₂ (λ (x : List ℕ) (k : ℕ). x ++ drop (k + 2 * n) room) words-are place
-            ∙ ap (λ (x : List ℕ). encode 2 c o m l tree ++ x) (grown-behind
-            ∙ ap (λ (k : ℕ). drop k origin) (sym (encode-long fit o (grown .count))));
+            ∙ ap₂ (λ (x : List ℕ) (k : ℕ). x ++ drop k origin) words-are (sym (encode-long fit o (grown .count)));
         count = grown .count;
         few = grown .few;
         cleared = cleared ∙ wiped-whole work ∙ ap (λ (k : ℕ). replicate k 0) half;

@@ -27,7 +27,7 @@ runs-few [] h = omega arith
 runs-few (r ∷ ts) h = omega (arith, runs-few ts (h .1), h .0 .0, length-append r (joined ts))
 
 -- what holds of every row holds of every row of every run
-every-joined : (P : ℕ → Type 0) (rs : List (List ℕ)) → Every P (joined rs) → Every (Every P) rs
+pub every-joined : (P : ℕ → Type 0) (rs : List (List ℕ)) → Every P (joined rs) → Every (Every P) rs
 every-joined P [] h = tt
 every-joined P (r ∷ rs) h = (every-left P r (joined rs) h, every-joined P rs (every-right P r (joined rs) h))
 

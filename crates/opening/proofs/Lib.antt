@@ -1,3 +1,5 @@
 pub mod Late
 pub mod Olds
 pub mod Grown
+pub mod Waited
+pub mod Paths

@@ -22,11 +22,11 @@ use mathlib.Core.Path.{_≡_}
 -- the nodes of these pieces are those from `made` on, and their words stand where the `count` rows from position s on stood; the rest of the first
 -- half is as it was
 pub record Replaced (t w : List ℕ) (n : ℕ) (last : Bool) (qs : List Piece) (room work : List ℕ) (s count made : ℕ) (room′ work′ : List ℕ) : Type 0
-    where
-  pub nodes : room′ ≡ take (nodeAt made) room ++ (each (nodeWords 2) (map (pendOf t w last) qs) ++ drop (nodeAt (made + m# w)) room)
-  pub part : List ℕ
-  pub stand : StandAll t w last qs part
-  pub words : take (3 * n) work′ ≡ take (3 * s) work ++ (part ++ stretch work (3 * s + 3 * count) (3 * n))
+  where
+    pub nodes : room′ ≡ take (nodeAt made) room ++ (each (nodeWords 2) (map (pendOf t w last) qs) ++ drop (nodeAt (made + m# w)) room)
+    pub part : List ℕ
+    pub stand : StandAll t w last qs part
+    pub words : take (3 * n) work′ ≡ take (3 * s) work ++ (part ++ stretch work (3 * s + 3 * count) (3 * n))
 
 -- ---- an old inner node
 -- its new rows stand behind room for its own, from position s on

@@ -1,15 +1,15 @@
 -- Pieces of an index that takes rows that can be opened, and what stands in a piece's place then: 02, R-2. A working notion, on which no promise
 -- rests. Assumes nothing.
-use Prim.Native.Nat.{_*_, _<_, _≤_, suc, ℕ}
+use Prim.Native.Nat.{_*_, _-_, _<_, _≤_, suc, ℕ}
 use Rattle.appending.specs.Append.{orderly}
 use Rattle.laws.specs.Every.{Every}
-use Rattle.limits.specs.Limits.{maxRows}
+use Rattle.limits.specs.Limits.{maxDepth, maxRows}
 use Rattle.lodging.specs.Standing.{New}
 use Rattle.measure.specs.Table.{between}
 use Rattle.swelling.specs.Pieces.{Piece, grown, old, opens, settled}
 use Rattle.tree.specs.Build.{Run}
 use Rattle.words.specs.InShape.{InShape, Left}
-use Rattle.words.specs.Shape.{inner, treeFits}
+use Rattle.words.specs.Shape.{inner, level, treeFits}
 use Rattle.words.specs.Words.{N#, c#, circles#, edition#, l#, n#}
 use lib.Dec.{T, leb}
 use lib.ListN.{drop, length, take}
@@ -31,9 +31,10 @@ abbrev pub Late : ℕ → List ℕ → Type 0
 Late l run = orderly run ≡ orderly (take (suc l) run) ++ drop (suc l) run
 
 module _ (t w : List ℕ) (n : ℕ) where
-  -- with at most `deep` levels below it: an old inner node of the index with new rows; a run with no row twice, which waits in order; a leaf
+  -- with `deep` levels below it: an old inner node of the index with new rows; a run with no row twice, which waits in order; a leaf
   abbrev pub Sound : ℕ → Piece → Type 0
-  Sound deep (old s o zs) = (o < N# w) × (inner w o ≡ true) × Left w deep o × New t (c# w) w zs × Every (λ z. z < n) zs
+  Sound deep (old s o zs) =
+      (o < N# w) × (inner w o ≡ true) × Left w deep o × New t (c# w) w zs × Every (λ z. z < n) zs × (o < level w (suc (maxDepth - deep)))
   Sound deep (grown s R run) = Run run × Every (λ i. i < n) run × (1 ≤ deep → l# w < length run → Late (l# w) run)
   Sound deep (settled s R es) = 1 ≤ length es
 

@@ -1,13 +1,13 @@
 -- The words of the whole index: header, nodes, positions. Assumes nothing.
 use Rattle.copies.specs.Copies.{end#}
 use Prim.Native.Nat.{_*_, _+_, _-_, _≤_, ℕ}
+use Rattle.build.proofs.Framed.{framed}
 use Rattle.build.proofs.Positions.{pairs-laid, pairsOf}
 use Rattle.growing.proofs.Rooms.{room-long}
 use Rattle.build.proofs.Whole.{encode-words}
 use Rattle.build.specs.Filled.{headerOf, pairsIn}
 use Rattle.growing.specs.Levels.{Able, leaves}
 use Rattle.laws.proofs.Joins.{each-append, part-two}
-use Rattle.laws.proofs.Parts.{put-more}
 use Rattle.laws.proofs.Ranges.{range-length}
 use Rattle.laws.specs.Lists.{each, head, joined, range}
 use Rattle.measure.specs.Table.{between}
@@ -148,21 +148,15 @@ module _ {t w : List ℕ} {v added limit : ℕ} {room work room₁ work₁ : Lis
       ∙ ap (λ (x : List ℕ). each pairWords A ++ x) (each-append pairWords M B))
 
   -- ---- the header before the nodes, the positions behind them
-  -- the words before the positions
-  abbrev front : List ℕ
-  front = headerOf n (c# w) (circles# w) (m# w) (l# w) made ++ each (nodeWords 2) (numbered tree)
+  -- the header's words
+  abbrev header : List ℕ
+  header = headerOf n (c# w) (circles# w) (m# w) (l# w) made
 
-  front-long : length front ≡ nodeAt made
-  front-long =
-      length-append (headerOf n (c# w) (circles# w) (m# w) (l# w) made) (each (nodeWords 2) (numbered tree))
-      ∙ omega (arith, each-words 2 (numbered tree) (omega arith, omega arith), r .count)
-
-  -- they are those of 01
-  front-are : front ++ each pairWords (entries tree) ≡ encode 2 (c# w) (circles# w) (m# w) (l# w) tree
+  -- header, nodes and positions are the words of 01
+  front-are : header ++ (each (nodeWords 2) (numbered tree) ++ each pairWords (entries tree)) ≡ encode 2 (c# w) (circles# w) (m# w) (l# w) tree
   unfolding encode
   front-are =
-      append-assoc (headerOf n (c# w) (circles# w) (m# w) (l# w) made) (each (nodeWords 2) (numbered tree)) (each pairWords (entries tree))
-      ∙ ap₂ (λ (i k : ℕ). headerOf i (c# w) (circles# w) (m# w) (l# w) k ++ (each (nodeWords 2) (numbered tree) ++ each pairWords (entries tree)))
+      ap₂ (λ (i k : ℕ). headerOf i (c# w) (circles# w) (m# w) (l# w) k ++ (each (nodeWords 2) (numbered tree) ++ each pairWords (entries tree)))
       (sym entries-long) (r .count)
 
   -- THE WHOLE INDEX STANDS IN THE ROOM
@@ -172,23 +166,17 @@ module _ {t w : List ℕ} {v added limit : ℕ} {room work room₁ work₁ : Lis
       → Refilled t w v added limit (g .run) room work (putMid (nodeAt made) (length room₂ - nodeAt made) room₂ ys) work₁ made
   refilled {n0} {c} {o} {m} {l} {room₂} {ys} en ec eo em el e f =
       let ns : List Node = numbered tree in
-      let R : List ℕ = drop (nodeAt (length ns)) room in
       let kept : length room₁ ≡ length room =
       ap length (r .nodes) ∙ room-long room (omega (arith, g .space)) ns (omega (arith, r .count, r .few, g .space)) in
       let long : length room₂ ≡ length room =
       ap length e ∙ omega (arith, length-append (headerOf n0 c o m l made) (drop 8 room₁), length-drop 8 room₁, kept, g .space) in
-      let behind : drop 8 room₁ ≡ each (nodeWords 2) ns ++ R =
-      ap (drop 8) (r .nodes) ∙ drop-at (take 8 room) (each (nodeWords 2) ns ++ R) 8 (length-take-le 8 room (omega (arith, g .space))) in
-      let head : headerOf n0 c o m l made ≡ headerOf n (c# w) (circles# w) (m# w) (l# w) made = rw (en, ec, eo, em, el) refl in
-      let headed : room₂ ≡ front ++ drop (nodeAt made) room =
-      e ∙ ap₂ (λ (x y : List ℕ). x ++ y) head (behind ∙ ap (λ (k : ℕ). each (nodeWords 2) ns ++ drop (nodeAt k) room) (sym (r .count)))
-      ∙ sym (append-assoc (headerOf n (c# w) (circles# w) (m# w) (l# w) made) (each (nodeWords 2) ns) (drop (nodeAt made) room)) in
+      let head : headerOf n0 c o m l made ≡ header = rw (en, ec, eo, em, el) refl in
       let whole : nodeAt made + 2 * n ≡ length (encode 2 (c# w) (circles# w) (m# w) (l# w) tree) =
       omega (arith, encode-words (c# w) (circles# w) (m# w) (l# w) tree, entries-long, r .count) in
       record {
         index =
-            put-more front (each pairWords (entries tree)) room room₂ ys (nodeAt made) (2 * n) front-long
-            (omega (arith, long, g .space, r .few)) headed
+            framed room ns made (r .nodes) (r .count) header refl (each pairWords (entries tree)) (2 * n)
+            (omega (arith, g .space, r .few)) long (e ∙ ap (λ (x : List ℕ). x ++ drop 8 room₁) head) refl
             (f ∙ ap (λ (x : List ℕ). x ++ drop (2 * n) (midOf (nodeAt made) (length room₂ - nodeAt made) room₂)) words-are)
             ∙ ap₂ (λ (x : List ℕ) (k : ℕ). x ++ drop k room) front-are whole;
         count = r .count;

@@ -38,7 +38,7 @@ keep-without : (f : ℕ → Bool) (zs : List ℕ) (z : ℕ) → f z ≡ false �
 keep-without f zs z e = keep-append f zs (z ∷ []) ∙ ap (λ (s : Bool). keep f zs ++ cond s (z ∷ []) []) e ∙ append-nil (keep f zs)
 
 -- the reach that takes it last
-taking-snoc : (k : ℕ) (R : Reach) (vs : List ℕ) (v : ℕ) → reachTaking k R (vs ++ v ∷ []) ≡ reachWith (k + length vs) (reachTaking k R vs) v
+pub taking-snoc : (k : ℕ) (R : Reach) (vs : List ℕ) (v : ℕ) → reachTaking k R (vs ++ v ∷ []) ≡ reachWith (k + length vs) (reachTaking k R vs) v
 taking-snoc k R [] v = ap (λ (n : ℕ). reachWith n R v) (sym (add-zero k))
 taking-snoc k R (x ∷ vs) v =
     let count : suc k + length vs ≡ k + length (x ∷ vs) = omega arith in

@@ -1,4 +1,5 @@
 use borrow.Author.Needs.{needs}
+use Rattle.opening.proofs.Olds.{old-done, old-kids, old-marks}
 use Rattle.opening.proofs.open_old.Statement.{statement}
 use Rattle.opening.proofs.open_old.Tie as tie
 use Rattle.opening.proofs.open_old.Reads as reads
@@ -51,11 +52,19 @@ part-mark-rows-end c = search needs
 
 -- src/lib.rt:40:5
 mark-rows-requires : tie.Need-mark-rows-requires
-mark-rows-requires c κs = search needs
+mark-rows-requires c κs =
+    let n = c .before .before in
+    let s = n .before .before .before .before .before in
+    old-marks (s .pre) (n .node-count .ensures .0) (c .before .columns .ensures .0)
 
 -- src/lib.rt:48:5
 deal-out-requires : tie.Need-deal-out-requires
-deal-out-requires c κs = search needs
+deal-out-requires c κs =
+    let m = c .before .before .before .before in
+    let k = m .before .before in
+    let n = k .before in
+    let s = n .before .before .before .before .before in
+    old-kids (s .pre) (n .node-count .ensures .0) (k .columns .ensures .0) (m .mark-rows .ensures)
 
 -- src/lib.rt:49:21
 mul-copy-back : tie.Need-mul-copy-back
@@ -79,7 +88,13 @@ same-length-2 c = search needs
 
 -- src/lib.rt:21:1
 returns : tie.Need-returns
-returns c = search needs
+returns c =
+    let b = c .before .before in
+    let x = b .before .before .before .before .before .before in
+    let m = x .before .before .before .before .before in
+    let k = m .before .before in
+    let n = k .before in
+    λ g. old-done g (n .node-count .ensures .0) (k .columns .ensures .0) (m .mark-rows .ensures) (x .deal-out .ensures) (b .copy-back .ensures)
 
 pub open-old-spec : {M : Type 1} → statement M
 open-old-spec =

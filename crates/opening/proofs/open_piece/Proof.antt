@@ -1,4 +1,11 @@
 use borrow.Author.Needs.{needs}
+use Prim.Native.Nat.{_+_}
+use Rattle.opening.proofs.Paths.{path-leaf, path-marked, path-old, path-old-done, path-run, path-run-done}
+use Rattle.opening.proofs.Waited.{node-fits}
+use Rattle.split.specs.Places.{nodeAt}
+use lib.ListN.{length, length-set, set}
+use mathlib.Core.Path.{_∙_, _≡_}
+use native.Mathlib.Omega.{arith}
 use Rattle.opening.proofs.open_piece.Statement.{statement}
 use Rattle.opening.proofs.open_piece.Tie as tie
 use Rattle.opening.proofs.open_piece.Reads as reads
@@ -21,7 +28,8 @@ add-word c = search needs
 
 -- src/lib.rt:67:9
 word-requires : tie.Need-word-requires
-word-requires c κs = search needs
+word-requires c κs =
+    omega (arith, node-fits (c .before .before .before .before .before .pre .there))
 
 -- src/lib.rt:68:37
 mul-word-2 : tie.Need-mul-word-2
@@ -37,7 +45,8 @@ add-word-3 c = search needs
 
 -- src/lib.rt:68:9
 word-requires-2 : tie.Need-word-requires-2
-word-requires-2 c κs = search needs
+word-requires-2 c κs =
+    omega (arith, node-fits (c .before .before .before .before .before .before .before .pre .there))
 
 -- src/lib.rt:69:36
 mul-word-3 : tie.Need-mul-word-3
@@ -53,7 +62,8 @@ add-word-5 c = search needs
 
 -- src/lib.rt:69:9
 word-requires-3 : tie.Need-word-requires-3
-word-requires-3 c κs = search needs
+word-requires-3 c κs =
+    omega (arith, node-fits (c .before .before .before .before .before .before .before .before .before .pre .there))
 
 -- src/lib.rt:70:16
 cast-if1 : tie.Need-cast-if1
@@ -77,7 +87,8 @@ mul-room-2 c = search needs
 
 -- src/lib.rt:71:9
 slice-write-room : tie.Need-slice-write-room
-slice-write-room c = search needs
+slice-write-room c =
+    omega (arith, node-fits (c .before .before .before .before .before .before .before .before .before .before .before .pre .there))
 
 -- src/lib.rt:72:9
 same-length : tie.Need-same-length
@@ -85,7 +96,9 @@ same-length c = search needs
 
 -- src/lib.rt:72:9
 returns : tie.Need-returns
-returns c = search needs
+returns c =
+    let e = c .before in
+    λ g. path-marked (g .q) (g .there) (e .word3 .ensures .0) (omega arith) _
 
 -- src/lib.rt:74:9
 centres-requires : tie.Need-centres-requires
@@ -113,7 +126,8 @@ mul-room-4 c = search needs
 
 -- src/lib.rt:76:9
 slice-write-room-2 : tie.Need-slice-write-room-2
-slice-write-room-2 c = search needs
+slice-write-room-2 c =
+    omega (arith, node-fits (c .before .before .before .before .before .before .before .before .before .before .before .before .before .pre .there))
 
 -- src/lib.rt:77:53
 sub-open-old : tie.Need-sub-open-old
@@ -121,7 +135,14 @@ sub-open-old c = search needs
 
 -- src/lib.rt:77:9
 open-old-requires : tie.Need-open-old-requires
-open-old-requires c κs = search needs
+open-old-requires c κs =
+    let i = c .before .before in
+    let j = i .before .before in
+    let e = j .before in
+    let n = e .before .before in
+    let f = n .before .before in
+    let g = f .before .before .before .before .before .before .pre in
+    path-old (g .q) (g .there) (f .word .ensures .0) (n .word2 .ensures .0) (e .word3 .ensures .0) (j .if1 .left) (i .if2 .taken)
 
 -- src/lib.rt:78:16
 add-result : tie.Need-add-result
@@ -129,7 +150,11 @@ add-result c = search needs
 
 -- src/lib.rt:78:9
 same-length-2 : tie.Need-same-length-2
-same-length-2 c = search needs
+same-length-2 c =
+    let r = c .before .before .before .before in
+    let a = r .before .before .before .before .before .before .before .before .before .before .before .before .before .before .before .before .args in
+    let l : length (r .open-old .last .1 .1 .1 .1 .0) ≡ length (set (a .room .now) (nodeAt (a .k) + 2) (a .made)) = search needs in
+    l ∙ length-set (a .room .now) (nodeAt (a .k) + 2) (a .made)
 
 -- src/lib.rt:78:9
 same-length-3 : tie.Need-same-length-3
@@ -137,7 +162,16 @@ same-length-3 c = search needs
 
 -- src/lib.rt:78:9
 returns-2 : tie.Need-returns-2
-returns-2 c = search needs
+returns-2 c =
+    let x = c .before .before .before .before in
+    let i = x .before .before .before in
+    let m = i .before in
+    let j = m .before in
+    let e = j .before in
+    let n = e .before .before in
+    let f = n .before .before in
+    λ g. path-old-done (g .q) (g .there) (f .word .ensures .0) (n .word2 .ensures .0) (e .word3 .ensures .0) (j .if1 .left) (i .if2 .taken)
+    (m .centres .ensures .0) (x .open-old .ensures)
 
 -- src/lib.rt:80:9
 leaf-size-requires : tie.Need-leaf-size-requires
@@ -149,7 +183,12 @@ same-length-4 c = search needs
 
 -- src/lib.rt:82:9
 returns-3 : tie.Need-returns-3
-returns-3 c = search needs
+returns-3 c =
+    let l = c .before in
+    let i = l .before in
+    let e = i .before .before .before in
+    let n = e .before .before in
+    λ g. path-leaf (g .q) (g .there) (n .word2 .ensures .0) (e .word3 .ensures .0) (i .if2 .left) (l .leaf-size .ensures .0) (omega arith) _
 
 -- src/lib.rt:84:36
 cast-room-2 : tie.Need-cast-room-2
@@ -173,7 +212,8 @@ mul-room-6 c = search needs
 
 -- src/lib.rt:84:5
 slice-write-room-3 : tie.Need-slice-write-room-3
-slice-write-room-3 c = search needs
+slice-write-room-3 c =
+    omega (arith, node-fits (c .before .before .before .before .before .before .before .before .before .before .before .before .before .before .before .pre .there))
 
 -- src/lib.rt:87:9
 columns-requires : tie.Need-columns-requires
@@ -189,7 +229,19 @@ add-split-run c = search needs
 
 -- src/lib.rt:85:5
 split-run-requires : tie.Need-split-run-requires
-split-run-requires c κs = search needs
+split-run-requires c κs =
+    let o = c .before .before in
+    let k = o .before in
+    let h = k .before in
+    let l = h .before in
+    let i = l .before in
+    let m = i .before in
+    let e = m .before .before in
+    let n = e .before .before in
+    let f = n .before .before in
+    let g = f .before .before .before .before .before .before .pre in
+    path-run (g .q) (g .there) (f .word .ensures .0) (n .word2 .ensures .0) (e .word3 .ensures .0) (i .if2 .left) (l .leaf-size .ensures .0)
+    (omega arith) (k .columns .ensures .0) (o .circles .ensures) (m .centres .ensures .0)
 
 -- src/lib.rt:98:5
 add-result-2 : tie.Need-add-result-2
@@ -197,7 +249,11 @@ add-result-2 c = search needs
 
 -- src/lib.rt:53:1
 same-length-5 : tie.Need-same-length-5
-same-length-5 c = search needs
+same-length-5 c =
+    let r = c .before .before .before .before in
+    let a = r .before .before .before .before .before .before .before .before .before .before .before .before .before .before .before .before .before .before .before .before .args in
+    let l : length (r .split-run .last .1 .1 .1 .1 .1 .1 .0) ≡ length (set (a .room .now) (nodeAt (a .k) + 2) (a .made)) = search needs in
+    l ∙ length-set (a .room .now) (nodeAt (a .k) + 2) (a .made)
 
 -- src/lib.rt:53:1
 same-length-6 : tie.Need-same-length-6
@@ -205,7 +261,20 @@ same-length-6 c = search needs
 
 -- src/lib.rt:53:1
 returns-4 : tie.Need-returns-4
-returns-4 c = search needs
+returns-4 c =
+    let x = c .before .before .before .before in
+    let o = x .before .before .before in
+    let k = o .before in
+    let h = k .before in
+    let l = h .before in
+    let i = l .before in
+    let m = i .before in
+    let e = m .before .before in
+    let n = e .before .before in
+    let f = n .before .before in
+    λ g. path-run-done (g .q) (g .there) (f .word .ensures .0) (n .word2 .ensures .0) (e .word3 .ensures .0) (i .if2 .left)
+    (l .leaf-size .ensures .0)
+    (omega arith) (k .columns .ensures .0) (o .circles .ensures) (m .centres .ensures .0) _ (x .split-run .ensures)
 
 pub open-piece-spec : {M : Type 1} → statement M
 open-piece-spec =

@@ -1,0 +1,6 @@
+pub mod Sounding
+pub mod Standing
+pub mod Tiling
+pub mod Halfway
+pub mod Levelling
+pub mod Deepening
