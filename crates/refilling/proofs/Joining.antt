@@ -6,11 +6,12 @@ use Rattle.build.proofs.Framed.{framed}
 use Rattle.build.specs.Filled.{headerOf, pairsIn}
 use Rattle.deepening.specs.Stages.{Layered, Leveled, Planted}
 use Rattle.laws.specs.Lists.{each, range}
-use Rattle.limits.specs.Limits.{maxDepth}
+use Rattle.limits.specs.Limits.{maxColumns, maxDepth, maxRows}
 use Rattle.measure.specs.Table.{between, rowsOf}
 use Rattle.opening.specs.Sound.{Task}
 use Rattle.refilling.specs.Joining.{RowsJoin, RowsJoinable}
 use Rattle.refilling.specs.Rooted.{RootAsk, Rooted, newOnes, rootPiece}
+use Rattle.rounds.proofs.Parts.{mid-end}
 use Rattle.rounds.specs.Stretch.{stretch}
 use Rattle.split.specs.Places.{nodeAt}
 use Rattle.swelling.proofs.Written.{shape-written}
@@ -21,7 +22,7 @@ use Rattle.tree.proofs.Written.{each-words}
 use Rattle.tree.specs.Encode.{Node, nodeWords, pairWords}
 use Rattle.words.specs.Words.{N#, c#, circles#, l#, m#, n#}
 use borrow.Rule.Slice.PartMut.{midOf, putMid}
-use lib.ListN.{drop, length, length-append, replicate, take}
+use lib.ListN.{drop, length, length-append, length-drop, replicate, take}
 use mathlib.Core.List.{List, [], _++_, _∷_}
 use mathlib.Core.Path.{_∙_, _≡_, ap, ap₂, refl, subst, sym}
 use native.Mathlib.Omega.{arith}
@@ -57,6 +58,27 @@ module _ {t : List ℕ} {c : ℕ} {w room work : List ℕ} (J : RowsJoinable t c
       -- few nodes
       pub few-nodes : (made ≤ 2 * n) × (n ≤ 1048576) × (nodeAt made + 2 * n ≤ length room)
       few-nodes = (layered .few, omega (arith, J .few), omega (arith, layered .few, J .space))
+
+      -- the header can be written
+      pub header-ready : {m l : ℕ} → m ≡ m# w → l ≡ l# w → length room₂ ≡ length room
+          → (8 ≤ length room₂) × (n ≤ maxRows) × (c ≤ maxColumns) × (m ≤ 64) × (l ≤ 1024) × (made ≤ 2097152)
+      header-ready em el same =
+          let W = J .shape .whole in (
+            omega (arith, same, J .space),
+            omega (arith, J .few),
+            omega (arith, W .columns, J .columns),
+            omega (arith, W .fan),
+            omega (arith, W .leaf),
+            omega (arith, few-nodes),
+          )
+
+      -- and the positions
+      pub positions-ready : (room₃ : List ℕ) → length room₃ ≡ length room → length work₂ ≡ length work
+          → (2 * n ≤ length (midOf (nodeAt made) (length room₃ - nodeAt made) room₃)) × (3 * n ≤ length work₂)
+      positions-ready room₃ same half = (
+        omega (arith, ap length (mid-end (nodeAt made) room₃), length-drop (nodeAt made) room₃, same, few-nodes),
+        omega (arith, half, J .halves),
+      )
 
       -- the nodes and the members, over columns i and rows j
       abbrev nodesOf : ℕ → ℕ → List Node

@@ -6,8 +6,12 @@ use Rattle.laws.proofs.Lists.{map-append}
 use Rattle.laws.proofs.Parts.{put-more}
 use Rattle.laws.proofs.Ranges.{range-append, range-length}
 use Rattle.laws.specs.Lists.{each, lower, range}
+use Rattle.limits.specs.Limits.{maxColumns}
+use Rattle.measure.proofs.Rows.{row-ends}
 use Rattle.measure.specs.Table.{between}
+use Rattle.opening.specs.Sound.{Task}
 use Rattle.refilling.specs.Rooted.{TakenIn, newEntry, newOnes}
+use Rattle.rounds.proofs.Parts.{mid-end}
 use Rattle.split.proofs.Laid.{under-long}
 use Rattle.swelling.proofs.Swollen.{taking-snoc}
 use Rattle.swelling.specs.Swell.{reachTaking}
@@ -16,7 +20,7 @@ use Rattle.words.specs.Words.{c#, circles#, first#, n#}
 use borrow.Author.Tests.{eqb-false, eqb-true, le-leb, lt-leb}
 use borrow.Rule.Slice.PartMut.{midOf, putMid}
 use lib.Dec.{eqb, leb}
-use lib.ListN.{drop, length, length-append, length-map, take, take-append-drop}
+use lib.ListN.{drop, length, length-append, length-drop, length-map, take, take-append-drop}
 use lib.Seq.{length-take-le}
 use mathlib.Core.Bool.{Bool, cond, false, true}
 use mathlib.Core.List.{List, [], _++_, _∷_, append-assoc, append-nil, map}
@@ -97,6 +101,10 @@ module _ (t w : List ℕ) (n : ℕ) (work₀ : List ℕ) where
           inv .some,
         )
 
+    -- there is room for an entry
+    pub taking-room : z < n → 3 * n ≤ length work₀ → 3 ≤ length (midOf (3 * z) (length work - 3 * z) work)
+    taking-room h fits = omega (arith, ap length (mid-end (3 * z) work), length-drop (3 * z) work, inv .long)
+
     -- row z is laid
     pub taking-step : {ys : List ℕ} {x r s : ℕ} → 1 ≤ n# w → z < n → 3 * n ≤ length work₀
         → x ≡ between t (c# w) (circles# w) (first# w 0) z → r ≡ max radius x → s ≡ lower z inner x
@@ -137,3 +145,19 @@ module _ (t w : List ℕ) (n : ℕ) (work₀ : List ℕ) where
           far = inv .wide ∙ ap (λ (i : ℕ). reachTo i .outer) k;
           near = inv .near ∙ ap (λ (i : ℕ). reachTo i .inner) k;
         }
+
+-- ---- as the code names the columns, the circles and the root's first
+module _ {t w : List ℕ} {n : ℕ} (task : Task t w n) where
+  -- a row can be measured from it
+  pub new-measured : {c f z : ℕ} → c ≡ c# w → f < n# w → z < n → (c ≤ maxColumns) × (c * f + c ≤ length t) × (c * z + c ≤ length t)
+  new-measured {c} {f} {z} e h k =
+      rw e (
+        task .shape .whole .columns .1,
+        omega (arith, row-ends (c# w) n f (omega (arith, task .more)), task .table),
+        omega (arith, row-ends (c# w) n z k, task .table),
+      )
+
+  -- its distance
+  pub new-distance : {c o f x : ℕ} (z : ℕ) → c ≡ c# w → o ≡ circles# w → f ≡ first# w 0 → x ≡ between t c o f z
+      → x ≡ between t (c# w) (circles# w) (first# w 0) z
+  new-distance z a b e q = q ∙ rw (a, b, e) refl

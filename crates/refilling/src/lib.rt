@@ -72,7 +72,13 @@ fn root(table: &[u16], index: &[u32], n: usize, room: &mut [u32], work: &mut [u3
 }
 
 // Writes the index with all of the table's rows in it into the room. Gives the number of nodes.
-pub fn fill_rows(table: &[u16], c: usize, index: &[u32], room: &mut [u32], work: &mut [u32]) -> usize
+pub fn fill_rows(
+    table: &[u16],
+    c: usize,
+    index: &[u32],
+    room: &mut [u32],
+    work: &mut [u32],
+) -> usize
     requires { ⌜ RowsJoinable (now table) c (now index) (now room) (now work) ⌝ }
     ensures { λ r. ⌜ RowsJoin (now (table .entry)) c (now (index .entry)) (now (room .entry)) (now (work .entry))
         (now (room .exit)) (now (work .exit)) r ⌝ }
