@@ -1,7 +1,7 @@
 /* Times the library against a plain scan and against the same algorithms in plain C, all in one run:
      bench PLOT.svg [MOST_ROWS]      prints Markdown tables, writes the plot
      bench --shares [MOST_ROWS]      single calls over a season, by m and l
-     bench --append [MOST_ROWS]      one row appended beside a build, and 600 one by one
+     bench --append [MOST_ROWS]      one row appended beside a build, and 600 at once and one by one
    Every outcome is compared as well; exit status 1 where two differ. Every buffer is touched before a time is taken, and
    times are the processor's, so that a busy machine shows less. */
 #define _DEFAULT_SOURCE

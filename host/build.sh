@@ -84,7 +84,7 @@ rename_other() {
 }
 
 with='' libraries=''
-naive='naive naive_set naive_tree naive_append naive_search'
+naive='naive naive_set naive_tree naive_append naive_append_rows naive_search'
 # shellcheck disable=SC2086
 compile trial -O2 trial kinds appends ceilings circles sets more samples spoil calls lend self $naive
 compile season -O2 season minutes

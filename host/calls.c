@@ -13,6 +13,7 @@
 enum call {
     BUILD,
     APPEND,
+    APPEND_ROWS,
     CHECK,
     RADIUS,
     NEAREST,
@@ -25,8 +26,8 @@ enum call {
     CALLS
 };
 
-static const char *const call_names[CALLS] = { "build", "append", "check", "radius", "nearest", "nearest_answers", "list", "write", "read",
-                                               "strike", "restore" };
+static const char *const call_names[CALLS] = { "build", "append", "append_rows", "check", "radius", "nearest", "nearest_answers", "list",
+                                               "write", "read", "strike", "restore" };
 
 enum {
     NUMBERS = 27,
@@ -242,7 +243,8 @@ void try_build(struct trial *t, const struct lot *lot)
     compare(t, lot, BUILD, three(is.number, is.words, is.nodes), should, lents, 3);
 }
 
-void try_append(struct trial *t, const struct lot *lot)
+/* Both calls that put rows into an index are lent the same. */
+static void try_appending(struct trial *t, const struct lot *lot, enum call call)
 {
     static const enum lent lents[] = { LENT_TABLE, LENT_INDEX, LENT_ROOM, LENT_WORK };
     struct naive_table table = { lot->table, lot->table_length + lot->next, lot->c };
@@ -250,10 +252,22 @@ void try_append(struct trial *t, const struct lot *lot)
     lend_index(t, lot);
     lend_words(t, LENT_ROOM, lot->append_room);
     lend_words(t, LENT_WORK, lot->append_work);
-    bourascul_built is = bourascul_append(lend_given(LENT_TABLE), table.length, lot->c, lend_given(LENT_INDEX), lot->index_length,
-                                          lend_given(LENT_ROOM), lot->append_room, lend_given(LENT_WORK), lot->append_work);
-    struct naive_says should = naive_append(table, model_index(lot), model_room(LENT_ROOM), model_room(LENT_WORK));
-    compare(t, lot, APPEND, three(is.number, is.words, is.nodes), should, lents, 4);
+    bourascul_built is = (call == APPEND ? bourascul_append : bourascul_append_rows)(
+        lend_given(LENT_TABLE), table.length, lot->c, lend_given(LENT_INDEX), lot->index_length, lend_given(LENT_ROOM), lot->append_room,
+        lend_given(LENT_WORK), lot->append_work);
+    struct naive_says should = (call == APPEND ? naive_append : naive_append_rows)(table, model_index(lot), model_room(LENT_ROOM),
+                                                                                   model_room(LENT_WORK));
+    compare(t, lot, call, three(is.number, is.words, is.nodes), should, lents, 4);
+}
+
+void try_append(struct trial *t, const struct lot *lot)
+{
+    try_appending(t, lot, APPEND);
+}
+
+void try_append_rows(struct trial *t, const struct lot *lot)
+{
+    try_appending(t, lot, APPEND_ROWS);
 }
 
 void try_check(struct trial *t, const struct lot *lot)

@@ -15,7 +15,7 @@ struct trial {
 struct lot {
     const uint16_t *table;
     size_t table_length;
-    size_t next; /* the numbers behind the table that an append is lent with it: those of one row, where nothing is wrong */
+    size_t next; /* the numbers behind the table that an append is lent with it: those of one row, where nothing is wrong, or of a night's */
     const uint16_t *fitting; /* the table that decides the outcome in a trial of two tables, else NULL */
     uint32_t c, m, l, circles, edition;
     const uint32_t *index;
@@ -34,6 +34,7 @@ struct lot {
 
 void try_build(struct trial *t, const struct lot *lot);
 void try_append(struct trial *t, const struct lot *lot);
+void try_append_rows(struct trial *t, const struct lot *lot);
 void try_check(struct trial *t, const struct lot *lot);
 void try_radius(struct trial *t, const struct lot *lot);
 void try_nearest(struct trial *t, const struct lot *lot);

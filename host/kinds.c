@@ -29,6 +29,7 @@ void every_call(struct trial *t, const struct lot *lot)
     image.image_length = draw_below(&t->draw, (uint32_t)(512 * ((lot->index_length + 126) / 127) + 600));
     try_write(t, &image);
     try_card(t, lot);
+    try_append_rows(t, lot);
 }
 
 /* ---- Build ---- */
@@ -395,6 +396,7 @@ static void too_many_rows(struct trial *t, uint32_t limit)
             lot.table_length = (size_t)1048577 * lot.c - less;
             try_build(t, &lot);
             try_append(t, &lot);
+            try_append_rows(t, &lot);
             try_check(t, &lot);
             try_searches(t, &lot);
             try_card(t, &lot);
@@ -402,13 +404,13 @@ static void too_many_rows(struct trial *t, uint32_t limit)
     free(table);
 }
 
-/* The last row that there is room for, new to the index of all others; every room is just long enough. */
-static void append_last(struct trial *t, struct lot lot, uint32_t *room, uint32_t *work)
+/* The last rows that there is room for, new to the index of all others; every room is just long enough. */
+static void append_last(struct trial *t, struct lot lot, uint32_t *room, uint32_t *work, uint32_t rows)
 {
-    lot.next = lot.c;
+    lot.next = (size_t)rows * lot.c;
     lot.table_length -= lot.next;
     lot.index_length = bourascul_build(lot.table, lot.table_length, lot.c, lot.m, lot.l, lot.circles, 2, room, lot.room, work, lot.work).words;
-    try_append(t, &lot);
+    (rows == 1 ? try_append : try_append_rows)(t, &lot);
 }
 
 /* The greatest table there is, with every room just long enough; and the old card of its index. */
@@ -437,7 +439,8 @@ static void largest_table(struct trial *t, uint32_t limit)
         lot.index_length = make_old(room);
         try_card(t, &lot);
     }
-    append_last(t, lot, room, work);
+    append_last(t, lot, room, work, 1);
+    append_last(t, lot, room, work, 600);
     free(table);
     free(room);
     free(work);
@@ -676,6 +679,11 @@ const struct kind kinds[] = {
     { "listings, each node and beyond", listing, 1 },
     { "1,048,577 rows", too_many_rows, 200 },
     { "1,048,576 rows, all calls", largest_table, 2000 },
+    { "a night's rows at once into indexes of any kind, all calls on what comes out", night_any, 1 },
+    { "a night's rows at once into small indexes where rows stand twice", night_twice, 1 },
+    { "night after night, from none on", nights_from_none, 4 },
+    { "equal rows at once, down to depth 24", night_equal, 4 },
+    { "a night's rows with each two of 22 faults", night_pairs, 4 },
 };
 
 const size_t kinds_count = sizeof kinds / sizeof *kinds;

@@ -22,6 +22,11 @@ void append_chain(struct trial *t, uint32_t limit);
 void append_chain_on(struct trial *t, uint32_t limit);
 void append_equal(struct trial *t, uint32_t limit);
 void append_pairs(struct trial *t, uint32_t limit);
+void night_any(struct trial *t, uint32_t limit);
+void night_twice(struct trial *t, uint32_t limit);
+void nights_from_none(struct trial *t, uint32_t limit);
+void night_equal(struct trial *t, uint32_t limit);
+void night_pairs(struct trial *t, uint32_t limit);
 
 /* Those of circles.c. */
 void each_set_of_circles(struct trial *t, uint32_t limit);

@@ -1,5 +1,5 @@
 /* A library in the proved one's place, to try the trial on (host/wrong.sh): the naive implementation behind the header's
-   eleven calls. Only nearest is searched as the yardstick does it: the naive one scans and reckons the marks afterwards,
+   twelve calls. Only nearest is searched as the yardstick does it: the naive one scans and reckons the marks afterwards,
    which the trial of two tables finds. */
 #include "bourascul.h"
 #include "naive_inner.h"
@@ -21,6 +21,16 @@ bourascul_built bourascul_append(const uint16_t *table, size_t table_length, uin
     struct naive_index x = { index, index_length };
     struct naive_room r = { room, room_length }, k = { work, work_length };
     struct naive_says s = naive_append(t, x, r, k);
+    return (bourascul_built){ s.number, s.one, s.two };
+}
+
+bourascul_built bourascul_append_rows(const uint16_t *table, size_t table_length, uint32_t c, const uint32_t *index, size_t index_length,
+                                      uint32_t *room, size_t room_length, uint32_t *work, size_t work_length)
+{
+    struct naive_table t = { table, table_length, c };
+    struct naive_index x = { index, index_length };
+    struct naive_room r = { room, room_length }, k = { work, work_length };
+    struct naive_says s = naive_append_rows(t, x, r, k);
     return (bourascul_built){ s.number, s.one, s.two };
 }
 

@@ -66,6 +66,7 @@ uint32_t naive_distance(const uint16_t *a, const uint16_t *b, uint32_t c, uint32
 struct naive_says naive_build(struct naive_table table, uint32_t m, uint32_t l, uint32_t circles, uint32_t edition, struct naive_room room,
                               struct naive_room work);
 struct naive_says naive_append(struct naive_table table, struct naive_index index, struct naive_room room, struct naive_room work);
+struct naive_says naive_append_rows(struct naive_table table, struct naive_index index, struct naive_room room, struct naive_room work);
 struct naive_says naive_check(struct naive_table table, struct naive_index index, struct naive_room work);
 struct naive_says naive_radius(struct naive_table table, struct naive_index index, struct naive_query query, uint32_t r, struct naive_set withdrawn,
                                struct naive_bytes how);

@@ -84,7 +84,7 @@ static void split_leaf(struct tree *t, struct node *v, uint32_t depth)
 
 /* ---- The call ---- */
 
-static void add_row(struct tree *t, uint32_t row)
+void naive_add_row(struct tree *t, uint32_t row)
 {
     struct node *way[MOST_DEPTH + 1];
     uint32_t depth = find_way(t, row, way), place = way[depth]->start + way[depth]->count;
@@ -123,7 +123,7 @@ struct naive_says naive_append(struct naive_table table, struct naive_index inde
     if (w[1] == 0)
         return naive_build(table, w[3], w[4], w[7], 2, room, work);
     struct tree t = naive_read_tree(w, table);
-    add_row(&t, t.n);
+    naive_add_row(&t, t.n);
     uint32_t nodes = naive_put_tree(&t, room.words);
     naive_clear_work(work, t.n);
     naive_free_tree(&t);

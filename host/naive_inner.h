@@ -91,6 +91,8 @@ void naive_free_tree(struct tree *t);
 struct node *naive_grow(struct tree *t, uint32_t start, uint32_t count, uint32_t depth);
 /* Puts the tree's index into the room and gives the number of nodes. */
 uint32_t naive_put_tree(const struct tree *t, uint32_t *room);
+/* Puts a row into the tree of an index that has rows, whether or not it fits the table. */
+void naive_add_row(struct tree *t, uint32_t row);
 /* Row numbers ascending, for qsort. */
 int naive_by_number(const void *a, const void *b);
 /* Puts the edition 2 index of an edition 1 index in shape into the room: each node gets its inner reach (R-4's widening). */

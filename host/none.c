@@ -20,6 +20,8 @@ static void expect(const char *call, uint32_t number, uint32_t wanted)
 static void taken(void)
 {
     expect("build", bourascul_build(NULL, 0, 1, 2, 2, 0, BOURASCUL_EDITION, room, 8, NULL, 0).number, BOURASCUL_DONE);
+    expect("append of no row", bourascul_append(NULL, 0, 1, room, 8, back, 8, NULL, 0).number, BOURASCUL_BAD_INDEX);
+    expect("append_rows of no row", bourascul_append_rows(NULL, 0, 1, room, 8, back, 8, NULL, 0).number, BOURASCUL_BAD_INDEX);
     expect("check", bourascul_check(NULL, 0, 1, room, 8, NULL, 0).number, BOURASCUL_DONE);
     expect("radius", bourascul_radius(NULL, 0, 1, room, 8, query, 1, 9, NULL, 0, NULL, 0).number, BOURASCUL_DONE);
     expect("nearest", bourascul_nearest(NULL, 0, 1, room, 8, query, 1, 9, NULL, 0, NULL, 0, NULL, 0, NULL, 0, NULL, 0).number, BOURASCUL_DONE);
@@ -36,6 +38,8 @@ static void taken(void)
 static void refused(void)
 {
     expect("build of nothing", bourascul_build(NULL, 0, 1, 2, 2, 0, BOURASCUL_EDITION, NULL, 0, NULL, 0).number, BOURASCUL_ROOM_TOO_SHORT);
+    expect("append to nothing", bourascul_append(query, 1, 1, NULL, 0, NULL, 0, NULL, 0).number, BOURASCUL_ROOM_TOO_SHORT);
+    expect("append_rows to nothing", bourascul_append_rows(query, 1, 1, NULL, 0, NULL, 0, NULL, 0).number, BOURASCUL_ROOM_TOO_SHORT);
     expect("check of nothing", bourascul_check(NULL, 0, 1, NULL, 0, NULL, 0).number, BOURASCUL_BAD_INDEX);
     expect("radius of nothing", bourascul_radius(NULL, 0, 1, NULL, 0, NULL, 0, 9, NULL, 0, NULL, 0).number, BOURASCUL_BAD_QUERY);
     expect("nearest of nothing", bourascul_nearest(NULL, 0, 1, NULL, 0, NULL, 0, 9, NULL, 0, NULL, 0, NULL, 0, NULL, 0, NULL, 0).number,

@@ -430,7 +430,7 @@ static uint32_t draw_w(struct draw *d, const struct sample *s)
     return draw_one_in(d, 2) ? ends[draw_below(d, 9)] : draw_between(d, 1, s->n < 12 ? s->n + 1 : 12);
 }
 
-static size_t longer(struct draw *d, size_t asked)
+size_t longer(struct draw *d, size_t asked)
 {
     return asked + (draw_one_in(d, 2) ? 0 : draw_below(d, 9));
 }

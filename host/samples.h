@@ -68,6 +68,8 @@ size_t taken_words(const struct sample *s);
 /* Which rows are withdrawn: none, all, a row or some, all that stand first in a node of the index, or none of these; words behind the set's are 0. */
 void draw_withdrawn(struct draw *d, struct sample *s);
 
+/* As long as is asked, or a little longer. */
+size_t longer(struct draw *d, size_t asked);
 /* What all calls on the sample are lent, an append the row behind the table with it, with r, w, a node and a set of withdrawn rows drawn, the
    last in the sample; each room is long enough, often longer. */
 struct lot fair_lot(struct draw *d, struct sample *s);

@@ -1,5 +1,5 @@
-/* The scope paper's own cases, cases of the inner reach, of circles and of withdrawn rows worked out by hand, old cards, and appends worked out by
-   another hand: the naive implementation against the numbers printed there, the library against the naive one. */
+/* The scope paper's own cases, cases of the inner reach, of circles and of withdrawn rows worked out by hand, old cards, and appends, of one row
+   and of several, worked out by another hand: the naive implementation against the numbers printed there, the library against the naive one. */
 #include <inttypes.h>
 #include <stdio.h>
 #include <string.h>
@@ -553,20 +553,66 @@ static const struct append_case append_list[] = {
       { 2, 3, 1, 2, 2, 3, 1, 0, 0, 3, 1, 50, 3, 0, 1, 0, 0, 0, 1, 2, 0, 4, 4, 0, 0, 1, 0, 2, 4 } },
 };
 
+/* The rows from `had` on are new to the index of the others: the build's with m = l = 2, or these words. */
+struct night_case {
+    uint32_t had, n;
+    uint16_t rows[9];
+    uint32_t before[21], words[71];
+};
+
+/* Rows for several leaves; rows for one, which is split between them; from none on; words that no build gives. */
+static const struct night_case night_list[] = {
+    { 5, 8, { 0, 1, 10, 11, 20, 6, 12, 0 }, { 0 },
+      { 2, 8, 1, 2, 2, 9, 1, 0, 0, 8, 1, 20, 0, 0, 5, 3, 10, 0, 5, 3, 5, 9, 8, 0, 3, 7, 1, 0, 3, 2, 0, 4, 4, 5, 1, 0, 0, 0, 6, 2, 0, 1, 1, 0,
+        2, 0, 0, 0, 2, 1, 0, 0, 0, 0, 0, 7, 0, 1, 0, 2, 0, 5, 4, 4, 0, 3, 0, 6, 1 } },
+    { 5, 8, { 0, 1, 10, 11, 20, 25, 2, 11 }, { 0 },
+      { 2, 8, 1, 2, 2, 9, 1, 0, 0, 8, 1, 25, 1, 0, 4, 3, 10, 1, 4, 4, 5, 9, 5, 0, 3, 7, 2, 1, 3, 1, 0, 0, 0, 4, 2, 0, 5, 5, 6, 2, 0, 0, 0, 0,
+        2, 0, 1, 1, 2, 1, 0, 0, 0, 0, 0, 1, 1, 6, 0, 2, 0, 4, 0, 5, 5, 3, 0, 7, 0 } },
+    { 5, 7, { 0, 1, 10, 11, 20, 9, 6 }, { 0 },
+      { 2, 7, 1, 2, 2, 7, 1, 0, 0, 7, 1, 20, 1, 0, 5, 3, 10, 1, 5, 2, 0, 9, 9, 0, 2, 0, 1, 1, 2, 3, 5, 4, 1, 2, 2, 0, 1, 1, 4, 1, 0, 0, 0, 0,
+        0, 1, 1, 2, 0, 5, 1, 6, 0, 4, 0, 3, 9 } },
+    { 2, 6, { 0, 10, 1, 2, 3, 4 }, { 0 },
+      { 2, 6, 1, 2, 2, 7, 1, 0, 0, 6, 1, 10, 1, 0, 5, 3, 4, 1, 5, 1, 0, 0, 0, 0, 2, 0, 1, 1, 2, 3, 5, 2, 1, 2, 2, 0, 1, 1, 4, 1, 0, 0, 0, 0,
+        0, 2, 1, 3, 0, 4, 1, 5, 0, 1, 0 } },
+    { 5, 9, { 0, 1, 10, 11, 20, 12, 13, 14, 19 }, { 0 },
+      { 2, 9, 1, 2, 2, 9, 1, 0, 0, 9, 1, 20, 1, 0, 3, 3, 10, 1, 3, 6, 5, 9, 1, 0, 2, 0, 1, 1, 2, 1, 0, 0, 0, 3, 2, 0, 1, 1, 5, 4, 7, 3, 1, 5,
+        2, 0, 1, 1, 7, 2, 0, 1, 1, 0, 0, 1, 1, 2, 0, 4, 0, 8, 1, 3, 0, 5, 1, 6, 0, 7, 1 } },
+    { 1, 5, { 7, 7, 7, 6, 7 }, { 0 },
+      { 2, 5, 1, 2, 2, 7, 1, 0, 0, 5, 1, 1, 0, 0, 4, 3, 1, 0, 4, 1, 0, 0, 0, 0, 3, 5, 0, 0, 3, 1, 0, 0, 0, 0, 2, 0, 0, 0, 2, 1, 0, 0, 0, 0,
+        0, 4, 0, 2, 0, 3, 0, 1, 0 } },
+    { 0, 1, { 4 }, { 0 },
+      { 2, 1, 1, 2, 2, 1, 1, 0, 0, 1, 0, 0, 0, 0, 0 } },
+    { 0, 4, { 4, 9, 1, 5 }, { 0 },
+      { 2, 4, 1, 2, 2, 5, 1, 0, 0, 4, 1, 5, 1, 0, 3, 3, 3, 1, 3, 1, 0, 0, 0, 0, 2, 0, 1, 1, 2, 1, 0, 0, 0, 0, 0, 3, 1, 2, 0, 1, 0 } },
+    { 2, 4, { 0, 5, 9, 12 }, { 2, 2, 1, 2, 2, 1, 1, 0, 0, 2, 0, 3, 2, 0, 0, 0, 7 },
+      { 2, 4, 1, 2, 2, 1, 1, 0, 0, 4, 0, 12, 2, 0, 0, 0, 0, 2, 9, 3, 12 } },
+    { 4, 7, { 5, 9, 6, 4, 5, 7, 8 }, { 2, 4, 1, 2, 4, 1, 1, 0, 0, 4, 0, 4, 1, 0, 0, 3, 1, 2, 1, 1, 4 },
+      { 2, 7, 1, 2, 4, 5, 1, 0, 0, 7, 1, 4, 0, 0, 5, 3, 2, 0, 5, 2, 0, 1, 1, 0, 4, 0, 1, 0, 4, 1, 0, 0, 0, 0, 0, 2, 1, 3, 1, 4, 0, 5, 0, 1,
+        0, 6, 1 } },
+    { 2, 5, { 0, 10, 6, 8, 1 }, { 2, 2, 1, 2, 2, 1, 1, 0, 0, 2, 0, 50, 3, 0, 4, 1, 1 },
+      { 2, 5, 1, 2, 2, 5, 1, 0, 0, 5, 1, 50, 1, 0, 2, 0, 1, 1, 2, 3, 3, 4, 2, 2, 2, 0, 2, 2, 4, 1, 0, 0, 0, 0, 0, 4, 1, 1, 0, 3, 2, 2, 0 } },
+};
+
 static size_t words_of(const uint32_t *w)
 {
     return 8 + 5 * (size_t)w[5] + 2 * (size_t)w[1];
 }
 
-/* The lot of an append of row n - 1 to the index in `room`. */
-static struct lot append_lot(const uint16_t *rows, uint32_t n)
+/* The lot of an append of the rows from `had` on to the index in `room`. */
+static struct lot night_lot(const uint16_t *rows, uint32_t had, uint32_t n)
 {
-    struct lot lot = lot_of(rows, n - 1, 1, 2, 2);
+    struct lot lot = lot_of(rows, had, 1, 2, 2);
     lot.index_length = words_of(room);
-    lot.next = 1;
+    lot.next = n - had;
     lot.append_room = build_words(n);
     lot.append_work = 6 * (size_t)n;
     return lot;
+}
+
+/* That of an append of row n - 1. */
+static struct lot append_lot(const uint16_t *rows, uint32_t n)
+{
+    return night_lot(rows, n - 1, n);
 }
 
 /* What the naive append gives on this lot, into `grown`; the library is held to it. */
@@ -641,6 +687,79 @@ static void append_refusals(void)
     expect_says("an append to an index with its row", append(&lot, grown), 9, 0, 0);
 }
 
+/* ---- A night's rows at once ---- */
+
+/* What the naive append_rows gives on this lot, into `grown`; the library is held to it. */
+static struct naive_says append_rows(const struct lot *lot, uint32_t *grown)
+{
+    struct naive_table table = { lot->table, lot->table_length + lot->next, lot->c };
+    struct naive_index index = { lot->index, lot->index_length };
+    struct naive_room r = { grown, lot->append_room }, w = { work, lot->append_work };
+    try_append_rows(&trial, lot);
+    return naive_append_rows(table, index, r, w);
+}
+
+static void night_cases(void)
+{
+    static uint32_t grown[WORDS];
+    for (size_t i = 0; i < sizeof night_list / sizeof *night_list; i++) {
+        const struct night_case *a = &night_list[i];
+        struct lot lot = lot_of(a->rows, a->had, 1, 2, 2);
+        build(&lot);
+        if (a->before[0] != 0)
+            memcpy(room, a->before, sizeof a->before);
+        lot = night_lot(a->rows, a->had, a->n);
+        expect_says("a night's rows", append_rows(&lot, grown), 0, (uint32_t)words_of(a->words), a->words[5]);
+        expect_words("the words of a night's rows", grown, a->words, words_of(a->words));
+    }
+}
+
+/* 26 equal rows, two more, and one that differs by 1: the leaf at depth 24 grows. */
+static void night_deepest(void)
+{
+    static uint32_t grown[WORDS];
+    uint16_t table[29];
+    for (uint32_t i = 0; i < 29; i++)
+        table[i] = i < 28 ? 7 : 6;
+    struct lot lot = lot_of(table, 26, 1, 2, 2);
+    build(&lot);
+    lot = night_lot(table, 26, 29);
+    expect_says("a night's rows at depth 24", append_rows(&lot, grown), 0, 8 + 5 * 49 + 2 * 29, 49);
+    for (uint32_t p = 0; p < 29; p++) {
+        uint32_t row = p == 0 ? 0 : p < 5 ? 24 + p : 29 - p;
+        expect_words("a night's rows at depth 24, order", grown + 8 + 5 * 49 + 2 * p, &row, 1);
+    }
+}
+
+/* Rooms for the rows before, as many rows as the header says or fewer, none at all, and an index with the first new row's number. */
+static void night_refusals(void)
+{
+    static const uint16_t rows[] = { 0, 1, 10, 11, 20, 6, 12 };
+    static uint32_t grown[WORDS];
+    built(five);
+    struct lot lot = night_lot(rows, 5, 7);
+    lot.append_room = build_words(7) - 1;
+    expect_says("a night's rows, room a word short", append_rows(&lot, grown), 5, 0, 0);
+    lot = night_lot(rows, 5, 7);
+    lot.append_work = 41;
+    expect_says("a night's rows, workspace a word short", append_rows(&lot, grown), 5, 0, 0);
+    lot = night_lot(rows, 5, 5);
+    expect_says("a night without rows", append_rows(&lot, grown), 8, 0, 0);
+    lot = night_lot(rows, 4, 4);
+    expect_says("a night over fewer rows", append_rows(&lot, grown), 8, 0, 0);
+    lot = night_lot(rows, 0, 0);
+    expect_says("a night over no rows", append_rows(&lot, grown), 8, 0, 0);
+    lot = night_lot(rows, 5, 7);
+    lot.c = 17;
+    expect_says("a night's rows with 17 columns", append_rows(&lot, grown), 1, 0, 0);
+    lot = night_lot(rows, 5, 7);
+    lot.index_length--;
+    expect_says("a night's rows to too few words", append_rows(&lot, grown), 8, 0, 0);
+    lot = night_lot(rows, 5, 7);
+    room[8 + 5 * 5] = 5;
+    expect_says("a night's rows to an index with the first of them", append_rows(&lot, grown), 9, 0, 0);
+}
+
 uint32_t self_test(void)
 {
     memset(&trial, 0, sizeof trial);
@@ -667,5 +786,8 @@ uint32_t self_test(void)
     append_cases();
     append_deepest();
     append_refusals();
+    night_cases();
+    night_deepest();
+    night_refusals();
     return wrong + (uint32_t)trial.differences;
 }

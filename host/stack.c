@@ -16,7 +16,7 @@ enum { STACK = 1 << 16, PAINT = 0xa5 };
 
 static uint16_t table[ROWS * COLUMNS], query[COLUMNS];
 static uint32_t room[WORDS], back[WORDS], work[6 * ROWS], rows[ROWS], distances[ROWS], words, blocks;
-static uint32_t most_rows[WORDS], two_rows[WORDS], withdrawn[SET];
+static uint32_t most_rows[WORDS], two_rows[WORDS], no_rows[WORDS], withdrawn[SET];
 static bourascul_answer answers[ROWS];
 static uint8_t how[ROWS], image[BYTES];
 static uint32_t number;
@@ -39,6 +39,14 @@ static void append(void)
     bourascul_built deep = bourascul_append(table, ROWS * COLUMNS, COLUMNS, most_rows, WORDS, back, WORDS, work, 6 * ROWS);
     bourascul_built split = bourascul_append(table, 3 * COLUMNS, COLUMNS, two_rows, WORDS, back, WORDS, work, 6 * ROWS);
     number = deep.number != 0 || deep.nodes != 49 || split.number != 0 || split.nodes != 3;
+}
+
+/* From two rows all others go in, down to depth 24; and all of them into an index without rows. */
+static void append_rows(void)
+{
+    bourascul_built some = bourascul_append_rows(table, ROWS * COLUMNS, COLUMNS, two_rows, WORDS, back, WORDS, work, 6 * ROWS);
+    bourascul_built none = bourascul_append_rows(table, ROWS * COLUMNS, COLUMNS, no_rows, WORDS, back, WORDS, work, 6 * ROWS);
+    number = some.number != 0 || none.number != 0 || some.nodes != none.nodes;
 }
 
 static void check(void)
@@ -119,6 +127,7 @@ int main(void)
     } calls[] = {
         { "bourascul_build", build },
         { "bourascul_append", append },
+        { "bourascul_append_rows", append_rows },
         { "bourascul_check", check },
         { "bourascul_radius", radius },
         { "bourascul_nearest", nearest },
@@ -137,6 +146,7 @@ int main(void)
     query[0] = 9;
     bourascul_build(table, (ROWS - 1) * COLUMNS, COLUMNS, CENTRES, LEAF, 0, 2, most_rows, WORDS, work, 6 * ROWS);
     bourascul_build(table, 2 * COLUMNS, COLUMNS, CENTRES, LEAF, 0, 2, two_rows, WORDS, work, 6 * ROWS);
+    bourascul_build(table, 0, COLUMNS, CENTRES, LEAF, 0, 2, no_rows, WORDS, work, 6 * ROWS);
     puts("| call | bytes of stack |\n|---|---|");
     for (size_t i = 0; i < sizeof calls / sizeof *calls; i++) {
         taken(calls[i].call);

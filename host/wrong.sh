@@ -16,7 +16,7 @@ rounds=${1:-480}
 seed=${2:-20}
 cc=${CC:-cc}
 out=target/host/wrong
-naive='naive naive_set naive_tree naive_append naive_search'
+naive='naive naive_set naive_tree naive_append naive_append_rows naive_search'
 mocked="mock $naive plain plain_search"
 wrong=0 found=0 sound=0 differing=0
 

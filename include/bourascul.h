@@ -34,7 +34,8 @@
       7  nearest: 0 wanted
       8  the index has fewer than 8 words, or an impossible header (an edition other than 2 is one), or one of other rows or
          columns than the table's, or fewer words than its header asks for; append: of other rows than the table's but the
-         last; reading: the image's header is of other rows or columns than the table's
+         last; append_rows: of as many rows as the table's, or more; reading: the image's header is of other rows or columns
+         than the table's
       9  the index's shape is wrong; reading: the shape of the index in the image
      10  check: a row number stands a second time
      11  check: a stored distance is wrong
@@ -88,7 +89,7 @@
 #include <stdint.h>
 
 #define BOURASCUL_VERSION_MAJOR 3
-#define BOURASCUL_VERSION_MINOR 0
+#define BOURASCUL_VERSION_MINOR 1
 
 #ifdef __cplusplus
 extern "C" {
@@ -108,8 +109,8 @@ extern "C" {
 #define BOURASCUL_CIRCLE 3600u
 #define BOURASCUL_BLOCK_BYTES 512u
 
-/* Words of room that a build over n rows asks for, and an append to the n-th, enough for reading too; and words of workspace for
-   build, append, check and nearest. */
+/* Words of room that a build over n rows asks for, and an append of rows up to the n-th, enough for reading too; and words of
+   workspace for build, append, append_rows, check and nearest. */
 #define BOURASCUL_ROOM_WORDS(n) (12u * (size_t)(n) + 8u)
 #define BOURASCUL_WORK_WORDS(n) (6u * (size_t)(n))
 
@@ -250,9 +251,20 @@ bourascul_built bourascul_build(const uint16_t *table, size_t table_length, uint
    a build splits it, its first and then the others ascending, unless a row stands in it twice. The leaf's distances are measured
    anew; all other rows keep their order and their stored distances, and nodes are numbered anew. The first row of all gives the
    build of one row. If bourascul_check accepts the old index, it accepts the new one; a fresh build may give another.
-   Each call tests and copies the whole index, so for some hundred rows a build may be cheaper. */
+   Each call tests and copies the whole index: several rows go in by bourascul_append_rows. */
 bourascul_built bourascul_append(const uint16_t *table, size_t table_length, uint32_t c, const uint32_t *index, size_t index_length,
                                  uint32_t *room, size_t room_length, uint32_t *work, size_t work_length);
+
+/* Several rows more, as a night's: every row of the table that the index has not goes into it, in one pass over the index.
+   Lent: the table of n rows, the new ones last; the index of the first rows, as many as its header says (more words may be lent);
+   room of at least 12n + 8 words; work of at least 6n words. Index and room are different buffers.
+   Numbers: 0, 1, 3, 4, 5, 8, 9, 19. 8 unless the table has at least one row more than the header says; 19 looks at the new rows too.
+   Done: the first `words` words of room are the new index, and the rest stays; the first 6n words of work are 0, and the rest
+   stays. If bourascul_check accepts the old index with its rows, these are the words that one bourascul_append after the other
+   writes, each with the table's rows as far as the one that it puts in, and the check accepts them. On an index that it would
+   refuse the rows go in one by one all the same; a leaf in which a row stands twice is not split, however many it takes. */
+bourascul_built bourascul_append_rows(const uint16_t *table, size_t table_length, uint32_t c, const uint32_t *index, size_t index_length,
+                                      uint32_t *room, size_t room_length, uint32_t *work, size_t work_length);
 
 /* The full check of an index from anyone, against its table.
    Lent: the table; the index; work of at least 6n words.

@@ -1,6 +1,7 @@
 -- The theorems on the call: what it wrote is accepted where the old index was, all other groups keep their order, and no second outcome fits.
 -- Assumes nothing.
 use Prim.Native.Nat.{_*_, _+_, _≤_, ℕ}
+use Rattle.append.proofs.Growing.{grows-only, grows-refused, grows-there}
 use Rattle.append.proofs.Refusals.{Clear, clear}
 use Rattle.append.specs.Calls.{Appends}
 use Rattle.appending.proofs.Appending.{Longer, append-accepted as words-accepted, append-header, append-length, append-one as words-one, append-order as words-order, longer-of}
@@ -14,14 +15,13 @@ use Rattle.tree.specs.Build.{build}
 use Rattle.tree.specs.Check.{Accepted}
 use Rattle.tree.specs.Grove.{treeOf}
 use Rattle.words.proofs.Headers.{words-whole}
-use Rattle.words.specs.Words.{N#, c#, circles#, edition#, l#, m#, n#, wordsOf}
-use borrow.Author.Tests.{eq-eqb}
-use lib.Dec.{eqb}
-use lib.ListN.{drop, length, length-drop, replicate, take, take-append-drop}
-use lib.Seq.{length-take-le, take-at}
-use mathlib.Core.Bool.{cond, false, true}
+use Rattle.words.specs.Words.{c#, circles#, edition#, l#, m#, n#, wordsOf}
+use lib.ListN.{drop, length, length-drop, take, take-append-drop}
+use lib.Seq.{length-take-le}
+use mathlib.Core.Bool.{false}
 use mathlib.Core.List.{List, _++_}
-use mathlib.Core.Path.{_∙_, _≡_, ap, ap₂, refl, subst, sym}
+use mathlib.Core.Logic.{_≢_}
+use mathlib.Core.Path.{_∙_, _≡_, ap, subst, sym}
 use native.Mathlib.Nat.{div-add-mod, mod-add-div, mul-add}
 use native.Mathlib.Omega.{arith}
 
@@ -45,10 +45,7 @@ module _ {T : List ℕ} {c : ℕ} {w room work room′ work′ : List ℕ} {numb
 
   -- the index stands at the front of the room
   pub append-there : take words room′ ≡ appended T c w
-  append-there =
-      let q : eqb number 0 ≡ true = eq-eqb number 0 z in
-      ap₂ take (rw q at (b .counted .0)) (rw q at (b .index))
-      ∙ take-at (appended T c w) (drop (length (appended T c w)) room) (length (appended T c w)) refl
+  append-there = grows-there b z
 
   -- ON AN EMPTY INDEX IT IS THE BUILD OF ONE ROW, with the m, l and circles of its header
   pub append-one : n# w ≡ 0 → (rowsOf T c ≡ 1) × (take words room′ ≡ build T c (circles# w) 2 (m# w) (l# w))
@@ -87,17 +84,13 @@ module _ {T : List ℕ} {c : ℕ} {w room work room′ work′ : List ℕ} {numb
     pub append-order : 1 ≤ n# w → Order (between T c (circles# w)) (m# w) (l# w) (n# w) 0 (treeOf w) (treeOf (take words room′))
     append-order h = rw append-there (words-order longer h)
 
+-- ON A REFUSAL NOTHING HAS CHANGED, AND THE COUNTS ARE 0
+pub append-refused : {T : List ℕ} {c : ℕ} {w room work room′ work′ : List ℕ} {number words nodes : ℕ}
+    → Appends T c w room work room′ work′ number words nodes → number ≢ 0 → (words ≡ 0) × (nodes ≡ 0) × (room′ ≡ room) × (work′ ≡ work)
+append-refused b h = grows-refused b h
+
 -- NO SECOND OUTCOME FITS
 pub append-only : (T : List ℕ) (c : ℕ) (w room work room₁ work₁ room₂ work₂ : List ℕ) (number₁ words₁ nodes₁ number₂ words₂ nodes₂ : ℕ)
     → Appends T c w room work room₁ work₁ number₁ words₁ nodes₁ → Appends T c w room work room₂ work₂ number₂ words₂ nodes₂
     → (number₁ ≡ number₂) × (words₁ ≡ words₂) × (nodes₁ ≡ nodes₂) × (room₁ ≡ room₂) × (work₁ ≡ work₂)
-append-only T c w room work room₁ work₁ room₂ work₂ number₁ words₁ nodes₁ number₂ words₂ nodes₂ a b =
-    let n : number₁ ≡ number₂ = a .said ∙ sym (b .said) in
-    let B : List ℕ = appended T c w in
-    let k : ℕ = 6 * rowsOf T c in (
-      n,
-      a .counted .0 ∙ ap (λ (i : ℕ). cond (eqb i 0) (length B) 0) n ∙ sym (b .counted .0),
-      a .counted .1 ∙ ap (λ (i : ℕ). cond (eqb i 0) (N# B) 0) n ∙ sym (b .counted .1),
-      a .index ∙ ap (λ (i : ℕ). cond (eqb i 0) (B ++ drop (length B) room) room) n ∙ sym (b .index),
-      a .cleared ∙ ap (λ (i : ℕ). cond (eqb i 0) (replicate k 0 ++ drop k work) work) n ∙ sym (b .cleared),
-    )
+append-only T c w room work room₁ work₁ room₂ work₂ number₁ words₁ nodes₁ number₂ words₂ nodes₂ a b = grows-only a b

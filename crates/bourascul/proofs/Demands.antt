@@ -4,6 +4,8 @@ use Rattle.answers.specs.Records.{made}
 use Rattle.answers.specs.declared.Answer.{Answer}
 use Rattle.append.proofs.Theorems.{append-accepted, append-headed, append-on, append-sized}
 use Rattle.append.specs.Calls.{Appends}
+use Rattle.append_rows.proofs.Theorems.{append-rows-accepted, append-rows-headed, append-rows-on, append-rows-sized}
+use Rattle.append_rows.specs.Calls.{AppendsRows}
 use Rattle.audit.proofs.Contract.{unfound}
 use Rattle.audit.proofs.Theorems.{check-exact, check-only, check-placeless}
 use Rattle.audit.specs.Calls.{Checks, Passed}
@@ -124,48 +126,52 @@ pub check-accepts : {t : List ℕ} {c : ℕ} {w work work′ : List ℕ} {number
     → (number ≡ 0) ↔ Passed t c w work
 check-accepts s = check-exact s
 
--- what a build wrote passes, in a workspace that is long enough
-pub build-passes : {t : List ℕ} {c o e m l : ℕ} {room work room′ work′ work₂ work₃ : List ℕ} {words nodes number place second : ℕ}
-    → Builds t c o e m l room work room′ work′ 0 words nodes → 6 * rowsOf t c ≤ length work₂
-    → Checks t c (take words room′) work₂ work₃ number place second → (number ≡ 0) × (place ≡ 0) × (second ≡ 0)
-build-passes {t} {c} {o} {e} {m} {l} {room} {work} {room′} {words = words} b enough s =
-    let h = build-headed t c o e m l room work b refl in
-    let a = build-accepted t c o e m l room work b refl in
+-- words with the table's own header and the circles o, on which it stands, that the full check accepts with it: they pass, in a workspace that is
+-- long enough
+own-passes : {t : List ℕ} {c o : ℕ} {v work work′ : List ℕ} {number place second : ℕ} → Sized (length t) c → (n# v ≡ rowsOf t c) × (c# v ≡ c)
+    → edition# v ≡ 2 → circles# v ≡ o → offCircle c o t ≡ false → Accepted (between t c o) v → 6 * rowsOf t c ≤ length work
+    → Checks t c v work work′ number place second → (number ≡ 0) × (place ≡ 0) × (second ≡ 0)
+own-passes {t} {c} {v = v} fine same two round on a enough s =
     let z = check-exact s .1 (record {
-      columns = (h .0 .some, h .0 .few);
-      multiple = h .0 .whole;
-      few = h .0 .rows;
+      columns = (fine .some, fine .few);
+      multiple = fine .whole;
+      few = fine .rows;
       room = enough;
-      same-rows = h .1;
-      same-columns = h .2;
-      edition = h .4;
-      circled = subst (λ (o : ℕ). offCircle c o t ≡ false) (sym (h .5)) (h .6);
-      accepted = subst (λ (o : ℕ). Accepted (between t c o) (take words room′)) (sym (h .5)) a;
+      same-rows = same .0;
+      same-columns = same .1;
+      edition = two;
+      circled = subst (λ (o : ℕ). offCircle c o t ≡ false) (sym round) on;
+      accepted = subst (λ (o : ℕ). Accepted (between t c o) v) (sym round) a;
     }) in
     let p = check-placeless s (λ u. omega arith) in
     (z, p .0, p .1)
+
+-- what a build wrote does
+pub build-passes : {t : List ℕ} {c o e m l : ℕ} {room work room′ work′ work₂ work₃ : List ℕ} {words nodes number place second : ℕ}
+    → Builds t c o e m l room work room′ work′ 0 words nodes → 6 * rowsOf t c ≤ length work₂
+    → Checks t c (take words room′) work₂ work₃ number place second → (number ≡ 0) × (place ≡ 0) × (second ≡ 0)
+build-passes {t} {c} {o} {e} {m} {l} {room} {work} b enough s =
+    let h = build-headed t c o e m l room work b refl in
+    own-passes (h .0) (h .1, h .2) (h .4) (h .5) (h .6) (build-accepted t c o e m l room work b refl) enough s
 
 -- where a check gave 0 of an index with the table before a row came, what an append wrote passes with the table that has it
 pub append-passes : {t : List ℕ} {c : ℕ} {w room work room′ work′ work₀ work₁ work₂ work₃ : List ℕ} {words nodes place₀ second₀ number place second : ℕ}
     → Checks (take (c * n# w) t) c w work₀ work₁ 0 place₀ second₀ → Appends t c w room work room′ work′ 0 words nodes → 6 * rowsOf t c ≤ length work₂
     → Checks t c (take words room′) work₂ work₃ number place second → (number ≡ 0) × (place ≡ 0) × (second ≡ 0)
-append-passes {t} {c} {room′ = room′} {words = words} ok b enough s =
+append-passes ok b enough s =
     let a = passed ok .accepted in
     let h = append-headed b refl a in
-    let sized = append-sized b refl in
-    let z = check-exact s .1 (record {
-      columns = (sized .some, sized .few);
-      multiple = sized .whole;
-      few = sized .rows;
-      room = enough;
-      same-rows = h .0;
-      same-columns = h .1;
-      edition = h .4;
-      circled = subst (λ (o : ℕ). offCircle c o t ≡ false) (sym (h .6)) (append-on b refl);
-      accepted = subst (λ (o : ℕ). Accepted (between t c o) (take words room′)) (sym (h .6)) (append-accepted b refl a);
-    }) in
-    let p = check-placeless s (λ u. omega arith) in
-    (z, p .0, p .1)
+    own-passes (append-sized b refl) (h .0, h .1) (h .4) (h .6) (append-on b refl) (append-accepted b refl a) enough s
+
+-- and so it is where several came
+pub append-rows-passes : {t : List ℕ} {c : ℕ} {w room work room′ work′ work₀ work₁ work₂ work₃ : List ℕ}
+    {words nodes place₀ second₀ number place second : ℕ} → Checks (take (c * n# w) t) c w work₀ work₁ 0 place₀ second₀
+    → AppendsRows t c w room work room′ work′ 0 words nodes → 6 * rowsOf t c ≤ length work₂
+    → Checks t c (take words room′) work₂ work₃ number place second → (number ≡ 0) × (place ≡ 0) × (second ≡ 0)
+append-rows-passes ok b enough s =
+    let a = passed ok .accepted in
+    let h = append-rows-headed b refl a in
+    own-passes (append-rows-sized b refl) (h .0, h .1) (h .4) (h .6) (append-rows-on b refl) (append-rows-accepted b refl a) enough s
 
 -- an index of which a check gave 0
 module _ {t : List ℕ} {c : ℕ} {w work₀ work₁ : List ℕ} {place second : ℕ} (ok : Checks t c w work₀ work₁ 0 place second) where

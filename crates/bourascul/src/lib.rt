@@ -2,6 +2,7 @@
 // says what is lent.
 ghost use Prim.Native.Nat.{min};
 ghost use Rattle.append.specs.Calls.{Appends};
+ghost use Rattle.append_rows.specs.Calls.{AppendsRows};
 ghost use Rattle.audit.specs.Calls.{Checks};
 ghost use Rattle.bourascul.specs.Calls.{ReadsBlock};
 ghost use Rattle.bourascul.specs.Recorded.{Recorded};
@@ -117,6 +118,26 @@ pub extern "C" fn bourascul_append(
         (r .number) (r .words) (r .nodes) ⌝ }
 {
     let built = append::append(table, c as usize, index, room, work);
+    Built {
+        number: built.number,
+        words: built.words as u32,
+        nodes: built.nodes as u32,
+    }
+}
+
+// All of the table's rows that the index has not go into it.
+#[no_mangle]
+pub extern "C" fn bourascul_append_rows(
+    table: &[u16],
+    c: u32,
+    index: &[u32],
+    room: &mut [u32],
+    work: &mut [u32],
+) -> Built
+    ensures { λ r. ⌜ AppendsRows (now (table .entry)) c (now (index .entry)) (now (room .entry)) (now (work .entry)) (now (room .exit)) (now (work .exit))
+        (r .number) (r .words) (r .nodes) ⌝ }
+{
+    let built = append_rows::append_rows(table, c as usize, index, room, work);
     Built {
         number: built.number,
         words: built.words as u32,

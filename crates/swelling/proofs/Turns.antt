@@ -39,11 +39,11 @@ use native.Mathlib.Omega.{arith}
 
 module _ (T : List ℕ) (c : ℕ) (some : 0 < c) where
   -- the table's first k rows are there
-  rows-there : (k : ℕ) → k ≤ rowsOf T c → c * k ≤ length T
+  pub rows-there : (k : ℕ) → k ≤ rowsOf T c → c * k ≤ length T
   rows-there k h = le-trans (mul-le-mul-left c h) (mul-div-le (length T) c)
 
   -- so many words
-  rows-length : (k : ℕ) → k ≤ rowsOf T c → length (firstRows T c k) ≡ c * k
+  pub rows-length : (k : ℕ) → k ≤ rowsOf T c → length (firstRows T c k) ≡ c * k
   rows-length k h = length-take-le (c * k) T (rows-there k h)
 
   -- so many rows
@@ -97,11 +97,11 @@ module _ {T : List ℕ} {c : ℕ} {w : List ℕ} (P : Part T c w) where
   count = ap length (entries-tree w shaped) ∙ simp (length-map, range-length)
 
   -- the table as far as the next row
-  abbrev next : List ℕ
+  abbrev pub next : List ℕ
   next = firstRows T c (n# w + 1)
 
   -- for that row the index is one to append to
-  step : Longer (between (firstRows T c (n# w)) c (circles# w)) next c w
+  pub step : Longer (between (firstRows T c (n# w)) c (circles# w)) next c w
   step =
       let one : n# w + 1 ≤ rowsOf T c = omega (arith, P .more) in
       let less : n# w ≤ rowsOf T c = omega (arith, P .more) in
@@ -118,11 +118,11 @@ module _ {T : List ℕ} {c : ℕ} {w : List ℕ} (P : Part T c w) where
       }
 
   -- the index after it
-  abbrev then′ : List ℕ
+  abbrev pub then′ : List ℕ
   then′ = appended next c w
 
   -- it is one with the next rows, where there are more
-  onward : n# w + 1 < rowsOf T c → Part T c then′
+  pub onward : n# w + 1 < rowsOf T c → Part T c then′
   onward h =
       let H = append-header step in
       record {

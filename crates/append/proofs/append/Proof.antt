@@ -1,7 +1,8 @@
 -- `append::append` meets its contract: each return has its number, and the last two the index.
 -- Assumes nothing.
 use Prim.Native.Nat.{_*_, _+_, _≤_, ℕ}
-use Rattle.append.proofs.Outcomes.{Passed, built-appends, joinable, joined-appends, part-long, refused-appends, rows-are, header-there, work-long}
+use Rattle.append.proofs.Growing.{refused-grows}
+use Rattle.append.proofs.Outcomes.{Passed, built-appends, joinable, joined-appends, part-long, rows-are, header-there, work-long}
 use Rattle.append.proofs.append.Statement.{statement}
 use Rattle.append.proofs.append.Tie as tie
 use Rattle.limits.specs.Limits.{maxRows}
@@ -34,7 +35,7 @@ little : (c : tie.After-join-row)
 little c = c .join-row .ensures .few
 
 returns : tie.Need-returns
-returns c = refused-appends (narrow (c .before .before .before .before .before .before)) (c .before .before .refusal-of .ensures) (c .before .if1 .taken) (c .refused .ensures)
+returns c = refused-grows (narrow (c .before .before .before .before .before .before)) (c .before .before .refusal-of .ensures) (c .before .if1 .taken) (c .refused .ensures)
 
 rows-requires : tie.Need-rows-requires
 rows-requires c κs = header-there (none c)

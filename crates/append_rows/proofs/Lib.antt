@@ -1,0 +1,6 @@
+pub mod Refusals
+pub mod Turning
+pub mod First
+pub mod Outcomes
+pub mod Theorems
+pub mod Cases
