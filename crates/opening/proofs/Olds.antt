@@ -183,9 +183,10 @@ module _ {t w : List ℕ} {n : ℕ} {room work : List ℕ} {o s count made : ℕ
         }
 
     -- ---- dealt out, and copied back
-    module _ {last : Bool} {room′ W₂ W₃ : List ℕ} (deal : KidsDeal t w o n (3 * (s + own)) (3 * (s + count)) last room
+    module _ {last : Bool} {room′ W₂ W₃ : List ℕ} {over : ℕ} (deal : KidsDeal t w o n (3 * (s + own)) (3 * (s + count)) last room
         (putMid (3 * (s + own)) (3 * (s + count) - 3 * (s + own)) work part′) s made room′ W₂)
-        (copied : W₃ ≡ take (3 * s) W₂ ++ (stretch W₂ (3 * s + 3 * n) (3 * (s + count) + 3 * n) ++ drop (3 * (s + count)) W₂)) where
+        (half : over ≡ 3 * n)
+        (copied : W₃ ≡ take (3 * s) W₂ ++ (stretch W₂ (3 * s + over) (3 * (s + count) + over) ++ drop (3 * (s + count)) W₂)) where
       -- the children stand in the second half
       dealt : KidsDealt t w o n last (g .zs) room W₁ s made room′ W₂
       unfolding old-kids
@@ -196,10 +197,10 @@ module _ {t w : List ℕ} {n : ℕ} {room work : List ℕ} {o s count made : ℕ
       P = stretch W₂ (3 * (n + s)) (3 * (n + s) + 3 * (count# w o + length (g .zs)))
 
       -- as they are copied
-      copied-part : stretch W₂ (3 * s + 3 * n) (3 * (s + count) + 3 * n) ≡ P
+      copied-part : stretch W₂ (3 * s + over) (3 * (s + count) + over) ≡ P
       copied-part =
-          let at : 3 * s + 3 * n ≡ 3 * (n + s) = omega arith in
-          let k : 3 * (s + count) + 3 * n - (3 * s + 3 * n) ≡ 3 * (n + s) + 3 * (count# w o + length (g .zs)) - 3 * (n + s) = omega (arith, g .size) in
+          let at : 3 * s + over ≡ 3 * (n + s) = omega (arith, half) in
+          let k : 3 * (s + count) + over - (3 * s + over) ≡ 3 * (n + s) + 3 * (count# w o + length (g .zs)) - 3 * (n + s) = omega (arith, g .size) in
           ap₂ (λ (i j : ℕ). take i (drop j W₂)) k at
 
       -- three words a row

@@ -1,4 +1,5 @@
 use borrow.Author.Needs.{needs}
+use native.Mathlib.Omega.{arith}
 use Rattle.opening.proofs.Olds.{old-done, old-kids, old-marks}
 use Rattle.opening.proofs.open_old.Statement.{statement}
 use Rattle.opening.proofs.open_old.Tie as tie
@@ -94,7 +95,8 @@ returns c =
     let m = x .before .before .before .before .before in
     let k = m .before .before in
     let n = k .before in
-    λ g. old-done g (n .node-count .ensures .0) (k .columns .ensures .0) (m .mark-rows .ensures) (x .deal-out .ensures) (b .copy-back .ensures)
+    λ g. old-done g (n .node-count .ensures .0) (k .columns .ensures .0) (m .mark-rows .ensures) (x .deal-out .ensures) (omega arith)
+    (b .copy-back .ensures)
 
 pub open-old-spec : {M : Type 1} → statement M
 open-old-spec =

@@ -98,7 +98,7 @@ same-length c = search needs
 returns : tie.Need-returns
 returns c =
     let e = c .before in
-    λ g. path-marked (g .q) (g .there) (e .word3 .ensures .0) (omega arith) _
+    λ g. path-marked (g .q) (g .there) (e .word3 .ensures .0) (omega arith) (omega arith) _
 
 -- src/lib.rt:74:9
 centres-requires : tie.Need-centres-requires
@@ -241,7 +241,7 @@ split-run-requires c κs =
     let f = n .before .before in
     let g = f .before .before .before .before .before .before .pre in
     path-run (g .q) (g .there) (f .word .ensures .0) (n .word2 .ensures .0) (e .word3 .ensures .0) (i .if2 .left) (l .leaf-size .ensures .0)
-    (omega arith) (k .columns .ensures .0) (o .circles .ensures) (m .centres .ensures .0)
+    (omega arith) (k .columns .ensures .0) (o .circles .ensures) (m .centres .ensures .0) (omega arith)
 
 -- src/lib.rt:98:5
 add-result-2 : tie.Need-add-result-2
@@ -274,7 +274,7 @@ returns-4 c =
     let f = n .before .before in
     λ g. path-run-done (g .q) (g .there) (f .word .ensures .0) (n .word2 .ensures .0) (e .word3 .ensures .0) (i .if2 .left)
     (l .leaf-size .ensures .0)
-    (omega arith) (k .columns .ensures .0) (o .circles .ensures) (m .centres .ensures .0) _ (x .split-run .ensures)
+    (omega arith) (k .columns .ensures .0) (o .circles .ensures) (m .centres .ensures .0) (omega arith) _ (x .split-run .ensures)
 
 pub open-piece-spec : {M : Type 1} → statement M
 open-piece-spec =

@@ -100,6 +100,7 @@ put-header-requires c κs =
     let m = l .before in
     let e = m .before .before .before .before .before in
     header-ready (begun e .pre) (read e) (rooted e) (e .deepen .ensures) (m .centres .ensures .0) (l .leaf-size .ensures .0) (wide e)
+    (omega arith)
 
 -- src/lib.rt:92:23
 mul-at : tie.Need-mul-at
@@ -162,7 +163,7 @@ returns c =
     let m = l .before in
     let e = deepened h in
     rows-joined (begun e .pre) (read e) (rooted e) (e .deepen .ensures) (o .circles .ensures) (m .centres .ensures .0) (l .leaf-size .ensures .0)
-    (long h) (h .put-header .ensures) (omega arith) (p .put-positions .ensures) (half e) (k .clear-words .ensures)
+    (omega arith) (long h) (h .put-header .ensures) (omega arith) (p .put-positions .ensures) (half e) (k .clear-words .ensures)
 
 pub fill-rows-spec : {M : Type 1} → statement M
 fill-rows-spec =

@@ -134,7 +134,7 @@ loop-again c =
     let k = o .before in
     let s = k .before .before .before .before .pre in
     taking-step _ _ _ _ (l .loop .inv) (s .1 .0) (omega arith) (s .1 .1)
-    (new-distance (s .0) _ (k .columns .ensures .0) (o .circles .ensures) (f .node-first .ensures .0) (x .row-distance .ensures .0))
+    (new-distance (s .0) _ _ (omega arith) (k .columns .ensures .0) (o .circles .ensures) (f .node-first .ensures .0) (x .row-distance .ensures .0))
     (g .larger .ensures) (a .least-of .ensures) (p .put-entry .ensures) (search needs)
 
 -- src/lib.rt:34:1
