@@ -106,9 +106,9 @@ static size_t order[MOST_ROWS];       /* the answers, by row number */
 static uint32_t away[MOST_ROWS];      /* the distance of each row */
 
 static const struct { const char *name; int takes; } options[] = {
-    { "--columns", 1 }, { "--circle", 1 }, { "--label", 1 }, { "--by", 1 }, { "--count", 0 }, { "--csv", 0 }, { "--lines", 0 }
+    { "--columns", 1 }, { "--circle", 1 }, { "--without", 1 }, { "--label", 1 }, { "--by", 1 }, { "--count", 0 }, { "--csv", 0 }, { "--lines", 0 }
 };
-enum { COLUMNS, CIRCLE, LABEL, BY, COUNT, CSV, LINES, OPTIONS };
+enum { COLUMNS, CIRCLE, WITHOUT, LABEL, BY, COUNT, CSV, LINES, OPTIONS };
 
 static char *plain[4], *given[OPTIONS]; /* FILE, the way, WHAT, the amount; the options' values, "" for those without */
 
@@ -261,6 +261,23 @@ static size_t fill_queries(const char *what, uint32_t k, uint16_t *query)
     }
 }
 
+/* The rows that a good text withdraws, a number a line, as a set of bits. */
+static uint32_t *withdrawn_by(const char *path)
+{
+    uint32_t *set = room_for(rows / 32 + 1, 4);
+    char word[64];
+    FILE *file = path == NULL ? NULL : fopen(path, "rb");
+    if (path != NULL && file == NULL)
+        exit(2);
+    while (file != NULL && fscanf(file, "%63s", word) == 1) {
+        size_t row = strtoul(strncmp(word, "\xef\xbb\xbf", 3) == 0 ? word + 3 : word, NULL, 10);
+        set[row / 32] |= (uint32_t)1 << row % 32;
+    }
+    if (file != NULL)
+        fclose(file);
+    return set;
+}
+
 static int by_distance(const void *a, const void *b)
 {
     size_t i = *(const size_t *)a, j = *(const size_t *)b;
@@ -317,19 +334,19 @@ static void print_answers(size_t found, size_t label)
 }
 
 /* How many distances the searches measure, by the naive index and searches. */
-static size_t measured_by(uint32_t k, uint32_t circles, const uint16_t *query, size_t queries, int like, uint32_t amount)
+static size_t measured_by(uint32_t k, uint32_t circles, uint32_t *gone, const uint16_t *query, size_t queries, int like, uint32_t amount)
 {
     struct naive_table table = { number, rows * k, k };
     struct naive_room room = { room_for(12 * rows + 8, 4), 12 * rows + 8 }, work = { room_for(6 * rows, 4), 6 * rows };
     struct naive_room answers = { room_for(rows, 4), rows }, distances = { room_for(rows, 4), rows };
-    struct naive_set none = { room_for(rows / 32 + 1, 4), (rows + 31) / 32 };
+    struct naive_set set = { gone, (rows + 31) / 32 };
     struct naive_bytes how = { room_for(rows, 1), rows };
     struct naive_index index = { room.words, naive_build(table, CENTRES, LEAF, circles, EDITION, room, work).one };
     size_t measured = 0;
     for (size_t i = 0; i < queries; i++) {
         struct naive_query asked = { query + i * k, k };
-        measured += like ? naive_radius(table, index, asked, amount, none, how).two
-                         : naive_nearest(table, index, asked, amount, none, answers, distances, how, work).two;
+        measured += like ? naive_radius(table, index, asked, amount, set, how).two
+                         : naive_nearest(table, index, asked, amount, set, answers, distances, how, work).two;
     }
     return measured;
 }
@@ -344,13 +361,14 @@ static int minutes(int count, char **word)
     fill_table(k);
     size_t queries = fill_queries(plain[2], k, query);
     int like = strcmp(plain[1], "like") == 0;
+    uint32_t *gone = withdrawn_by(given[WITHOUT]);
     for (size_t i = 0; i < rows; i++) {
         away[i] = UINT32_MAX;
         for (size_t j = 0; j < queries; j++) {
             uint32_t d = naive_distance(query + j * k, number + i * k, k, circles);
             away[i] = d < away[i] ? d : away[i];
         }
-        if (!like || away[i] <= amount)
+        if ((gone[i / 32] >> i % 32) % 2 == 0 && (!like || away[i] <= amount))
             order[found++] = i;
     }
     if (!like || given[BY] != NULL)
@@ -361,7 +379,7 @@ static int minutes(int count, char **word)
         printf("%zu\n", found);
     else
         print_answers(found, label);
-    print_found(found, measured_by(k, circles, query, queries, like, amount));
+    print_found(found, measured_by(k, circles, gone, query, queries, like, amount));
     printf("status %d\n", found == 0);
     return 0;
 }

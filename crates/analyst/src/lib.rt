@@ -2,6 +2,7 @@
 // answered. Answers go to one file, all else to another; the number given back is the status that the program ends with.
 mod answering;
 mod faults;
+mod gone;
 mod plan;
 mod reading;
 mod saying;
@@ -20,8 +21,14 @@ use asking::pieces::least;
 use asking::pieces::part;
 use circling::Circles;
 use circling::circles_of;
+use files::opened;
 use finder::find_nearest;
 use finder::mark_near;
+use gone::none_struck;
+use gone::read_without;
+use gone::say_without;
+use gone::second_of;
+use gone::set_of;
 use lines::put_bytes;
 use picking::choosing;
 use picking::choosing::Choice;
@@ -43,6 +50,7 @@ use statuses::asked_wrongly;
 use statuses::no_room;
 use statuses::nothing_found;
 use statuses::text_faulty;
+use withdrawing::withdraw_in;
 
 // The descriptor at which the launcher listens for the status, since a program of the kit has no exit status; where nobody does, nothing is written.
 pub const STATUS_FILE: i32 = 3;
@@ -51,14 +59,6 @@ pub const STATUS_FILE: i32 = 3;
 pub struct Ends {
     pub out: i32,
     pub err: i32,
-}
-
-// A file's descriptor, where `-` is standard input.
-fn opened(name: &[u8]) -> i32 {
-    if check::same(name, b"-") {
-        return libc::STDIN_FILENO;
-    }
-    os::open_read(name)
 }
 
 // The columns that count: those of the list, or all.
@@ -275,32 +275,13 @@ fn write_marked(
     write_given(plan, text, starts, rows, distances, kept, measured)
 }
 
-// As many words as the set of the most rows has.
-const SET_WORDS: usize = 32_768;
-
-// A set in which no row is withdrawn, with its length alone.
-fn none_struck() -> [u32; SET_WORDS]
-    ensures { λ r. ⌜ 32768 ≡ length r ⌝ }
-{
-    [0; SET_WORDS]
-}
-
-// How many words the set of n rows has, at most as many as there are.
-fn struck_words(n: usize) -> usize
-    ensures { λ r. ⌜ r ≤ 32768 ⌝ }
-{
-    if MOST_ROWS < n {
-        return SET_WORDS;
-    }
-    (n + 31) / 32
-}
-
 // Every row within a distance of one of the queries.
 fn answer_like(
     plan: Plan,
     text: &[u8],
     table: &[u16],
     queries: &[u16],
+    struck: &[u32],
     room: &mut [u32],
     work: &mut [u32],
     how: &mut [u8],
@@ -310,15 +291,13 @@ fn answer_like(
 ) -> u32
     ensures { λ r. ⌜ r ≤ 4 ⌝ }
 {
-    let struck = none_struck();
-    let end = struck_words(plan.n);
     let found = mark_near(
         table,
         plan.k,
         plan.circles,
         queries,
         plan.number,
-        &struck[0..end],
+        set_of(struck, plan.n),
         room,
         work,
         how,
@@ -348,6 +327,7 @@ fn answer_nearest(
     text: &[u8],
     table: &[u16],
     query: &[u16],
+    struck: &[u32],
     room: &mut [u32],
     work: &mut [u32],
     how: &mut [u8],
@@ -357,15 +337,13 @@ fn answer_nearest(
     ensures { λ r. ⌜ r ≤ 4 ⌝ }
 {
     let wanted = plan.number as usize;
-    let struck = none_struck();
-    let end = struck_words(plan.n);
     let found = find_nearest(
         table,
         plan.k,
         plan.circles,
         query,
         wanted,
-        &struck[0..end],
+        set_of(struck, plan.n),
         room,
         work,
         how,
@@ -408,6 +386,7 @@ fn answer(
     text: &[u8],
     table: &[u16],
     queries: &[u16],
+    struck: &[u32],
     room: &mut [u32],
     work: &mut [u32],
     how: &mut [u8],
@@ -427,6 +406,7 @@ fn answer(
             text,
             table,
             queries,
+            struck,
             room,
             work,
             how,
@@ -435,7 +415,18 @@ fn answer(
             distances,
         );
     }
-    answer_nearest(plan, text, table, queries, room, work, how, rows, distances)
+    answer_nearest(
+        plan,
+        text,
+        table,
+        queries,
+        struck,
+        room,
+        work,
+        how,
+        rows,
+        distances,
+    )
 }
 
 // The plan for so many columns, of which some are circles, and so many numbers of the table.
@@ -524,6 +515,7 @@ fn answer_queries(
     text: &[u8],
     table: &[u16],
     queries: &[u16],
+    struck: &[u32],
     room: &mut [u32],
     work: &mut [u32],
     how: &mut [u8],
@@ -543,6 +535,7 @@ fn answer_queries(
         text,
         numbers_part(table, 0, plan.used),
         numbers_part(queries, 0, end),
+        struck,
         room,
         work,
         how,
@@ -560,6 +553,7 @@ fn ask_named(
     choice: Choice,
     text: &[u8],
     table: &[u16],
+    struck: &[u32],
     room: &mut [u32],
     work: &mut [u32],
     how: &mut [u8],
@@ -578,6 +572,7 @@ fn ask_named(
         text,
         table,
         &queries,
+        struck,
         room,
         work,
         how,
@@ -596,6 +591,7 @@ fn ask_rows(
     choice: Choice,
     text: &[u8],
     table: &[u16],
+    struck: &[u32],
     room: &mut [u32],
     work: &mut [u32],
     how: &mut [u8],
@@ -624,6 +620,7 @@ fn ask_rows(
         choice,
         text,
         table,
+        struck,
         room,
         work,
         how,
@@ -713,13 +710,14 @@ fn say_circles(file: i32, circled: Circles, list: &[u8], text: &[u8]) -> u32
     asked_wrongly()
 }
 
-// Answers a question about a text that was read into the table.
+// Answers a question about a text that was read into the table; the second text says which rows are withdrawn.
 fn ask_sheet(
     words: &[u8],
     q: Question,
     ends: Ends,
     sheet: Sheet,
     text: &[u8],
+    second: &[u8],
     table: &mut [u16],
     room: &mut [u32],
     work: &mut [u32],
@@ -758,6 +756,18 @@ fn ask_sheet(
     if unchosen != 0 {
         return unchosen;
     }
+    let mut struck = none_struck();
+    let withdrawal = withdraw_in(second, reader.rows, &mut struck);
+    let unread = say_without(
+        ends.err,
+        bytes_of(words, q.without),
+        withdrawal.wrong,
+        withdrawal.line,
+        reader.rows,
+    );
+    if unread != 0 {
+        return unread;
+    }
     ask_rows(
         bytes_of(words, q.what),
         plan_of(q, ends, sheet),
@@ -766,6 +776,7 @@ fn ask_sheet(
         choice,
         text,
         table,
+        &struck,
         room,
         work,
         how,
@@ -822,6 +833,7 @@ fn ask_labelled(
     ends: Ends,
     label: usize,
     text: &[u8],
+    second: &[u8],
     table: &mut [u16],
     room: &mut [u32],
     work: &mut [u32],
@@ -848,6 +860,7 @@ fn ask_labelled(
         ends,
         sheet,
         text,
+        second,
         table,
         room,
         work,
@@ -864,6 +877,7 @@ fn ask_text(
     q: Question,
     ends: Ends,
     text: &[u8],
+    second: &[u8],
     table: &mut [u16],
     room: &mut [u32],
     work: &mut [u32],
@@ -891,6 +905,7 @@ fn ask_text(
         ends,
         label,
         text,
+        second,
         table,
         room,
         work,
@@ -953,7 +968,7 @@ fn ask_file(
 ) -> u32
     ensures { λ r. ⌜ r ≤ 4 ⌝ }
 {
-    let came = reading::read_whole(file, text);
+    let came = files::read_whole(file, text);
     libc::close(file);
     if !came.whole {
         say_quoted(ends.err, b"", bytes_of(words, q.file), b" can't be read");
@@ -966,11 +981,16 @@ fn ask_file(
         return no_room();
     }
     let length = came.length;
+    let without = read_without(words, q, ends.err, text, length);
+    if without.status != 0 {
+        return without.status;
+    }
     ask_text(
         words,
         q,
         ends,
         part(text, 0, length),
+        second_of(text, length, without.length),
         table,
         room,
         work,

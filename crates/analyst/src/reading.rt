@@ -1,6 +1,5 @@
-// A file or standard input, read whole into the lent text; and the text, read into the table.
+// The text, read into the table.
 ghost use Prim.Native.Nat.{_≤_};
-ghost use lib.ListN.{length};
 use asking::pieces::part;
 use picking::choosing::MOST_COLUMNS;
 use picking::choosing::column_said;
@@ -8,27 +7,6 @@ use picking::places::first_line;
 use picking::places::next_line;
 use picking::places::text_start;
 use sheet::Reader;
-
-// What came of the reading: it may have failed before the text's end, and the text may be longer than its room.
-pub struct Came {
-    pub whole: bool,
-    pub fits: bool,
-    pub length: usize,
-}
-
-// Reads to the end of the file. A byte that comes behind the end, or behind the room, is one too many.
-pub fn read_whole(file: i32, text: &mut [u8]) -> Came
-    ensures { λ r. ⌜ r .length ≤ length (now (text .exit)) ⌝ }
-{
-    let length = io::read_full(file, text);
-    let mut more = io::buffer();
-    let got = libc::read(file, &mut more);
-    Came {
-        whole: 0 <= got,
-        fits: got <= 0,
-        length,
-    }
-}
 
 // A text that was read: the reader at its end, whether its first line is names, and where its first row's line starts.
 pub struct Sheet {

@@ -51,6 +51,10 @@ pub(crate) fn say_help(file: i32) {
     );
     say(
         file,
+        b"  --without FILE              rows that are withdrawn, a row number a line: they are in no answer\n",
+    );
+    say(
+        file,
         b"  --label NAME                a column that is no number and does not count: it is shown, and asked by: time=2026-04-12T07:31\n",
     );
     say(
@@ -72,14 +76,14 @@ pub(crate) fn say_asked_wrong(file: i32, words: &[u8], q: Question) {
             file,
             b"there is no option ",
             word,
-            b"; there are --columns, --circle, --label, --count, --csv, --lines, --by, --help and --version",
+            b"; there are --columns, --circle, --without, --label, --count, --csv, --lines, --by, --help and --version",
         );
     } else if q.wrong == asking::NO_VALUE {
         say_quoted(
             file,
             b"",
             word,
-            b" needs a value: --columns speed,fan_pressure*2, --circle heading, --label time, --by distance",
+            b" needs a value: --columns speed,fan_pressure*2, --circle heading, --without struck.txt, --label time, --by distance",
         );
     } else if q.wrong == asking::TWICE {
         say_quoted(file, b"", word, b" is given twice");

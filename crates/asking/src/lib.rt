@@ -45,11 +45,13 @@ const LABEL: u32 = 3;
 
 const CIRCLE: u32 = 4;
 
-const COUNT: u32 = 5;
+const WITHOUT: u32 = 5;
 
-const CSV: u32 = 6;
+const COUNT: u32 = 6;
 
-const LINES: u32 = 7;
+const CSV: u32 = 7;
+
+const LINES: u32 = 8;
 
 // More words than this are too many.
 const MOST_WORDS: usize = 32;
@@ -65,6 +67,7 @@ pub struct Question {
     pub columns: Piece,
     pub label: Piece,
     pub circle: Piece,
+    pub without: Piece,
     pub by_distance: bool,
     pub count: bool,
     pub csv: bool,
@@ -86,6 +89,7 @@ fn nothing_asked() -> Question {
         columns: no_piece(),
         label: no_piece(),
         circle: no_piece(),
+        without: no_piece(),
         by_distance: false,
         count: false,
         csv: false,
@@ -133,6 +137,9 @@ fn option_of(word: &[u8]) -> u32 {
     if check::same(word, b"--circle") {
         return CIRCLE;
     }
+    if check::same(word, b"--without") {
+        return WITHOUT;
+    }
     if check::same(word, b"--count") {
         return COUNT;
     }
@@ -169,6 +176,9 @@ fn has_value(q: Question, option: u32) -> bool {
     if option == CIRCLE {
         return q.circle.there;
     }
+    if option == WITHOUT {
+        return q.without.there;
+    }
     q.by_distance
 }
 
@@ -188,7 +198,7 @@ fn with_option(words: &[u8], q: Question, w: Piece) -> Question {
     if option == 0 {
         return wrong_at(q, NO_OPTION, w);
     }
-    if option <= CIRCLE {
+    if option <= WITHOUT {
         return with_awaited(q, option, w);
     }
     with_flag(q, option)
@@ -217,6 +227,8 @@ fn with_value(words: &[u8], q: Question, w: Piece) -> Question {
         n.label = w;
     } else if option == CIRCLE {
         n.circle = w;
+    } else if option == WITHOUT {
+        n.without = w;
     } else {
         n.columns = w;
     }

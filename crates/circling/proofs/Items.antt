@@ -1,16 +1,15 @@
 -- The items of a list of circles, judged one after the other. Assumes nothing.
 use Prim.Native.Nat.{_+_, _-_, _<_, _≤_, suc, zero, ℕ}
 use Rattle.asking.proofs.Saying.{part-piece}
-use Rattle.asking.specs.Pieces.{Found, beginOf, endAt, hasPiece, partOf, pieceOf}
-use Rattle.circling.specs.Circles.{Bits, Circled, columnTrouble, counts, isSaid, itemSays, itemTrouble, mostItems, says, wrongItem}
+use Rattle.asking.specs.Pieces.{Found, beginOf, hasPiece, partOf}
+use Rattle.circling.specs.Circles.{Bits, Circled, columnTrouble, counts, itemSays, itemTrouble, mostItems, says, wrongItem}
 use Rattle.columns.proofs.Firsts.{first-here, first-none, first-on, first-passes}
 use Rattle.columns.specs.Chosen.{firstTo}
-use Rattle.laws.specs.Lists.{any, range}
+use Rattle.laws.specs.Lists.{any}
 use Rattle.picking.specs.Names.{columnSaid}
-use borrow.Author.Tests.{eq-eqb, eqb-false, eqb-true, le-ltb, lt-ltb, ne-eqb}
+use borrow.Author.Tests.{eq-eqb, le-ltb, lt-ltb, ne-eqb}
 use lib.Dec.{T, eqb, ltb}
-use lib.ListN.{getD}
-use mathlib.Core.Bool.{Bool, _&&_, _||_, cond, false, not, true}
+use mathlib.Core.Bool.{Bool, cond, false, not, true}
 use mathlib.Core.List.{List}
 use mathlib.Core.Path.{_∙_, _≡_, ap, refl, subst, sym}
 use native.Mathlib.Decide.{ℕ-discrete}

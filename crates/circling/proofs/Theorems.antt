@@ -1,5 +1,5 @@
 -- What the set of circles says, and that no second outcome fits. Assumes nothing.
-use Prim.Native.Nat.{_/_, _<_, _^_, _≤_, ℕ}
+use Prim.Native.Nat.{_<_, _≤_, ℕ}
 use Rattle.circling.specs.Circles.{Bits, Circled, isSaid}
 use Rattle.limits.specs.Limits.{circlesOk}
 use Rattle.measure.specs.Distance.{isCircle}
@@ -7,9 +7,9 @@ use Rattle.rowset.proofs.Digits.{digit, low-word, same-digits}
 use borrow.Author.Tests.{eqb-false, eqb-true, le-ltb, lt-ltb}
 use lib.Dec.{eqb, ltb}
 use lib.ListN.{getD}
-use mathlib.Core.Bool.{Bool, _&&_, false, true}
+use mathlib.Core.Bool.{Bool, false, true}
 use mathlib.Core.List.{List}
-use mathlib.Core.Path.{_∙_, _≡_, ap, refl, subst, sym}
+use mathlib.Core.Path.{_∙_, _≡_, refl, sym}
 use native.Mathlib.Decide.{ℕ-discrete}
 use native.Mathlib.Nat.{div-eq-of-lt}
 use native.Mathlib.Omega.{arith}

@@ -1,6 +1,6 @@
 -- A choice of columns, tested: which of them are none, and which products are too great. Assumes nothing.
 use Prim.Native.Nat.{_*_, _+_, _-_, _/_, _<_, _≤_, suc, zero, ℕ}
-use Rattle.columns.proofs.Firsts.{first-below, first-here, first-most, first-none, first-on}
+use Rattle.columns.proofs.Firsts.{first-below, first-here, first-none, first-on}
 use Rattle.columns.specs.Chosen.{Choice, Chooses, SmallRows, chosenTable, fitting, most, outside, overIn, overRow, timesFactor}
 use Rattle.limits.specs.Limits.{columnsOk, maxColumns, within}
 use Rattle.measure.proofs.Rows.{row-ends}

@@ -2,12 +2,11 @@
 use Prim.Native.Nat.{_*_, _+_, _-_, _<_, _≤_, suc, zero, ℕ}
 use Rattle.columns.proofs.Items.{items-length, items-stored}
 use Rattle.columns.specs.Chosen.{Choice, Small, SmallRows, chosenRow, chosenTable, itemsOf, rowsBy, timesFactor}
-use Rattle.limits.specs.Limits.{maxColumns}
-use Rattle.measure.proofs.Rows.{row-ends, row-length}
+use Rattle.measure.proofs.Rows.{row-ends}
 use Rattle.measure.specs.Table.{row}
-use lib.ListN.{drop, getD, length, length-append, length-drop, length-set, set, take}
+use lib.ListN.{drop, length, length-append, length-set, set, take}
 use lib.Seq.{drop-at, drop-drop, length-paste, paste, take-at}
-use mathlib.Core.List.{List, [], _++_, append-assoc}
+use mathlib.Core.List.{List, _++_}
 use mathlib.Core.Path.{_∙_, _≡_, ap, ap₂, refl, subst, sym}
 use native.Mathlib.Nat.{mul-le-mul-right, mul-suc}
 use native.Mathlib.Numerals.{add-one, unary-clauses}

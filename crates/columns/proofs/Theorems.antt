@@ -2,8 +2,8 @@
 use Prim.Native.Nat.{_*_, _+_, _-_, _<_, _≤_, suc, zero, ℕ}
 use Rattle.columns.proofs.Choosing.{row-small}
 use Rattle.columns.proofs.Items.{items-at}
-use Rattle.columns.proofs.Laying.{chosen-length, rows-length, rows-next, table-length}
-use Rattle.columns.specs.Chosen.{Chooses, apartBy, chosenRow, chosenTable, fitting, itemsOf, most, overIn, overRow, rowsBy, timesFactor}
+use Rattle.columns.proofs.Laying.{chosen-length, rows-length, table-length}
+use Rattle.columns.specs.Chosen.{Chooses, apartBy, chosenRow, chosenTable, fitting, most, overIn, overRow, rowsBy, timesFactor}
 use Rattle.laws.proofs.Sums.{sum-below-same}
 use Rattle.laws.specs.Lists.{gap}
 use Rattle.laws.specs.Upto.{sumTo}
@@ -16,7 +16,7 @@ use lib.Seq.{drop-at, take-at}
 use mathlib.Core.Bool.{Bool, cond, false, true}
 use mathlib.Core.List.{List, [], _++_, append-assoc, append-nil}
 use mathlib.Core.Logic.{by-cases}
-use mathlib.Core.Path.{_∙_, _≡_, ap, ap₂, refl, subst, sym}
+use mathlib.Core.Path.{_∙_, _≡_, ap, ap₂, refl, sym}
 use native.Mathlib.Decide.{decLe, decLt, ℕ-discrete}
 use native.Mathlib.Nat.{add-mul, mul-comm}
 use native.Mathlib.Omega.{arith}

@@ -1,10 +1,10 @@
 -- The table of the chosen columns, each times its factor. Assumes nothing.
 use Prim.Native.Nat.{_*_, _<_, _≤_, suc, zero, ℕ}
-use Rattle.limits.specs.Limits.{columnsOk, maxColumns, within}
 use Rattle.laws.specs.Lists.{gap}
+use Rattle.limits.specs.Limits.{columnsOk, maxColumns, within}
 use Rattle.measure.specs.Distance.{around, isCircle}
 use Rattle.measure.specs.Table.{row}
-use lib.Dec.{eqb, leb, ltb}
+use lib.Dec.{leb, ltb}
 use lib.ListN.{drop, getD, length}
 use mathlib.Core.Bool.{Bool, _&&_, cond}
 use mathlib.Core.List.{List, [], _++_, _∷_}

@@ -177,6 +177,33 @@ fn circles_wrong() {
     ask(b"hours.csv\x00like\x000\x0012\x00--label\x00time\x00--circle\x00time\x00");
 }
 
+fn without() {
+    ask(
+        b"season.csv\x00nearest\x00916\x004\x00--columns\x00speed,shaft_turns,fan_pressure,heading\x00--circle\x00heading\x00--without\x00struck_two\x00",
+    );
+    ask(b"season.csv\x00like\x001046\x00300\x00--without\x00struck\x00--count\x00");
+    ask(b"compass\x00like\x000\x002000\x00--without\x00struck\x00");
+    ask(b"compass\x00nearest\x002\x009\x00--without\x00struck_end\x00--by\x00distance\x00");
+    ask(b"compass\x00like\x000\x002000\x00--without\x00struck_none\x00");
+    ask(b"compass\x00like\x000\x002000\x00--without\x00struck_mark\x00");
+    ask(b"compass\x00like\x000\x002000\x00--without\x00struck_all\x00");
+    ask(b"compass\x00nearest\x000\x002\x00--without\x00struck_all\x00");
+}
+
+fn without_wrong() {
+    ask(b"compass\x00like\x000\x009\x00--without\x00struck_word\x00");
+    ask(b"compass\x00like\x000\x009\x00--without\x00struck_row\x00");
+    ask(b"compass\x00like\x000\x009\x00--without\x00struck_gap\x00");
+    ask(b"compass\x00like\x000\x009\x00--without\x00struck_pair\x00");
+    ask(b"compass\x00like\x000\x009\x00--without\x00struck_great\x00");
+    ask(b"compass\x00like\x000\x009\x00--without\x00struck_sign\x00");
+    ask(b"compass\x00like\x000\x009\x00--without\x00missing\x00");
+    ask(b"compass\x00like\x000\x009\x00--without\x00.\x00");
+    ask(b"compass\x00like\x000\x009\x00--without\x00");
+    ask(b"compass\x00like\x000\x009\x00--without\x00struck\x00--without\x00struck\x00");
+    ask(b"season.csv\x00like\x000\x009\x00--without\x00season.csv\x00");
+}
+
 fn asked_wrongly() {
     ask(b"");
     ask(b"season.csv\x00");
@@ -297,6 +324,8 @@ fn main() {
     labels_wrong();
     round();
     circles_wrong();
+    without();
+    without_wrong();
     asked_wrongly();
     options_wrong();
     rows_wrong();

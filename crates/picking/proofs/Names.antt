@@ -1,14 +1,14 @@
 -- Names looked for in a line, and the column that a word says. Assumes nothing.
-use Prim.Native.Nat.{_+_, _-_, _<_, _≤_, suc, zero, ℕ}
+use Prim.Native.Nat.{_+_, _-_, _<_, _≤_, ℕ}
+use Rattle.asking.proofs.Saying.{same-told}
 use Rattle.asking.specs.Pieces.{partOf}
 use Rattle.asking.specs.Worth.{worth}
-use Rattle.asking.proofs.Saying.{same-told}
 use Rattle.laws.specs.Lists.{same}
 use Rattle.picking.specs.Lines.{fieldIn, spanOf}
 use Rattle.picking.specs.Names.{columnSaid, isNamed, namedTo, withName}
 use borrow.Author.Tests.{le-ltb, lt-ltb}
 use lib.Dec.{eqb, ltb}
-use mathlib.Core.Bool.{Bool, _&&_, _||_, cond, false, true}
+use mathlib.Core.Bool.{Bool, false, true}
 use mathlib.Core.List.{List}
 use mathlib.Core.Path.{_∙_, _≡_, ap, ap₂, refl, sym}
 use native.Mathlib.Numerals.{add-one}

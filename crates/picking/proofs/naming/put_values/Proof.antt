@@ -1,11 +1,11 @@
 -- `picking::naming::put_values` meets its contract: each turn puts one value.
 -- Assumes nothing.
 use Prim.Native.Nat.{_-_, _≤_}
+use Rattle.picking.proofs.naming.put_values.Statement.{statement}
+use Rattle.picking.proofs.naming.put_values.Tie as tie
 use borrow.Author.Needs.{needs}
 use lib.ListN.{length}
 use mathlib.Core.Path.{_≡_}
-use Rattle.picking.proofs.naming.put_values.Statement.{statement}
-use Rattle.picking.proofs.naming.put_values.Tie as tie
 
 abbrev Inv-loop : tie.InvT-loop
 Inv-loop list circles k queries₀ factors i₀ queries i = (i ≤ k) × (length queries ≡ 1024)

@@ -1,8 +1,8 @@
--- `analyst::none_struck` meets its contract: the length of what repeats one number is how often it does.
+-- `analyst::gone::none_struck` meets its contract: the length of what repeats one number is how often it does.
 -- Assumes nothing.
 use Prim.Native.Nat.{ℕ}
-use Rattle.analyst.proofs.none_struck.Statement.{statement}
-use Rattle.analyst.proofs.none_struck.Tie as tie
+use Rattle.analyst.proofs.gone.none_struck.Statement.{statement}
+use Rattle.analyst.proofs.gone.none_struck.Tie as tie
 use lib.ListN.{length-replicate}
 use mathlib.Core.Path.{sym}
 
