@@ -710,6 +710,56 @@ fn say_circles(file: i32, circled: Circles, list: &[u8], text: &[u8]) -> u32
     asked_wrongly()
 }
 
+// Reads the second text, which says the rows that are withdrawn, and asks about the others.
+fn ask_without(
+    words: &[u8],
+    q: Question,
+    ends: Ends,
+    sheet: Sheet,
+    circles: u32,
+    choice: Choice,
+    text: &[u8],
+    second: &[u8],
+    table: &[u16],
+    room: &mut [u32],
+    work: &mut [u32],
+    how: &mut [u8],
+    marks: &mut [u8],
+    rows: &mut [u32],
+    distances: &mut [u32],
+) -> u32
+    ensures { λ r. ⌜ r ≤ 4 ⌝ }
+{
+    let mut struck = none_struck();
+    let withdrawal = withdraw_in(second, sheet.reader.rows, &mut struck);
+    let unread = say_without(
+        ends.err,
+        bytes_of(words, q.without),
+        withdrawal.wrong,
+        withdrawal.line,
+        sheet.reader.rows,
+    );
+    if unread != 0 {
+        return unread;
+    }
+    ask_rows(
+        bytes_of(words, q.what),
+        plan_of(q, ends, sheet),
+        sheet,
+        circles,
+        choice,
+        text,
+        table,
+        &struck,
+        room,
+        work,
+        how,
+        marks,
+        rows,
+        distances,
+    )
+}
+
 // Answers a question about a text that was read into the table; the second text says which rows are withdrawn.
 fn ask_sheet(
     words: &[u8],
@@ -756,27 +806,16 @@ fn ask_sheet(
     if unchosen != 0 {
         return unchosen;
     }
-    let mut struck = none_struck();
-    let withdrawal = withdraw_in(second, reader.rows, &mut struck);
-    let unread = say_without(
-        ends.err,
-        bytes_of(words, q.without),
-        withdrawal.wrong,
-        withdrawal.line,
-        reader.rows,
-    );
-    if unread != 0 {
-        return unread;
-    }
-    ask_rows(
-        bytes_of(words, q.what),
-        plan_of(q, ends, sheet),
+    ask_without(
+        words,
+        q,
+        ends,
         sheet,
         circles,
         choice,
         text,
+        second,
         table,
-        &struck,
         room,
         work,
         how,
@@ -951,6 +990,43 @@ fn say_unchosen(file: i32, number: u32, row: usize, names: bool, column: usize, 
     asked_wrongly()
 }
 
+// Reads the second text behind the first, which has so many bytes, and answers.
+fn ask_read(
+    words: &[u8],
+    q: Question,
+    ends: Ends,
+    length: usize,
+    text: &mut [u8],
+    table: &mut [u16],
+    room: &mut [u32],
+    work: &mut [u32],
+    how: &mut [u8],
+    marks: &mut [u8],
+    rows: &mut [u32],
+    distances: &mut [u32],
+) -> u32
+    ensures { λ r. ⌜ r ≤ 4 ⌝ }
+{
+    let without = read_without(words, q, ends.err, text, length);
+    if without.status != 0 {
+        return without.status;
+    }
+    ask_text(
+        words,
+        q,
+        ends,
+        part(text, 0, length),
+        second_of(text, length, without.length),
+        table,
+        room,
+        work,
+        how,
+        marks,
+        rows,
+        distances,
+    )
+}
+
 // Reads the text of an open file, and answers. The file is closed before.
 fn ask_file(
     words: &[u8],
@@ -981,16 +1057,12 @@ fn ask_file(
         return no_room();
     }
     let length = came.length;
-    let without = read_without(words, q, ends.err, text, length);
-    if without.status != 0 {
-        return without.status;
-    }
-    ask_text(
+    ask_read(
         words,
         q,
         ends,
-        part(text, 0, length),
-        second_of(text, length, without.length),
+        length,
+        text,
         table,
         room,
         work,
