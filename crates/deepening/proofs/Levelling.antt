@@ -1,11 +1,10 @@
 -- One level, piece after piece, from its first to behind its last. Assumes nothing.
 use Prim.Native.Nat.{_*_, _+_, _<_, _≤_, suc, ℕ}
 use Rattle.dealing.specs.Pending.{StandAll, pendOf}
-use Rattle.deepening.proofs.Halfway.{Half, Levelling, current-count, fore, fore-long, half-ask, level-long, rear, words-cut}
+use Rattle.deepening.proofs.Halfway.{Half, Levelling, current-count, fore, half-ask, level-long, rear, words-cut}
 use Rattle.deepening.proofs.Sounding.{opens-many}
 use Rattle.deepening.proofs.Standing.{leaves-stand, stand-append}
-use Rattle.deepening.proofs.Tiling.{Next, above-leaves, above-none, above-stay, below-current, below-follow, below-leafy, below-opened, below-sound}
-use Rattle.deepening.proofs.Tiling.{current-append, next-of, none-left, pieces-append}
+use Rattle.deepening.proofs.Tiling.{Next, above-leaves, above-none, above-stay, below-current, below-follow, below-leafy, below-opened, below-sound, current-append, next-of, none-left, pieces-append}
 use Rattle.deepening.specs.Stages.{Level, Stage}
 use Rattle.deepening.specs.Tiles.{Leafy, Tile, below, belowAll, current, fresh, pieces}
 use Rattle.growing.specs.Stages.{withNodes}

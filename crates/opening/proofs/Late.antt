@@ -13,7 +13,7 @@ use Rattle.swelling.proofs.Agreeing.{every-without}
 use Rattle.swelling.specs.Swell.{parts}
 use Rattle.tree.specs.Build.{choose, closest, farthest}
 use lib.Dec.{eqb}
-use lib.ListN.{drop, length, length-append, length-drop, take, take-append-drop}
+use lib.ListN.{drop, length, take, take-append-drop}
 use lib.Seq.{drop-append-add, drop-at, length-take-le, take-append-add, take-at}
 use mathlib.Core.Bool.{Bool, cond, false, true}
 use mathlib.Core.List.{List, [], _++_, _∷_, append-assoc, map}

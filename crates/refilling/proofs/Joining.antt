@@ -10,7 +10,7 @@ use Rattle.limits.specs.Limits.{maxColumns, maxDepth, maxRows}
 use Rattle.measure.specs.Table.{between, rowsOf}
 use Rattle.opening.specs.Sound.{Task}
 use Rattle.refilling.specs.Joining.{RowsJoin, RowsJoinable}
-use Rattle.refilling.specs.Rooted.{RootAsk, Rooted, newOnes, rootPiece}
+use Rattle.refilling.specs.Rooted.{RootAsk, Rooted, rootPiece}
 use Rattle.rounds.proofs.Parts.{mid-end}
 use Rattle.rounds.specs.Stretch.{stretch}
 use Rattle.split.specs.Places.{nodeAt}
