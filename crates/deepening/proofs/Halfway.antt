@@ -78,7 +78,9 @@ module _ {t w : List ℕ} {n : ℕ} {last : Bool} {room₀ work₀ : List ℕ} {
 
     -- so many are on the level
     pub current-count : length (current (g .tiles)) ≡ length (current past) + length (current ahead)
-    current-count = ap (λ (x : List Tile). length (current x)) (half .all) ∙ ap length (current-append past ahead) ∙ length-append (current past) (current ahead)
+    current-count =
+        ap (λ (x : List Tile). length (current x)) (half .all) ∙ ap length (current-append past ahead)
+        ∙ length-append (current past) (current ahead)
 
     -- the rows of those opened
     pub lead-long : length lead ≡ 3 * sizes w (pieces past)

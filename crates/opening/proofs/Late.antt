@@ -1,4 +1,4 @@
--- A run that has grown row by row, put in order: its parts are those of its centres among the first l + 1, and each part is in order. Assumes nothing.
+-- A run that has grown row by row, put in order: its centres are among the first l + 1, and each part is in order. Assumes nothing.
 use Prim.Native.Nat.{_+_, _-_, _<_, _≤_, suc, zero, ℕ}
 use Rattle.appending.proofs.Lowest.{orderly-ascends, orderly-length}
 use Rattle.appending.specs.Append.{Ascends, orderly}

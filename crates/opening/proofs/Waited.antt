@@ -166,7 +166,8 @@ module _ {t w : List ℕ} {n deep : ℕ} {q : Piece} {origin : List ℕ} {fore r
       record {
         count = ap (λ (i : ℕ). made + i) (sym many);
         nodes =
-            nodes-added origin eight (fore ++ x ∷ rear) new made (m# w) (all-long x) (length-map (opens d w q) (pendOf t w last) ∙ many) (child-is made)
+            nodes-added origin eight (fore ++ x ∷ rear) new made (m# w) (all-long x) (length-map (opens d w q) (pendOf t w last) ∙ many)
+            (child-is made)
             (got .nodes)
             ∙ ap (withNodes origin) (append-assoc fore (x ∷ rear) new ∙ ap (λ (y : Node). fore ++ y ∷ (rear ++ new)) (sym same));
         part = got .part;

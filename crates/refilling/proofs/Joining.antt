@@ -92,7 +92,8 @@ module _ {t : List ℕ} {c : ℕ} {w room work : List ℕ} (J : RowsJoinable t c
       words-are : headerOf n c (circles# w) (m# w) (l# w) made ++ (each (nodeWords 2) (nodesOf (c# w) n) ++ each pairWords (membersOf (c# w) n))
           ≡ appendedRows t c w
       words-are =
-          ap₂ (λ (i k : ℕ). headerOf i c (circles# w) (m# w) (l# w) k ++ (each (nodeWords 2) (nodesOf (c# w) n) ++ each pairWords (membersOf (c# w) n)))
+          ap₂ (λ (i k : ℕ).
+          headerOf i c (circles# w) (m# w) (l# w) k ++ (each (nodeWords 2) (nodesOf (c# w) n) ++ each pairWords (membersOf (c# w) n)))
           (sym (layered .many)) (layered .count)
           ∙ ap₂ (λ (i j : ℕ). written c (circles# w) (m# w) (l# w) (nodesOf i j) (membersOf i j)) (J .columns) rows
           ∙ sym (shape-written t c w (J .shape) (J .tree) (J .some))

@@ -75,7 +75,8 @@ returns-3 c =
 
 slice-write-room-3 : tie.Need-slice-write-room-3
 slice-write-room-3 c =
-    omega (arith, node-fits (c .before .before .before .before .before .before .before .before .before .before .before .before .before .before .before .pre .there))
+    let s = c .before .before .before .before .before .before .before .before .before .before .before .before .before .before .before in
+    omega (arith, node-fits (s .pre .there))
 
 split-run-requires : tie.Need-split-run-requires
 split-run-requires c κs =
@@ -95,7 +96,8 @@ split-run-requires c κs =
 same-length-5 : tie.Need-same-length-5
 same-length-5 c =
     let r = c .before .before .before .before in
-    let a = r .before .before .before .before .before .before .before .before .before .before .before .before .before .before .before .before .before .before .before .before .args in
+    let o = r .before .before .before .before .before .before .before .before .before .before in
+    let a = o .before .before .before .before .before .before .before .before .before .before .args in
     let l : length (r .split-run .last .1 .1 .1 .1 .1 .1 .0) ≡ length (set (a .room .now) (nodeAt (a .k) + 2) (a .made)) = search needs in
     l ∙ length-set (a .room .now) (nodeAt (a .k) + 2) (a .made)
 
