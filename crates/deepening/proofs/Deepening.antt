@@ -220,16 +220,17 @@ module _ {t w : List ℕ} {n : ℕ} {root : Piece} {origin room work : List ℕ}
 
   -- it is opened
   pub goes-step : {last : Bool} {room′ work′ : List ℕ} {made : ℕ} → depth < maxDepth → last ≡ eqb (depth + 1) maxDepth
-      → Staged t w n last room work lo hi room′ work′ made → Going t w n root origin room′ work′ hi made (depth + 1)
+      → Staged t w n last room work lo hi room′ work′ made → {from : ℕ} → from ≡ hi → Going t w n root origin room′ work′ from made (depth + 1)
   unfolding goes-level
-  goes-step {made = made} h e staged =
+  goes-step {room′ = room′} {work′} {made} h e staged {from} ef =
       let s = staged (goes-level h e) in
       let many : made ≡ hi + length (openAll D w (current (inv .tiles))) =
       omega (arith, s .first, s .last, ap length (below-current t w (inv .tiles))) in
       record {
         before = inv .before ++ levelFrom D w hi (current (inv .tiles));
         tiles = belowAll t w (inv .tiles);
-        stage = s;
+        stage = subst (λ (i : ℕ). Stage t w n (maxDepth - (depth + 1)) origin (inv .before ++ levelFrom D w hi (current (inv .tiles)))
+            (belowAll t w (inv .tiles)) room′ work′ i made) (sym ef) s;
         nodes =
             sym (nodes-down t w (maxDepth - (depth + 1)) hi made (inv .before) (inv .tiles) many)
             ∙ ap (λ (i : ℕ). inv .before ++ levelsFrom D w i hi (current (inv .tiles))) (sym (less h)) ∙ inv .nodes;

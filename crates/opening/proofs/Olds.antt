@@ -1,8 +1,10 @@
 -- An old inner node is opened: its new rows are marked, dealt out to its children in the second half, and copied back to its place. Assumes nothing.
-use Prim.Native.Nat.{_*_, _+_, _-_, _≤_, ℕ}
+use Prim.Native.Nat.{_*_, _+_, _-_, _<_, _≤_, ℕ}
 use Rattle.dealing.proofs.Marking.{marked-long}
 use Rattle.dealing.specs.Dealt.{KidsAsk, KidsDeal, KidsDealt, kidPieces}
 use Rattle.dealing.specs.Marked.{Marks, marked}
+use Rattle.laws.specs.Every.{Every}
+use Rattle.limits.specs.Limits.{maxRows}
 use Rattle.lodging.specs.Standing.{newRows}
 use Rattle.measure.specs.Table.{between}
 use Rattle.opening.specs.Opened.{OldAsk, Replaced}
@@ -11,9 +13,6 @@ use Rattle.rounds.specs.Entries.{InTable}
 use Rattle.rounds.specs.Stretch.{stretch}
 use Rattle.split.proofs.Parted.{part-put}
 use Rattle.split.specs.Runs.{rows}
-use Rattle.laws.specs.Every.{Every}
-use Rattle.limits.specs.Limits.{maxRows}
-use Prim.Native.Nat.{_<_}
 use Rattle.words.specs.Words.{c#, circles#, count#, n#}
 use borrow.Rule.Slice.PartMut.{mid-len, midOf, putMid}
 use lib.ListN.{drop, length, length-append, length-drop, take, take-append-drop}
@@ -183,9 +182,10 @@ module _ {t w : List ℕ} {n : ℕ} {room work : List ℕ} {o s count made : ℕ
         }
 
     -- ---- dealt out, and copied back
-    module _ {last : Bool} {room′ W₂ W₃ : List ℕ} (deal : KidsDeal t w o n (3 * (s + own)) (3 * (s + count)) last room
+    module _ {last : Bool} {room′ W₂ W₃ : List ℕ} {over : ℕ} (deal : KidsDeal t w o n (3 * (s + own)) (3 * (s + count)) last room
         (putMid (3 * (s + own)) (3 * (s + count) - 3 * (s + own)) work part′) s made room′ W₂)
-        (copied : W₃ ≡ take (3 * s) W₂ ++ (stretch W₂ (3 * s + 3 * n) (3 * (s + count) + 3 * n) ++ drop (3 * (s + count)) W₂)) where
+        (half : over ≡ 3 * n)
+        (copied : W₃ ≡ take (3 * s) W₂ ++ (stretch W₂ (3 * s + over) (3 * (s + count) + over) ++ drop (3 * (s + count)) W₂)) where
       -- the children stand in the second half
       dealt : KidsDealt t w o n last (g .zs) room W₁ s made room′ W₂
       unfolding old-kids
@@ -196,10 +196,10 @@ module _ {t w : List ℕ} {n : ℕ} {room work : List ℕ} {o s count made : ℕ
       P = stretch W₂ (3 * (n + s)) (3 * (n + s) + 3 * (count# w o + length (g .zs)))
 
       -- as they are copied
-      copied-part : stretch W₂ (3 * s + 3 * n) (3 * (s + count) + 3 * n) ≡ P
+      copied-part : stretch W₂ (3 * s + over) (3 * (s + count) + over) ≡ P
       copied-part =
-          let at : 3 * s + 3 * n ≡ 3 * (n + s) = omega arith in
-          let k : 3 * (s + count) + 3 * n - (3 * s + 3 * n) ≡ 3 * (n + s) + 3 * (count# w o + length (g .zs)) - 3 * (n + s) = omega (arith, g .size) in
+          let at : 3 * s + over ≡ 3 * (n + s) = omega (arith, half) in
+          let k : 3 * (s + count) + over - (3 * s + over) ≡ 3 * (n + s) + 3 * (count# w o + length (g .zs)) - 3 * (n + s) = omega (arith, g .size) in
           ap₂ (λ (i j : ℕ). take i (drop j W₂)) k at
 
       -- three words a row

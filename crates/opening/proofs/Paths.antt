@@ -1,12 +1,12 @@
 -- The four ways that a piece is opened, told by its mark: a leaf that was marked, an old node, a leaf, a grown run. Assumes nothing.
-use Prim.Native.Nat.{_*_, _+_, _-_, _<_, _≤_, suc, zero, ℕ}
+use Prim.Native.Nat.{_+_, _-_, _<_, _≤_, suc, zero, ℕ}
 use Rattle.appending.specs.Append.{orderly}
+use Rattle.growing.specs.Stages.{withNodes}
 use Rattle.lodging.specs.Standing.{newRows}
 use Rattle.measure.specs.Table.{between}
 use Rattle.opening.proofs.Grown.{Ready, run-done, run-ready}
 use Rattle.opening.proofs.Waited.{child-is, count-is, inside-is, mark-is, opens-done, own-is, space-is, start-is, stays-done}
 use Rattle.opening.specs.Opened.{OldAsk, OldOpens, PieceOpened, Replaced, Waiting}
-use Rattle.growing.specs.Stages.{withNodes}
 use Rattle.split.specs.Places.{child#, count#, nodeAt, start#}
 use Rattle.split.specs.Runs.{SplitAmong, Splittable, laid}
 use Rattle.swelling.proofs.Parting.{centres, early, groupAmong, others, parts-is}
@@ -60,10 +60,12 @@ unmarked-small false e z = absurd (omega arith)
 module _ {t w : List ℕ} {n deep : ℕ} {origin : List ℕ} {fore rear : List Node} {lead ws tail room work : List ℕ} {k made : ℕ} where
   -- ---- a leaf that was marked loses the mark
   pub path-marked : (q : Piece) → Waiting t w n deep q origin fore rear lead ws tail room work k made → {mark : ℕ} → mark ≡ child# room k
-      → mark ≡ 4294967295 → (last : Bool) → PieceOpened t w n last q origin fore rear lead tail made (set room (nodeAt k + 2) 0) work made
-  path-marked (settled s R es) g em e last = stays-done g refl last (child-is g 0)
-  path-marked (grown s R run) g em e last = absurd (omega (arith, mark-is g))
-  path-marked (old s o zs) g em e last =
+      → mark ≡ 4294967295 → {y : ℕ} → y ≡ 0 → (last : Bool)
+      → PieceOpened t w n last q origin fore rear lead tail made (set room (nodeAt k + 2) y) work made
+  path-marked (settled s R es) g em e {y} z last =
+      stays-done g refl last (child-is g y ∙ ap (λ (i : ℕ). withNodes origin (fore ++ (s, length es, i, R) ∷ rear)) z)
+  path-marked (grown s R run) g em e z last = absurd (omega (arith, mark-is g))
+  path-marked (old s o zs) g em e z last =
       absurd (omega (arith, mark-is g, g .sound .0, g .task .shape .whole .nodes, g .task .shape .whole .rows))
 
   -- ---- an old node
@@ -154,41 +156,42 @@ module _ {t w : List ℕ} {n deep : ℕ} {origin : List ℕ} {fore rear : List N
         stands = own-is g ∙ g .stands ∙ ap (λ (x : Bool). laid (between t (c# w) (circles# w)) (cond x run (orderly run))) b;
       }
 
-  pub path-run : (q : Piece) → Waiting t w n deep q origin fore rear lead ws tail room work k made → {mark s count l c o m : ℕ}
+  pub path-run : (q : Piece) → Waiting t w n deep q origin fore rear lead ws tail room work k made → {mark s count l early c o m : ℕ}
       → s ≡ start# room k → count ≡ count# room k → mark ≡ child# room k → mark ≡ 0 → l ≡ l# w → l < count
-      → c ≡ c# w → o ≡ circles# w → m ≡ m# w
-      → Splittable t c o m n (set room (nodeAt k + 2) made) work s count made × ((m ≤ l + 1) × (l + 1 ≤ count))
-  path-run (settled s R es) g es′ ec em none el many e₁ e₂ e₃ =
+      → c ≡ c# w → o ≡ circles# w → m ≡ m# w → early ≡ l + 1
+      → Splittable t c o m n (set room (nodeAt k + 2) made) work s count made × ((m ≤ early) × (early ≤ count))
+  path-run (settled s R es) g es′ ec em none el many e₁ e₂ e₃ e₄ =
       absurd (omega (
         arith,
         marked-large (leb (length es) (l# w)) (em ∙ mark-is g) (lt-leb (length es) (l# w) (omega (arith, count-is g))),
       ))
-  path-run (grown s R run) g es ec em none el many e₁ e₂ e₃ =
+  path-run (grown s R run) g es ec em none el many e₁ e₂ e₃ e₄ =
       let b : leb (length run) (l# w) ≡ false = lt-leb (length run) (l# w) (omega (arith, count-is g)) in
       (rw (es, ec, e₁, e₂, e₃, start-is g, count-is g) (run-ready (ready s R run g b)), (omega (arith, g .task .shape .whole .leaf .0), omega arith))
-  path-run (old s o zs) g es ec em none el many e₁ e₂ e₃ = absurd (omega (arith, mark-is g))
+  path-run (old s o zs) g es ec em none el many e₁ e₂ e₃ e₄ = absurd (omega (arith, mark-is g))
 
-  pub path-run-done : (q : Piece) → Waiting t w n deep q origin fore rear lead ws tail room work k made → {mark s count l c o m : ℕ}
+  pub path-run-done : (q : Piece) → Waiting t w n deep q origin fore rear lead ws tail room work k made → {mark s count l early c o m : ℕ}
       → s ≡ start# room k → count ≡ count# room k → mark ≡ child# room k → mark ≡ 0 → l ≡ l# w → l < count
-      → c ≡ c# w → o ≡ circles# w → m ≡ m# w → (last : Bool) {room′ work′ : List ℕ}
-      → SplitAmong t c o m (l + 1) n (set room (nodeAt k + 2) made) work s count made room′ work′
+      → c ≡ c# w → o ≡ circles# w → m ≡ m# w → early ≡ l + 1 → (last : Bool) {room′ work′ : List ℕ}
+      → SplitAmong t c o m early n (set room (nodeAt k + 2) made) work s count made room′ work′
       → PieceOpened t w n last q origin fore rear lead tail made room′ work′ (made + m)
-  path-run-done (settled s R es) g es′ ec em none el many e₁ e₂ e₃ last got =
+  path-run-done (settled s R es) g es′ ec em none el many e₁ e₂ e₃ e₄ last got =
       absurd (omega (
         arith,
         marked-large (leb (length es) (l# w)) (em ∙ mark-is g) (lt-leb (length es) (l# w) (omega (arith, count-is g))),
       ))
-  path-run-done (old s o zs) g es ec em none el many e₁ e₂ e₃ last got = absurd (omega (arith, mark-is g))
-  path-run-done (grown s R run) g {mark} {s = s₁} {count} {l} {c} {o} {m} es ec em none el many e₁ e₂ e₃ last {room′} {work′} got =
+  path-run-done (old s o zs) g es ec em none el many e₁ e₂ e₃ e₄ last got = absurd (omega (arith, mark-is g))
+  path-run-done (grown s R run) g {mark} {s = s₁} {count} {l} {early} {c} {o} {m} es ec em none el many e₁ e₂ e₃ e₄ last {room′} {work′} got =
       let b : leb (length run) (l# w) ≡ false = lt-leb (length run) (l# w) (omega (arith, count-is g)) in
       let d : ℕ → ℕ → ℕ = between t (c# w) (circles# w) in
       let Q : List ℕ = set room (nodeAt k + 2) made in
-      let g₁ = subst (λ (i : ℕ). SplitAmong t c o m (l + 1) n Q work i count made room′ work′) (es ∙ start-is g) got in
-      let g₂ = subst (λ (i : ℕ). SplitAmong t c o m (l + 1) n Q work s i made room′ work′) (ec ∙ count-is g) g₁ in
-      let g₃ = subst (λ (i : ℕ). SplitAmong t i o m (l + 1) n Q work s (length run) made room′ work′) e₁ g₂ in
-      let g₄ = subst (λ (i : ℕ). SplitAmong t (c# w) i m (l + 1) n Q work s (length run) made room′ work′) e₂ g₃ in
-      let g₅ = subst (λ (i : ℕ). SplitAmong t (c# w) (circles# w) i (l + 1) n Q work s (length run) made room′ work′) e₃ g₄ in
-      let g₆ = subst (λ (i : ℕ). SplitAmong t (c# w) (circles# w) (m# w) (i + 1) n Q work s (length run) made room′ work′) el g₅ in
+      let last-early : early ≡ l# w + 1 = e₄ ∙ ap (λ (i : ℕ). i + 1) el in
+      let g₁ = subst (λ (i : ℕ). SplitAmong t c o m early n Q work i count made room′ work′) (es ∙ start-is g) got in
+      let g₂ = subst (λ (i : ℕ). SplitAmong t c o m early n Q work s i made room′ work′) (ec ∙ count-is g) g₁ in
+      let g₃ = subst (λ (i : ℕ). SplitAmong t i o m early n Q work s (length run) made room′ work′) e₁ g₂ in
+      let g₄ = subst (λ (i : ℕ). SplitAmong t (c# w) i m early n Q work s (length run) made room′ work′) e₂ g₃ in
+      let g₅ = subst (λ (i : ℕ). SplitAmong t (c# w) (circles# w) i early n Q work s (length run) made room′ work′) e₃ g₄ in
+      let g₆ = subst (λ (i : ℕ). SplitAmong t (c# w) (circles# w) (m# w) i n Q work s (length run) made room′ work′) last-early g₅ in
       let ps : List Piece = grownFrom d s (parts d (m# w) (l# w) run) in
       let same : ps ≡ opens d w (grown s R run) = ap (λ (x : Bool). cond x [] ps) (sym b) in
       let two : 2 ≤ m# w = g .task .shape .whole .fan .0 in

@@ -10,7 +10,7 @@ use Rattle.limits.specs.Limits.{maxColumns, maxDepth, maxRows}
 use Rattle.measure.specs.Table.{between, rowsOf}
 use Rattle.opening.specs.Sound.{Task}
 use Rattle.refilling.specs.Joining.{RowsJoin, RowsJoinable}
-use Rattle.refilling.specs.Rooted.{RootAsk, Rooted, newOnes, rootPiece}
+use Rattle.refilling.specs.Rooted.{RootAsk, Rooted, rootPiece}
 use Rattle.rounds.proofs.Parts.{mid-end}
 use Rattle.rounds.specs.Stretch.{stretch}
 use Rattle.split.specs.Places.{nodeAt}
@@ -60,9 +60,9 @@ module _ {t : List ℕ} {c : ℕ} {w room work : List ℕ} (J : RowsJoinable t c
       few-nodes = (layered .few, omega (arith, J .few), omega (arith, layered .few, J .space))
 
       -- the header can be written
-      pub header-ready : {m l : ℕ} → m ≡ m# w → l ≡ l# w → length room₂ ≡ length room
-          → (8 ≤ length room₂) × (n ≤ maxRows) × (c ≤ maxColumns) × (m ≤ 64) × (l ≤ 1024) × (made ≤ 2097152)
-      header-ready em el same =
+      pub header-ready : {m l k : ℕ} → m ≡ m# w → l ≡ l# w → length room₂ ≡ length room → k ≡ made
+          → (8 ≤ length room₂) × (n ≤ maxRows) × (c ≤ maxColumns) × (m ≤ 64) × (l ≤ 1024) × (k ≤ 2097152)
+      header-ready em el same ek =
           let W = J .shape .whole in (
             omega (arith, same, J .space),
             omega (arith, J .few),
@@ -92,7 +92,8 @@ module _ {t : List ℕ} {c : ℕ} {w room work : List ℕ} (J : RowsJoinable t c
       words-are : headerOf n c (circles# w) (m# w) (l# w) made ++ (each (nodeWords 2) (nodesOf (c# w) n) ++ each pairWords (membersOf (c# w) n))
           ≡ appendedRows t c w
       words-are =
-          ap₂ (λ (i k : ℕ). headerOf i c (circles# w) (m# w) (l# w) k ++ (each (nodeWords 2) (nodesOf (c# w) n) ++ each pairWords (membersOf (c# w) n)))
+          ap₂ (λ (i k : ℕ).
+          headerOf i c (circles# w) (m# w) (l# w) k ++ (each (nodeWords 2) (nodesOf (c# w) n) ++ each pairWords (membersOf (c# w) n)))
           (sym (layered .many)) (layered .count)
           ∙ ap₂ (λ (i j : ℕ). written c (circles# w) (m# w) (l# w) (nodesOf i j) (membersOf i j)) (J .columns) rows
           ∙ sym (shape-written t c w (J .shape) (J .tree) (J .some))
@@ -111,17 +112,17 @@ module _ {t : List ℕ} {c : ℕ} {w room work : List ℕ} (J : RowsJoinable t c
           )
 
       -- ALL ROWS HAVE JOINED
-      pub rows-joined : {o m l at : ℕ} {room₃ ys work′ : List ℕ} → o ≡ circles# w → m ≡ m# w → l ≡ l# w → length room₃ ≡ length room
-          → room₃ ≡ headerOf n c o m l made ++ drop 8 room₂ → at ≡ nodeAt made
+      pub rows-joined : {o m l k at : ℕ} {room₃ ys work′ : List ℕ} → o ≡ circles# w → m ≡ m# w → l ≡ l# w → k ≡ made → length room₃ ≡ length room
+          → room₃ ≡ headerOf n c o m l k ++ drop 8 room₂ → at ≡ nodeAt made
           → ys ≡ pairsIn (stretch work₂ 0 (3 * n)) ++ drop (2 * n) (midOf at (length room₃ - at) room₃)
           → length work₂ ≡ length work → work′ ≡ wiped (length work₂) work₂
           → RowsJoin t c w room work (putMid at (length room₃ - at) room₃ ys) work′ made
-      rows-joined {o} {m} {l} {at} {room₃} {ys} eo em el same head place f half cleared =
+      rows-joined {o} {m} {l} {k} {at} {room₃} {ys} eo em el ek same head place f half cleared =
           let z : 3 * n - 0 ≡ 3 * n = omega arith in
           let ns : List Node = nodesOf (c# w) n in
           let ps : List ℕ = each pairWords (membersOf (c# w) n) in
           let pairs : pairsIn (stretch work₂ 0 (3 * n)) ≡ ps = ap (λ (k : ℕ). pairsIn (take k work₂)) z ∙ layered .pairs in
-          let header : headerOf n c o m l made ≡ headerOf n c (circles# w) (m# w) (l# w) made = rw (eo, em, el) refl in
+          let header : headerOf n c o m l k ≡ headerOf n c (circles# w) (m# w) (l# w) made = rw (eo, em, el, ek) refl in
           let long : nodeAt made + 2 * n ≡ length (appendedRows t c w) = omega (arith, words-long) in
           record {
             index =

@@ -158,6 +158,6 @@ module _ {t w : List ℕ} {n : ℕ} (task : Task t w n) where
       )
 
   -- its distance
-  pub new-distance : {c o f x : ℕ} (z : ℕ) → c ≡ c# w → o ≡ circles# w → f ≡ first# w 0 → x ≡ between t c o f z
+  pub new-distance : {c o f x : ℕ} (z j : ℕ) → j ≡ z → c ≡ c# w → o ≡ circles# w → f ≡ first# w 0 → x ≡ between t c o f j
       → x ≡ between t (c# w) (circles# w) (first# w 0) z
-  new-distance z a b e q = q ∙ rw (a, b, e) refl
+  new-distance z j i a b e q = q ∙ rw (i, a, b, e) refl

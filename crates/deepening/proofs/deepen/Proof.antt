@@ -8,6 +8,7 @@ use Rattle.limits.specs.Limits.{maxDepth}
 use borrow.Author.Needs.{needs}
 use lib.ListN.{length}
 use mathlib.Core.Path.{_≡_, refl}
+use native.Mathlib.Omega.{arith}
 
 abbrev Inv-loop : tie.InvT-loop
 Inv-loop table index n room₀ work₀ lo₀ hi₀ depth₀ room work lo hi depth =
@@ -32,7 +33,7 @@ loop-again : tie.Need-loop-again Inv-loop μ-loop
 loop-again c =
     let l = c .before .before .before .before in
     let s = l .before .before .before .before in
-    (search needs, search needs, λ g. goes-step (s .loop .inv .2 g) (search needs) refl (l .level .ensures))
+    (search needs, search needs, λ g. goes-step (s .loop .inv .2 g) (search needs) refl (l .level .ensures) (omega arith))
 
 returns : tie.Need-returns Inv-loop μ-loop
 returns c = λ g. goes-done (c .before .loop .inv .2 g) (search needs)
