@@ -1,5 +1,5 @@
 -- A header written before nodes that stand in a room, and words behind them: whatever the nodes and the words. Assumes nothing.
-use Prim.Native.Nat.{_*_, _+_, _-_, _≤_, ℕ}
+use Prim.Native.Nat.{_+_, _-_, _≤_, ℕ}
 use Rattle.growing.specs.Stages.{withNodes}
 use Rattle.laws.proofs.Parts.{put-more}
 use Rattle.laws.specs.Lists.{each}

@@ -26,9 +26,8 @@ use Rattle.tree.specs.Grove.{Grove, bare, entries, rowsIn}
 use Rattle.split.specs.Places.{nodeAt}
 use borrow.Rule.Slice.PartMut.{midOf, putMid}
 use lib.ListN.{drop, length, length-append, length-map, replicate, take, take-append-drop}
-use lib.Seq.{drop-append-add, drop-at, drop-drop, length-take-le}
 use mathlib.Core.Bool.{true}
-use mathlib.Core.List.{List, [], _++_, _∷_, append-assoc, append-nil}
+use mathlib.Core.List.{List, [], _++_, _∷_, append-nil}
 use mathlib.Core.Path.{_∙_, _≡_, ap, ap₂, refl, sym}
 use native.Mathlib.Nat.{add-zero}
 use native.Mathlib.Omega.{arith}

@@ -1,10 +1,10 @@
 -- A level while its pieces are opened, one after the other: what stands in room and workspace, and what opening the next one asks. Assumes nothing.
-use Prim.Native.Nat.{_*_, _+_, _<_, _≤_, suc, ℕ}
+use Prim.Native.Nat.{_*_, _+_, _≤_, suc, ℕ}
 use Rattle.dealing.proofs.Children.{sizes-append}
 use Rattle.dealing.specs.Pending.{StandAll, pendOf, sizeOf, sizes}
 use Rattle.deepening.proofs.Sounding.{opens-many, opens-sizes, opens-sound, sound-some}
 use Rattle.deepening.proofs.Standing.{Cut, few-sizes, follow-at, stand-cut, stand-long}
-use Rattle.deepening.proofs.Tiling.{Next, above-none, below-sizes, below-sound, current-append, next-of, pieces-append}
+use Rattle.deepening.proofs.Tiling.{Next, above-none, below-sizes, below-sound, current-append, pieces-append}
 use Rattle.deepening.specs.Stages.{Level}
 use Rattle.deepening.specs.Tiles.{Follow, Leafy, Tile, belowAll, current, pieces}
 use Rattle.growing.specs.Stages.{withNodes}
@@ -13,7 +13,6 @@ use Rattle.laws.specs.Every.{Every}
 use Rattle.measure.specs.Table.{between}
 use Rattle.opening.specs.Opened.{PieceAsk}
 use Rattle.opening.specs.Sound.{Sound, waits}
-use Rattle.split.specs.Places.{nodeAt}
 use Rattle.swelling.specs.Pieces.{Piece, levelFrom, openAll, opens, startOf}
 use Rattle.tree.specs.Encode.{Node}
 use Rattle.words.specs.Words.{c#, circles#, m#}
@@ -79,7 +78,9 @@ module _ {t w : List ℕ} {n : ℕ} {last : Bool} {room₀ work₀ : List ℕ} {
 
     -- so many are on the level
     pub current-count : length (current (g .tiles)) ≡ length (current past) + length (current ahead)
-    current-count = ap (λ (x : List Tile). length (current x)) (half .all) ∙ ap length (current-append past ahead) ∙ length-append (current past) (current ahead)
+    current-count =
+        ap (λ (x : List Tile). length (current x)) (half .all) ∙ ap length (current-append past ahead)
+        ∙ length-append (current past) (current ahead)
 
     -- the rows of those opened
     pub lead-long : length lead ≡ 3 * sizes w (pieces past)

@@ -1,7 +1,7 @@
 -- One level, piece after piece, from its first to behind its last. Assumes nothing.
 use Prim.Native.Nat.{_*_, _+_, _<_, _≤_, suc, ℕ}
 use Rattle.dealing.specs.Pending.{StandAll, pendOf}
-use Rattle.deepening.proofs.Halfway.{Half, Levelling, current-count, fore, fore-long, half-ask, level-long, rear, words-cut}
+use Rattle.deepening.proofs.Halfway.{Half, Levelling, current-count, fore, half-ask, level-long, rear, words-cut}
 use Rattle.deepening.proofs.Sounding.{opens-many}
 use Rattle.deepening.proofs.Standing.{leaves-stand, stand-append}
 use Rattle.deepening.proofs.Tiling.{Next, above-leaves, above-none, above-stay, below-current, below-follow, below-leafy, below-opened, below-sound}
@@ -272,7 +272,8 @@ module _ {t w : List ℕ} {n : ℕ} {last : Bool} {room₀ work₀ : List ℕ} {
           task = g .stage .task;
           nodes =
               f .nodes
-              ∙ ap₂ (λ (x y : List Piece). withNodes (g .origin) ((g .before ++ levelFrom d w hi x) ++ (map (pendOf t w false) y ++ map (pendOf t w last)
+              ∙ ap₂ (λ (x y : List Piece).
+              withNodes (g .origin) ((g .before ++ levelFrom d w hi x) ++ (map (pendOf t w false) y ++ map (pendOf t w last)
               (openAll d w (current past))))) (sym same) (above-none t w ahead none)
               ∙ ap₂ (λ (b : Bool) (x : List Piece). withNodes (g .origin) ((g .before ++ levelFrom d w hi (current (g .tiles))) ++ map (pendOf t w b)
               x)) (g .shallow) (sym down);

@@ -25,7 +25,7 @@ use Rattle.swelling.proofs.Counted.{members-long}
 use Rattle.swelling.proofs.Parting.{parts-runs, parts-tally}
 use Rattle.swelling.specs.Pieces.{Piece, grown, grownFrom, kidFor, kidsFrom, leafPiece, old, opens, pieceOf, settled, startOf}
 use Rattle.swelling.specs.Swell.{parts, reachTaking}
-use Rattle.tree.specs.Build.{Run, reach}
+use Rattle.tree.specs.Build.{Run}
 use Rattle.tree.specs.Grove.{Reach, members#, reach#}
 use Rattle.words.proofs.Levels.{born-inner, born-le, level-le}
 use Rattle.words.proofs.Nodes.{node-at}

@@ -1,6 +1,5 @@
 -- Pieces that stand one behind the other: how many words, two stretches of them, one among the others, and where each starts. Assumes nothing.
 use Prim.Native.Nat.{_*_, _+_, _≤_, ℕ}
-use Rattle.dealing.proofs.Children.{sizes-append}
 use Rattle.dealing.specs.Pending.{StandAll, sizeOf, sizes}
 use Rattle.deepening.specs.Tiles.{Follow}
 use Rattle.laws.specs.Every.{Every}

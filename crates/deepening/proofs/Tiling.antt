@@ -192,7 +192,8 @@ module _ {t w : List ℕ} {n : ℕ} (task : Task t w n) (deep : ℕ) where
   below-follow s [] h f = tt
   below-follow s (x ∷ ts) h f =
       subst (Follow w s) (sym (pieces-append (below t w x) (belowAll t w ts)))
-      (follow-append w s (pieces (below t w x)) (pieces (belowAll t w ts)) (subst (λ (i : ℕ). Follow w i (pieces (below t w x))) (f .0) (tile-follow x))
+      (follow-append w s (pieces (below t w x)) (pieces (belowAll t w ts))
+      (subst (λ (i : ℕ). Follow w i (pieces (below t w x))) (f .0) (tile-follow x))
       (subst (λ (i : ℕ). Follow w (s + i) (pieces (belowAll t w ts))) (sym (tile-sizes x (h .0)))
       (below-follow (s + sizeOf w (x .1)) ts (h .1) (f .1))))
 

@@ -1,11 +1,12 @@
 -- A run that has grown beyond the leaf size is opened: it can be split, and its parts stand in its place. Assumes nothing.
-use Prim.Native.Nat.{_*_, _+_, _-_, _<_, _≤_, suc, ℕ}
-use Rattle.appending.proofs.Lowest.{orderly-length, orderly-tally}
+use Prim.Native.Nat.{_*_, _+_, _<_, _≤_, suc, ℕ}
+use Rattle.appending.proofs.Lowest.{orderly-tally}
 use Rattle.appending.specs.Append.{Ascends, orderly}
 use Rattle.dealing.specs.Pending.{StandAll, pendOf}
 use Rattle.laws.proofs.Every.{every-both}
 use Rattle.laws.proofs.Times.{every-same}
 use Rattle.laws.specs.Every.{Every}
+use Rattle.laws.specs.Lists as lists
 use Rattle.laws.specs.Lists.{each, rest}
 use Rattle.lodging.proofs.Above.{orderly-same}
 use Rattle.measure.specs.Table.{between}
@@ -16,15 +17,14 @@ use Rattle.rounds.specs.Stretch.{stretch}
 use Rattle.split.proofs.Laid.{laid-long, under-rows}
 use Rattle.split.specs.Places.{nodeAt}
 use Rattle.split.specs.Runs.{SplitAmong, Splittable, laid, rows, runAt, runNodes, splitAmong}
-use Rattle.laws.specs.Lists as lists
 use Rattle.swelling.proofs.Parting.{parts-runs}
-use Rattle.swelling.specs.Pieces.{Piece, grownFrom}
+use Rattle.swelling.specs.Pieces.{grownFrom}
 use Rattle.swelling.specs.Swell.{parts}
 use Rattle.tree.specs.Build.{Run, innerReach, radius}
 use Rattle.tree.specs.Encode.{nodeWords}
 use Rattle.words.specs.Words.{c#, circles#, l#, m#}
 use lib.Dec.{eqb, leb}
-use lib.ListN.{drop, drop-of-length-le, length, length-append, take}
+use lib.ListN.{drop, length, length-append, take}
 use lib.Seq.{drop-at, take-at}
 use mathlib.Core.Bool.{Bool, _||_, cond, false, true}
 use mathlib.Core.List.{List, [], _++_, _∷_, map}

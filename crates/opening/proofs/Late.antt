@@ -1,4 +1,4 @@
--- A run that has grown row by row, put in order: its parts are those of its centres among the first l + 1, and each part is in order. Assumes nothing.
+-- A run that has grown row by row, put in order: its centres are among the first l + 1, and each part is in order. Assumes nothing.
 use Prim.Native.Nat.{_+_, _-_, _<_, _≤_, suc, zero, ℕ}
 use Rattle.appending.proofs.Lowest.{orderly-ascends, orderly-length}
 use Rattle.appending.specs.Append.{Ascends, orderly}
@@ -13,7 +13,7 @@ use Rattle.swelling.proofs.Agreeing.{every-without}
 use Rattle.swelling.specs.Swell.{parts}
 use Rattle.tree.specs.Build.{choose, closest, farthest}
 use lib.Dec.{eqb}
-use lib.ListN.{drop, length, length-append, length-drop, take, take-append-drop}
+use lib.ListN.{drop, length, take, take-append-drop}
 use lib.Seq.{drop-append-add, drop-at, length-take-le, take-append-add, take-at}
 use mathlib.Core.Bool.{Bool, cond, false, true}
 use mathlib.Core.List.{List, [], _++_, _∷_, append-assoc, map}

@@ -1,8 +1,10 @@
 -- An old inner node is opened: its new rows are marked, dealt out to its children in the second half, and copied back to its place. Assumes nothing.
-use Prim.Native.Nat.{_*_, _+_, _-_, _≤_, ℕ}
+use Prim.Native.Nat.{_*_, _+_, _-_, _<_, _≤_, ℕ}
 use Rattle.dealing.proofs.Marking.{marked-long}
 use Rattle.dealing.specs.Dealt.{KidsAsk, KidsDeal, KidsDealt, kidPieces}
 use Rattle.dealing.specs.Marked.{Marks, marked}
+use Rattle.laws.specs.Every.{Every}
+use Rattle.limits.specs.Limits.{maxRows}
 use Rattle.lodging.specs.Standing.{newRows}
 use Rattle.measure.specs.Table.{between}
 use Rattle.opening.specs.Opened.{OldAsk, Replaced}
@@ -11,9 +13,6 @@ use Rattle.rounds.specs.Entries.{InTable}
 use Rattle.rounds.specs.Stretch.{stretch}
 use Rattle.split.proofs.Parted.{part-put}
 use Rattle.split.specs.Runs.{rows}
-use Rattle.laws.specs.Every.{Every}
-use Rattle.limits.specs.Limits.{maxRows}
-use Prim.Native.Nat.{_<_}
 use Rattle.words.specs.Words.{c#, circles#, count#, n#}
 use borrow.Rule.Slice.PartMut.{mid-len, midOf, putMid}
 use lib.ListN.{drop, length, length-append, length-drop, take, take-append-drop}

@@ -1,12 +1,12 @@
 -- The four ways that a piece is opened, told by its mark: a leaf that was marked, an old node, a leaf, a grown run. Assumes nothing.
-use Prim.Native.Nat.{_*_, _+_, _-_, _<_, _≤_, suc, zero, ℕ}
+use Prim.Native.Nat.{_+_, _-_, _<_, _≤_, suc, zero, ℕ}
 use Rattle.appending.specs.Append.{orderly}
+use Rattle.growing.specs.Stages.{withNodes}
 use Rattle.lodging.specs.Standing.{newRows}
 use Rattle.measure.specs.Table.{between}
 use Rattle.opening.proofs.Grown.{Ready, run-done, run-ready}
 use Rattle.opening.proofs.Waited.{child-is, count-is, inside-is, mark-is, opens-done, own-is, space-is, start-is, stays-done}
 use Rattle.opening.specs.Opened.{OldAsk, OldOpens, PieceOpened, Replaced, Waiting}
-use Rattle.growing.specs.Stages.{withNodes}
 use Rattle.split.specs.Places.{child#, count#, nodeAt, start#}
 use Rattle.split.specs.Runs.{SplitAmong, Splittable, laid}
 use Rattle.swelling.proofs.Parting.{centres, early, groupAmong, others, parts-is}

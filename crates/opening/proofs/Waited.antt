@@ -1,5 +1,6 @@
 -- A piece that waits: its node is read in the room, its words in the workspace, and what is left where it stays or is opened. Assumes nothing.
 use Prim.Native.Nat.{_*_, _+_, _-_, _≤_, ℕ}
+use Rattle.appending.specs.Append.{orderly}
 use Rattle.dealing.proofs.Children.{stand-last}
 use Rattle.dealing.specs.Pending.{StandAll, pendOf, reachOf, sizeOf}
 use Rattle.growing.proofs.Rooms.{child-set, nodes-added, read-child, read-count, read-start, room-long}
@@ -8,8 +9,7 @@ use Rattle.laws.proofs.Joins.{part-one, part-three, part-two}
 use Rattle.lodging.specs.Standing.{Stands, markOf}
 use Rattle.measure.specs.Table.{between}
 use Rattle.opening.specs.Opened.{PieceOpened, Replaced, Waiting}
-use Rattle.opening.specs.Sound.{opened, waits}
-use Rattle.appending.specs.Append.{orderly}
+use Rattle.opening.specs.Sound.{waits}
 use Rattle.rounds.specs.Stretch.{stretch}
 use Rattle.split.specs.Places.{child#, count#, nodeAt, start#}
 use Rattle.split.specs.Runs.{laid}
@@ -17,15 +17,13 @@ use Rattle.swelling.specs.Pieces.{Piece, grown, grownFrom, old, opens, settled,
 use Rattle.swelling.specs.Swell.{parts}
 use Rattle.tree.specs.Encode.{Node}
 use Rattle.words.specs.Words.{c#, circles#, l#, m#}
-use lib.Dec.{leb}
-use lib.ListN.{length, length-append, length-map, length-set, set, take}
+use lib.Dec.{T, leb}
+use lib.ListN.{drop, length, length-append, length-map, length-set, set, take}
 use lib.Seq.{length-take-le}
 use mathlib.Core.Bool.{Bool, _||_, cond, false, not, true}
 use mathlib.Core.List.{List, [], _++_, _∷_, append-assoc, append-nil, map}
 use mathlib.Core.Path.{_∙_, _≡_, ap, ap₂, refl, subst, sym}
 use native.Mathlib.Omega.{arith}
-use lib.ListN.{drop}
-use lib.Dec.{T}
 
 -- ---- a leaf
 -- it is opened into nothing
@@ -168,7 +166,8 @@ module _ {t w : List ℕ} {n deep : ℕ} {q : Piece} {origin : List ℕ} {fore r
       record {
         count = ap (λ (i : ℕ). made + i) (sym many);
         nodes =
-            nodes-added origin eight (fore ++ x ∷ rear) new made (m# w) (all-long x) (length-map (opens d w q) (pendOf t w last) ∙ many) (child-is made)
+            nodes-added origin eight (fore ++ x ∷ rear) new made (m# w) (all-long x) (length-map (opens d w q) (pendOf t w last) ∙ many)
+            (child-is made)
             (got .nodes)
             ∙ ap (withNodes origin) (append-assoc fore (x ∷ rear) new ∙ ap (λ (y : Node). fore ++ y ∷ (rear ++ new)) (sym same));
         part = got .part;

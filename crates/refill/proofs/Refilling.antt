@@ -20,14 +20,13 @@ use Rattle.split.proofs.Laid.{runs-long}
 use Rattle.rounds.specs.Stretch.{stretch}
 use Rattle.split.specs.Places.{nodeAt}
 use Rattle.split.specs.Runs.{laid}
-use Rattle.tree.proofs.Written.{each-words}
 use Rattle.tree.specs.Encode.{Node, encode, nodeWords, numbered, pairWords}
 use Rattle.tree.specs.Grove.{Grove, entries}
 use Rattle.words.specs.Words.{c#, circles#, count#, dist#, l#, m#, n#, row#, start#}
 use borrow.Rule.Slice.PartMut.{midOf, putMid}
 use lib.ListN.{drop, length, length-append, length-drop, length-map, take}
-use lib.Seq.{drop-at, length-take-le}
-use mathlib.Core.List.{List, [], _++_, _∷_, append-assoc, map}
+use lib.Seq.{length-take-le}
+use mathlib.Core.List.{List, [], _++_, _∷_, map}
 use mathlib.Core.Path.{_∙_, _≡_, ap, ap₂, refl, sym}
 use native.Mathlib.Omega.{arith}
 

@@ -10,7 +10,7 @@ use Rattle.limits.specs.Limits.{maxColumns, maxDepth, maxRows}
 use Rattle.measure.specs.Table.{between, rowsOf}
 use Rattle.opening.specs.Sound.{Task}
 use Rattle.refilling.specs.Joining.{RowsJoin, RowsJoinable}
-use Rattle.refilling.specs.Rooted.{RootAsk, Rooted, newOnes, rootPiece}
+use Rattle.refilling.specs.Rooted.{RootAsk, Rooted, rootPiece}
 use Rattle.rounds.proofs.Parts.{mid-end}
 use Rattle.rounds.specs.Stretch.{stretch}
 use Rattle.split.specs.Places.{nodeAt}
@@ -92,7 +92,8 @@ module _ {t : List ℕ} {c : ℕ} {w room work : List ℕ} (J : RowsJoinable t c
       words-are : headerOf n c (circles# w) (m# w) (l# w) made ++ (each (nodeWords 2) (nodesOf (c# w) n) ++ each pairWords (membersOf (c# w) n))
           ≡ appendedRows t c w
       words-are =
-          ap₂ (λ (i k : ℕ). headerOf i c (circles# w) (m# w) (l# w) k ++ (each (nodeWords 2) (nodesOf (c# w) n) ++ each pairWords (membersOf (c# w) n)))
+          ap₂ (λ (i k : ℕ).
+          headerOf i c (circles# w) (m# w) (l# w) k ++ (each (nodeWords 2) (nodesOf (c# w) n) ++ each pairWords (membersOf (c# w) n)))
           (sym (layered .many)) (layered .count)
           ∙ ap₂ (λ (i j : ℕ). written c (circles# w) (m# w) (l# w) (nodesOf i j) (membersOf i j)) (J .columns) rows
           ∙ sym (shape-written t c w (J .shape) (J .tree) (J .some))

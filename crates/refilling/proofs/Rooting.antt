@@ -1,5 +1,5 @@
 -- The root of an index that takes all new rows: they are laid behind its own, it is settled, and its node is written. Assumes nothing.
-use Prim.Native.Nat.{_%_, _*_, _+_, _-_, _<_, _≤_, suc, zero, ℕ}
+use Prim.Native.Nat.{_*_, _+_, _-_, _<_, _≤_, suc, zero, ℕ}
 use Rattle.appending.specs.Append.{Ascends}
 use Rattle.dealing.proofs.Children.{stand-last}
 use Rattle.dealing.proofs.Settling.{piece-reach, piece-size, piece-start}
@@ -17,7 +17,7 @@ use Rattle.refilling.specs.Rooted.{RootAsk, Rooted, TakenIn, newEntry, n
 use Rattle.rounds.specs.Entries.{InTable}
 use Rattle.split.proofs.Laid.{under-long, under-rows}
 use Rattle.split.specs.Runs.{rows}
-use Rattle.swelling.specs.Pieces.{Piece, pieceOf, startOf}
+use Rattle.swelling.specs.Pieces.{Piece, pieceOf}
 use Rattle.swelling.specs.Swell.{reachTaking}
 use Rattle.tree.specs.Encode.{nodeWords}
 use Rattle.tree.specs.Grove.{Reach, reach#}
@@ -27,7 +27,7 @@ use borrow.Rule.Slice.PartMut.{midOf, putMid}
 use lib.Dec.{T}
 use lib.ListN.{drop, length, length-append, length-drop, take, take-append-drop}
 use lib.Seq.{drop-at, length-take-le, take-at}
-use mathlib.Core.Bool.{Bool, false, true}
+use mathlib.Core.Bool.{false}
 use mathlib.Core.List.{List, [], _++_, _∷_, append-assoc, map}
 use mathlib.Core.Path.{_∙_, _≡_, ap, ap₂, refl, subst, sym}
 use native.Mathlib.Nat.{mul-le-mul-left}

@@ -1,5 +1,5 @@
 -- The root of an index that takes all of a table's rows that it has not. A working notion, on which no promise rests. Assumes nothing.
-use Prim.Native.Nat.{_*_, _+_, _-_, _<_, _≤_, ℕ}
+use Prim.Native.Nat.{_*_, _+_, _-_, _≤_, ℕ}
 use Rattle.deepening.specs.Stages.{Stage}
 use Rattle.laws.specs.Lists.{each, range}
 use Rattle.limits.specs.Limits.{maxDepth}

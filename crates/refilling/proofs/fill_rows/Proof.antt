@@ -1,25 +1,16 @@
-use borrow.Author.Needs.{needs}
+-- `refilling::fill_rows` meets its contract: the root, the levels below it, the header, the positions, and the cleared workspace.
+-- Assumes nothing.
 use Prim.Native.Nat.{_*_, _+_, _≤_}
 use Rattle.measure.specs.Table.{rowsOf}
 use Rattle.refilling.proofs.Joining.{few-nodes, header-ready, planted, positions-ready, root-ask, rows-joined}
+use Rattle.refilling.proofs.fill_rows.Statement.{statement}
+use Rattle.refilling.proofs.fill_rows.Tie as tie
 use Rattle.refilling.specs.Rooted.{Rooted}
 use Rattle.split.specs.Places.{nodeAt}
+use borrow.Author.Needs.{needs}
 use lib.ListN.{length}
 use mathlib.Core.Path.{_≡_}
 use native.Mathlib.Omega.{arith}
-use Rattle.refilling.proofs.fill_rows.Statement.{statement}
-use Rattle.refilling.proofs.fill_rows.Tie as tie
-use Rattle.refilling.proofs.fill_rows.Reads as reads
-use Rattle.refilling.proofs.fill_rows.Lts as lts
-use Rattle.buffers.proofs.clear_words.Reads as clear-words-reads
-use Rattle.build.proofs.put_header.Reads as put-header-reads
-use Rattle.build.proofs.put_positions.Reads as put-positions-reads
-use Rattle.deepening.proofs.deepen.Reads as deepen-reads
-use Rattle.limits.proofs.rows_in.Reads as rows-in-reads
-use Rattle.refilling.proofs.root.Reads as root-reads
-use Rattle.words.proofs.places.centres.Reads as centres-reads
-use Rattle.words.proofs.places.circles.Reads as circles-reads
-use Rattle.words.proofs.places.leaf_size.Reads as leaf-size-reads
 
 -- the start and the places between, each seen from the next
 abbrev start : tie.After-rows-in → tie.Start
@@ -64,36 +55,17 @@ half c = search needs
 long : (c : tie.After-put-header) → length (c .put-header .last .0) ≡ length (begun (deepened c) .args .room .now)
 long c = search needs
 
--- src/lib.rt:80:9
-rows-in-requires : tie.Need-rows-in-requires
-rows-in-requires c κs = search needs
-
--- src/lib.rt:81:5
 root-requires : tie.Need-root-requires
 root-requires c κs =
     let r = c .before .before in
     root-ask (start r .pre) (r .rows-in .ensures)
 
--- src/lib.rt:82:9
 deepen-requires : tie.Need-deepen-requires
 deepen-requires c κs =
     let x = c .before .before .before .before .before .before in
     let r = x .before .before .before in
     planted (start r .pre) (r .rows-in .ensures) (x .root .ensures)
 
--- src/lib.rt:83:9
-centres-requires : tie.Need-centres-requires
-centres-requires c κs = search needs
-
--- src/lib.rt:84:9
-leaf-size-requires : tie.Need-leaf-size-requires
-leaf-size-requires c κs = search needs
-
--- src/lib.rt:85:9
-circles-requires : tie.Need-circles-requires
-circles-requires c κs = search needs
-
--- src/lib.rt:91:5
 put-header-requires : tie.Need-put-header-requires
 put-header-requires c κs =
     let l = c .before .before in
@@ -102,57 +74,34 @@ put-header-requires c κs =
     header-ready (begun e .pre) (read e) (rooted e) (e .deepen .ensures) (m .centres .ensures .0) (l .leaf-size .ensures .0) (wide e)
     (omega arith)
 
--- src/lib.rt:92:23
 mul-at : tie.Need-mul-at
 mul-at c =
     omega (arith, few (c .before .before .before .before .before .before .before .before .before .before .before))
 
--- src/lib.rt:92:14
 add-at : tie.Need-add-at
 add-at c =
     omega (arith, few (c .before .before .before .before .before .before .before .before .before .before .before))
 
--- src/lib.rt:93:19
 mul-put-positions : tie.Need-mul-put-positions
 mul-put-positions c =
     omega (arith, few (c .before .before .before .before .before .before .before .before .before .before .before))
 
--- src/lib.rt:93:19
 sub-put-positions : tie.Need-sub-put-positions
 sub-put-positions c =
     let h = c .before .before in
     omega (arith, few (deepened h), long h)
 
--- src/lib.rt:93:19
 part-put-positions-start : tie.Need-part-put-positions-start
 part-put-positions-start c =
     let h = c .before .before in
     omega (arith, few (deepened h), long h)
 
--- src/lib.rt:93:19
-part-put-positions-end : tie.Need-part-put-positions-end
-part-put-positions-end c = search needs
-
--- src/lib.rt:93:5
 put-positions-requires : tie.Need-put-positions-requires
 put-positions-requires c κs =
     let h = c .before .before .before .before in
     let e = deepened h in
     positions-ready (begun e .pre) (read e) (rooted e) (e .deepen .ensures) (h .put-header .last .0) (long h) (half e)
 
--- src/lib.rt:94:5
-clear-words-requires : tie.Need-clear-words-requires
-clear-words-requires c κs = search needs
-
--- src/lib.rt:75:1
-same-length : tie.Need-same-length
-same-length c = search needs
-
--- src/lib.rt:75:1
-same-length-2 : tie.Need-same-length-2
-same-length-2 c = search needs
-
--- src/lib.rt:75:1
 returns : tie.Need-returns
 returns c =
     let k = c .before .before in
@@ -169,21 +118,21 @@ pub fill-rows-spec : {M : Type 1} → statement M
 fill-rows-spec =
     tie.close
     (tie.spec
-    rows-in-requires
+    (λ c κs. search needs)
     root-requires
     deepen-requires
-    centres-requires
-    leaf-size-requires
-    circles-requires
+    (λ c κs. search needs)
+    (λ c κs. search needs)
+    (λ c κs. search needs)
     put-header-requires
     mul-at
     add-at
     mul-put-positions
     sub-put-positions
     part-put-positions-start
-    part-put-positions-end
+    (λ c. search needs)
     put-positions-requires
-    clear-words-requires
-    same-length
-    same-length-2
+    (λ c κs. search needs)
+    (λ c. search needs)
+    (λ c. search needs)
     returns)
