@@ -91,7 +91,7 @@ pub fn measure_row(
     x
 }
 
-// A row of a leaf is measured as far as r, beyond which it is out however far it is, and marked. Nothing else in this crate measures.
+// A row of a leaf is measured as far as r, beyond which it is out however far it is, and marked.
 pub fn measure_to(
     table: &[u16],
     c: usize,
