@@ -240,25 +240,44 @@ static uint32_t row_again(const uint32_t *index, uint32_t *work)
     return none;
 }
 
+/* How far from its centre a member of this child may be and is surely not closer to another: half the way to the nearest. In a short child the
+   members are sooner measured. */
+static uint32_t safe_within(struct plain_table t, const uint16_t *const *centre, uint32_t centres, uint32_t own, uint32_t members)
+{
+    uint32_t safe = MOST_DISTANCE;
+    if (members < SHORT_CHILD)
+        return 0;
+    for (uint32_t j = 0; j < centres; j++) {
+        uint32_t half = j == own ? MOST_DISTANCE : far(t, centre[own], centre[j]) / 2;
+        safe = half < safe ? half : safe;
+    }
+    return safe;
+}
+
+/* A row at d from its own centre is closer to another. */
+static bool strays(struct plain_table t, const uint16_t *const *centre, uint32_t centres, uint32_t own, const uint16_t *row, uint32_t d)
+{
+    for (uint32_t j = 0; j < centres; j++) {
+        if (j != own && far(t, centre[j], row) < d)
+            return true;
+    }
+    return false;
+}
+
 /* Child k of a node with these centres: its members' distances, its reaches and whether a member is closer elsewhere. */
 static void check_child(struct plain_table t, const uint32_t *index, uint32_t parent, uint32_t k, const uint16_t *const *centre, uint32_t centres,
                         uint32_t own, struct faults *f)
 {
     const uint32_t *v = node_of(index, k), *pair = pairs_of(index);
-    uint32_t most = 0, nearest = v[1] > 1 ? UINT32_MAX : 0;
+    uint32_t most = 0, nearest = v[1] > 1 ? UINT32_MAX : 0, safe = safe_within(t, centre, centres, own, v[1]);
     for (uint32_t p = v[0]; p < v[0] + v[1]; p++) {
         const uint16_t *row = row_of(t, pair[2 * (size_t)p]);
-        uint32_t d = 0, least = MOST_DISTANCE;
-        for (uint32_t j = 0; j < centres; j++) {
-            uint32_t x = far(t, centre[j], row);
-            least = x < least ? x : least;
-            d = j == own ? x : d;
-        }
+        uint32_t d = far(t, centre[own], row);
         most = greater(most, d);
         nearest = p > v[0] && d < nearest ? d : nearest;
         if (v[2] == 0 && pair[2 * (size_t)p + 1] != d && p < f->distance)
             f->distance = p;
-        if (least < d && f->node == none) {
+        if (d > safe && f->node == none && strays(t, centre, centres, own, row, d)) {
             f->node = parent;
             f->position = p;
         }

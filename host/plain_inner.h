@@ -12,6 +12,7 @@ enum {
     MOST_DISTANCE = 1048560,
     CIRCLE = 3600,
     BLOCK_COLUMNS = 8, /* added up before a look at the ceiling */
+    SHORT_CHILD = 32, /* fewer members are measured from every centre */
     NODE_WORDS = 5 /* start, count, first child, radius, inner reach */
 };
 

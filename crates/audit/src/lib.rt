@@ -8,6 +8,7 @@ ghost use Rattle.audit.specs.Passes.{measuredFaults, told};
 ghost use Rattle.audit.specs.Numbers.{refusals};
 ghost use Rattle.buffers.specs.Wiped.{wiped};
 ghost use Rattle.limits.specs.Said.{said};
+ghost use Rattle.measure.specs.Space.{Space};
 ghost use Rattle.measure.specs.Table.{between};
 ghost use Rattle.tree.specs.Check.{faults};
 ghost use Rattle.tree.specs.Tested.{Tested};
@@ -51,7 +52,7 @@ fn refusal_of(table: &[u16], c: usize, index: &[u32], room: usize) -> u32
 
 // 11 to 13: the first fault that distances show, or 0.
 fn measured_fault(table: &[u16], c: usize, index: &[u32]) -> Checked
-    requires { ⌜ Tested (now index) (now table) c ⌝ }
+    requires { ⌜ Tested (now index) (now table) c × Space (between (now table) c (circles# (now index))) ⌝ }
     ensures { λ r. ⌜ told r ≡ said (measuredFaults (between (now (table .entry)) c (circles# (now (index .entry)))) (now (index .entry))) ⌝ }
 {
     let p = first_wrong_distance(table, c, index);
@@ -80,7 +81,7 @@ fn measured_fault(table: &[u16], c: usize, index: &[u32]) -> Checked
 
 // 10 to 13: the first fault of an index in shape, or 0. The first 6n words of the workspace end as zero.
 fn first_fault(table: &[u16], c: usize, index: &[u32], work: &mut [u32]) -> Checked
-    requires { ⌜ Tested (now index) (now table) c ⌝ }
+    requires { ⌜ Tested (now index) (now table) c × Space (between (now table) c (circles# (now index))) ⌝ }
     requires { ⌜ 6 * n# (now index) ≤ length (now work) ⌝ }
     ensures says { λ r. ⌜ told r ≡ said (faults (between (now (table .entry)) c (circles# (now (index .entry)))) (now (index .entry))) ⌝ }
     ensures leaves { λ _. ⌜ now (work .exit) ≡ wiped (6 * n# (now (index .entry))) (now (work .entry)) ⌝ }
@@ -101,7 +102,7 @@ fn first_fault(table: &[u16], c: usize, index: &[u32], work: &mut [u32]) -> Chec
 
 // The full check of an index for a table of c columns: 0 where it is accepted, else the number and the places of the first refusal or fault.
 // Each row is measured once for its stored distance, and at each level of the tree once for the radius and the inner reach and at most m times for
-// the centres.
+// the centres: those that are so far from its own that it can't be closer to them are not measured.
 pub fn check(table: &[u16], c: usize, index: &[u32], work: &mut [u32]) -> Checked
     ensures { λ r. ⌜ Checks (now (table .entry)) c (now (index .entry)) (now (work .entry)) (now (work .exit)) (r .number) (r .place) (r .second) ⌝ }
 {

@@ -1,7 +1,7 @@
 -- The pass for 13: in each node, child by child, the least of the firsts. Assumes nothing.
 use Prim.Native.Nat.{_+_, _-_, _<_, _≤_, min, ℕ}
 use Rattle.reach.proofs.Searches.{least-more, run-end, run-stop}
-use Rattle.nearness.specs.Strays.{FirstIn, allStrays, closer, kidStrays, nodeStrays}
+use Rattle.nearness.specs.Strays.{FirstIn, allStrays, closerThan, kidStrays, nodeStrays}
 use Rattle.laws.proofs.First.{first-at-end, first-empty, first-kept, first-none, first-same, range-on, range-over, search-on}
 use Rattle.laws.specs.First.{First}
 use Rattle.laws.specs.Lists.{any, each, keep, range}
@@ -24,7 +24,7 @@ module _ (d : ℕ → ℕ → ℕ) (w : List ℕ) where
   closer-own p x f g e q = sym (le-ltb (d f (row# w p)) x (omega (arith, q, ap (λ (k : ℕ). d k (row# w p)) e)))
 
   -- f is the first of node i
-  pub closer-is : (p x i : ℕ) {f : ℕ} → f ≡ first# w i → ltb (d f (row# w p)) x ≡ closer d w p x i
+  pub closer-is : (p x i : ℕ) {f : ℕ} → f ≡ first# w i → ltb (d f (row# w p)) x ≡ closerThan d w p x i
   closer-is p x i e = rw e
 
   -- ---- one child j of node k
@@ -35,7 +35,7 @@ module _ (d : ℕ → ℕ → ℕ) (w : List ℕ) where
 
   -- one in its run does where another of the node's centres is closer
   kid-here : (k j p : ℕ) → inRun w p j ≡ true
-      → kidStrays d w k j p ≡ any (closer d w p (d (first# w j) (row# w p))) (range (child# w k) (m# w))
+      → kidStrays d w k j p ≡ any (closerThan d w p (d (first# w j) (row# w p))) (range (child# w k) (m# w))
   unfolding kidStrays
   kid-here k j p e = rw e
 
@@ -43,12 +43,12 @@ module _ (d : ℕ → ℕ → ℕ) (w : List ℕ) where
   module _ (k j p : ℕ) (F : First (kidStrays d w k j) (start# w j) p p) where
     -- f is the child's first, x the distance of the row at p, and b whether the centre of one of the m nodes from ch on is closer
     module _ {f x ch : ℕ} {b : Bool} (inside : p < start# w j + count# w j) (ef : f ≡ first# w j) (ex : x ≡ d f (row# w p))
-        (ec : ch ≡ child# w k) (eb : b ≡ any (closer d w p x) (range ch (m# w))) where
+        (ec : ch ≡ child# w k) (eb : b ≡ any (closerThan d w p x) (range ch (m# w))) where
       -- the test at p is b
       strays-is : kidStrays d w k j p ≡ b
       strays-is =
           kid-here k j p (in-run w p j (F .from) inside)
-          ∙ sym (eb ∙ ap₂ (λ y i. any (closer d w p y) (range i (m# w))) (ex ∙ ap (λ i. d i (row# w p)) ef) ec)
+          ∙ sym (eb ∙ ap₂ (λ y i. any (closerThan d w p y) (range i (m# w))) (ex ∙ ap (λ i. d i (row# w p)) ef) ec)
 
       -- none is closer: the search goes on
       pub kid-on : b ≡ false → First (kidStrays d w k j) (start# w j) (p + 1) (p + 1)

@@ -9,7 +9,7 @@ use Rattle.limits.specs.Said.{said}
 use Rattle.limits.specs.declared.Asked.{Asked}
 use Rattle.measure.specs.Table.{rowsOf}
 use Rattle.refusals.proofs.Refusals.{Clear, clear}
-use Rattle.refusals.proofs.Tested.{tested}
+use Rattle.refusals.proofs.Tested.{clear-space, tested}
 use Rattle.refusals.specs.Refused.{callFaults}
 use borrow.Author.Needs.{needs}
 use borrow.Author.Tests.{ltb-false}
@@ -44,7 +44,10 @@ first-fault-requires c κs =
     let a = start (c .before) .args in
     let C = going (c .before) in
     let room = ltb-false (length (a .work .now)) (6 * rowsOf (a .table .now) (a .c)) (C .numbers .room) in
-    (tested (a .table .now) (a .c) (asks (start (c .before))) (a .index .now) [] refl refl C, omega (arith, room, C .rows))
+    let q = asks (start (c .before)) in (
+      (tested (a .table .now) (a .c) q (a .index .now) [] refl refl C, clear-space (a .table .now) (a .c) q (a .index .now) [] refl refl C),
+      omega (arith, room, C .rows),
+    )
 
 returns-2 : tie.Need-returns-2
 returns-2 c =

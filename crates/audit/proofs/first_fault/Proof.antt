@@ -40,7 +40,7 @@ at-end c =
 first-again-requires : tie.Need-first-again-requires
 first-again-requires c κs =
     let f = c .before .before .before in
-    (start f .pre .0 .shape, subst (Clear (n# (start f .args .index .now))) (sym (before-marks f)) (wiped-clear _ _ (omega arith)))
+    (start f .pre .0 .0 .shape, subst (Clear (n# (start f .args .index .now))) (sym (before-marks f)) (wiped-clear _ _ (omega arith)))
 
 returns : tie.Need-returns
 returns c =

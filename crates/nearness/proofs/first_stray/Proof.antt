@@ -50,7 +50,7 @@ firsts-requires : tie.Need-firsts-requires Inv-loop μ-loop
 firsts-requires c κs =
     let e = c .before in
     let s = start e in
-    (s .pre .0 .shape, omega (arith, s .pre .0 .shape .node (s .args .k) (s .pre .1) .kids (is-inner e) .inside, e .before .node-child .ensures .0))
+    (s .pre .0 .0 .shape, omega (arith, s .pre .0 .0 .shape .node (s .args .k) (s .pre .1) .kids (is-inner e) .inside, e .before .node-child .ensures .0))
 
 loop-holds : tie.Need-loop-holds Inv-loop μ-loop
 loop-holds c =
