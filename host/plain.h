@@ -41,8 +41,8 @@ PLAIN_CALL struct plain_counts plain_nearest(struct plain_table t, const uint32_
 /* Gives the number of blocks. */
 PLAIN_CALL size_t plain_write(const uint32_t *index, uint8_t *image);
 
-/* Gives the number of words, 0 where a check word, the header, the rest after the last word or the shape is wrong. Unlike the library it looks at
-   the shape in the room. */
+/* Gives the number of words, 0 where a check word, the header, the rest after the last word or the shape is wrong. As the library it looks at the
+   shape on the card, before a word is written. */
 PLAIN_CALL size_t plain_read(const uint8_t *image, size_t blocks, uint32_t *room);
 
 /* The answers by a scan of every row, where none is withdrawn. */

@@ -64,6 +64,74 @@ static bool block_good(const uint8_t *block, size_t b)
     return check == word_at(block + 4 * HELD);
 }
 
+/* Index word j, where it stands in the image. */
+static inline uint32_t card_word(const uint8_t *image, size_t j)
+{
+    return word_at(image + 4 * (j + j / HELD));
+}
+
+static inline size_t node_at(size_t k)
+{
+    return 8 + NODE_WORDS * k;
+}
+
+static bool card_tiles(const uint8_t *image, size_t child, uint32_t m, uint64_t at, uint64_t end)
+{
+    for (uint32_t j = 0; j < m; j++) {
+        if (card_word(image, node_at(child + j)) != at)
+            return false;
+        at += card_word(image, node_at(child + j) + 1);
+    }
+    return at == end;
+}
+
+/* The nodes in number order, as plain_shape has them. */
+static bool card_tree(const uint8_t *image, const uint32_t *header)
+{
+    uint32_t n = header[1], m = header[3], l = header[4], nodes = header[5], next = 1, depth = 0, level_end = 1;
+    if (nodes > 0 && (card_word(image, node_at(0)) != 0 || card_word(image, node_at(0) + 1) != n))
+        return false;
+    for (uint32_t k = 0; k < nodes; k++) {
+        if (k == level_end) {
+            depth++;
+            level_end = next;
+        }
+        size_t v = node_at(k);
+        uint32_t count = card_word(image, v + 1), child = card_word(image, v + 2);
+        if (k >= next || count == 0 || card_word(image, v + 3) > MOST_DISTANCE || card_word(image, v + 4) > MOST_DISTANCE)
+            return false;
+        if (count <= l || depth == MOST_DEPTH) {
+            if (child != 0)
+                return false;
+            continue;
+        }
+        uint64_t start = card_word(image, v);
+        if (child != next || nodes - next < m || !card_tiles(image, child, m, start, start + count))
+            return false;
+        next += m;
+    }
+    return true;
+}
+
+/* The positions, block by block: one whose words stand in two blocks comes by itself. */
+static bool card_positions(const uint8_t *image, const uint32_t *header)
+{
+    uint32_t n = header[1], row = 0, distance = 0;
+    size_t base = node_at(header[5]), p = 0;
+    while (p < n) {
+        row = greater(row, card_word(image, base + 2 * p));
+        distance = greater(distance, card_word(image, base + 2 * p + 1));
+        p++;
+        size_t b = (base + 2 * p) / HELD, stop = p + (HELD * (b + 1) - base - 2 * p) / 2;
+        const uint8_t *from = image + 4 * (base + b);
+        for (stop = stop < n ? stop : n; p < stop; p++) {
+            row = greater(row, word_at(from + 8 * p));
+            distance = greater(distance, word_at(from + 8 * p + 4));
+        }
+    }
+    return n == 0 || (row < n && distance <= MOST_DISTANCE);
+}
+
 size_t plain_read(const uint8_t *image, size_t blocks, uint32_t *room)
 {
     uint32_t header[8];
@@ -77,7 +145,9 @@ size_t plain_read(const uint8_t *image, size_t blocks, uint32_t *room)
     for (size_t i = 4 * held_by(blocks - 1, words); i < 4 * HELD; i++)
         if (image[BLOCK * (blocks - 1) + i] != 0)
             return 0;
+    if (!card_tree(image, header) || !card_positions(image, header))
+        return 0;
     for (size_t b = 0; b < blocks; b++)
         memcpy(room + HELD * b, image + BLOCK * b, 4 * held_by(b, words));
-    return plain_shape(room) ? words : 0;
+    return words;
 }
