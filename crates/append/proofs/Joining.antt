@@ -7,7 +7,7 @@ use Rattle.buffers.specs.Wiped.{wiped}
 use Rattle.laws.specs.Lists.{times}
 use Rattle.laying.proofs.Handing.{ready-long, ready-rows}
 use Rattle.laying.specs.Lay.{Laying, Lays, ready}
-use Rattle.leafward.specs.Way.{Found, Lent}
+use Rattle.leafward.specs.Way.{LeafFound, NewRow}
 use Rattle.limits.specs.Limits.{maxRows}
 use Rattle.measure.specs.Table.{between}
 use Rattle.refill.proofs.Linking.{leaf-under, limitOf, regrown-appended, run-once}
@@ -37,7 +37,7 @@ module _ {t : List ℕ} {c : ℕ} {w room work : List ℕ} (J : Joinable t c w r
   table-long = omega (arith, J .table, mul-add c (n# w) 1)
 
   -- the leaf can be looked for
-  pub lent : Lent t c w z
+  pub lent : NewRow t c w z
   lent =
       record {
         shape = J .shape;
@@ -60,7 +60,7 @@ module _ {t : List ℕ} {c : ℕ} {w room work : List ℕ} (J : Joinable t c w r
       }
 
   -- the leaf is found
-  module _ {v left : ℕ} (F : Found (between t c (circles# w)) w z v left) where
+  module _ {v left : ℕ} (F : LeafFound (between t c (circles# w)) w z v left) where
     -- the run that is laid
     abbrev pub run : List ℕ
     run = ready w v left (n# w)
@@ -108,8 +108,8 @@ module _ {t : List ℕ} {c : ℕ} {w room work : List ℕ} (J : Joinable t c w r
       words-are =
           ap (λ (i : ℕ). regrownWords t w v 1 i run) limit-is
           ∙ regrown-appended t w (J .shape) v left (F .there) (J .few) (J .some)
-          (subst (λ (i : ℕ). Found (between t i (circles# w)) w (n# w) v left) (sym (J .columns))
-          (subst (λ (i : ℕ). Found (between t c (circles# w)) w i v left) new F))
+          (subst (λ (i : ℕ). LeafFound (between t i (circles# w)) w (n# w) v left) (sym (J .columns))
+          (subst (λ (i : ℕ). LeafFound (between t c (circles# w)) w i v left) new F))
           ∙ ap (λ (i : ℕ). appended t i w) (J .columns)
 
       -- THE ROW HAS JOINED

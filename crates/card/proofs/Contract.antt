@@ -1,7 +1,7 @@
 -- The call's two ends: a refusal, and the index in the room. Assumes nothing.
 use Prim.Native.Nat.{ℕ}
 use Rattle.card.proofs.Refusals.{Clear, clear}
-use Rattle.card.specs.Calls.{Reads, Tested, readTotal, readWords}
+use Rattle.card.specs.Calls.{CardTested, Reads, readTotal, readWords}
 use borrow.Author.Tests.{eq-eqb, ne-eqb}
 use lib.Dec.{eqb}
 use lib.ListN.{drop, length}
@@ -10,7 +10,7 @@ use mathlib.Core.List.{List, _++_}
 use mathlib.Core.Path.{_∙_, _≡_, ap, sym}
 
 -- the tests gave number, place and words
-module _ {T : List ℕ} {c : ℕ} {i : List ℕ} {number place words : ℕ} (before : List ℕ) (S : Tested T c i (length before) number place words) where
+module _ {T : List ℕ} {c : ℕ} {i : List ℕ} {number place words : ℕ} (before : List ℕ) (S : CardTested T c i (length before) number place words) where
   -- a refusal ends it: the room as it was
   pub refused : (number ≡ 0 → ⊥) → Reads T c i before before number place words
   refused h =

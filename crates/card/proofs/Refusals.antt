@@ -4,7 +4,7 @@ use Rattle.card_widen.proofs.Tabled.{card-tabled}
 use Rattle.card_widen.specs.Tabled.{Tabled}
 use Rattle.card_words.proofs.Cards.{carded}
 use Rattle.card_words.specs.Cards.{Carded, cardWords}
-use Rattle.card.specs.Calls.{Tested, cardFaults, readTotal, saidRead}
+use Rattle.card.specs.Calls.{CardTested, cardFaults, readTotal, saidRead}
 use Rattle.image.proofs.Refusals.{faults-numbered, faults-placed}
 use Rattle.image.specs.Image.{imageFaults}
 use Rattle.image.specs.Sound.{Sound}
@@ -103,7 +103,7 @@ module _ (T : List ℕ) (c : ℕ) (i : List ℕ) (room : ℕ) where
 
   -- a refusal that is known with its place
   pub refuses : {s : Said} {number place words : ℕ} → s ≡ says → (s .0 ≡ 0 → ⊥) → number ≡ s .0 → place ≡ s .1 → words ≡ 0
-      → Tested T c i room number place words
+      → CardTested T c i room number place words
   refuses e h en ep ew =
       record {
         said = en ∙ ap (λ (t : Said). t .0) e;
@@ -114,7 +114,7 @@ module _ (T : List ℕ) (c : ℕ) (i : List ℕ) (room : ℕ) where
   -- ---- the returns in the code's order
   -- the table is refused
   pub by-table : {v number place words : ℕ} → v ≡ said first .0 → (v ≡ 0 → ⊥) → number ≡ v → place ≡ 0 → words ≡ 0
-      → Tested T c i room number place words
+      → CardTested T c i room number place words
   by-table e h en ep ew =
       let n : said first .0 ≡ 0 → ⊥ = λ z. h (e ∙ z) in
       refuses (says-first first next n ∙ in-turn) n (en ∙ e) (ep ∙ sym (early-placeless first (numbers-early asks) .0)) ew
@@ -127,7 +127,7 @@ module _ (T : List ℕ) (c : ℕ) (i : List ℕ) (room : ℕ) where
     module _ {found at count : ℕ} (S : Sound i (imageFaults i) found at count) where
       -- the image is wrong
       pub by-image : {number place words : ℕ} → (found ≡ 0 → ⊥) → number ≡ found → place ≡ at → words ≡ 0
-          → Tested T c i room number place words
+          → CardTested T c i room number place words
       by-image h en ep ew =
           let n : said (imageFaults i) .0 ≡ 0 → ⊥ = λ z. h (S .found ∙ z) in
           refuses (says-first (imageFaults i) last n ∙ after-table) n (en ∙ S .found) (ep ∙ S .placed) ew
@@ -139,7 +139,7 @@ module _ (T : List ℕ) (c : ℕ) (i : List ℕ) (room : ℕ) where
 
         module _ {k : ℕ} (f : k ≡ said (cardFaults T c i) .0) where
           -- the card is refused
-          pub by-card : {number place words : ℕ} → (k ≡ 0 → ⊥) → number ≡ k → place ≡ 0 → words ≡ 0 → Tested T c i room number place words
+          pub by-card : {number place words : ℕ} → (k ≡ 0 → ⊥) → number ≡ k → place ≡ 0 → words ≡ 0 → CardTested T c i room number place words
           by-card h en ep ew =
               let n : said (cardFaults T c i) .0 ≡ 0 → ⊥ = λ z. h (f ∙ z) in
               refuses (says-first (cardFaults T c i) (fault 5 (ltb room (readTotal i))) n ∙ after-image) n (en ∙ f)
@@ -155,11 +155,11 @@ module _ (T : List ℕ) (c : ℕ) (i : List ℕ) (room : ℕ) where
 
             -- it is too short
             pub five : {number place words t : ℕ} → t ≡ readTotal i → room < t → number ≡ 5 → place ≡ 0 → words ≡ 0
-                → Tested T c i room number place words
+                → CardTested T c i room number place words
             five et h en ep ew = refuses (by-room (lt-ltb room (readTotal i) (rw (← et) h))) (λ q. omega arith) en ep ew
 
             -- nothing is wrong
-            pub none-refused : {t : ℕ} → t ≡ readTotal i → t ≤ room → Tested T c i room 0 0 t
+            pub none-refused : {t : ℕ} → t ≡ readTotal i → t ≤ room → CardTested T c i room 0 0 t
             none-refused et h =
                 let e = by-room (le-ltb room (readTotal i) (rw (← et) h)) in
                 record { said = ap (λ (t : Said). t .0) e; placed = ap (λ (t : Said). t .1) e; counted = et }

@@ -37,7 +37,7 @@ unfoldable pub saidRead : List ℕ → ℕ → List ℕ → ℕ → Said
 saidRead T c i room = said (numberFaults (tabled (length T) c) ++ (imageFaults i ++ (cardFaults T c i ++ fault 5 (ltb room (readTotal i)))))
 
 -- what refuses a reading into `room` words, with its place, or with 0 how many words are read
-pub record Tested (T : List ℕ) (c : ℕ) (i : List ℕ) (room number place words : ℕ) : Type 0 where
+pub record CardTested (T : List ℕ) (c : ℕ) (i : List ℕ) (room number place words : ℕ) : Type 0 where
   pub said : number ≡ saidRead T c i room .0
   pub placed : place ≡ saidRead T c i room .1
   pub counted : words ≡ cond (eqb number 0) (readTotal i) 0

@@ -2,7 +2,7 @@
 ghost use Prim.Native.Nat.{_*_, _+_, _≤_};
 ghost use Rattle.card_widen.specs.Tabled.{Tabled};
 ghost use Rattle.card_words.specs.Cards.{Carded, Held};
-ghost use Rattle.card.specs.Calls.{Tested, cardFaults, readTotal, readWords};
+ghost use Rattle.card.specs.Calls.{CardTested, cardFaults, readTotal, readWords};
 ghost use Rattle.limits.specs.Said.{numberFaults, said, tabled};
 ghost use lib.ListN.{drop, length};
 ghost use mathlib.Core.List.{_++_};
@@ -78,7 +78,7 @@ fn table_number(length: usize, c: usize) -> u32
 
 // What refuses the call, or how many words are read. `room` is the number of words lent.
 pub fn refusal_of(image: &[u8], table: &[u16], c: usize, room: usize) -> Read
-    ensures { λ r. ⌜ Tested (now (table .entry)) c (now (image .entry)) room (r .number) (r .place) (r .words) ⌝ }
+    ensures { λ r. ⌜ CardTested (now (table .entry)) c (now (image .entry)) room (r .number) (r .place) (r .words) ⌝ }
 {
     let by_table = table_number(table.len(), c);
     if by_table != 0 {

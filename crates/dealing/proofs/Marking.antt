@@ -8,7 +8,7 @@ use Rattle.laws.proofs.Maps.{map-shift}
 use Rattle.laws.proofs.Parts.{put-more}
 use Rattle.laws.specs.Lists.{each, range}
 use Rattle.laying.proofs.Ordering.{every-place}
-use Rattle.leafward.specs.Way.{Lent, closestKid}
+use Rattle.leafward.specs.Way.{NewRow, closestKid}
 use Rattle.limits.specs.Limits.{maxColumns, maxRows}
 use Rattle.lodging.proofs.Entries.{rows-count, rows-read}
 use Rattle.measure.proofs.Rows.{row-ends}
@@ -107,7 +107,7 @@ module _ {t : List ℕ} {c : ℕ} {w : List ℕ} {o : ℕ} {part₀ : List ℕ} 
         )
 
     -- what is asked to find its child
-    pub marking-lent : {z : ℕ} → p < length part → z ≡ at part p → Lent t c w z × (z < maxRows)
+    pub marking-lent : {z : ℕ} → p < length part → z ≡ at part p → NewRow t c w z × (z < maxRows)
     marking-lent h e =
         let r = row-there h e in
         (record { shape = T .shape; columns = T .columns; table = T .table; new = r .0 }, r .1)

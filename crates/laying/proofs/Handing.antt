@@ -12,8 +12,8 @@ use Rattle.laws.specs.Lists.{head}
 use Rattle.laying.proofs.Storing.{head-first, run-count}
 use Rattle.laying.specs.Lay.{ready, unsplit, withRow}
 use Rattle.leafward.proofs.Changing.{join-changed}
-use Rattle.leafward.specs.Changed.{Reaches, changedAt}
-use Rattle.leafward.specs.Way.{Found}
+use Rattle.leafward.specs.Changed.{NewReach, changedAt}
+use Rattle.leafward.specs.Way.{LeafFound}
 use Rattle.limits.specs.Limits.{maxDepth}
 use Rattle.tree.specs.Build.{Run, grow, leafOf}
 use Rattle.tree.specs.Grove.{Grove, Reach, bare, leaf, members#, reach#, treeOf}
@@ -109,7 +109,7 @@ module _ (w : List ℕ) (S : InShape w) (z v left : ℕ) (there : v < N# w) wher
 
     -- THE TREE THAT TAKES ROW Z: leaf v is not split or grown from the run that is laid, the nodes whose run holds its reach to the row, and all
     -- else stays
-    pub join-laid : (R : ℕ → Reach) → Reaches d w z v R → 1 ≤ N# w → Found d w z v left
+    pub join-laid : (R : ℕ → Reach) → NewReach d w z v R → 1 ≤ N# w → LeafFound d w z v left
         → join d (m# w) (l# w) z maxDepth 0 (treeOf w) ≡ changedAt w R v (leafAnew (R v)) maxDepth 0 bare
     join-laid R Q h F =
         join-changed d w S z v R (leafAnew (R v)) Q left

@@ -3,7 +3,7 @@ use Prim.Native.Nat.{_%_, _*_, _+_, _<_, _≤_, ℕ}
 use Rattle.appending.specs.Append.{Ascends, orderly, twice}
 use Rattle.laws.specs.Bags.{SameBag}
 use Rattle.laws.specs.Lists.{each, head, rest}
-use Rattle.leafward.specs.Way.{Lent}
+use Rattle.leafward.specs.Way.{NewRow}
 use Rattle.limits.specs.Limits.{maxRows}
 use Rattle.measure.specs.Table.{between}
 use Rattle.queue.specs.Queue.{Queue, entries}
@@ -36,15 +36,15 @@ abbrev pub half : List ℕ → ℕ
 half w = 3 * (n# w + 1)
 
 -- v is a node of an index in shape, and the workspace has two halves
-pub record Space (w : List ℕ) (v : ℕ) (work : List ℕ) : Type 0 where
+pub record TwoHalves (w : List ℕ) (v : ℕ) (work : List ℕ) : Type 0 where
   pub shape : InShape w
   pub there : v < N# w
   pub halves : half w + half w ≤ length work
 
 -- so it is, and the table has the rows of the index and row z
 pub record Laying (t : List ℕ) (c : ℕ) (w : List ℕ) (z v : ℕ) (work : List ℕ) : Type 0 where
-  pub space : Space w v work
-  pub lent : Lent t c w z
+  pub space : TwoHalves w v work
+  pub lent : NewRow t c w z
   pub small : z ≤ maxRows
 
 -- the entries of the rows xs at the distances f, all of centre a, written over the words h from lo on

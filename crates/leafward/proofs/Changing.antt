@@ -8,8 +8,8 @@ use Rattle.laws.proofs.Maps.{map-shift}
 use Rattle.laws.proofs.Ranges.{range-length}
 use Rattle.laws.specs.Lists.{range}
 use Rattle.leafward.proofs.Walking.{way-end, way-step}
-use Rattle.leafward.specs.Changed.{Holds, Reaches, changedAt}
-use Rattle.leafward.specs.Way.{Found, closestKid, leftAt, toKid, wayTo}
+use Rattle.leafward.specs.Changed.{Holds, NewReach, changedAt}
+use Rattle.leafward.specs.Way.{LeafFound, closestKid, leftAt, toKid, wayTo}
 use Rattle.limits.specs.Limits.{maxDepth}
 use Rattle.tree.proofs.Forks.{as-fork, as-leaf, forkNode, kids-first, kidsAt, leafNode, no-levels}
 use Rattle.tree.proofs.Members.{entries-at, kids-entries, kids-firsts}
@@ -95,7 +95,7 @@ module _ (d : ℕ → ℕ → ℕ) (w : List ℕ) (S : InShape w) (z : ℕ) wher
       go false = refl
 
   -- ---- the tree with node v changed
-  module _ (v : ℕ) (R : ℕ → Reach) (anew : ℕ → Grove → Grove) (Q : Reaches d w z v R) where
+  module _ (v : ℕ) (R : ℕ → Reach) (anew : ℕ → Grove → Grove) (Q : NewReach d w z v R) where
     abbrev A : ℕ → ℕ → Grove → Grove
     A deep k g = changedAt w R v anew deep k g
 
@@ -215,7 +215,7 @@ module _ (d : ℕ → ℕ → ℕ) (w : List ℕ) (S : InShape w) (z : ℕ) wher
               ap (join d (m# w) (l# w) z (suc deep) 0) (as-leaf w (suc deep) k g e) ∙ leaf-joined (suc deep) k g (u .0 ∙ s .0) (u .1 ∙ s .1)
 
       -- THE TREE THAT TAKES ROW Z: the leaf at the end of the way is another, the nodes whose run holds its reach to the row, and all else stays
-      pub join-changed : 1 ≤ N# w → Found d w z v left
+      pub join-changed : 1 ≤ N# w → LeafFound d w z v left
           → join d (m# w) (l# w) z maxDepth 0 (treeOf w) ≡ changedAt w R v anew maxDepth 0 bare
       join-changed h F =
           by-root (λ g. join d (m# w) (l# w) z maxDepth 0 g ≡ A maxDepth 0 bare) w

@@ -5,7 +5,7 @@ use Rattle.appending.specs.Append.{lowestAt}
 use Rattle.laws.proofs.Every.{every-unmap}
 use Rattle.laws.proofs.Ranges.{every-at, getD-range, range-length}
 use Rattle.laws.specs.Lists.{range}
-use Rattle.leafward.specs.Way.{Lent, closestKid, toKid}
+use Rattle.leafward.specs.Way.{NewRow, closestKid, toKid}
 use Rattle.limits.specs.Limits.{maxColumns}
 use Rattle.measure.proofs.Rows.{row-ends}
 use Rattle.measure.specs.Table.{between}
@@ -74,7 +74,7 @@ module _ (f : ℕ → ℕ) where
 -- ---- the children of node k
 -- of the first j children of node k the one at the place `at` is the closest to row z
 pub record Choosing (t : List ℕ) (c : ℕ) (w : List ℕ) (k z child m o at least j : ℕ) : Type 0 where
-  pub lent : Lent t c w z
+  pub lent : NewRow t c w z
   pub inside : child + m ≤ N# w
   pub first : child ≡ child# w k
   pub all : m ≡ m# w
@@ -82,7 +82,7 @@ pub record Choosing (t : List ℕ) (c : ℕ) (w : List ℕ) (k z child m o at le
   pub upto : j ≤ m
   pub low : Least (toKid (between t c (circles# w)) w z k) j at least
 
-module _ {t : List ℕ} {c : ℕ} {w : List ℕ} {z : ℕ} (L : Lent t c w z) where
+module _ {t : List ℕ} {c : ℕ} {w : List ℕ} {z : ℕ} (L : NewRow t c w z) where
   -- two rows can be measured, one of the index and the new one
   pub measurable : {i : ℕ} → i < n# w → (c ≤ maxColumns) × (c * i + c ≤ length t) × (c * z + c ≤ length t)
   measurable {i} h = (omega (arith, L .columns, L .shape .whole .columns .1), omega (arith, row-ends c (n# w) i h, L .table), L .new)

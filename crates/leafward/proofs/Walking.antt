@@ -1,6 +1,6 @@
 -- The walk from the root down to the leaf that a row joins. Assumes nothing.
 use Prim.Native.Nat.{_+_, _-_, _<_, _≤_, suc, zero, ℕ}
-use Rattle.leafward.specs.Way.{Found, Lent, closestKid, leftAt, wayTo}
+use Rattle.leafward.specs.Way.{LeafFound, NewRow, closestKid, leftAt, wayTo}
 use Rattle.limits.specs.Limits.{maxDepth}
 use Rattle.measure.specs.Table.{between}
 use Rattle.words.proofs.InShape.{left-root}
@@ -31,7 +31,7 @@ module _ (d : ℕ → ℕ → ℕ) (w : List ℕ) (z : ℕ) where
 -- ---- the walk
 -- it has come to a node, whose first child is `child`, with `left` levels to go
 pub record Walking (t : List ℕ) (c : ℕ) (w : List ℕ) (z node left child : ℕ) : Type 0 where
-  pub lent : Lent t c w z
+  pub lent : NewRow t c w z
   pub there : node < N# w
   pub first : child ≡ child# w node
   pub below : Left w left node
@@ -39,7 +39,7 @@ pub record Walking (t : List ℕ) (c : ℕ) (w : List ℕ) (z node left child : 
   pub levels : leftAt (between t c (circles# w)) w z maxDepth 0 ≡ leftAt (between t c (circles# w)) w z left node
 
 -- at the root
-pub walking-start : {t : List ℕ} {c : ℕ} {w : List ℕ} {z child : ℕ} → Lent t c w z → 1 ≤ N# w → child ≡ child# w 0
+pub walking-start : {t : List ℕ} {c : ℕ} {w : List ℕ} {z child : ℕ} → NewRow t c w z → 1 ≤ N# w → child ≡ child# w 0
     → Walking t c w z 0 maxDepth child
 walking-start {w = w} L h e = record { lent = L; there = omega arith; first = e; below = left-root w; way = refl; levels = refl }
 
@@ -87,7 +87,7 @@ module _ {t : List ℕ} {c : ℕ} {w : List ℕ} {z node left child : ℕ} (W : 
           }
 
   -- a node with no child is the leaf
-  pub walking-done : child ≡ 0 → Found (between t c (circles# w)) w z node left
+  pub walking-done : child ≡ 0 → LeafFound (between t c (circles# w)) w z node left
   walking-done h =
       let e : inner w node ≡ false = ap not (eq-eqb (child# w node) 0 (sym (W .first) ∙ h)) in
       let s = way-end (between t c (circles# w)) w z left node e in

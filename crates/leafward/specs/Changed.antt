@@ -16,7 +16,7 @@ abbrev pub Holds : List ℕ → ℕ → ℕ → Type 0
 Holds w v k = (start# w k ≤ start# w v) × (start# w v + count# w v ≤ start# w k + count# w k)
 
 -- R says how far each node reaches when node v has taken row z: the nodes whose run holds node v's take it in, the others stay
-pub record Reaches (d : ℕ → ℕ → ℕ) (w : List ℕ) (z v : ℕ) (R : ℕ → Reach) : Type 0 where
+pub record NewReach (d : ℕ → ℕ → ℕ) (w : List ℕ) (z v : ℕ) (R : ℕ → Reach) : Type 0 where
   pub on : (k : ℕ) → k < N# w → Holds w v k → R k ≡ reachWith (count# w k) (reach# w k) (d (first# w k) z)
   pub off : (k : ℕ) → k < N# w → (Holds w v k → ⊥) → R k ≡ reach# w k
 

@@ -13,7 +13,7 @@ use mathlib.Core.List.{List, map}
 use mathlib.Core.Path.{_≡_}
 
 -- an index in shape over c columns, and a table that has its rows and row z
-pub record Lent (t : List ℕ) (c : ℕ) (w : List ℕ) (z : ℕ) : Type 0 where
+pub record NewRow (t : List ℕ) (c : ℕ) (w : List ℕ) (z : ℕ) : Type 0 where
   pub shape : InShape w
   pub columns : c# w ≡ c
   pub table : c * n# w ≤ length t
@@ -39,7 +39,7 @@ module _ (d : ℕ → ℕ → ℕ) (w : List ℕ) (z : ℕ) where
   leftAt (suc deep) k = let below : ℕ = leftAt deep (child# w k + closestKid k) in cond (inner w k) below (suc deep)
 
   -- the leaf, and the levels that can be below it
-  pub record Found (v left : ℕ) : Type 0 where
+  pub record LeafFound (v left : ℕ) : Type 0 where
     pub node : v ≡ wayTo maxDepth 0
     pub levels : left ≡ leftAt maxDepth 0
     pub there : v < N# w

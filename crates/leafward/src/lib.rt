@@ -1,6 +1,6 @@
 // From the root down to the leaf that a new row joins.
 ghost use Prim.Native.Nat.{_<_, _≤_};
-ghost use Rattle.leafward.specs.Way.{Found, Lent, closestKid};
+ghost use Rattle.leafward.specs.Way.{LeafFound, NewRow, closestKid};
 ghost use Rattle.measure.specs.Table.{between};
 ghost use Rattle.words.specs.Shape.{inner};
 ghost use Rattle.words.specs.Words.{N#, circles#, m#};
@@ -21,7 +21,7 @@ pub struct Leaf {
 
 // Which child of the inner node k has the centre closest to row z, ties to the earliest.
 pub fn closest_child(table: &[u16], c: usize, index: &[u32], k: usize, z: usize) -> usize
-    requires { ⌜ Lent (now table) c (now index) z ⌝ }
+    requires { ⌜ NewRow (now table) c (now index) z ⌝ }
     requires { ⌜ (k < N# (now index)) × (inner (now index) k ≡ true) ⌝ }
     ensures { λ r. ⌜ (r ≡ closestKid (between (now (table .entry)) c (circles# (now (index .entry)))) (now (index .entry)) z k)
         × (r < m# (now (index .entry))) ⌝ }
@@ -46,9 +46,9 @@ pub fn closest_child(table: &[u16], c: usize, index: &[u32], k: usize, z: usize)
 
 // The leaf that row z joins.
 pub fn leaf_for(table: &[u16], c: usize, index: &[u32], z: usize) -> Leaf
-    requires { ⌜ Lent (now table) c (now index) z ⌝ }
+    requires { ⌜ NewRow (now table) c (now index) z ⌝ }
     requires { ⌜ 1 ≤ N# (now index) ⌝ }
-    ensures { λ r. ⌜ Found (between (now (table .entry)) c (circles# (now (index .entry)))) (now (index .entry)) z (r .node) (r .left) ⌝ }
+    ensures { λ r. ⌜ LeafFound (between (now (table .entry)) c (circles# (now (index .entry)))) (now (index .entry)) z (r .node) (r .left) ⌝ }
 {
     let mut node = 0;
     let mut left = Params::MOST_DEPTH;

@@ -6,7 +6,7 @@ use Rattle.laws.specs.Lists.{range, times}
 use Rattle.laying.proofs.Handing.{join-laid, leafAnew, ready-long, ready-rows, ready-run}
 use Rattle.leafward.specs.Changed.{changedAt}
 use Rattle.laying.specs.Lay.{Lays, ready, unsplit}
-use Rattle.leafward.specs.Way.{Found}
+use Rattle.leafward.specs.Way.{LeafFound}
 use Rattle.limits.specs.Limits.{maxDepth, maxRows}
 use Rattle.measure.specs.Table.{between}
 use Rattle.refill.specs.Calls.{regrownWords}
@@ -87,7 +87,7 @@ module _ (t w : List ℕ) (S : InShape w) (v left : ℕ) (there : v < N# w) (few
       go false e h = ready-run w S (n# w) v left there e .1
 
   -- THE TREE GROWN ANEW FROM THE RUN THAT IS LAID IS THE TREE THAT TAKES THE NEW ROW
-  pub regrown-joined : 1 ≤ N# w → Found d w (n# w) v left
+  pub regrown-joined : 1 ≤ N# w → LeafFound d w (n# w) v left
       → regrownOf t w v 1 (limitOf w v left (n# w)) (ready w v left (n# w))
       ≡ join (between t (c# w) (circles# w)) (m# w) (l# w) (n# w) maxDepth 0 (treeOf w)
   unfolding regrownOf
@@ -98,7 +98,7 @@ module _ (t w : List ℕ) (S : InShape w) (v left : ℕ) (there : v < N# w) (few
       ∙ sym (join-laid w S (n# w) v left there d R (one-reaches d w v) some F)
 
   -- ITS WORDS ARE THOSE OF THE INDEX WITH THE TABLE'S LAST ROW IN IT
-  pub regrown-appended : 1 ≤ n# w → Found d w (n# w) v left
+  pub regrown-appended : 1 ≤ n# w → LeafFound d w (n# w) v left
       → regrownWords t w v 1 (limitOf w v left (n# w)) (ready w v left (n# w)) ≡ appended t (c# w) w
   unfolding appended
   regrown-appended some F =

@@ -3,7 +3,7 @@ use Prim.Native.Nat.{_<_, suc, zero, ℕ}
 use Rattle.appending.specs.Append.{keepOwn}
 use Rattle.copies.specs.Copies.{copied, end#, holds, newReach}
 use Rattle.laws.specs.Lists.{range}
-use Rattle.leafward.specs.Changed.{Holds, Reaches, changedAt}
+use Rattle.leafward.specs.Changed.{Holds, NewReach, changedAt}
 use Rattle.measure.specs.Table.{between}
 use Rattle.regrow.proofs.Found.{child-same, j}
 use Rattle.regrow.proofs.Trees.{grove, grown}
@@ -81,6 +81,6 @@ module _ (d : ℕ → ℕ → ℕ) (w : List ℕ) (v : ℕ) where
       go false b p q = refl
 
   -- THEY REACH TO IT WHERE THEIR RUN HOLDS NODE V'S, AND STAY ELSEWHERE
-  pub one-reaches : Reaches d w (n# w) v (newReach d w v 1)
+  pub one-reaches : NewReach d w (n# w) v (newReach d w v 1)
   unfolding newReach
   one-reaches = record { on = λ k h f. rw (holds-yes k f) refl; off = λ k h f. rw (holds-no k f) refl }
