@@ -1,14 +1,15 @@
 -- The marks at a node of an index in shape, by its words: swept, closed, an opened leaf's or an opened inner node's. Assumes nothing.
 use Prim.Native.Nat.{_+_, _-_, _<_, _≤_, suc, zero, ℕ}
+use Rattle.descent.specs.Descent.{fateMarks, fateOf, kidMarks, nodeMarks}
+use Rattle.descent.specs.declared.fate.Fate.the-variants.{Closed, Opened, Swept}
+use Rattle.descent.specs.declared.fate.Fate.{Fate}
 use Rattle.laws.proofs.Lists.{map-map, paired, rest-map}
 use Rattle.laws.proofs.Maps.{map-agree, map-each}
 use Rattle.laws.proofs.Times.{lefts}
 use Rattle.laws.specs.Lists.{each, head, least, range, rest}
-use Rattle.descent.specs.Descent.{fateMarks, fateOf, kidMarks, nodeMarks}
-use Rattle.descent.specs.declared.fate.Fate.the-variants.{Closed, Opened, Swept}
-use Rattle.descent.specs.declared.fate.Fate.{Fate}
-use Rattle.marking.proofs.Did.{leaf-mark}
-use Rattle.marking.specs.Marks.{centreAt, firstAt, leafAt, leafMark, leastFrom}
+use Rattle.leaf_decision.proofs.Did.{leaf-mark}
+use Rattle.leaf_decision.specs.Decision.{leafAt, leafMark}
+use Rattle.marking.specs.Marks.{centreAt, firstAt, leastFrom}
 use Rattle.tree.proofs.Forks.{as-fork, as-leaf, forkNode, kids-first, kids-rows, kidsAt, leafNode, no-levels}
 use Rattle.tree.proofs.Members.{kids-firsts, run-first}
 use Rattle.tree.specs.Grove.{Grove, Reach, bare, first, firsts, leaf, members#, rowsIn, reach#, treeAt}

@@ -8,10 +8,11 @@ use Rattle.descent.specs.declared.fate.Fate.{Fate}
 use Rattle.laws.proofs.Lists.{map-map}
 use Rattle.laws.proofs.Maps.{each-shift, map-each}
 use Rattle.laws.specs.Lists.{each, range}
+use Rattle.leaf_decision.specs.Decision.{leafAt}
 use Rattle.limits.specs.Limits.{maxDepth}
 use Rattle.marking.proofs.Listed.{leaves-as, leaves-none, leaves-out, leaves-same, leaves-then, told-swept}
 use Rattle.marking.specs.Listed.{Leaves, span, told}
-use Rattle.marking.specs.Marks.{centreAt, firstAt, leafAt, leastFrom, sweptAt}
+use Rattle.marking.specs.Marks.{centreAt, firstAt, leastFrom, sweptAt}
 use Rattle.marking.specs.Written.{write}
 use Rattle.tree.proofs.Members.{firsts-at}
 use Rattle.tree.proofs.Rows.{by-root}

@@ -14,9 +14,9 @@ ghost use mathlib.Core.Path.{_≡_};
 use crate::fate::Fate;
 use crate::fate::settle;
 use bounds::kid_bound;
-use marking::centres::least_of;
-use marking::centres::open_inner;
-use marking::leaf::open_leaf;
+use opened::centres::least_of;
+use opened::centres::open_inner;
+use opened::leaf::open_leaf;
 use words::places::centres;
 use words::places::node_child;
 

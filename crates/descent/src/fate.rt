@@ -7,7 +7,7 @@ ghost use Rattle.rowset.specs.Sets.{isIn};
 ghost use Rattle.words.specs.InShape.{InShape};
 ghost use Rattle.words.specs.Words.{N#, radius#};
 ghost use mathlib.Core.Path.{_≡_};
-use marking::swept::sweep;
+use sweeping::sweep;
 use words::places::node_radius;
 
 // A node is swept, closed or opened.

@@ -1,40 +1,12 @@
--- What the code stores for a row is its mark: in an opened leaf, and as a centre. Assumes nothing.
-use Prim.Native.Nat.{_+_, ℕ}
-use Rattle.laws.specs.Lists.{gap}
-use Rattle.marking.specs.Marks.{centreAt, decision, leafAt, leafMark, verdictByte}
-use Rattle.marking.specs.Written.{byte}
-use Rattle.marking.specs.declared.leaf.Verdict.the-variants.{In, Measure, Out}
-use Rattle.marking.specs.declared.leaf.Verdict.{Verdict}
-use Rattle.tree.specs.Radius.{byDistance, inLeaf}
-use Rattle.words.specs.Words.{dist#, first#, row#}
-use lib.Dec.{leb, ltb}
-use mathlib.Core.Bool.{Bool, cond, false, true}
+-- What the code stores for a centre is its mark. Assumes nothing.
+use Prim.Native.Nat.{ℕ}
+use Rattle.marking.specs.Marks.{centreAt}
+use Rattle.tree.specs.Radius.{byDistance}
+use Rattle.words.specs.Words.{first#}
 use mathlib.Core.List.{List, [], _∷_}
-use mathlib.Core.Path.{_≡_, ap, refl}
+use mathlib.Core.Path.{_≡_, ap}
 
 module _ (x : ℕ → ℕ) (r : ℕ) (w : List ℕ) where
-  -- what a caller that took the verdict v apart did is right
-  pub leaf-did : (v′ : Verdict) (xf p : ℕ) {i s : ℕ} {v : Verdict} → i ≡ row# w p → s ≡ dist# w p → v ≡ decision xf s r → v ≡ v′
-      → (i, verdictByte (byDistance x r i) v′) ∷ [] ≡ leafAt x r w xf p
-  unfolding leafMark
-  leaf-did v′ xf p a b c e = cc
-
-  -- and so is the byte that it stored
-  pub leaf-byte : (v′ : Verdict) (xf p : ℕ) (h : List ℕ) {i s : ℕ} {v : Verdict} → i ≡ row# w p → s ≡ dist# w p → v ≡ decision xf s r → v ≡ v′
-      → byte i (verdictByte (byDistance x r i) v′) h ≡ byte (row# w p) (leafMark x r w xf p) h
-  unfolding leafMark
-  leaf-byte v′ xf p h a b c e = cc
-
   -- a centre that was measured
   pub centre-did : (k : ℕ) {i : ℕ} → i ≡ first# w k → (i, byDistance x r i) ∷ [] ≡ centreAt x r w k
   centre-did k e = ap (λ (i : ℕ). (i, byDistance x r i) ∷ []) e
-
-  -- THE LEAF DECISION'S BYTE IS THE MARK OF THE DEFINITION
-  pub leaf-mark : (f p : ℕ) → leafMark x r w (x f) p ≡ inLeaf x r f (row# w p, dist# w p)
-  unfolding leafMark decision
-  leaf-mark f p = go (ltb r (gap (x f) (dist# w p))) (leb (x f + dist# w p) r)
-    where
-      go : (a b : Bool) → verdictByte (byDistance x r (row# w p)) (cond a Out (cond b In Measure)) ≡ cond a 0 (cond b 2 (byDistance x r (row# w p)))
-      go true b = refl
-      go false true = refl
-      go false false = refl

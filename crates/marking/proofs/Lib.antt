@@ -1,9 +1,5 @@
 pub mod Written
 pub mod Listed
 pub mod Fitted
-pub mod Distances
 pub mod Counted
-pub mod Sweeps
 pub mod Did
-pub mod Bytes
-pub mod Verdicts

@@ -3,7 +3,6 @@ use Prim.Native.Nat.{_<_, _≤_, ℕ}
 use Rattle.tree.specs.Tested.{Tested}
 use Rattle.words.specs.Words.{n#}
 use lib.ListN.{length}
-use mathlib.Core.Bool.{Bool, true}
 use mathlib.Core.List.{List}
 use mathlib.Core.Path.{_≡_}
 
@@ -16,7 +15,3 @@ pub record Lent (w T : List ℕ) (c : ℕ) (q h : List ℕ) : Type 0 where
   pub tested : Tested w T c
   pub query : length q ≡ c
   pub how : Bytes w h
-
--- the test says that how-bytes are lent, and neither a set nor a list, of which these are the lengths
-abbrev pub Bare : Bool → ℕ → ℕ → ℕ → Type 0
-Bare b how withdrawn list = b ≡ true → (0 < how) × (withdrawn ≡ 0) × (list ≡ 0)

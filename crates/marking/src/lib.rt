@@ -1,7 +1,2 @@
-// What a descent does at a node, and the how-bytes that it leaves there: a row measured, a run swept, a leaf opened, centres measured.
-// Nothing here knows in which order nodes are visited.
-mod bare;
-pub mod centres;
-pub mod leaf;
+// What a radius search leaves: how-bytes, and a list of the rows that are in.
 pub mod row;
-pub mod swept;

@@ -1,12 +1,10 @@
-// What is left of a row where it is measured: its how-byte, and where it is in its place in the list. Nothing but this file stores one.
-ghost use Prim.Native.Nat.{_*_, _+_, _<_, _≤_, ℕ};
-ghost use Rattle.limits.specs.Limits.{maxColumns, maxDistance, maxRows};
+// What is left of a row: its how-byte, and where it is in its place in the list.
+ghost use Prim.Native.Nat.{_<_, ℕ};
+ghost use Rattle.limits.specs.Limits.{maxRows};
 ghost use Rattle.marking.specs.Listed.{Leaves, entered};
-ghost use Rattle.measure.specs.Table.{from};
 ghost use Rattle.rowset.specs.Sets.{isIn};
-ghost use Rattle.tree.specs.Radius.{byDistance};
 ghost use lib.Dec.{leb};
-ghost use lib.ListN.{length, set};
+ghost use lib.ListN.{set};
 ghost use mathlib.Core.Bool.{cond};
 ghost use mathlib.Core.List.{[], _∷_};
 ghost use mathlib.Core.Path.{_≡_};
@@ -66,48 +64,4 @@ pub fn mark_measured(
     } else {
         put(how, row, 1);
     }
-}
-
-// A row is measured in full, where it stands in the table, and marked: a centre, of which bounds need the distance.
-pub fn measure_row(
-    table: &[u16],
-    c: usize,
-    circles: u32,
-    query: &[u16],
-    row: usize,
-    r: u32,
-    withdrawn: &[u32],
-    how: &mut [u8],
-    list: &mut [u32],
-) -> u32
-    requires { ⌜ (c ≤ maxColumns) × (c * row + c ≤ length (now table)) × (length (now query) ≡ c) × (row < maxRows) ⌝ }
-    ensures distance { λ x. ⌜ (x ≡ from (now (table .entry)) c circles (now (query .entry)) row) × (x ≤ maxDistance) ⌝ }
-    ensures marks { λ _. ⌜ Leaves (isIn (now (withdrawn .entry))) (from (now (table .entry)) c circles (now (query .entry)))
-        ((row, byDistance (from (now (table .entry)) c circles (now (query .entry))) r row) ∷ []) (now (how .entry)) (now (how .exit))
-        (now (list .entry)) (now (list .exit)) ⌝ }
-{
-    let x = measure::query_distance(table, c, circles, query, row);
-    mark_measured(x, row, r, withdrawn, how, list);
-    x
-}
-
-// A row of a leaf is measured as far as r, beyond which it is out however far it is, and marked.
-pub fn measure_to(
-    table: &[u16],
-    c: usize,
-    circles: u32,
-    query: &[u16],
-    row: usize,
-    r: u32,
-    withdrawn: &[u32],
-    how: &mut [u8],
-    list: &mut [u32],
-)
-    requires { ⌜ (c ≤ maxColumns) × (c * row + c ≤ length (now table)) × (length (now query) ≡ c) × (row < maxRows) ⌝ }
-    ensures { λ _. ⌜ Leaves (isIn (now (withdrawn .entry))) (from (now (table .entry)) c circles (now (query .entry)))
-        ((row, byDistance (from (now (table .entry)) c circles (now (query .entry))) r row) ∷ []) (now (how .entry)) (now (how .exit))
-        (now (list .entry)) (now (list .exit)) ⌝ }
-{
-    let x = measure::query_distance_to(table, c, circles, query, row, r);
-    mark_measured(x, row, r, withdrawn, how, list);
 }

@@ -5,12 +5,12 @@ use Prim.Native.Nat.{_+_, _-_, _<_, _≤_, ℕ}
 use Rattle.descent.proofs.Below.{Below, below}
 use Rattle.descent.proofs.Ways.{child-did, inner-opened, leaf-opened, not-opened, settled-did, still-opened}
 use Rattle.descent.specs.Descent.{kidMarks}
-use Rattle.marking.proofs.Distances.{least-is}
 use Rattle.marking.proofs.Fitted.{lent-same}
 use Rattle.marking.proofs.Listed.{leaves-as, leaves-from, leaves-then, span-end, span-next, span-none}
 use Rattle.marking.specs.Lent.{Lent}
 use Rattle.marking.specs.Marks.{Distances, leastFrom}
 use Rattle.marking.specs.Listed.{Leaves, span}
+use Rattle.opened.proofs.Distances.{least-is}
 use Rattle.measure.specs.Table.{from}
 use Rattle.rowset.specs.Sets.{isIn}
 use Rattle.words.specs.Words.{child#, circles#, m#}
@@ -25,9 +25,9 @@ use Rattle.descent.proofs.descent.descend.Reads as descend
 use Rattle.descent.proofs.descent.descend.Kinds as descend-kinds
 use Rattle.descent.proofs.descent.+descend.Lts-descend as descend-lts
 use Rattle.descent.proofs.fate.settle.Reads as settle-reads
-use Rattle.marking.proofs.centres.least_of.Reads as least-of-reads
-use Rattle.marking.proofs.centres.open_inner.Reads as open-inner-reads
-use Rattle.marking.proofs.leaf.open_leaf.Reads as open-leaf-reads
+use Rattle.opened.proofs.centres.least_of.Reads as least-of-reads
+use Rattle.opened.proofs.centres.open_inner.Reads as open-inner-reads
+use Rattle.opened.proofs.leaf.open_leaf.Reads as open-leaf-reads
 use Rattle.bounds.proofs.kid_bound.Reads as kid-bound-reads
 use Rattle.words.proofs.places.centres.Reads as centres-reads
 use Rattle.words.proofs.places.node_child.Reads as node-child-reads
