@@ -3,14 +3,16 @@ use Prim.Native.Nat.{_*_, _≤_, min, ℕ}
 use Rattle.buffers.specs.Wiped.{wiped}
 use Rattle.build.proofs.Theorems.{build-headed}
 use Rattle.build.specs.Calls.{Builds}
-use Rattle.finder.proofs.Why.{asked-well}
 use Rattle.finder.specs.Calls.{Finds, Near, centres, leafRows}
-use Rattle.finder.specs.Near.{Asked, Fit, firstOf, markOf, saidOf}
+use Rattle.joined_marks.specs.Firsts.{firstOf}
 use Rattle.limits.proofs.Numbers.{Sized}
 use Rattle.measure.specs.Table.{offCircle, rowsOf}
 use Rattle.nearest.specs.Calls.{Answered}
 use Rattle.nearest_search.specs.Asked.{asks, lends}
+use Rattle.query_refusals.proofs.Why.{asked-well}
+use Rattle.query_refusals.specs.Numbers.{saidOf}
 use Rattle.rowset.specs.Sets.{setBad}
+use Rattle.several_queries.specs.Searched.{Asked, Fit, markOf}
 use Rattle.words.proofs.InShape.{in-shape}
 use Rattle.words.specs.Words.{n#}
 use lib.ListN.{drop, length, length-append, length-drop, length-replicate, replicate, take}

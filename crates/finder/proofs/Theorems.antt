@@ -1,14 +1,14 @@
 -- The theorems on the two calls: no second outcome fits, and 0 is exact. Assumes nothing.
 use Prim.Native.Nat.{_%_, _*_, _/_, _<_, _≤_, min, suc, zero, ℕ}
 use Rattle.build.proofs.Theorems.{build-headed, build-only}
-use Rattle.finder.proofs.Firsts.{first-at}
 use Rattle.finder.proofs.Indexed.{nearest-given}
-use Rattle.finder.proofs.Why.{asked-well}
 use Rattle.finder.specs.Answers.{Alike, Closest, Within}
 use Rattle.finder.specs.Calls.{Finds, Near, centres, leafRows}
-use Rattle.finder.specs.Near.{Asked, firstOf, hasIn, howAfter, howOf, markOf, measuredBy, someTo}
+use Rattle.joined_marks.proofs.Firsts.{first-at}
+use Rattle.joined_marks.specs.Firsts.{firstOf}
 use Rattle.laws.proofs.Tests.{or-l, or-r}
 use Rattle.laws.specs.Upto.{sumTo}
+use Rattle.marking.specs.Written.{write}
 use Rattle.measure.proofs.Metric.{query-point}
 use Rattle.measure.proofs.OnCircle.{round-rows}
 use Rattle.measure.specs.Table.{Rounded, between, from, offCircle, row, rowsOf}
@@ -16,9 +16,10 @@ use Rattle.nearest.proofs.Promises.{nearest-only}
 use Rattle.nearest.proofs.Refusals.{not-refused}
 use Rattle.nearest.specs.Calls.{Answered}
 use Rattle.nearest_search.specs.Asked.{NearestLent, asks, lends}
-use Rattle.marking.specs.Written.{write}
+use Rattle.query_refusals.proofs.Why.{asked-well}
 use Rattle.radius.proofs.How.{bytes-are}
 use Rattle.rowset.specs.Sets.{isIn, setBad}
+use Rattle.several_queries.specs.Searched.{Asked, hasIn, howAfter, howOf, markOf, measuredBy, someTo}
 use Rattle.tree.proofs.Accepted.{once-of}
 use Rattle.tree.proofs.Theorems.{radius-exact}
 use Rattle.tree.specs.Check.{Accepted}

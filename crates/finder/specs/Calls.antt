@@ -1,10 +1,11 @@
 -- What the two calls leave, for every input. Assumes nothing.
 use Prim.Native.Nat.{min, ℕ}
 use Rattle.build.specs.Calls.{Builds}
-use Rattle.finder.specs.Near.{Asked, saidOf}
 use Rattle.measure.specs.Table.{rowsOf}
 use Rattle.nearest.specs.Calls.{Answered}
 use Rattle.nearest_search.specs.Asked.{asks, lends}
+use Rattle.query_refusals.specs.Numbers.{saidOf}
+use Rattle.several_queries.specs.Searched.{Asked}
 use lib.ListN.{length, take}
 use mathlib.Core.List.{List}
 use mathlib.Core.Path.{_≡_}

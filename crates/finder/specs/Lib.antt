@@ -1,3 +1,2 @@
-pub mod Near
 pub mod Calls
 pub mod Answers

@@ -1,16 +1,14 @@
 // Questions about a table, answered exactly: which rows are near, and which are the nearest. The index is built over the table, and searched.
 ghost use Rattle.finder.specs.Calls.{Finds, Near};
 ghost use mathlib.Core.Path.{_≡_};
-use crate::rounds::mark_each;
-use crate::rounds::why_not;
 use buffers::clear_bytes;
 use limits::Params;
 use measure::circles::off_circle;
 use nearest::Given;
+use query_refusals::why_not;
 use radius::Found;
 use rowset::set_bad;
-
-mod rounds;
+use several_queries::mark_each;
 
 // Centres of an inner node, and rows of a leaf: what measures best for one build and one search.
 const CENTRES: usize = 2;

@@ -2,9 +2,9 @@
 -- Assumes nothing.
 use Rattle.finder.proofs.Indexed.{words-there}
 use Rattle.finder.proofs.Outcomes.{built-sized, near-asked, near-fit, near-refused, near-unbuilt}
-use Rattle.finder.proofs.Why.{asked-well, told-of}
 use Rattle.finder.proofs.mark_near.Statement.{statement}
 use Rattle.finder.proofs.mark_near.Tie as tie
+use Rattle.query_refusals.proofs.Why.{asked-well, told-of}
 use borrow.Author.Needs.{needs}
 use lib.Seq.{length-take-le}
 use mathlib.Core.Path.{_∙_, sym}
