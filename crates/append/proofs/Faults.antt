@@ -1,8 +1,8 @@
 -- Why a call that puts rows into an index is refused: one law for each return of the code, and what holds where nothing is refused. Assumes nothing.
 use Prim.Native.Nat.{_*_, _≤_, ℕ}
 use Rattle.append.specs.Numbers.{growFaults}
-use Rattle.build.proofs.Refusals.{rooms}
-use Rattle.build.specs.Numbers.{roomOf, shortOf, writerAsks}
+use Rattle.build_refusals.proofs.Refusals.{rooms}
+use Rattle.build_refusals.specs.Numbers.{roomOf, shortOf, writerAsks}
 use Rattle.laws.proofs.Tests.{or-parts}
 use Rattle.limits.proofs.Faults.{Numbered, early-numbered, fault-first, fault-next, fault-none, fault-not, numberOf, says-first, says-next, says-none}
 use Rattle.limits.proofs.Numbers.{Passed, Sized, numbers-numbered, passed, passed-none}

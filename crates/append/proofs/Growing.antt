@@ -5,10 +5,10 @@ use Rattle.append.specs.Calls.{Grows}
 use Rattle.appending.proofs.Appending.{share-ok}
 use Rattle.appending.proofs.Back.{header-last}
 use Rattle.build.proofs.Outcomes.{small as sixteen}
-use Rattle.build.proofs.Refusals.{clear-none}
+use Rattle.build_refusals.proofs.Refusals.{clear-none}
 use Rattle.build.proofs.Small.{build-small}
 use Rattle.build.specs.Calls.{Builds}
-use Rattle.build.specs.Numbers.{saidBuild}
+use Rattle.build_refusals.specs.Numbers.{saidBuild}
 use Rattle.limits.specs.Limits.{circlesOk, maxRows}
 use Rattle.limits.specs.Said.{Said}
 use Rattle.measure.specs.Table.{rowsOf}

@@ -8,7 +8,7 @@ use Rattle.append.specs.Numbers.{saidAppend}
 use Rattle.appending.proofs.Appending.{append-one}
 use Rattle.appending.proofs.Back.{tree-fits}
 use Rattle.build.specs.Calls.{Builds}
-use Rattle.build.specs.Numbers.{roomOf}
+use Rattle.build_refusals.specs.Numbers.{roomOf}
 use Rattle.limits.specs.Limits.{maxRows}
 use Rattle.measure.specs.Table.{rowsOf}
 use Rattle.words.proofs.Headers.{words-whole}

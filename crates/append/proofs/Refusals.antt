@@ -2,7 +2,7 @@
 use Prim.Native.Nat.{_*_, _+_, _-_, _≤_, ℕ}
 use Rattle.append.proofs.Faults.{Free, few-columns, free, free-none, none-new, of-circles, of-index, of-numbers, there}
 use Rattle.append.specs.Numbers.{saidAppend}
-use Rattle.build.specs.Numbers.{roomOf, writerAsks}
+use Rattle.build_refusals.specs.Numbers.{roomOf, writerAsks}
 use Rattle.limits.proofs.Numbers.{Sized}
 use Rattle.limits.specs.Limits.{maxColumns}
 use Rattle.limits.specs.Said.{numberFaults, said}

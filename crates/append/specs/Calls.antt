@@ -6,7 +6,7 @@ use Rattle.limits.specs.Limits.{maxRows}
 use Rattle.limits.specs.Said.{Said}
 use Rattle.measure.specs.Table.{rowsOf}
 use Rattle.append.specs.Numbers.{saidAppend}
-use Rattle.build.specs.Numbers.{roomOf}
+use Rattle.build_refusals.specs.Numbers.{roomOf}
 use Rattle.words.specs.Words.{N#}
 use lib.Dec.{eqb}
 use lib.ListN.{drop, length, replicate}

@@ -2,7 +2,7 @@
 use Prim.Native.Nat.{_*_, _+_, _≤_, ℕ}
 use Rattle.appending.specs.Append.{appended}
 use Rattle.limits.specs.Limits.{maxRows}
-use Rattle.build.specs.Numbers.{roomOf}
+use Rattle.build_refusals.specs.Numbers.{roomOf}
 use Rattle.words.specs.InShape.{InShape}
 use Rattle.words.specs.Shape.{treeFits}
 use Rattle.words.specs.Words.{N#, c#, edition#, n#}

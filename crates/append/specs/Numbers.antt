@@ -1,6 +1,6 @@
 -- What an append says: 02, R-1 and R-2. Assumes nothing.
 use Prim.Native.Nat.{_-_, ℕ}
-use Rattle.build.specs.Numbers.{writerAsks}
+use Rattle.build_refusals.specs.Numbers.{writerAsks}
 use Rattle.limits.specs.Said.{Said, fault, numberFaults, said}
 use Rattle.measure.specs.Table.{rowsOf}
 use Rattle.refusals.specs.Refused.{circleFaults}

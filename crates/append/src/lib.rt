@@ -12,7 +12,7 @@ use buffers::clear_words;
 use build::Built;
 use build::build;
 use build::refused;
-use build::writer_number;
+use build_refusals::writer_number;
 use copies::Growth;
 use laying::lay_leaf;
 use leafward::leaf_for;

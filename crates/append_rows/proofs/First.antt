@@ -9,7 +9,7 @@ use Rattle.appending.proofs.Appending.{append-header}
 use Rattle.appending.proofs.Back.{tree-fits}
 use Rattle.build.proofs.Outcomes.{small as sixteen}
 use Rattle.build.specs.Calls.{Builds}
-use Rattle.build.specs.Numbers.{roomOf}
+use Rattle.build_refusals.specs.Numbers.{roomOf}
 use Rattle.measure.proofs.OnCircle.{round-rows}
 use Rattle.measure.specs.Table.{between, rowsOf}
 use Rattle.refilling.specs.Joining.{RowsJoin, RowsJoinable}

@@ -3,7 +3,7 @@ use Prim.Native.Nat.{_<_, _≤_, ℕ}
 use Rattle.append.proofs.Faults.{Free, few-columns, free, none-new, of-circles, of-index, of-numbers}
 use Rattle.append.specs.Numbers.{growFaults}
 use Rattle.append_rows.specs.Numbers.{saidAppendRows}
-use Rattle.build.specs.Numbers.{writerAsks}
+use Rattle.build_refusals.specs.Numbers.{writerAsks}
 use Rattle.limits.specs.Limits.{maxColumns}
 use Rattle.limits.specs.Said.{numberFaults, said}
 use Rattle.measure.specs.Table.{rowsOf}

@@ -6,7 +6,7 @@ use Rattle.append.specs.Calls.{Appends}
 use Rattle.append.specs.Numbers.{saidAppend}
 use Rattle.append_rows.specs.Turns.{AppendsInTurn, none, then}
 use Rattle.appending.proofs.Appending.{append-header, append-length}
-use Rattle.build.specs.Numbers.{roomOf}
+use Rattle.build_refusals.specs.Numbers.{roomOf}
 use Rattle.limits.proofs.Numbers.{Sized, sized-of}
 use Rattle.measure.specs.Table.{offCircle, rowsOf}
 use Rattle.refusals.proofs.OffCircle.{circle-means}

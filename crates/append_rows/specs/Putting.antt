@@ -1,7 +1,7 @@
 -- The rows that are put into an index, which may have none: what the call has seen to before. A working notion, on which no promise rests. Assumes
 -- nothing.
 use Prim.Native.Nat.{_*_, _<_, _≤_, ℕ}
-use Rattle.build.specs.Numbers.{roomOf}
+use Rattle.build_refusals.specs.Numbers.{roomOf}
 use Rattle.limits.specs.Limits.{maxColumns, maxRows}
 use Rattle.measure.specs.Table.{offCircle, rowsOf}
 use Rattle.words.specs.Shape.{shapeOk}

@@ -1,7 +1,7 @@
 -- Appends one after the other: what the call's outcome is held to. Assumes nothing.
 use Prim.Native.Nat.{_*_, _+_, _≤_, suc, zero, ℕ}
 use Rattle.append.specs.Calls.{Appends}
-use Rattle.build.specs.Numbers.{roomOf}
+use Rattle.build_refusals.specs.Numbers.{roomOf}
 use Rattle.swelling.specs.Rows.{firstRows}
 use Rattle.words.specs.Words.{n#}
 use lib.ListN.{length, take}

@@ -7,7 +7,7 @@ ghost use mathlib.Core.Path.{_≡_};
 use build::Built;
 use build::build;
 use build::refused;
-use build::writer_number;
+use build_refusals::writer_number;
 use limits::Params;
 use limits::rows_in;
 use refilling::fill_rows;

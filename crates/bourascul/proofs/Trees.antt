@@ -5,7 +5,7 @@ use Rattle.appending.proofs.Back.{tree-encode}
 use Rattle.appending.proofs.Read.{encode-tree}
 use Rattle.audit.specs.Calls.{Checks}
 use Rattle.bourascul.proofs.Numbers.{passed}
-use Rattle.build.proofs.Refusals.{clear, clear-round}
+use Rattle.build_refusals.proofs.Refusals.{clear, clear-round}
 use Rattle.build.specs.Calls.{Builds}
 use Rattle.laws.specs.Every.{Every}
 use Rattle.limits.proofs.Ranges.{shared}

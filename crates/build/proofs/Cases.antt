@@ -1,5 +1,6 @@
 -- The cases of 01 that are builds, of any call that meets its contract. Assumes nothing.
 use Prim.Native.Nat.{_*_, ℕ}
+use Rattle.build_refusals.specs.Numbers.{roomOf, saidBuild}
 use Rattle.build.specs.Cases.{Comes, emptyWords, sevenWords, sevens, table}
 use Rattle.laws.specs.Every.{Every}
 use Rattle.laws.specs.Lists.{range}
@@ -9,7 +10,6 @@ use Rattle.measure.specs.Distance.{l1}
 use Rattle.measure.specs.Table.{between, offCircle, rowsOf}
 use Rattle.refusals.specs.Refused.{circleFaults}
 use Rattle.tree.specs.Build.{build, choose, grow, split}
-use Rattle.build.specs.Numbers.{roomOf, saidBuild}
 use Rattle.tree.specs.Cases.{five, fiveWords}
 use Rattle.tree.specs.Encode.{broods, encode, family, levelNodes, nodes, numbered}
 use Rattle.words.specs.Words.{N#, row#}

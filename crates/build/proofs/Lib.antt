@@ -1,9 +1,3 @@
-pub mod Numbering
-pub mod Positions
-pub mod Pairing
-pub mod Framed
-pub mod Whole
-pub mod Refusals
 pub mod Outcomes
 pub mod Theorems
 pub mod Cases

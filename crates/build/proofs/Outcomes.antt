@@ -1,14 +1,15 @@
 -- The call's outcomes: a refusal, and the index. Assumes nothing.
 use Prim.Native.Nat.{_*_, _+_, _≤_, suc, ℕ}
-use Rattle.build.proofs.Refusals.{Clear, clear, clear-round}
-use Rattle.build.proofs.Whole.{encode-long}
+use Rattle.build_refusals.proofs.Refusals.{Clear, clear, clear-round}
+use Rattle.build_refusals.specs.Numbers.{saidBuild}
 use Rattle.build.specs.Calls.{Builds}
-use Rattle.build.specs.Filled.{Filled}
+use Rattle.filling.proofs.Whole.{encode-long}
+use Rattle.filling.specs.Filled.{Filled}
 use Rattle.growing.specs.Rooted.{Room}
 use Rattle.growing.specs.Stages.{Fit}
 use Rattle.laws.specs.Every.{Every}
-use Rattle.limits.proofs.Ranges.{shared}
 use Rattle.limits.proofs.Numbers.{sized-columns}
+use Rattle.limits.proofs.Ranges.{shared}
 use Rattle.limits.proofs.Told.{refused-is, taken-is}
 use Rattle.limits.specs.Chosen.{choiceOk, chosen, told}
 use Rattle.limits.specs.Limits.{maxRows}
@@ -19,7 +20,6 @@ use Rattle.measure.specs.Table.{between, rowsOf}
 use Rattle.split.specs.Places.{nodeAt}
 use Rattle.tree.proofs.Built.{build-accepted}
 use Rattle.tree.specs.Build.{build}
-use Rattle.build.specs.Numbers.{saidBuild}
 use Rattle.tree.specs.Check.{Accepted}
 use Rattle.tree.specs.Encode.{encode}
 use borrow.Author.Tests.{ne-eqb}

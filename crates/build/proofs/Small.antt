@@ -1,11 +1,12 @@
 -- How much a build gives back at most: 01, The tree, Index words, for the most rows that there can be; and its number. Assumes nothing.
 use Prim.Native.Nat.{_%_, _*_, _+_, _≤_, suc, zero, ℕ}
-use Rattle.growing.proofs.Items.{out-long, placed-long}
-use Rattle.build.proofs.Numbering.{numbered-levels}
+use Rattle.build_refusals.specs.Numbers.{saidBuild, shortOf}
 use Rattle.build.proofs.Outcomes.{Passed, built-fit}
-use Rattle.growing.proofs.Rooting.{root-run}
-use Rattle.build.proofs.Whole.{encode-long}
 use Rattle.build.specs.Calls.{Builds}
+use Rattle.filling.proofs.Numbering.{numbered-levels}
+use Rattle.filling.proofs.Whole.{encode-long}
+use Rattle.growing.proofs.Items.{out-long, placed-long}
+use Rattle.growing.proofs.Rooting.{root-run}
 use Rattle.growing.specs.Levels.{Item, allNodes, leafNode, levelOut, nextLevel, placed}
 use Rattle.growing.specs.Stages.{Fit}
 use Rattle.laws.proofs.Every.{every-append}
@@ -22,7 +23,6 @@ use Rattle.refusals.specs.Refused.{circleFaults}
 use Rattle.split.proofs.Laid.{split-joined}
 use Rattle.tree.proofs.Grow.{split-length, split-runs}
 use Rattle.tree.specs.Build.{Run, build, plant, split}
-use Rattle.build.specs.Numbers.{saidBuild, shortOf}
 use Rattle.tree.specs.Encode.{broods, encode, family, levelNodes, nodes, numbered}
 use Rattle.words.specs.Words.{N#}
 use borrow.Author.Tests.{eqb-true, leb-false}

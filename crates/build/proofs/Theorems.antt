@@ -1,10 +1,10 @@
 -- The theorems on the call: what it wrote is the table's and accepted, and no second outcome fits. Assumes nothing.
 use Prim.Native.Nat.{_*_, ℕ}
-use Rattle.build.proofs.Refusals.{clear}
-use Rattle.build.proofs.Whole.{encode-words, positions}
+use Rattle.build_refusals.proofs.Refusals.{clear}
 use Rattle.build.specs.Calls.{Builds}
-use Rattle.limits.proofs.Ranges.{shared}
+use Rattle.filling.proofs.Whole.{encode-words, positions}
 use Rattle.limits.proofs.Numbers.{Sized}
+use Rattle.limits.proofs.Ranges.{shared}
 use Rattle.limits.specs.Limits.{shareOk}
 use Rattle.measure.specs.Table.{between, offCircle, rowsOf}
 use Rattle.tree.specs.Build.{build, plant}

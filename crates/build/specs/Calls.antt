@@ -1,8 +1,8 @@
 -- What the call promises: 01, Numbers given back, and The tree. Assumes nothing.
 use Prim.Native.Nat.{_*_, ℕ}
+use Rattle.build_refusals.specs.Numbers.{saidBuild}
 use Rattle.measure.specs.Table.{between, rowsOf}
 use Rattle.tree.specs.Build.{build}
-use Rattle.build.specs.Numbers.{saidBuild}
 use Rattle.tree.specs.Check.{Accepted}
 use Rattle.words.specs.Words.{N#}
 use lib.Dec.{eqb}

@@ -1,7 +1,7 @@
 -- The builds that 01 marks P, The five-row table: one column, m = 2 and l = 2. Assumes nothing.
 use Prim.Native.Nat.{_*_, _≤_, ℕ}
+use Rattle.build_refusals.specs.Numbers.{roomOf}
 use Rattle.build.specs.Calls.{Builds}
-use Rattle.build.specs.Numbers.{roomOf}
 use Rattle.tree.specs.Cases.{five, fiveWords}
 use Rattle.words.specs.Words.{N#}
 use lib.ListN.{drop, length, replicate}

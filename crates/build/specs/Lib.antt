@@ -1,4 +1,2 @@
-pub mod Numbers
-pub mod Filled
 pub mod Calls
 pub mod Cases

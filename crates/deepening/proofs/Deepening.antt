@@ -1,6 +1,6 @@
 -- Level after level: the nodes and members that are still to come make up the whole with those that are there. Assumes nothing.
 use Prim.Native.Nat.{_*_, _+_, _-_, _<_, _≤_, suc, zero, ℕ}
-use Rattle.build.specs.Filled.{pairsIn}
+use Rattle.filling.specs.Filled.{pairsIn}
 use Rattle.dealing.specs.Pending.{StandAll, pendOf, sizeOf, sizes}
 use Rattle.deepening.proofs.Sounding.{sound-some}
 use Rattle.deepening.proofs.Standing.{few-sizes, stand-long}

@@ -1,7 +1,7 @@
 -- What stands in the room and in the workspace while the levels of an index that takes rows are opened. A working notion, on which no promise rests.
 -- Assumes nothing.
 use Prim.Native.Nat.{_*_, _+_, _≤_, suc, ℕ}
-use Rattle.build.specs.Filled.{pairsIn}
+use Rattle.filling.specs.Filled.{pairsIn}
 use Rattle.dealing.specs.Pending.{StandAll, pendOf}
 use Rattle.deepening.specs.Tiles.{Follow, Leafy, Tile, belowAll, current, pieces}
 use Rattle.growing.specs.Stages.{withNodes}

@@ -2,7 +2,7 @@
 use Prim.Native.Nat.{_%_, _*_, _+_, _-_, _/_, _<_, _≤_, ℕ}
 use Rattle.appending.proofs.Lowest.{orderly-ascends, orderly-length, orderly-tally, twice-same}
 use Rattle.appending.specs.Append.{Ascends, orderly, twice}
-use Rattle.build.specs.Filled.{pairsIn}
+use Rattle.filling.specs.Filled.{pairsIn}
 use Rattle.laws.proofs.Every.{every-map}
 use Rattle.laws.proofs.Lists.{paired}
 use Rattle.laws.proofs.Ranges.{range-every, range-length}

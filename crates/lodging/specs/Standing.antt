@@ -1,7 +1,7 @@
 -- What stands in the workspace of a piece of an index that takes rows: 02, R-2. A working notion, on which no promise rests. Assumes nothing.
 use Prim.Native.Nat.{_%_, _*_, _+_, _<_, _≤_, ℕ}
 use Rattle.appending.specs.Append.{Ascends, orderly}
-use Rattle.build.specs.Filled.{pairsIn}
+use Rattle.filling.specs.Filled.{pairsIn}
 use Rattle.laws.specs.Every.{Every}
 use Rattle.laws.specs.Lists.{each}
 use Rattle.limits.specs.Limits.{maxRows}

@@ -15,7 +15,7 @@ use Rattle.regrow.proofs.Trees.{small-grown}
 use Rattle.regrow.specs.Calls.{Regrowable, regrownOf}
 use Rattle.rounds.specs.Stretch.{stretch}
 use Rattle.tree.specs.Build.{build, grow, leafOf}
-use Rattle.build.specs.Numbers.{roomOf}
+use Rattle.build_refusals.specs.Numbers.{roomOf}
 use Rattle.tree.specs.Encode.{encode}
 use Rattle.tree.specs.Grove.{Grove, Reach, bare, fork, leaf, members#, treeOf}
 use Rattle.words.specs.InShape.{InShape}

@@ -3,7 +3,7 @@
 use Rattle.copies.specs.Copies.{end#, newReach}
 use Prim.Native.Nat.{_+_, _-_, _<_, _≤_, suc, zero, ℕ}
 use Rattle.appending.specs.Append.{keepOwn}
-use Rattle.build.proofs.Positions.{entries-leaves, pairsOf}
+use Rattle.filling.proofs.Positions.{entries-leaves, pairsOf}
 use Rattle.growing.specs.Levels.{Able, Item, leaves}
 use Rattle.laws.proofs.Lists.{map-append}
 use Rattle.laws.proofs.Ranges.{range-append}

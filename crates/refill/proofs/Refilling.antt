@@ -1,11 +1,12 @@
 -- The words of the whole index: header, nodes, positions. Assumes nothing.
 use Rattle.copies.specs.Copies.{end#}
 use Prim.Native.Nat.{_*_, _+_, _-_, _≤_, ℕ}
-use Rattle.build.proofs.Framed.{framed}
-use Rattle.build.proofs.Positions.{pairs-laid, pairsOf}
+use Rattle.filling.proofs.Framed.{framed}
+use Rattle.filling.proofs.Positions.{pairs-laid, pairsOf}
 use Rattle.growing.proofs.Rooms.{room-long}
-use Rattle.build.proofs.Whole.{encode-words}
-use Rattle.build.specs.Filled.{headerOf, pairsIn}
+use Rattle.filling.proofs.Whole.{encode-words}
+use Rattle.filling.specs.Filled.{pairsIn}
+use Rattle.header_words.specs.Header.{headerOf}
 use Rattle.growing.specs.Levels.{Able, leaves}
 use Rattle.laws.proofs.Joins.{each-append, part-two}
 use Rattle.laws.proofs.Ranges.{range-length}

@@ -1,7 +1,7 @@
 -- The positions' words: copied, and put together from three parts. Assumes nothing.
 use Rattle.copies.specs.Copies.{end#}
 use Prim.Native.Nat.{_*_, _+_, _-_, _<_, _≤_, suc, zero, ℕ}
-use Rattle.build.specs.Filled.{pairsIn}
+use Rattle.filling.specs.Filled.{pairsIn}
 use Rattle.laws.proofs.Parts.{put-more, store-more}
 use Rattle.laws.specs.Lists.{each}
 use Rattle.refill.proofs.Positions.{held}

@@ -46,7 +46,7 @@ fn put_pairs(index: &[u32], v: usize, added: usize, part: &mut [u32], work: &[u3
     copy_words(part, &index[base..], 2 * s);
     let at = 2 * s;
     let from = 3 * s;
-    build::put_positions(&mut part[at..], count, &work[from..]);
+    filling::put_positions(&mut part[at..], count, &work[from..]);
     let end = node_end(index, v);
     let tail = 2 * (s + count);
     let behind = base + 2 * end;
@@ -69,7 +69,7 @@ pub fn refill(table: &[u16], index: &[u32], p: Growth, room: &mut [u32], work: &
         leaf,
         circles,
     };
-    build::put_header(room, n, columns(index), params, made);
+    header_words::put_header(room, n, columns(index), params, made);
     let at = HEADER + WIDTH * made;
     put_pairs(index, p.node, p.added, &mut room[at..], work);
     made

@@ -2,8 +2,9 @@
 use Prim.Native.Nat.{_*_, _+_, _-_, _≤_, ℕ}
 use Rattle.buffers.proofs.Whole.{wiped-whole}
 use Rattle.buffers.specs.Wiped.{wiped}
-use Rattle.build.proofs.Framed.{framed}
-use Rattle.build.specs.Filled.{headerOf, pairsIn}
+use Rattle.filling.proofs.Framed.{framed}
+use Rattle.filling.specs.Filled.{pairsIn}
+use Rattle.header_words.specs.Header.{headerOf}
 use Rattle.deepening.specs.Stages.{Layered, Leveled, Planted}
 use Rattle.laws.specs.Lists.{each, range}
 use Rattle.limits.specs.Limits.{maxColumns, maxDepth, maxRows}

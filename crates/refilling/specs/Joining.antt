@@ -1,7 +1,7 @@
 -- The rows that join an index in one pass: what the call has seen to before, and what it leaves. A working notion, on which no promise rests. Assumes
 -- nothing.
 use Prim.Native.Nat.{_*_, _+_, _<_, _≤_, ℕ}
-use Rattle.build.specs.Numbers.{roomOf}
+use Rattle.build_refusals.specs.Numbers.{roomOf}
 use Rattle.limits.specs.Limits.{maxRows}
 use Rattle.measure.specs.Table.{rowsOf}
 use Rattle.swelling.specs.Rows.{appendedRows}

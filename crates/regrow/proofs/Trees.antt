@@ -2,7 +2,7 @@
 use Prim.Native.Nat.{_+_, _≤_, suc, zero, ℕ}
 use Rattle.appending.specs.Append.{keepOwn}
 use Rattle.growing.proofs.Items.{placed-long}
-use Rattle.build.proofs.Numbering.{forest, forest-singles, inner-long, single}
+use Rattle.filling.proofs.Numbering.{forest, forest-singles, inner-long, single}
 use Rattle.growing.proofs.Waiting.{able-run}
 use Rattle.growing.specs.Levels.{Able, Item, placed}
 use Rattle.laws.proofs.Every.{every-append}

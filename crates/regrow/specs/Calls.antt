@@ -14,7 +14,7 @@ use Rattle.regrow.specs.Pieces.{due, jobOf, piece}
 use Rattle.rounds.specs.Stretch.{stretch}
 use Rattle.split.specs.Runs.{laid}
 use Rattle.tree.specs.Build.{grow}
-use Rattle.build.specs.Numbers.{roomOf}
+use Rattle.build_refusals.specs.Numbers.{roomOf}
 use Rattle.tree.specs.Encode.{numbered}
 use Rattle.tree.specs.Grove.{Grove, Reach, bare}
 use Rattle.words.specs.Shape.{treeFits}

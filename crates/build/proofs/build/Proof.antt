@@ -1,14 +1,14 @@
 -- `build::build` meets its contract: each return has its number, and the last one the index.
 -- Assumes nothing.
 use Prim.Native.Nat.{_*_, _≤_, ℕ}
+use Rattle.build_refusals.proofs.Refusals.{says as says-is, unfit-refused}
+use Rattle.build_refusals.specs.Numbers.{saidBuild}
 use Rattle.build.proofs.Outcomes.{Passed, answer-refused, answer-taken, built-builds, built-room, columns-some, part-long, refused-builds, rows-most, work-long}
-use Rattle.build.proofs.Refusals.{says as says-is, unfit-refused}
 use Rattle.build.proofs.build.Statement.{statement}
 use Rattle.build.proofs.build.Tie as tie
 use Rattle.limits.specs.Chosen.{choiceOk}
 use Rattle.limits.specs.Limits.{maxRows}
 use Rattle.measure.specs.Table.{rowsOf}
-use Rattle.build.specs.Numbers.{saidBuild}
 use borrow.Author.Needs.{needs}
 use lib.ListN.{getD, length}
 use mathlib.Core.Bool.{true}

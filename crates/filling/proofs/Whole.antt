@@ -2,20 +2,22 @@
 use Prim.Native.Nat.{_*_, _+_, _-_, _≤_, suc, zero, ℕ}
 use Rattle.buffers.proofs.Whole.{wiped-whole}
 use Rattle.buffers.specs.Wiped.{wiped}
-use Rattle.build.proofs.Framed.{framed}
-use Rattle.build.proofs.Numbering.{numbered-levels}
-use Rattle.build.proofs.Positions.{entries-leaves, pairs-laid, pairsOf}
+use Rattle.filling.proofs.Framed.{framed}
+use Rattle.filling.proofs.Numbering.{numbered-levels}
+use Rattle.filling.proofs.Positions.{entries-leaves, pairs-laid, pairsOf}
+use Rattle.filling.specs.Filled.{Filled, Grown, pairsIn}
 use Rattle.growing.proofs.Rooting.{root-run}
-use Rattle.build.specs.Filled.{Filled, Grown, headerOf, pairsIn}
-use Rattle.growing.specs.Rooted.{Layered, Room, rootItem}
 use Rattle.growing.specs.Levels.{allNodes, leaves}
+use Rattle.growing.specs.Rooted.{Layered, Room, rootItem}
 use Rattle.growing.specs.Stages.{Fit, withNodes}
+use Rattle.header_words.specs.Header.{headerOf}
 use Rattle.laws.proofs.Lists.{tally-length}
 use Rattle.laws.proofs.Ranges.{range-length}
 use Rattle.laws.specs.Lists.{each, range}
 use Rattle.limits.specs.Limits.{maxDepth}
 use Rattle.measure.specs.Table.{between}
 use Rattle.rounds.specs.Stretch.{stretch}
+use Rattle.split.specs.Places.{nodeAt}
 use Rattle.split.specs.Runs.{laid}
 use Rattle.tree.proofs.Good.{pairs-length}
 use Rattle.tree.proofs.Grow.{grown-tally}
@@ -23,7 +25,6 @@ use Rattle.tree.proofs.Written.{each-words}
 use Rattle.tree.specs.Build.{plant}
 use Rattle.tree.specs.Encode.{Node, broods, encode, family, levelNodes, nodeWords, nodes, numbered, pairWords}
 use Rattle.tree.specs.Grove.{Grove, bare, entries, rowsIn}
-use Rattle.split.specs.Places.{nodeAt}
 use borrow.Rule.Slice.PartMut.{midOf, putMid}
 use lib.ListN.{drop, length, length-append, length-map, replicate, take, take-append-drop}
 use mathlib.Core.Bool.{true}

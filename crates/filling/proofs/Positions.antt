@@ -1,6 +1,6 @@
 -- The positions of the tree that is grown: its leaves' members, one leaf after the other. Assumes nothing.
-use Prim.Native.Nat.{_*_, suc, zero, ℕ}
-use Rattle.build.specs.Filled.{pairsIn}
+use Prim.Native.Nat.{suc, zero, ℕ}
+use Rattle.filling.specs.Filled.{pairsIn}
 use Rattle.growing.specs.Levels.{leaves}
 use Rattle.laws.proofs.Joins.{each-append}
 use Rattle.laws.specs.Lists.{each, head}
@@ -13,7 +13,6 @@ use lib.ListN.{length}
 use mathlib.Core.Bool.{Bool, cond, false, true}
 use mathlib.Core.List.{List, [], _++_, _∷_, append-nil, foldr, map}
 use mathlib.Core.Path.{_∙_, _≡_, ap, refl, sym}
-use native.Mathlib.Omega.{arith}
 
 -- the pairs in the entries of the rows xs, before other entries
 pairs-under : (f : ℕ → ℕ) (a : ℕ) (xs ys : List ℕ)

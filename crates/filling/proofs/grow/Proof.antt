@@ -1,8 +1,8 @@
--- `build::grow` meets its contract: no rows have no nodes; else the root, and the levels below it.
+-- `filling::grow` meets its contract: no rows have no nodes; else the root, and the levels below it.
 -- Assumes nothing.
-use Rattle.build.proofs.Whole.{grown-levels, grown-none}
-use Rattle.build.proofs.grow.Statement.{statement}
-use Rattle.build.proofs.grow.Tie as tie
+use Rattle.filling.proofs.Whole.{grown-levels, grown-none}
+use Rattle.filling.proofs.grow.Statement.{statement}
+use Rattle.filling.proofs.grow.Tie as tie
 use borrow.Author.Needs.{needs}
 
 -- the start, seen from behind the root

@@ -1,8 +1,8 @@
--- `build::build_number` meets its contract: what numbers refuse comes first, and then the circles decide.
+-- `build_refusals::build_number` meets its contract: what numbers refuse comes first, and then the circles decide.
 -- Assumes nothing.
-use Rattle.build.proofs.Refusals.{by-circles, by-numbers, few-columns}
-use Rattle.build.proofs.build_number.Statement.{statement}
-use Rattle.build.proofs.build_number.Tie as tie
+use Rattle.build_refusals.proofs.Refusals.{by-circles, by-numbers, few-columns}
+use Rattle.build_refusals.proofs.build_number.Statement.{statement}
+use Rattle.build_refusals.proofs.build_number.Tie as tie
 use borrow.Author.Needs.{needs}
 
 -- the start, seen from behind the numbers

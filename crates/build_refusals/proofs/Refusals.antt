@@ -1,6 +1,6 @@
 -- What a build says, by what its parameters answer, and what holds where nothing is refused. Assumes nothing.
-use Prim.Native.Nat.{_*_, _+_, _-_, _≤_, ℕ}
-use Rattle.build.specs.Numbers.{buildFaults, roomOf, saidBuild, shortOf, writerAsks}
+use Prim.Native.Nat.{_*_, _-_, _/_, _≤_, ℕ}
+use Rattle.build_refusals.specs.Numbers.{buildFaults, roomOf, saidBuild, shortOf, writerAsks}
 use Rattle.laws.proofs.Tests.{and-l, and-r, holds, is-true, or-none, or-parts}
 use Rattle.limits.proofs.Faults.{fault-not, numberOf, says-first, says-next, says-none}
 use Rattle.limits.proofs.Numbers.{Passed, Sized, numbers-numbered, passed, passed-none}
@@ -15,7 +15,7 @@ use borrow.Author.Tests.{eq-eqb, eqb-true, le-ltb, lt-ltb, ltb-false, ltb-true, 
 use lib.Dec.{eqb, ltb}
 use lib.ListN.{length}
 use mathlib.Core.Bool.{Bool, _&&_, _||_, cond, false, not, true}
-use mathlib.Core.List.{List, [], _++_}
+use mathlib.Core.List.{List, []}
 use mathlib.Core.Path.{_∙_, _≡_, ap, refl, sym}
 use native.Mathlib.Nat.{mod-add-div}
 use native.Mathlib.Omega.{arith}
@@ -37,6 +37,17 @@ rooms n room work e =
 
 rooms-of : (n room work : ℕ) → roomOf n ≤ room → 6 * n ≤ work → shortOf n room work ≡ false
 rooms-of n room work a b = or-none (ltb room (roomOf n)) (ltb work (6 * n)) (le-ltb room (roomOf n) a) (le-ltb work (6 * n) b)
+
+-- ---- what numbers decide
+-- what is asked where it is known whether the rooms are too short
+abbrev asksShort : ℕ → ℕ → Bool → Bool → Asked
+asksShort long c unfit short = record { length = long; columns = c; unfit = unfit; short = short; unlike = false; none = false }
+
+-- its number, by the rows and the rooms
+pub writer-says : (long c room work : ℕ) (unfit : Bool) {n v : ℕ} {short : Bool} → n ≡ long / c → short ≡ shortOf n room work
+    → v ≡ said (numberFaults (asksShort long c unfit short)) .0 → v ≡ said (numberFaults (writerAsks long c unfit room work)) .0
+writer-says long c room work unfit e f g =
+    g ∙ ap (λ (s : Bool). said (numberFaults (asksShort long c unfit s)) .0) (f ∙ ap (λ (k : ℕ). shortOf k room work) e)
 
 -- ---- the number, by what decides it
 module _ (T : List ℕ) (c o : ℕ) (unfit : Bool) (room work : ℕ) where

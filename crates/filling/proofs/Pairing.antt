@@ -1,6 +1,6 @@
 -- The positions' pairs, one after the other. Assumes nothing.
 use Prim.Native.Nat.{_*_, _+_, _-_, _<_, _≤_, ℕ}
-use Rattle.build.specs.Filled.{pairsIn}
+use Rattle.filling.specs.Filled.{pairsIn}
 use Rattle.laws.proofs.Parts.{store-more}
 use Rattle.rounds.proofs.Parts.{stretch-three}
 use Rattle.rounds.specs.Stretch.{stretch}

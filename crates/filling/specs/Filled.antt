@@ -4,16 +4,11 @@ use Rattle.growing.specs.Stages.{withNodes}
 use Rattle.laws.specs.Lists.{each}
 use Rattle.measure.specs.Table.{between}
 use Rattle.tree.specs.Build.{plant}
-use Rattle.build.specs.Numbers.{roomOf}
 use Rattle.tree.specs.Encode.{encode, numbered, pairWords}
 use Rattle.tree.specs.Grove.{entries}
 use lib.ListN.{drop, length, replicate, take}
 use mathlib.Core.List.{List, [], _++_, _∷_}
 use mathlib.Core.Path.{_≡_}
-
--- the header's words: edition 2, n, c, m, l, the node count, distance kind 1, the set of circles
-abbrev pub headerOf : ℕ → ℕ → ℕ → ℕ → ℕ → ℕ → List ℕ
-headerOf n c o m l nodes = 2 ∷ n ∷ c ∷ m ∷ l ∷ nodes ∷ 1 ∷ o ∷ []
 
 -- of each entry the row and the distance
 unfoldable pub pairsIn : List ℕ → List ℕ

@@ -1,9 +1,9 @@
--- `build::too_short` meets its contract: the two tests are those of `shortOf`.
+-- `build_refusals::too_short` meets its contract: the two tests are those of `shortOf`.
 -- Assumes nothing.
-use Rattle.build.proofs.Refusals.{behind-header}
-use Rattle.build.proofs.too_short.Statement.{statement}
-use Rattle.build.proofs.too_short.Tie as tie
-use Rattle.build.specs.Numbers.{roomOf}
+use Rattle.build_refusals.proofs.Refusals.{behind-header}
+use Rattle.build_refusals.proofs.too_short.Statement.{statement}
+use Rattle.build_refusals.proofs.too_short.Tie as tie
+use Rattle.build_refusals.specs.Numbers.{roomOf}
 use borrow.Author.Needs.{needs}
 use borrow.Author.Tests.{lt-ltb}
 use mathlib.Core.Bool.{_||_}

@@ -1,9 +1,9 @@
--- `build::fill` meets its contract: the nodes, the header before them and the positions behind them are the words of 01.
+-- `filling::fill` meets its contract: the nodes, the header before them and the positions behind them are the words of 01.
 -- Assumes nothing.
 use Prim.Native.Nat.{_*_, _≤_}
-use Rattle.build.proofs.Whole.{filled, positions-fit}
-use Rattle.build.proofs.fill.Statement.{statement}
-use Rattle.build.proofs.fill.Tie as tie
+use Rattle.filling.proofs.Whole.{filled, positions-fit}
+use Rattle.filling.proofs.fill.Statement.{statement}
+use Rattle.filling.proofs.fill.Tie as tie
 use Rattle.limits.specs.Limits.{maxRows}
 use borrow.Author.Needs.{needs}
 use lib.ListN.{length}

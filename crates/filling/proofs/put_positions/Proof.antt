@@ -1,9 +1,9 @@
--- `build::put_positions` meets its contract: the pairs of p positions are written (`Pairing`).
+-- `filling::put_positions` meets its contract: the pairs of p positions are written (`Pairing`).
 -- Assumes nothing.
 use Prim.Native.Nat.{_-_}
-use Rattle.build.proofs.Pairing.{Pairing, pairing-done, pairing-start, pairing-step}
-use Rattle.build.proofs.put_positions.Statement.{statement}
-use Rattle.build.proofs.put_positions.Tie as tie
+use Rattle.filling.proofs.Pairing.{Pairing, pairing-done, pairing-start, pairing-step}
+use Rattle.filling.proofs.put_positions.Statement.{statement}
+use Rattle.filling.proofs.put_positions.Tie as tie
 use borrow.Author.Needs.{needs}
 use lib.ListN.{length-set}
 use native.Mathlib.Omega.{arith}

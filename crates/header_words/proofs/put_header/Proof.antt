@@ -1,7 +1,7 @@
--- `build::put_header` meets its contract: eight stores at the front.
+-- `header_words::put_header` meets its contract: eight stores at the front.
 -- Assumes nothing.
-use Rattle.build.proofs.put_header.Statement.{statement}
-use Rattle.build.proofs.put_header.Tie as tie
+use Rattle.header_words.proofs.put_header.Statement.{statement}
+use Rattle.header_words.proofs.put_header.Tie as tie
 use Rattle.laws.proofs.Parts.{eight-sets}
 use borrow.Author.Needs.{needs}
 use lib.ListN.{length-set}

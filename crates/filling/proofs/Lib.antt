@@ -1,0 +1,5 @@
+pub mod Numbering
+pub mod Positions
+pub mod Pairing
+pub mod Framed
+pub mod Whole
