@@ -1,7 +1,7 @@
 // The nearest search itself: best first, over the nodes of an index and the single rows of its opened leaves, and the answers handed out.
-ghost use Rattle.nearest_search.specs.Asked.{asks, lends};
 ghost use Rattle.nearest_search.specs.Found.{FoundListed, FoundNearest, Searchable};
-ghost use Rattle.nearest_search.specs.Listed.{Blank};
+ghost use Rattle.nearest_steps.specs.Asked.{asks, lends};
+ghost use Rattle.rows_listed.specs.Listed.{Blank};
 ghost use Rattle.words.specs.Words.{n#};
 use crate::searching::search;
 use answers_held::give;
@@ -11,9 +11,7 @@ use frontier::workspace::ANSWERS;
 use frontier::workspace::END;
 use frontier::workspace::MET;
 
-pub mod listing;
 mod searching;
-mod taking;
 
 // How many answers there are, and how many rows were measured.
 pub struct Counts {

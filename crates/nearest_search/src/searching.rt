@@ -1,17 +1,17 @@
 // The search: best first, until what waits is farther than the last answer.
-ghost use Rattle.nearest_search.specs.Asked.{asks};
-ghost use Rattle.nearest_search.specs.Listed.{ListedTo};
-ghost use Rattle.nearest_search.specs.Rounds.{SearchEnd, SearchStart};
+ghost use Rattle.nearest_steps.specs.Asked.{asks};
+ghost use Rattle.nearest_steps.specs.Rounds.{SearchEnd, SearchStart};
+ghost use Rattle.rows_listed.specs.Listed.{ListedTo};
 ghost use Rattle.words.specs.Words.{n#};
-use crate::taking::Seen;
-use crate::taking::measure_centre;
-use crate::taking::take_item;
 use answers_held::last;
 use frontier::workspace::ANSWERS;
 use frontier::workspace::MET;
+use items_taken::take_item;
 use queue::key_of;
 use queue::pop;
 use queue::push;
+use rows_measured::Seen;
+use rows_measured::measure_centre;
 use words::places::circles;
 use words::places::node_first;
 use words::places::pair_at;

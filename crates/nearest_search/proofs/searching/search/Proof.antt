@@ -5,18 +5,18 @@ use Rattle.frontier.specs.Waiting.{items}
 use Rattle.index_space.specs.Items.{greatestWord}
 use Rattle.laws.specs.Bags.{total}
 use Rattle.measure.specs.Table.{from}
-use Rattle.nearest_search.proofs.MetRows.{listed-at, listed-front}
-use Rattle.nearest_search.proofs.Progress.{ends, popped-listed, round, round-less, round-since, stops, takes}
-use Rattle.nearest_search.proofs.Starting.{begins-since, begins-state, blank-listed, blank-ready}
-use Rattle.nearest_search.proofs.Staying.{ready-at, since-none}
-use Rattle.nearest_search.proofs.Weights.{cost}
 use Rattle.nearest_search.proofs.searching.search.Statement.{statement}
 use Rattle.nearest_search.proofs.searching.search.Tie as tie
-use Rattle.nearest_search.specs.Asked.{asks}
-use Rattle.nearest_search.specs.Listed.{ListedTo}
-use Rattle.nearest_search.specs.Rounds.{SearchState}
-use Rattle.nearest_search.specs.Standing.{Since}
+use Rattle.nearest_steps.proofs.Progress.{ends, popped-listed, round, round-less, round-since, stops, takes}
+use Rattle.nearest_steps.proofs.Starting.{begins-since, begins-state, blank-listed, blank-ready}
+use Rattle.nearest_steps.proofs.Staying.{ready-at, since-none}
+use Rattle.nearest_steps.proofs.Weights.{cost}
+use Rattle.nearest_steps.specs.Asked.{asks}
+use Rattle.nearest_steps.specs.Rounds.{SearchState}
+use Rattle.nearest_steps.specs.Standing.{Since}
 use Rattle.queue.proofs.Queued.{empty-queue}
+use Rattle.rows_listed.proofs.MetRows.{listed-at, listed-front}
+use Rattle.rows_listed.specs.Listed.{ListedTo}
 use Rattle.words.specs.Words.{circles#, n#}
 use borrow.Author.Needs.{needs}
 use mathlib.Core.Path.{_∙_}
