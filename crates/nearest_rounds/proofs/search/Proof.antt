@@ -1,12 +1,12 @@
--- `nearest_search::searching::search` meets its contract: each round takes the item with the least bound, while it is due; what is left falls with each.
+-- `nearest_rounds::search` meets its contract: each round takes the item with the least bound, while it is due; what is left falls with each.
 -- Assumes nothing.
 use Prim.Native.Nat.{_<_, _≤_}
 use Rattle.frontier.specs.Waiting.{items}
 use Rattle.index_space.specs.Items.{greatestWord}
 use Rattle.laws.specs.Bags.{total}
 use Rattle.measure.specs.Table.{from}
-use Rattle.nearest_search.proofs.searching.search.Statement.{statement}
-use Rattle.nearest_search.proofs.searching.search.Tie as tie
+use Rattle.nearest_rounds.proofs.search.Statement.{statement}
+use Rattle.nearest_rounds.proofs.search.Tie as tie
 use Rattle.nearest_steps.proofs.Progress.{ends, popped-listed, round, round-less, round-since, stops, takes}
 use Rattle.nearest_steps.proofs.Starting.{begins-since, begins-state, blank-listed, blank-ready}
 use Rattle.nearest_steps.proofs.Staying.{ready-at, since-none}
