@@ -9,7 +9,7 @@ use Rattle.finder.specs.Near.{Asked, Fit, firstOf, markOf, saidOf}
 use Rattle.limits.proofs.Numbers.{Sized}
 use Rattle.measure.specs.Table.{offCircle, rowsOf}
 use Rattle.nearest.specs.Calls.{Answered}
-use Rattle.nearest_search.specs.Asked.{asks, lends}
+use Rattle.nearest_steps.specs.Asked.{asks, lends}
 use Rattle.rowset.specs.Sets.{setBad}
 use Rattle.words.proofs.InShape.{in-shape}
 use Rattle.words.specs.Words.{n#}

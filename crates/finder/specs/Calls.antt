@@ -4,7 +4,7 @@ use Rattle.build.specs.Calls.{Builds}
 use Rattle.finder.specs.Near.{Asked, saidOf}
 use Rattle.measure.specs.Table.{rowsOf}
 use Rattle.nearest.specs.Calls.{Answered}
-use Rattle.nearest_search.specs.Asked.{asks, lends}
+use Rattle.nearest_steps.specs.Asked.{asks, lends}
 use lib.ListN.{length, take}
 use mathlib.Core.List.{List}
 use mathlib.Core.Path.{_≡_}
