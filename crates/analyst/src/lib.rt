@@ -13,6 +13,7 @@ ghost use Rattle.limits.specs.Limits.{maxColumns};
 ghost use lib.ListN.{length};
 ghost use mathlib.Core.Bool.{true};
 ghost use mathlib.Core.Path.{_≡_};
+use answer_order::put_in_order;
 use answering::keep_marked;
 use asking::Question;
 use asking::pieces::bytes_of;
@@ -21,6 +22,8 @@ use asking::pieces::least;
 use asking::pieces::part;
 use circling::Circles;
 use circling::circles_of;
+use column_choice::Choice;
+use column_names::column_said;
 use files::opened;
 use finder::find_nearest;
 use finder::mark_near;
@@ -30,17 +33,18 @@ use gone::say_without;
 use gone::second_of;
 use gone::set_of;
 use lines::put_bytes;
-use picking::choosing;
-use picking::choosing::Choice;
-use picking::choosing::column_said;
-use picking::naming;
-use picking::naming::Named;
-use picking::naming::numbers_part;
-use picking::naming::product;
-use picking::ordering::put_in_order;
-use picking::places;
 use plan::Plan;
 use plan::shows_text;
+use queries::NO_LABEL;
+use queries::NOT_A_ROW;
+use queries::Named;
+use queries::QUERY_ROOM;
+use queries::TOO_MANY_ROWS;
+use queries::named_wrong;
+use queries::numbers_part;
+use queries::product;
+use queries::put_only;
+use queries::put_rows;
 use reading::Sheet;
 use saying::say;
 use saying::say_number;
@@ -66,15 +70,15 @@ fn choice_of(words: &[u8], q: Question, names: &[u8], c: usize, label: usize) ->
     ensures { λ r. ⌜ r .k ≤ 16 ⌝ }
 {
     if q.columns.there {
-        return choosing::choose_list(names, bytes_of(words, q.columns), c, label);
+        return column_choice::choose_list(names, bytes_of(words, q.columns), c, label);
     }
-    choosing::choose_all(c, label)
+    column_choice::choose_all(c, label)
 }
 
 // The names of a text, or nothing.
 fn names_of(text: &[u8], names: bool) -> &[u8] {
     if names {
-        return places::first_line(text);
+        return text_lines::first_line(text);
     }
     part(text, 0, 0)
 }
@@ -125,13 +129,13 @@ fn put_labelled(
     let c = sheet.reader.columns;
     let column = column_said(names_of(text, sheet.names), part(what, 0, sign), c);
     if column == 0 {
-        return naming::named_wrong(naming::NO_LABEL, 0);
+        return named_wrong(NO_LABEL, 0);
     }
-    if !places::keep_lines(text, sheet.from, starts, n) {
-        return naming::named_wrong(naming::NO_LABEL, 0);
+    if !text_lines::keep_lines(text, sheet.from, starts, n) {
+        return named_wrong(NO_LABEL, 0);
     }
-    let hits = places::find_label(text, starts, n, column, behind(what, sign));
-    naming::put_only(table, k, n, hits.count, hits.row, queries)
+    let hits = labels::find_label(text, starts, n, column, behind(what, sign));
+    put_only(table, k, n, hits.count, hits.row, queries)
 }
 
 // The bytes behind the one at `at`.
@@ -159,20 +163,20 @@ fn put_named(
     let sign = end_from(what, b'=', 0);
     let k = choice.k;
     if what.len() <= sign {
-        return naming::put_rows(table, k, sheet.reader.rows, what, queries);
+        return put_rows(table, k, sheet.reader.rows, what, queries);
     }
     if sign == 0 {
         let factors = choice.factors;
-        return naming::put_values(behind(what, 0), circles, factors, k, queries);
+        return query_values::put_values(behind(what, 0), circles, factors, k, queries);
     }
     put_labelled(text, sheet, what, table, k, starts, queries)
 }
 
 // The numbers of the queries, with their length alone.
-fn query_room() -> [u16; naming::QUERY_ROOM]
+fn query_room() -> [u16; QUERY_ROOM]
     ensures { λ r. ⌜ 1024 ≡ length r ⌝ }
 {
-    [0; naming::QUERY_ROOM]
+    [0; QUERY_ROOM]
 }
 
 // Writes that the library refused, which the rooms that were tested do not meet.
@@ -190,7 +194,7 @@ fn keep_starts(plan: Plan, text: &[u8], starts: &mut [u32]) {
     if !shows_text(plan) {
         return;
     }
-    places::keep_lines(text, plan.from, starts, plan.n);
+    text_lines::keep_lines(text, plan.from, starts, plan.n);
 }
 
 // Writes the answers that were given, or their count.
@@ -454,13 +458,13 @@ fn trouble_of(asks: u32, named: Named) -> u32 {
         return named.wrong;
     }
     if named.count == 0 {
-        return naming::NOT_A_ROW;
+        return NOT_A_ROW;
     }
     if asks == asking::LIKE {
         return 0;
     }
     if named.count != 1 {
-        return naming::TOO_MANY_ROWS;
+        return TOO_MANY_ROWS;
     }
     0
 }
@@ -603,7 +607,7 @@ fn ask_rows(
 {
     let k = choice.k;
     let n = sheet.reader.rows;
-    if choosing::MOST_COLUMNS < k {
+    if column_names::MOST_COLUMNS < k {
         return refuse(plan.err, 1);
     }
     if MOST_ROWS < n {
@@ -672,7 +676,7 @@ fn say_choice(file: i32, choice: Choice, list: &[u8], text: &[u8]) -> u32
         file,
         wrong,
         part(list, choice.start, choice.end),
-        places::first_line(text),
+        text_lines::first_line(text),
     );
     asked_wrongly()
 }
@@ -705,7 +709,7 @@ fn say_circles(file: i32, circled: Circles, list: &[u8], text: &[u8]) -> u32
         file,
         wrong,
         part(list, circled.start, circled.end),
-        places::first_line(text),
+        text_lines::first_line(text),
     );
     asked_wrongly()
 }
@@ -841,10 +845,10 @@ fn label_trouble(there: bool, label: usize) -> u32 {
         return 0;
     }
     if label == 0 {
-        return choosing::NO_COLUMN;
+        return column_names::NO_COLUMN;
     }
-    if choosing::MOST_COLUMNS < label {
-        return choosing::TWO_COLUMNS;
+    if column_names::MOST_COLUMNS < label {
+        return column_names::TWO_COLUMNS;
     }
     0
 }
@@ -860,7 +864,7 @@ fn say_label(file: i32, wrong: u32, words: &[u8], q: Question, text: &[u8]) -> u
         file,
         wrong,
         bytes_of(words, q.label),
-        places::first_line(text),
+        text_lines::first_line(text),
     );
     asked_wrongly()
 }
@@ -891,7 +895,7 @@ fn ask_labelled(
         return faults::status_of(fault);
     }
     if reader.columns < label {
-        return say_label(ends.err, choosing::NO_COLUMN, words, q, text);
+        return say_label(ends.err, column_names::NO_COLUMN, words, q, text);
     }
     ask_sheet(
         words,
@@ -960,7 +964,7 @@ const MOST_ROWS: usize = 1_048_576;
 
 // Column j of the chosen, by its number in the text from 0 on.
 fn chosen_at(choice: Choice, j: usize) -> usize {
-    if j < choosing::MOST_COLUMNS {
+    if j < column_names::MOST_COLUMNS {
         choice.chosen[j]
     } else {
         0
@@ -969,7 +973,7 @@ fn chosen_at(choice: Choice, j: usize) -> usize {
 
 // Place j of the chosen columns is a circle.
 fn bit_of(circles: u32, j: usize) -> bool {
-    if choosing::MOST_COLUMNS <= j {
+    if column_names::MOST_COLUMNS <= j {
         return false;
     }
     (circles >> j) % 2 == 1

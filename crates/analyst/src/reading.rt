@@ -1,12 +1,12 @@
 // The text, read into the table.
 ghost use Prim.Native.Nat.{_≤_};
 use asking::pieces::part;
-use picking::choosing::MOST_COLUMNS;
-use picking::choosing::column_said;
-use picking::places::first_line;
-use picking::places::next_line;
-use picking::places::text_start;
+use column_names::MOST_COLUMNS;
+use column_names::column_said;
 use sheet::Reader;
+use text_lines::first_line;
+use text_lines::next_line;
+use text_lines::text_start;
 
 // A text that was read: the reader at its end, whether its first line is names, and where its first row's line starts.
 pub struct Sheet {
