@@ -39,6 +39,14 @@ fn names_in(t: &[u8], first: Reader) -> &[u8] {
     first_line(t)
 }
 
+// The names of a text, or nothing.
+pub(crate) fn names_of(text: &[u8], names: bool) -> &[u8] {
+    if names {
+        return first_line(text);
+    }
+    part(text, 0, 0)
+}
+
 // The column that a word says, before the rows are read: by its number from 1 or by its name; 0 if there is none, 17 if there are two of this name.
 pub(crate) fn label_said(t: &[u8], word: &[u8], table: &mut [u16]) -> usize
     ensures { λ r. ⌜ r ≤ 17 ⌝ }

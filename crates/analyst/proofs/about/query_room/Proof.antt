@@ -1,8 +1,8 @@
--- `analyst::query_room` meets its contract: the length of what repeats one number is how often it does.
+-- `analyst::about::query_room` meets its contract: the length of what repeats one number is how often it does.
 -- Assumes nothing.
 use Prim.Native.Nat.{ℕ}
-use Rattle.analyst.proofs.query_room.Statement.{statement}
-use Rattle.analyst.proofs.query_room.Tie as tie
+use Rattle.analyst.proofs.about.query_room.Statement.{statement}
+use Rattle.analyst.proofs.about.query_room.Tie as tie
 use lib.ListN.{length-replicate}
 use mathlib.Core.Path.{sym}
 
