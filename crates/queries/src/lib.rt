@@ -41,7 +41,7 @@ pub struct Named {
 }
 
 pub fn named_wrong(wrong: u32, more: usize) -> Named
-    ensures { λ r. ⌜ r .count ≤ 64 ⌝ }
+    ensures { λ r. ⌜ (r .wrong ≡ wrong) × (r .more ≡ more) × (r .count ≡ 0) ⌝ }
 {
     Named {
         wrong,

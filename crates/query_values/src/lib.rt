@@ -1,6 +1,7 @@
 // The values that are asked about, as the numbers of one query.
 ghost use Prim.Native.Nat.{_≤_};
 ghost use Rattle.limits.specs.Limits.{maxColumns};
+ghost use Rattle.query_values.specs.Values.{PutsValues, timesOf};
 ghost use lib.ListN.{length};
 ghost use mathlib.Core.Path.{_≡_};
 use asking::numbers::number;
@@ -16,7 +17,7 @@ use queries::named_wrong;
 // A value times its factor, 65,536 where that is more than a table can hold.
 fn times(value: u32, factor: u32) -> u32
     requires { ⌜ value ≤ 10000000 ⌝ }
-    ensures { λ r. ⌜ r ≤ 65536 ⌝ }
+    ensures { λ r. ⌜ (r ≡ timesOf value factor) × (r ≤ 65536) ⌝ }
 {
     if 65_535 < value {
         return 65_536;
@@ -40,7 +41,8 @@ pub fn put_values(
     queries: &mut [u16],
 ) -> Named
     requires { ⌜ (k ≤ maxColumns) × (length (now queries) ≡ 1024) ⌝ }
-    ensures { λ r. ⌜ r .count ≤ 64 ⌝ }
+    ensures { λ r. ⌜ PutsValues (now (list .entry)) circles factors k (now (queries .entry)) (now (queries .exit)) (r .wrong) (r .more) (r .count)
+        × (r .count ≤ 64) ⌝ }
 {
     let mut i = 0;
     while i < k {

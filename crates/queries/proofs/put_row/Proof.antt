@@ -1,39 +1,36 @@
+-- `queries::put_row` meets its contract: the row stands in the table, and the query in its room.
+-- Assumes nothing.
 use Rattle.measure.proofs.Rows.{row-ends}
 use Rattle.queries.proofs.Spots.{query-ends}
-use native.Mathlib.Omega.{arith}
-use borrow.Author.Needs.{needs}
 use Rattle.queries.proofs.put_row.Statement.{statement}
 use Rattle.queries.proofs.put_row.Tie as tie
-use Rattle.queries.proofs.put_row.Reads as reads
-use Rattle.queries.proofs.put_row.Lts as lts
-use Rattle.measure.proofs.row_of.Reads as row-of-reads
-use Rattle.queries.proofs.copy.Reads as copy-reads
+use borrow.Author.Needs.{needs}
+use native.Mathlib.Omega.{arith}
 
--- src/naming.rt:69:9
 row-of-requires : tie.Need-row-of-requires
 row-of-requires c κs =
     let s = c .before .before in
     omega (arith, s .pre .1, row-ends (s .args .c) (s .args .n) (s .args .row) (s .pre .0))
 
--- src/naming.rt:70:25
 mul-copy : tie.Need-mul-copy
 mul-copy c =
     let s = c .before .before .before .before in
     omega (arith, query-ends (s .args .c) (s .args .i) (s .pre .2) (s .pre .3))
 
--- src/naming.rt:70:5
 copy-requires : tie.Need-copy-requires
 copy-requires c κs =
     let s = c .before .before .before .before in
     omega (arith, query-ends (s .args .c) (s .args .i) (s .pre .2) (s .pre .3), s .pre .4, c .before .row-of .ensures .1)
 
--- src/naming.rt:65:1
-same-length : tie.Need-same-length
-same-length c = search needs
-
--- src/naming.rt:65:1
 returns : tie.Need-returns
 returns c = cc
 
 pub put-row-spec : {M : Type 1} → statement M
-put-row-spec = tie.close (tie.spec row-of-requires mul-copy copy-requires same-length returns)
+put-row-spec =
+    tie.close
+    (tie.spec
+    row-of-requires
+    mul-copy
+    copy-requires
+    (λ c. search needs)
+    returns)
