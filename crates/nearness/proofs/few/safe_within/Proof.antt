@@ -1,10 +1,10 @@
--- `nearness::safe_within` meets its contract: after i turns no row within `least` is closer to the first i of fs. The measure is what is left of them.
+-- `nearness::few::safe_within` meets its contract: after i turns no row within `least` is closer to the first i of fs. The measure is what is left of them.
 -- Assumes nothing.
 use Prim.Native.Nat.{_-_, _≤_, ℕ}
 use Rattle.measure.specs.Table.{between}
 use Rattle.nearness.proofs.Safe.{safe-more, zero-safe}
-use Rattle.nearness.proofs.safe_within.Statement.{statement}
-use Rattle.nearness.proofs.safe_within.Tie as tie
+use Rattle.nearness.proofs.few.safe_within.Statement.{statement}
+use Rattle.nearness.proofs.few.safe_within.Tie as tie
 use Rattle.nearness.specs.Safe.{SafeTo}
 use Rattle.words.specs.Words.{circles#, m#}
 use borrow.Author.Needs.{needs}
@@ -13,11 +13,11 @@ use mathlib.Core.Path.{_≡_, subst}
 use native.Mathlib.Omega.{arith}
 
 abbrev Inv-loop : tie.InvT-loop
-Inv-loop table c circles index fs a count m g least₀ i₀ least i =
+Inv-loop table c index fs a count m g least₀ i₀ least i =
     (i ≤ m) × (m ≡ m# index) × SafeTo (between table c (circles# index)) fs (getD fs a 0) i least
 
 abbrev μ-loop : tie.MeasureT-loop
-μ-loop table c circles index fs a count m g least₀ i₀ least i = m - i
+μ-loop table c index fs a count m g least₀ i₀ least i = m - i
 
 -- the start, seen from the loop
 abbrev start : tie.At-loop Inv-loop μ-loop → tie.Start Inv-loop μ-loop
@@ -51,8 +51,8 @@ halfway-requires : tie.Need-halfway-requires Inv-loop μ-loop
 halfway-requires c κs =
     let l = c .before .before in
     let s = start l in
-    let low = s .pre .1 .2 in
-    (s .pre .0, (low (s .args .a) (s .pre .1 .0), low (l .loop .i) (omega (arith, l .loop .inv .1)), s .pre .1 .1))
+    let low = s .pre .1 .1 in
+    (s .pre .0, (low (s .args .a) (s .pre .1 .0), low (l .loop .i) (omega (arith, l .loop .inv .1))))
 
 loop-again : tie.Need-loop-again Inv-loop μ-loop
 loop-again c =
