@@ -1,11 +1,11 @@
 // The columns that count: those that a question's list picks, each with its factor, or all.
 ghost use Prim.Native.Nat.{_≤_};
 ghost use lib.ListN.{length};
-use asking::numbers::number;
 use asking::pieces::Piece;
 use asking::pieces::end_from;
 use asking::pieces::part;
 use asking::pieces::piece_at;
+use asking::word_number::number;
 use column_names::MOST_COLUMNS;
 use column_names::NO_COLUMN;
 use column_names::TOO_MANY;

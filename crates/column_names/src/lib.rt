@@ -2,9 +2,9 @@
 ghost use Prim.Native.Nat.{_≤_};
 ghost use Rattle.column_names.specs.Names.{columnSaid, namedTo, withName};
 ghost use mathlib.Core.Path.{_≡_};
-use asking::numbers::NO_NUMBER;
-use asking::numbers::number;
 use asking::pieces::part;
+use asking::word_number::NO_NUMBER;
+use asking::word_number::number;
 use line_fields::field_of;
 
 // More columns than this no line has.

@@ -5,10 +5,10 @@ ghost use Rattle.measure.specs.Table.{row as Table·row};
 ghost use lib.ListN.{length};
 ghost use lib.Seq.{paste};
 ghost use mathlib.Core.Path.{_≡_};
-use asking::numbers::NO_NUMBER;
-use asking::numbers::number;
 use asking::pieces::least;
 use asking::pieces::piece_at;
+use asking::word_number::NO_NUMBER;
+use asking::word_number::number;
 use measure::row_of;
 
 // As many queries as a question may have, and the numbers that these are at most.

@@ -5,11 +5,11 @@ ghost use Rattle.withdrawing.specs.Lines.{anyFull, isBlank, lineSays, pa
 ghost use Rattle.withdrawing.specs.Withdrawn.{Withdraws, rowTrouble, setWords};
 ghost use lib.ListN.{length, take};
 ghost use mathlib.Core.Path.{_≡_};
-use asking::numbers::NO_NUMBER;
-use asking::numbers::number;
 use asking::pieces::end_from;
 use asking::pieces::least;
 use asking::pieces::part;
+use asking::word_number::NO_NUMBER;
+use asking::word_number::number;
 use rowset::set_bad;
 use rowset::strike;
 use rowset::words_for;

@@ -1,6 +1,6 @@
 -- `nearness::few::halfway` meets its contract: one row is safe from itself, and half the way to another is safe.
 -- Assumes nothing.
-use Prim.Native.Nat.{_/_, ℕ}
+use Prim.Native.Nat.{ℕ}
 use Rattle.measure.specs.Table.{between}
 use Rattle.nearness.proofs.Safe.{half-safe, own-safe}
 use Rattle.nearness.proofs.few.halfway.Statement.{statement}
@@ -8,6 +8,7 @@ use Rattle.nearness.proofs.few.halfway.Tie as tie
 use Rattle.reach.proofs.Runs.{in-table}
 use Rattle.words.specs.Words.{circles#}
 use mathlib.Core.Path.{_∙_, ap, sym}
+use native.Mathlib.Omega.{arith}
 
 -- the distance between the table's rows
 abbrev dist : tie.Start → ℕ → ℕ → ℕ
@@ -29,7 +30,7 @@ returns-2 c =
     let s = c .before .before .before .before in
     let a = s .args in
     let d = c .row-distance .ensures .0 ∙ ap (λ o. between (a .table .now) (a .c) o (a .g) (a .f)) (sym (s .pre .0 .2)) in
-    half-safe (dist s) (s .pre .0 .1) (a .g) (a .f) _ (ap (λ (x : ℕ). x / 2) d)
+    half-safe (dist s) (s .pre .0 .1) (a .g) (a .f) _ (omega (arith, d))
 
 pub halfway-spec : {M : Type 1} → statement M
 halfway-spec = tie.close (tie.spec returns row-distance-requires returns-2)

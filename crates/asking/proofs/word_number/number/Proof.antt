@@ -1,9 +1,9 @@
--- `asking::numbers::number` meets its contract: a turn reads one digit.
+-- `asking::word_number::number` meets its contract: a turn reads one digit.
 -- Assumes nothing.
 use Prim.Native.Nat.{_-_}
 use Rattle.asking.proofs.Worths.{Counted, counted-end, counted-next, counted-start, none-worth}
-use Rattle.asking.proofs.numbers.number.Statement.{statement}
-use Rattle.asking.proofs.numbers.number.Tie as tie
+use Rattle.asking.proofs.word_number.number.Statement.{statement}
+use Rattle.asking.proofs.word_number.number.Tie as tie
 use borrow.Author.Needs.{needs}
 use lib.ListN.{length}
 use native.Mathlib.Omega.{arith}

@@ -1,8 +1,8 @@
--- `asking::numbers::digit_behind` meets its contract: each return has its test.
+-- `asking::word_number::digit_behind` meets its contract: each return has its test.
 -- Assumes nothing.
 use Rattle.asking.proofs.Worths.{behind-digit, behind-most, behind-other}
-use Rattle.asking.proofs.numbers.digit_behind.Statement.{statement}
-use Rattle.asking.proofs.numbers.digit_behind.Tie as tie
+use Rattle.asking.proofs.word_number.digit_behind.Statement.{statement}
+use Rattle.asking.proofs.word_number.digit_behind.Tie as tie
 use Rattle.laws.proofs.Tests.{no, yes}
 use Rattle.limits.proofs.Ranges.{within-both}
 use borrow.Author.Needs.{needs}
