@@ -241,11 +241,11 @@ static uint32_t row_again(const uint32_t *index, uint32_t *work)
 }
 
 /* How far from its centre a member of this child may be and is surely not closer to another: half the way to the nearest. In a short child the
-   members are sooner measured. */
+   members are sooner measured, and with many columns or circles the library measures them all. */
 static uint32_t safe_within(struct plain_table t, const uint16_t *const *centre, uint32_t centres, uint32_t own, uint32_t members)
 {
     uint32_t safe = MOST_DISTANCE;
-    if (members < SHORT_CHILD)
+    if (members < SHORT_CHILD || t.c > FEW_COLUMNS || t.circles != 0)
         return 0;
     for (uint32_t j = 0; j < centres; j++) {
         uint32_t half = j == own ? MOST_DISTANCE : far(t, centre[own], centre[j]) / 2;

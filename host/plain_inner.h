@@ -13,6 +13,7 @@ enum {
     CIRCLE = 3600,
     BLOCK_COLUMNS = 8, /* added up before a look at the ceiling */
     SHORT_CHILD = 32, /* fewer members are measured from every centre */
+    FEW_COLUMNS = 6,
     NODE_WORDS = 5 /* start, count, first child, radius, inner reach */
 };
 

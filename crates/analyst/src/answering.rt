@@ -6,13 +6,13 @@ use crate::plan::parting;
 use crate::plan::shows_text;
 use crate::saying::say;
 use asking::pieces::least;
+use labels::label_in;
 use lines::make_room;
 use lines::put_bytes;
 use lines::put_number;
 use measure::distance;
-use picking::naming::numbers_part;
-use picking::places::label_in;
-use picking::places::line_from;
+use queries::numbers_part;
+use text_lines::line_from;
 
 // No distance is as great.
 const FAR: u32 = 0xffff_ffff;

@@ -1,12 +1,12 @@
 // The text, read into the table.
 ghost use Prim.Native.Nat.{_≤_};
 use asking::pieces::part;
-use picking::choosing::MOST_COLUMNS;
-use picking::choosing::column_said;
-use picking::places::first_line;
-use picking::places::next_line;
-use picking::places::text_start;
+use column_names::MOST_COLUMNS;
+use column_names::column_said;
 use sheet::Reader;
+use text_lines::first_line;
+use text_lines::next_line;
+use text_lines::text_start;
 
 // A text that was read: the reader at its end, whether its first line is names, and where its first row's line starts.
 pub struct Sheet {
@@ -37,6 +37,14 @@ fn names_in(t: &[u8], first: Reader) -> &[u8] {
         return part(t, 0, 0);
     }
     first_line(t)
+}
+
+// The names of a text, or nothing.
+pub(crate) fn names_of(text: &[u8], names: bool) -> &[u8] {
+    if names {
+        return first_line(text);
+    }
+    part(text, 0, 0)
 }
 
 // The column that a word says, before the rows are read: by its number from 1 or by its name; 0 if there is none, 17 if there are two of this name.

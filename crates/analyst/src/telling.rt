@@ -5,8 +5,13 @@ use crate::saying::say_number;
 use crate::saying::say_quoted;
 use asking::Question;
 use asking::pieces::bytes_of;
-use picking::choosing;
-use picking::naming;
+use queries::NO_LABEL;
+use queries::NO_ROW;
+use queries::NOT_A_VALUE;
+use queries::NOT_ONE;
+use queries::OFF_CIRCLE;
+use queries::TOO_FEW_VALUES;
+use queries::TOO_MANY_ROWS;
 
 // The usage in two lines.
 pub(crate) fn say_usage(file: i32) {
@@ -130,28 +135,28 @@ fn say_words_wrong(file: i32, words: &[u8], q: Question) {
 
 // What is wrong with an item of the list of columns, or with the label's name; `names` are the columns that there are.
 pub(crate) fn say_columns_wrong(file: i32, wrong: u32, item: &[u8], names: &[u8]) {
-    if wrong == choosing::NO_FACTOR {
+    if wrong == column_choice::NO_FACTOR {
         say_quoted(
             file,
             b"a factor is a whole number from 1 to 65,535, unlike that of ",
             item,
             b"",
         );
-    } else if wrong == choosing::TWO_COLUMNS {
+    } else if wrong == column_names::TWO_COLUMNS {
         say_quoted(
             file,
             b"two columns have the name of ",
             item,
             b": ask by number",
         );
-    } else if wrong == choosing::LABEL_COUNTS {
+    } else if wrong == column_choice::LABEL_COUNTS {
         say_quoted(
             file,
             b"labels do not count, and ",
             item,
             b" is their column",
         );
-    } else if wrong == choosing::TOO_MANY {
+    } else if wrong == column_names::TOO_MANY {
         say(
             file,
             b"at most 16 columns can be chosen, and one at least\n",
@@ -171,7 +176,7 @@ pub(crate) fn say_circles_wrong(file: i32, wrong: u32, item: &[u8], names: &[u8]
             item,
             b" is not",
         );
-    } else if wrong == choosing::TOO_MANY {
+    } else if wrong == column_names::TOO_MANY {
         say(file, b"at most 16 circles can be named\n");
     } else {
         say_columns_wrong(file, wrong, item, names);
@@ -180,29 +185,29 @@ pub(crate) fn say_circles_wrong(file: i32, wrong: u32, item: &[u8], names: &[u8]
 
 // What is wrong with what is asked about; `more` says which row, which value or how many.
 pub(crate) fn say_named_wrong(file: i32, wrong: u32, more: usize, what: &[u8], n: usize, k: usize) {
-    if wrong == naming::NO_ROW {
+    if wrong == NO_ROW {
         say(file, b"there is no row ");
         say_number(file, more);
         say(file, b": the text has ");
         say_count(file, n, b"row");
         say(file, b", from row 0 on\n");
-    } else if wrong == naming::TOO_MANY_ROWS {
+    } else if wrong == TOO_MANY_ROWS {
         say(
             file,
             b"at most 64 rows can be asked about, and by nearest one\n",
         );
-    } else if wrong == naming::NOT_A_VALUE {
+    } else if wrong == NOT_A_VALUE {
         say(file, b"value ");
         say_number(file, more);
         say(file, b" times its factor is no whole number up to 65,535\n");
-    } else if wrong == naming::OFF_CIRCLE {
+    } else if wrong == OFF_CIRCLE {
         say(file, b"value ");
         say_number(file, more);
         say(
             file,
             b" times its factor is no number of a circle, which has 3,600\n",
         );
-    } else if wrong == naming::TOO_FEW_VALUES {
+    } else if wrong == TOO_FEW_VALUES {
         say(file, b"there are ");
         say_count(file, k, b"column");
         say_quoted(file, b", and not as many values in ", what, b"");
@@ -213,10 +218,10 @@ pub(crate) fn say_named_wrong(file: i32, wrong: u32, more: usize, what: &[u8], n
 
 // What is wrong with a label, or with a word that is neither row, values nor label.
 fn say_label_wrong(file: i32, wrong: u32, more: usize, what: &[u8]) {
-    if wrong == naming::NOT_ONE {
+    if wrong == NOT_ONE {
         say_count(file, more, b"row");
         say_quoted(file, b" have ", what, b": one is needed");
-    } else if wrong == naming::NO_LABEL {
+    } else if wrong == NO_LABEL {
         say_quoted(
             file,
             b"no column has the name before the sign in ",

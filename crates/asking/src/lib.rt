@@ -1,16 +1,16 @@
 // The question that the words of the arguments ask. Each word is ended by a zero byte.
-pub mod numbers;
 pub mod pieces;
+pub mod word_number;
 
 ghost use Prim.Native.Nat.{_≤_};
 ghost use Rattle.asking.specs.Words.{Answerable, hasWord, wayOf, wordIs};
 ghost use mathlib.Core.Path.{_≡_};
-use numbers::NO_NUMBER;
-use numbers::number;
 use pieces::Piece;
 use pieces::bytes_of;
 use pieces::no_piece;
 use pieces::piece_at;
+use word_number::NO_NUMBER;
+use word_number::number;
 
 // What is asked for: every row within a distance, or so many nearest.
 pub const LIKE: u32 = 1;

@@ -2,7 +2,7 @@
 use Prim.Native.Nat.{_<_, _^_, _≤_, min, ℕ}
 use Rattle.nearest.proofs.Promises.{nearest-small}
 use Rattle.nearest.specs.Calls.{Answered}
-use Rattle.nearest_search.specs.Asked.{NearestAsked, NearestLent}
+use Rattle.nearest_steps.specs.Asked.{NearestAsked, NearestLent}
 use lib.ListN.{length}
 use mathlib.Core.Path.{_≡_}
 use native.Mathlib.Omega.{arith}

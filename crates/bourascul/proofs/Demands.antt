@@ -37,8 +37,8 @@ use Rattle.measure.specs.Table.{between, from, offCircle, row, rowsOf}
 use Rattle.nearest.proofs.Promises.{nearest-counted, nearest-counted-all, nearest-exact as call-exact, nearest-measured, nearest-measured-all, nearest-ranked, nearest-two-tables, same-lent}
 use Rattle.nearest.specs.Calls.{Answered, Serves}
 use Rattle.nearest.specs.Ranked.{ahead}
-use Rattle.nearest_search.specs.Asked.{NearestAsked, NearestLent, asks}
 use Rattle.nearest_search.specs.Found.{Settled}
+use Rattle.nearest_steps.specs.Asked.{NearestAsked, NearestLent, asks}
 use Rattle.radius.proofs.Promises.{radius-call-beyond, radius-call-exact, radius-call-two-tables, radius-withdrawn-never}
 use Rattle.radius.specs.Calls.{Searched}
 use Rattle.rowset.specs.Sets.{isIn}

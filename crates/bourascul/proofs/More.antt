@@ -9,8 +9,8 @@ use Rattle.bourascul.specs.Recorded.{Recorded}
 use Rattle.measure.specs.Table.{from}
 use Rattle.nearest.specs.Calls.{Answered}
 use Rattle.nearest_search.proofs.HowBytes.{near-length}
-use Rattle.nearest_search.specs.Asked.{NearestLent, asks}
 use Rattle.nearest_search.specs.Found.{Settled}
+use Rattle.nearest_steps.specs.Asked.{NearestLent, asks}
 use Rattle.radius.proofs.Cases.{radius-call-cases}
 use Rattle.radius.specs.Calls.{Searched}
 use Rattle.rowset.specs.Sets.{isIn}

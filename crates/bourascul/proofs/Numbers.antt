@@ -12,8 +12,8 @@ use Rattle.measure.specs.Table.{offCircle, rowsOf}
 use Rattle.nearest.proofs.Refusals as near
 use Rattle.nearest.specs.Calls.{Answered}
 use Rattle.nearest.specs.Numbers.{nearestAsks, nearestShort, saidNearest}
-use Rattle.nearest_search.specs.Asked.{NearestLent, asks}
 use Rattle.nearest_search.specs.Found.{Settled}
+use Rattle.nearest_steps.specs.Asked.{NearestLent, asks}
 use Rattle.radius.proofs.Refusals as within-radius
 use Rattle.radius.specs.Calls.{Searched}
 use Rattle.radius.specs.Numbers.{radiusAsks, saidRadius}

@@ -7,7 +7,7 @@ use Rattle.bourascul.proofs.Promises.{answers-only}
 use Rattle.bourascul.specs.Recorded.{Recorded}
 use Rattle.nearest.proofs.Promises.{nearest-only}
 use Rattle.nearest.specs.Calls.{Answered}
-use Rattle.nearest_search.specs.Asked.{NearestLent, asks}
+use Rattle.nearest_steps.specs.Asked.{NearestLent, asks}
 use Rattle.radius.proofs.Promises.{radius-only}
 use Rattle.radius.specs.Calls.{Searched}
 use Rattle.rowset.proofs.Calls.{calls-alike}

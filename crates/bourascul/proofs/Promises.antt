@@ -10,8 +10,8 @@ use Rattle.card.proofs.Theorems.{read-only}
 use Rattle.measure.specs.Table.{between, from, row}
 use Rattle.nearest.proofs.Promises.{Same, nearest-exact, nearest-only, nearest-two-tables}
 use Rattle.nearest.specs.Calls.{Serves}
-use Rattle.nearest_search.specs.Asked.{NearestAsked, NearestLent, asks, away, gone, rowsIn}
 use Rattle.nearest_search.specs.Found.{Settled}
+use Rattle.nearest_steps.specs.Asked.{NearestAsked, NearestLent, asks, away, gone, rowsIn}
 use Rattle.tree.proofs.Answers.{answers-length}
 use Rattle.tree.specs.Check.{Accepted}
 use Rattle.tree.specs.Nearest.{answers, isMeasured}

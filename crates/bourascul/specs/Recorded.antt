@@ -3,7 +3,7 @@ use Prim.Native.Nat.{min, ℕ}
 use Rattle.answers.specs.Records.{records}
 use Rattle.answers.specs.declared.Answer.{Answer}
 use Rattle.nearest.specs.Calls.{Answered}
-use Rattle.nearest_search.specs.Asked.{NearestAsked, NearestLent}
+use Rattle.nearest_steps.specs.Asked.{NearestAsked, NearestLent}
 use lib.ListN.{drop, length}
 use mathlib.Core.List.{List, _++_}
 use mathlib.Core.Path.{_≡_}

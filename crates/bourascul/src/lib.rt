@@ -9,7 +9,7 @@ ghost use Rattle.bourascul.specs.Recorded.{Recorded};
 ghost use Rattle.build.specs.Calls.{Builds};
 ghost use Rattle.image.specs.Calls.{Writes};
 ghost use Rattle.nearest.specs.Calls.{Answered};
-ghost use Rattle.nearest_search.specs.Asked.{asks, lends};
+ghost use Rattle.nearest_steps.specs.Asked.{asks, lends};
 ghost use Rattle.radius.specs.Calls.{Searched};
 ghost use Rattle.rowset.specs.Orders.{Orders, restoring, striking};
 ghost use Rattle.words.specs.Calls.{Lists};

@@ -6,7 +6,7 @@ use Rattle.circling.specs.Circles.{Bits, Circled, columnTrouble, counts,
 use Rattle.columns.proofs.Firsts.{first-here, first-none, first-on, first-passes}
 use Rattle.columns.specs.Chosen.{firstTo}
 use Rattle.laws.specs.Lists.{any}
-use Rattle.picking.specs.Names.{columnSaid}
+use Rattle.column_names.specs.Names.{columnSaid}
 use borrow.Author.Tests.{eq-eqb, le-ltb, lt-ltb, ne-eqb}
 use lib.Dec.{T, eqb, ltb}
 use mathlib.Core.Bool.{Bool, cond, false, not, true}

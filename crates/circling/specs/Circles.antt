@@ -4,7 +4,7 @@ use Rattle.asking.specs.Pieces.{beginOf, endAt, hasPiece, pieceOf}
 use Rattle.columns.specs.Chosen.{firstTo}
 use Rattle.laws.specs.Lists.{any, range}
 use Rattle.measure.specs.Distance.{isCircle}
-use Rattle.picking.specs.Names.{columnSaid}
+use Rattle.column_names.specs.Names.{columnSaid}
 use lib.Dec.{eqb, ltb}
 use lib.ListN.{getD}
 use mathlib.Core.Bool.{Bool, _&&_, cond, not}

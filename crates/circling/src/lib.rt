@@ -6,11 +6,11 @@ ghost use mathlib.Core.Bool.{cond};
 ghost use mathlib.Core.Path.{_≡_};
 use asking::pieces::bytes_of;
 use asking::pieces::piece_at;
-use picking::choosing::MOST_COLUMNS;
-use picking::choosing::NO_COLUMN;
-use picking::choosing::TOO_MANY;
-use picking::choosing::TWO_COLUMNS;
-use picking::choosing::column_said;
+use column_names::MOST_COLUMNS;
+use column_names::NO_COLUMN;
+use column_names::TOO_MANY;
+use column_names::TWO_COLUMNS;
+use column_names::column_said;
 
 // What is wrong with a circle, besides what is wrong with any column: it does not count.
 pub const NOT_COUNTED: u32 = 16;

@@ -6,8 +6,8 @@ use Rattle.measure.specs.Table.{between, from, rowsOf}
 use Rattle.nearest.proofs.Promises.{nearest-exact}
 use Rattle.nearest.proofs.Refusals.{not-refused}
 use Rattle.nearest.specs.Calls.{Answered}
-use Rattle.nearest_search.specs.Asked.{asks, lends}
 use Rattle.nearest_search.specs.Found.{Settled}
+use Rattle.nearest_steps.specs.Asked.{asks, lends}
 use Rattle.rowset.specs.Sets.{isIn}
 use Rattle.tree.proofs.Answers.{answers-length}
 use Rattle.tree.specs.Build.{build}

@@ -8,7 +8,7 @@ use Rattle.joined_marks.specs.Firsts.{firstOf}
 use Rattle.limits.proofs.Numbers.{Sized}
 use Rattle.measure.specs.Table.{offCircle, rowsOf}
 use Rattle.nearest.specs.Calls.{Answered}
-use Rattle.nearest_search.specs.Asked.{asks, lends}
+use Rattle.nearest_steps.specs.Asked.{asks, lends}
 use Rattle.query_refusals.proofs.Why.{asked-well}
 use Rattle.query_refusals.specs.Numbers.{saidOf}
 use Rattle.rowset.specs.Sets.{setBad}

@@ -15,7 +15,7 @@ use Rattle.measure.specs.Table.{Rounded, between, from, offCircle, row, rowsOf}
 use Rattle.nearest.proofs.Promises.{nearest-only}
 use Rattle.nearest.proofs.Refusals.{not-refused}
 use Rattle.nearest.specs.Calls.{Answered}
-use Rattle.nearest_search.specs.Asked.{NearestLent, asks, lends}
+use Rattle.nearest_steps.specs.Asked.{NearestLent, asks, lends}
 use Rattle.query_refusals.proofs.Why.{asked-well}
 use Rattle.radius.proofs.How.{bytes-are}
 use Rattle.rowset.specs.Sets.{isIn, setBad}

@@ -3,7 +3,7 @@ use Prim.Native.Nat.{min, ℕ}
 use Rattle.build.specs.Calls.{Builds}
 use Rattle.measure.specs.Table.{rowsOf}
 use Rattle.nearest.specs.Calls.{Answered}
-use Rattle.nearest_search.specs.Asked.{asks, lends}
+use Rattle.nearest_steps.specs.Asked.{asks, lends}
 use Rattle.query_refusals.specs.Numbers.{saidOf}
 use Rattle.several_queries.specs.Searched.{Asked}
 use lib.ListN.{length, take}

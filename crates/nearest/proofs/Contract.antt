@@ -9,8 +9,8 @@ use Rattle.laws.specs.Lists.{has, look, range, tally, times}
 use Rattle.measure.proofs.Metric.{query-point}
 use Rattle.measure.proofs.OnCircle.{round-query}
 use Rattle.measure.specs.Table.{Round, between, from, rowsOf}
-use Rattle.nearest_search.specs.Asked.{NearestAsked, NearestLent, asks, away, due, gone, positionsLeft, rowsIn}
 use Rattle.nearest_search.specs.Found.{FoundAnswers, FoundNearest, Searchable, Settled, SoundAnswers}
+use Rattle.nearest_steps.specs.Asked.{NearestAsked, NearestLent, asks, away, due, gone, positionsLeft, rowsIn}
 use Rattle.nearest.proofs.Refusals.{not-refused, rooms}
 use Rattle.nearest.specs.Calls.{Answered, Serves, saidOf}
 use Rattle.nearest.specs.Numbers.{nearestAsks}

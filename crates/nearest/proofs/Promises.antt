@@ -15,8 +15,8 @@ use Rattle.measure.proofs.Metric.{query-point}
 use Rattle.measure.specs.Space.{Point}
 use Rattle.measure.specs.Table.{Rounded, between, from, row, rowsOf}
 use Rattle.nearest_search.proofs.HowBytes.{near-length}
-use Rattle.nearest_search.specs.Asked.{NearestAsked, NearestLent, asks, away, gone, lends, rowsIn}
 use Rattle.nearest_search.specs.Found.{Settled}
+use Rattle.nearest_steps.specs.Asked.{NearestAsked, NearestLent, asks, away, gone, lends, rowsIn}
 use Rattle.nearest.proofs.Contract.{byte-measured, left-most, query-round}
 use Rattle.nearest.proofs.Ranking.{answers-ranked, answers-remain}
 use Rattle.nearest.proofs.Refusals.{not-refused, rooms}

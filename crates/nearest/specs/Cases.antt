@@ -1,6 +1,6 @@
 -- What the call gives in the nearest cases of 01, The five-row table, and in ours. Assumes nothing.
 use Prim.Native.Nat.{_≤_, min, ℕ}
-use Rattle.nearest_search.specs.Asked.{NearestLent, asks}
+use Rattle.nearest_steps.specs.Asked.{NearestLent, asks}
 use Rattle.nearest.specs.Calls.{Answered}
 use Rattle.tree.specs.Cases.{five, fiveWords}
 use lib.ListN.{drop, length}

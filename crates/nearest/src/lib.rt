@@ -1,6 +1,6 @@
 // The nearest call: its refusals, and the search.
 ghost use Prim.Native.Nat.{_≤_, min};
-ghost use Rattle.nearest_search.specs.Asked.{asks, lends};
+ghost use Rattle.nearest_steps.specs.Asked.{asks, lends};
 ghost use Rattle.nearest.specs.Calls.{Answered};
 ghost use Rattle.nearest.specs.Numbers.{saidNearest};
 ghost use lib.ListN.{length};

@@ -2,10 +2,11 @@
 use Prim.Native.Nat.{ℕ}
 use Rattle.buffers.specs.Wiped.{wiped}
 use Rattle.index_space.specs.Fits.{IndexFits}
-use Rattle.nearest_search.proofs.HowBytes.{near-length, wiped-zero}
-use Rattle.nearest_search.specs.Asked.{NearestAsked, NearestLent, away, gone, rowsIn}
+use Rattle.nearest_search.proofs.HowBytes.{near-length}
 use Rattle.nearest_search.specs.Found.{FoundAnswers, Settled}
-use Rattle.nearest_search.specs.Listed.{Blank, Listed}
+use Rattle.nearest_steps.specs.Asked.{NearestAsked, NearestLent, away, gone, rowsIn}
+use Rattle.rows_listed.proofs.Wiped.{wiped-zero}
+use Rattle.rows_listed.specs.Listed.{Blank, Listed}
 use Rattle.tree.specs.Grove.{treeOf}
 use Rattle.tree.specs.Nearest.{answers, measured, nearHow}
 use lib.ListN.{drop, take}

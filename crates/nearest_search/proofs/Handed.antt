@@ -7,8 +7,8 @@ use Rattle.answers_held.specs.Giving.{Falling}
 use Rattle.laws.specs.Bags.{total}
 use Rattle.laws.specs.Every.{Every}
 use Rattle.laws.specs.Lists.{has}
-use Rattle.nearest_search.specs.Asked.{NearestLent}
 use Rattle.nearest_search.specs.Found.{SoundAnswers}
+use Rattle.nearest_steps.specs.Asked.{NearestLent}
 use Rattle.tree.proofs.Sorted.{Le, Sorted}
 use Rattle.tree.specs.Nearest.{isMeasured}
 use Rattle.words.specs.Words.{at}

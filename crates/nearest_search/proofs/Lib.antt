@@ -1,14 +1,4 @@
-pub mod Filling
-pub mod Staying
-pub mod OneRow
-pub mod Growing
-pub mod Rounds
-pub mod InnerNodes
-pub mod Weights
-pub mod Progress
-pub mod Starting
 pub mod HowBytes
-pub mod MetRows
 pub mod Handed
 pub mod Finding
 pub mod Again

@@ -3,8 +3,8 @@ use Prim.Native.Nat.{_*_, _<_, _≤_, min, ℕ}
 use Rattle.frontier.specs.Workspace.{workWords}
 use Rattle.index_space.specs.Fits.{IndexFits}
 use Rattle.laws.specs.Lists.{has}
-use Rattle.nearest_search.specs.Asked.{NearestAsked, NearestLent, away, gone, positionsLeft, rowsIn}
-use Rattle.nearest_search.specs.Listed.{Listed}
+use Rattle.nearest_steps.specs.Asked.{NearestAsked, NearestLent, away, gone, positionsLeft, rowsIn}
+use Rattle.rows_listed.specs.Listed.{Listed}
 use Rattle.tree.specs.Grove.{treeOf}
 use Rattle.tree.specs.Nearest.{answers, measured, nearHow, remaining}
 use Rattle.tree.specs.Tested.{Tested}

@@ -1,6 +1,1 @@
-pub mod Standing
-pub mod Handled
-pub mod Asked
-pub mod Rounds
 pub mod Found
-pub mod Listed

@@ -1,19 +1,15 @@
-// The nearest search itself: best first, over the nodes of an index and the single rows of its opened leaves, and the answers handed out.
-ghost use Rattle.nearest_search.specs.Asked.{asks, lends};
+// The nearest search itself: the rounds, over the nodes of an index and the single rows of its opened leaves, and the answers handed out.
 ghost use Rattle.nearest_search.specs.Found.{FoundListed, FoundNearest, Searchable};
-ghost use Rattle.nearest_search.specs.Listed.{Blank};
+ghost use Rattle.nearest_steps.specs.Asked.{asks, lends};
+ghost use Rattle.rows_listed.specs.Listed.{Blank};
 ghost use Rattle.words.specs.Words.{n#};
-use crate::searching::search;
 use answers_held::give;
 use buffers::clear_bytes;
 use buffers::clear_words;
 use frontier::workspace::ANSWERS;
 use frontier::workspace::END;
 use frontier::workspace::MET;
-
-pub mod listing;
-mod searching;
-mod taking;
+use nearest_rounds::search;
 
 // How many answers there are, and how many rows were measured.
 pub struct Counts {

@@ -1,10 +1,11 @@
 // 13 of the full check: a member is closer to the centre of another child of its node.
-ghost use Prim.Native.Nat.{_+_, _<_, _≤_, ℕ};
+mod few;
+
+ghost use Prim.Native.Nat.{_+_, _<_, _≤_};
 ghost use Rattle.laws.specs.Lists.{any, range};
 ghost use Rattle.limits.specs.Said.{said};
 ghost use Rattle.measure.specs.Space.{Space};
 ghost use Rattle.measure.specs.Table.{between};
-ghost use Rattle.nearness.specs.Safe.{Safe, SafeTo};
 ghost use Rattle.nearness.specs.Strays.{FirstIn, Firsts, allStrays, closerThan, kidStrays, told};
 ghost use Rattle.tree.specs.Check.{strays};
 ghost use Rattle.tree.specs.Tested.{Tested};
@@ -12,12 +13,9 @@ ghost use Rattle.words.specs.InShape.{InShape};
 ghost use Rattle.words.specs.Shape.{inner};
 ghost use Rattle.words.specs.Words.{N#, child#, circles#, m#, n#, row#};
 ghost use lib.Dec.{ltb};
-ghost use lib.ListN.{getD};
 ghost use mathlib.Core.Bool.{true};
 ghost use mathlib.Core.Path.{_≡_};
 use limits::Params;
-use measure::row_distance;
-use numbers::smaller;
 use reach::apart;
 use reach::lesser;
 use reach::node_end;
@@ -51,48 +49,6 @@ fn firsts(index: &[u32], child: usize) -> [usize; Params::MOST_CENTRES]
     fs
 }
 
-// How far a row can be from row g and is still no closer to row f: half the way between the two, and any distance where they are one.
-fn halfway(table: &[u16], c: usize, circles: u32, index: &[u32], g: usize, f: usize) -> u32
-    requires { ⌜ Tested (now index) (now table) c × Space (between (now table) c (circles# (now index))) ⌝ }
-    requires { ⌜ (g < n# (now index)) × (f < n# (now index)) × (circles ≡ circles# (now index)) ⌝ }
-    ensures { λ h. ⌜ Safe (between (now (table .entry)) c (circles# (now (index .entry)))) g f h ⌝ }
-{
-    if f == g {
-        return Params::MOST_DISTANCE;
-    }
-    row_distance(table, c, circles, g, f) / 2
-}
-
-// How far a row can be from the first of child a, whose run has `count` positions, and is still closer to none of fs, so that it need not be measured
-// from them: the least half of the ways to these. In a short run the rows are sooner measured than the ways, and then it is 0.
-fn safe_within(
-    table: &[u16],
-    c: usize,
-    circles: u32,
-    index: &[u32],
-    fs: &[usize; Params::MOST_CENTRES],
-    a: usize,
-    count: usize,
-) -> u32
-    requires { ⌜ Tested (now index) (now table) c × Space (between (now table) c (circles# (now index))) ⌝ }
-    requires { ⌜ (a < m# (now index)) × (circles ≡ circles# (now index)) × ((i : ℕ) → i < m# (now index) → getD (now fs) i 0 < n# (now index)) ⌝ }
-    ensures { λ h. ⌜ SafeTo (between (now (table .entry)) c (circles# (now (index .entry)))) (now (fs .entry)) (getD (now (fs .entry)) a 0)
-        (m# (now (index .entry))) h ⌝ }
-{
-    if count < 32 {
-        return 0;
-    }
-    let m = centres(index);
-    let g = fs[a];
-    let mut least = Params::MOST_DISTANCE;
-    let mut i = 0;
-    while i < m {
-        least = smaller(least, halfway(table, c, circles, index, g, fs[i]));
-        i += 1;
-    }
-    least
-}
-
 // The row at p is closer to row f than to row g, from which it is x away. Row g is not measured again.
 fn is_closer(
     table: &[u16],
@@ -115,8 +71,7 @@ fn is_closer(
     apart(table, c, circles, index, f, p) < x
 }
 
-// The row at p, which is x away from row g, is closer to the first of one of the m nodes from number `child` on: fs are these, and up to `safe` from
-// row g no row is.
+// The row at p, which is x away from row g, is closer to the first of one of the m nodes from number `child` on: fs are these.
 fn closer_to_other(
     table: &[u16],
     c: usize,
@@ -125,20 +80,15 @@ fn closer_to_other(
     child: usize,
     fs: &[usize; Params::MOST_CENTRES],
     g: usize,
-    safe: u32,
     x: u32,
     p: usize,
 ) -> bool
     requires { ⌜ Tested (now index) (now table) c ⌝ }
     requires { ⌜ Firsts (now index) child (now fs) × (p < n# (now index))
-        × (x ≡ between (now table) c (circles# (now index)) g (row# (now index) p)) × (circles ≡ circles# (now index))
-        × SafeTo (between (now table) c (circles# (now index))) (now fs) g (m# (now index)) safe ⌝ }
+        × (x ≡ between (now table) c (circles# (now index)) g (row# (now index) p)) × (circles ≡ circles# (now index)) ⌝ }
     ensures { λ r. ⌜ r ≡ any (closerThan (between (now (table .entry)) c (circles# (now (index .entry)))) (now (index .entry)) p x)
         (range child (m# (now (index .entry)))) ⌝ }
 {
-    if x <= safe {
-        return false;
-    }
     let m = centres(index);
     let mut i = 0;
     while i < m {
@@ -160,7 +110,7 @@ fn child_stray(
     k: usize,
     a: usize,
 ) -> usize
-    requires { ⌜ Tested (now index) (now table) c × Space (between (now table) c (circles# (now index))) ⌝ }
+    requires { ⌜ Tested (now index) (now table) c ⌝ }
     requires { ⌜ (k < N# (now index)) × (inner (now index) k ≡ true) × (a < m# (now index)) × Firsts (now index) (child# (now index) k) (now fs) ⌝ }
     ensures { λ r. ⌜ FirstIn (now (index .entry)) k (kidStrays (between (now (table .entry)) c (circles# (now (index .entry)))) (now (index .entry)) k
         (child# (now (index .entry)) k + a)) r ⌝ }
@@ -171,15 +121,34 @@ fn child_stray(
     let end = node_end(index, j);
     let circles = words::places::circles(index);
     let mut p = node_start(index, j);
-    let safe = safe_within(table, c, circles, index, fs, a, end - p);
     while p < end {
         let x = apart(table, c, circles, index, f, p);
-        if closer_to_other(table, c, circles, index, child, fs, f, safe, x, p) {
+        if closer_to_other(table, c, circles, index, child, fs, f, x, p) {
             return p;
         }
         p += 1;
     }
     node_end(index, k)
+}
+
+// The same, by the loop for few columns where there are no more and no circle.
+fn child_first(
+    table: &[u16],
+    c: usize,
+    index: &[u32],
+    fs: &[usize; Params::MOST_CENTRES],
+    k: usize,
+    a: usize,
+) -> usize
+    requires { ⌜ Tested (now index) (now table) c × Space (between (now table) c (circles# (now index))) ⌝ }
+    requires { ⌜ (k < N# (now index)) × (inner (now index) k ≡ true) × (a < m# (now index)) × Firsts (now index) (child# (now index) k) (now fs) ⌝ }
+    ensures { λ r. ⌜ FirstIn (now (index .entry)) k (kidStrays (between (now (table .entry)) c (circles# (now (index .entry)))) (now (index .entry)) k
+        (child# (now (index .entry)) k + a)) r ⌝ }
+{
+    if (words::places::circles(index) == 0) & (c <= 6) {
+        return few::child_stray(table, c, index, fs, k, a);
+    }
+    child_stray(table, c, index, fs, k, a)
 }
 
 // In node k: the lowest position whose row is closer to another child's centre, or the end of its run.
@@ -198,7 +167,7 @@ fn first_stray(table: &[u16], c: usize, index: &[u32], k: usize) -> usize
     let fs = firsts(index, child);
     let mut a = 0;
     while a < m {
-        low = lesser(low, child_stray(table, c, index, &fs, k, a));
+        low = lesser(low, child_first(table, c, index, &fs, k, a));
         a += 1;
     }
     low

@@ -7,7 +7,7 @@ use Rattle.laws.proofs.Empty.{any-none}
 use Rattle.laws.proofs.First.{range-on}
 use Rattle.laws.proofs.Ranges.{range-every}
 use Rattle.laws.specs.Lists.{any, range}
-use Rattle.picking.specs.Lines.{lineAt, lineStart, nextLine, textStart}
+use Rattle.text_lines.specs.Lines.{lineAt, lineStart, nextLine, textStart}
 use Rattle.withdrawing.specs.Lines.{anyFull, isBlank, isFull, lineOf, lineSays, pastBlanks, placeOf, wordEnd}
 use Rattle.withdrawing.specs.Withdrawn.{rowTrouble}
 use borrow.Author.Tests.{le-ltb, lt-ltb, ltb-false}

@@ -6,7 +6,7 @@ use Rattle.laws.proofs.Empty.{any-false}
 use Rattle.laws.proofs.First.{any-more}
 use Rattle.laws.proofs.Ranges.{every-range}
 use Rattle.laws.specs.Lists.{any, range}
-use Rattle.picking.specs.Lines.{lineAt, nextLine, textStart}
+use Rattle.text_lines.specs.Lines.{lineAt, nextLine, textStart}
 use Rattle.rowset.proofs.Calls.{carried-keep}
 use Rattle.rowset.proofs.Outcomes.{none-said}
 use Rattle.rowset.proofs.Refused.{right-has}

@@ -3,7 +3,7 @@ use Prim.Native.Nat.{_-_, ℕ}
 use Rattle.asking.specs.Pieces.{endAt, partOf, placeFrom}
 use Rattle.asking.specs.Worth.{worth}
 use Rattle.laws.specs.Lists.{any, range}
-use Rattle.picking.specs.Lines.{lineAt, lineStart, textStart}
+use Rattle.text_lines.specs.Lines.{lineAt, lineStart, textStart}
 use lib.Dec.{eqb, ltb}
 use lib.ListN.{length}
 use mathlib.Core.Bool.{Bool, _&&_, cond, not}

@@ -1,21 +1,21 @@
 // Rows that are withdrawn: a text of row numbers, one to a line, read into a set.
 ghost use Prim.Native.Nat.{_≤_};
-ghost use Rattle.picking.specs.Lines.{lineAt};
+ghost use Rattle.text_lines.specs.Lines.{lineAt};
 ghost use Rattle.withdrawing.specs.Lines.{anyFull, isBlank, lineSays, pastBlanks, placeOf};
 ghost use Rattle.withdrawing.specs.Withdrawn.{Withdraws, rowTrouble, setWords};
 ghost use lib.ListN.{length, take};
 ghost use mathlib.Core.Path.{_≡_};
-use asking::numbers::NO_NUMBER;
-use asking::numbers::number;
 use asking::pieces::end_from;
 use asking::pieces::least;
 use asking::pieces::part;
-use picking::places::line_at;
-use picking::places::next_line;
-use picking::places::text_start;
+use asking::word_number::NO_NUMBER;
+use asking::word_number::number;
 use rowset::set_bad;
 use rowset::strike;
 use rowset::words_for;
+use text_lines::line_at;
+use text_lines::next_line;
+use text_lines::text_start;
 
 // What is wrong with a line: it is no number, no row, or blank above one that is not.
 pub const NOT_A_NUMBER: u32 = 1;

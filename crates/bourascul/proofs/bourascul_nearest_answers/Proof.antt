@@ -27,7 +27,7 @@ use Rattle.bourascul.proofs.within.Symbol.{name as #core}
 use Rattle.bourascul.specs.Recorded.{Recorded}
 use Rattle.bourascul.specs.declared.Near.{Near}
 use Rattle.nearest.specs.Calls.{Answered}
-use Rattle.nearest_search.specs.Asked.{asks, lends}
+use Rattle.nearest_steps.specs.Asked.{asks, lends}
 use base.Fml.{Fml, GName, Lft, Share, fat, flft, fsep, ftrue}
 use base.Logic.{SProp, emp, ent, fst∗, id⊢, via}
 use contract.Monad.{Fun, fact}

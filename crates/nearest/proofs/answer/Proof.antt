@@ -1,7 +1,7 @@
 -- `nearest::answer` meets its contract: a refusal changes nothing; else the core searches for as many as there can be.
 -- Assumes nothing.
-use Rattle.nearest_search.specs.Asked.{NearestAsked, NearestLent, asks, lends}
 use Rattle.nearest_search.specs.Found.{Searchable}
+use Rattle.nearest_steps.specs.Asked.{NearestAsked, NearestLent, asks, lends}
 use Rattle.nearest.proofs.Contract.{butFor, core-asks, done-is, refused-is}
 use Rattle.nearest.proofs.answer.Statement.{statement}
 use Rattle.nearest.proofs.answer.Tie as tie

@@ -3,7 +3,7 @@
 use Rattle.nearest_search.proofs.Finding.{wiped-asks, wiped-found}
 use Rattle.nearest_search.proofs.find.Statement.{statement}
 use Rattle.nearest_search.proofs.find.Tie as tie
-use Rattle.nearest_search.specs.Asked.{NearestAsked, asks}
+use Rattle.nearest_steps.specs.Asked.{NearestAsked, asks}
 use borrow.Author.Needs.{needs}
 use native.Mathlib.Omega.{arith}
 

@@ -6,30 +6,29 @@ use Rattle.reach.proofs.Pairing.{Kid, kid-of}
 use Rattle.nearness.proofs.Strays.{kid-end, kid-named, kid-on, kid-stop}
 use Rattle.nearness.proofs.child_stray.Statement.{statement}
 use Rattle.nearness.proofs.child_stray.Tie as tie
-use Rattle.nearness.specs.Safe.{SafeTo}
 use Rattle.nearness.specs.Strays.{Firsts, kidStrays}
 use Rattle.laws.proofs.First.{search-start}
 use Rattle.laws.specs.First.{First}
 use Rattle.measure.specs.Table.{between}
-use Rattle.words.specs.Words.{circles#, count#, first#, m#, n#, start#}
+use Rattle.words.specs.Words.{circles#, count#, n#, start#}
 use borrow.Author.Needs.{needs}
 use mathlib.Core.List.{List}
-use mathlib.Core.Path.{_∙_, ap, subst, sym}
+use mathlib.Core.Path.{subst, sym}
 use native.Mathlib.Omega.{arith}
 
 abbrev Inv-loop : tie.InvT-loop
-Inv-loop table c index fs k a child j f end circles p₀ safe p = (p ≤ end) × First (kidStrays (between table c (circles# index)) index k j) (start# index j) p p
+Inv-loop table c index fs k a child j f end circles p₀ p = (p ≤ end) × First (kidStrays (between table c (circles# index)) index k j) (start# index j) p p
 
 abbrev μ-loop : tie.MeasureT-loop
-μ-loop table c index fs k a child j f end circles p₀ safe p = end - p
+μ-loop table c index fs k a child j f end circles p₀ p = end - p
 
 -- the reading of the circles, seen from the loop
 abbrev round : tie.At-loop Inv-loop μ-loop → tie.After-circles Inv-loop μ-loop
-round l = l .before .before .before
+round l = l .before .before
 
 -- the reading of the child's first, seen from the loop
 abbrev first : tie.At-loop Inv-loop μ-loop → tie.After-node-first Inv-loop μ-loop
-first l = l .before .before .before .before .before
+first l = l .before .before .before .before
 
 -- the start, seen from the reading of the first child's number
 abbrev start : tie.After-node-child Inv-loop μ-loop → tie.Start Inv-loop μ-loop
@@ -51,52 +50,34 @@ own c = c .node-child .result + start c .args .a
 kid : (c : tie.After-node-child Inv-loop μ-loop) → Kid (words c) (start c .args .k) (start c .args .a) (c .node-child .result)
 kid c =
     let s = start c in
-    kid-of (words c) (s .pre .0 .0 .shape) (s .args .k) (s .args .a) (c .node-child .ensures .0) (s .pre .1 .0) (s .pre .1 .1) (s .pre .1 .2)
+    kid-of (words c) (s .pre .0 .shape) (s .args .k) (s .args .a) (c .node-child .ensures .0) (s .pre .1 .0) (s .pre .1 .1) (s .pre .1 .2)
 
 -- and among the positions
 inside : (c : tie.After-node-child Inv-loop μ-loop) → start# (words c) (own c) + count# (words c) (own c) ≤ n# (words c)
-inside c = start c .pre .0 .0 .shape .node (own c) (kid c .node) .run
+inside c = start c .pre .0 .shape .node (own c) (kid c .node) .run
 
 add-j : tie.Need-add-j Inv-loop μ-loop
-add-j c = omega (arith, kid c .node, start c .pre .0 .0 .shape .whole .words)
+add-j c = omega (arith, kid c .node, start c .pre .0 .shape .whole .words)
 
 node-first-requires : tie.Need-node-first-requires Inv-loop μ-loop
-node-first-requires c κs = (start c .pre .0 .0 .shape, kid c .node)
+node-first-requires c κs = (start c .pre .0 .shape, kid c .node)
 
 node-end-requires : tie.Need-node-end-requires Inv-loop μ-loop
-node-end-requires c κs = omega (arith, kid (c .before) .node, start (c .before) .pre .0 .0 .shape .whole .words)
+node-end-requires c κs = omega (arith, kid (c .before) .node, start (c .before) .pre .0 .shape .whole .words)
 
 circles-requires : tie.Need-circles-requires Inv-loop μ-loop
-circles-requires c κs = omega (arith, start (c .before .before) .pre .0 .0 .shape .whole .words)
+circles-requires c κs = omega (arith, start (c .before .before) .pre .0 .shape .whole .words)
 
 node-start-requires : tie.Need-node-start-requires Inv-loop μ-loop
-node-start-requires c κs = omega (arith, kid (c .before .before .before) .node, start (c .before .before .before) .pre .0 .0 .shape .whole .words)
-
-safe-within-requires : tie.Need-safe-within-requires Inv-loop μ-loop
-safe-within-requires c κs =
-    let s = start (c .before .before .before .before) in
-    (s .pre .0, (s .pre .1 .2, c .before .circles .ensures, s .pre .1 .3 .low))
+node-start-requires c κs = omega (arith, kid (c .before .before .before) .node, start (c .before .before .before) .pre .0 .shape .whole .words)
 
 loop-holds : tie.Need-loop-holds Inv-loop μ-loop
-loop-holds c = (omega arith, rw (c .before .node-start .ensures .0) (search-start _ _))
-
--- what is safe from the child's first
-safe : (l : tie.At-loop Inv-loop μ-loop)
-    → SafeTo (dist (first l .before)) (start (first l .before) .args .fs .now) (first l .node-first .result) (m# (words (first l .before)))
-    (l .before .safe-within .result)
-safe l =
-    let f = first l in
-    let n = f .before in
-    let a = start n .args in
-    let own = start n .pre .1 .3 .at (a .a) (start n .pre .1 .2) in
-    let kid = ap (λ (i : ℕ). first# (words n) (i + a .a)) (n .node-child .ensures .0) in
-    subst (λ (g : ℕ). SafeTo (dist n) (a .fs .now) g (m# (words n)) (l .before .safe-within .result))
-    (own ∙ sym (f .node-first .ensures .0 ∙ kid)) (l .before .safe-within .ensures)
+loop-holds c = (omega arith, rw (c .node-start .ensures .0) (search-start _ _))
 
 apart-requires : tie.Need-apart-requires Inv-loop μ-loop
 apart-requires c κs =
     let f = first (c .before) in
-    (start (f .before) .pre .0 .0, (f .node-first .ensures .1, omega (arith, inside (f .before)), round (c .before) .circles .ensures))
+    (start (f .before) .pre .0, (f .node-first .ensures .1, omega (arith, inside (f .before)), round (c .before) .circles .ensures))
 
 closer-to-other-requires : tie.Need-closer-to-other-requires Inv-loop μ-loop
 closer-to-other-requires c κs =
@@ -104,7 +85,7 @@ closer-to-other-requires c κs =
     let f = first l in
     let n = f .before in
     let fs = subst (λ (i : ℕ). Firsts (words n) i (start n .args .fs .now)) (sym (n .node-child .ensures .0)) (start n .pre .1 .3) in
-    (start n .pre .0 .0, (fs, omega (arith, inside n), c .apart .ensures, round l .circles .ensures, safe l))
+    (start n .pre .0, (fs, omega (arith, inside n), c .apart .ensures, round l .circles .ensures))
 
 returns : tie.Need-returns Inv-loop μ-loop
 returns c =
@@ -148,8 +129,6 @@ child-stray-spec =
     node-end-requires
     circles-requires
     node-start-requires
-    (λ c. search needs)
-    safe-within-requires
     loop-holds
     apart-requires
     closer-to-other-requires

@@ -1,7 +1,6 @@
 -- `nearness::closer_to_other` meets its contract: no centre passed is closer. The measure is what is left of the centres.
 -- Assumes nothing.
 use Prim.Native.Nat.{_+_, _-_, _≤_, ℕ}
-use Rattle.nearness.proofs.Safe.{none-closer}
 use Rattle.nearness.proofs.Strays.{closer-is}
 use Rattle.nearness.proofs.closer_to_other.Statement.{statement}
 use Rattle.nearness.proofs.closer_to_other.Tie as tie
@@ -17,15 +16,15 @@ use native.Mathlib.Nat.{add-zero}
 use native.Mathlib.Omega.{arith}
 
 abbrev Inv-loop : tie.InvT-loop
-Inv-loop table c circles index child fs g safe x p m i₀ i =
+Inv-loop table c circles index child fs g x p m i₀ i =
     (i ≤ m) × (m ≡ m# index) × First (closerThan (between table c (circles# index)) index p x) child (child + i) (child + i)
 
 abbrev μ-loop : tie.MeasureT-loop
-μ-loop table c circles index child fs g safe x p m i₀ i = m - i
+μ-loop table c circles index child fs g x p m i₀ i = m - i
 
 -- the start, seen from the loop
 abbrev start : tie.At-loop Inv-loop μ-loop → tie.Start Inv-loop μ-loop
-start l = l .before .before .before .before .before
+start l = l .before .before .before .before
 
 -- the distance between the table's rows
 abbrev dist : tie.Start Inv-loop μ-loop → ℕ → ℕ → ℕ
@@ -48,7 +47,7 @@ tested c =
 
 loop-holds : tie.Need-loop-holds Inv-loop μ-loop
 loop-holds c =
-    let s = c .before .before .before .before in
+    let s = c .before .before .before in
     let none = search-start (test s) (s .args .child) in
     (omega arith, c .centres .ensures .0, subst (λ (k : ℕ). First (test s) (s .args .child) k k) (sym (add-zero (s .args .child))) none)
 
@@ -66,18 +65,11 @@ is-closer-requires c κs =
 
 returns : tie.Need-returns Inv-loop μ-loop
 returns c =
-    let s = c .before .before .before in
-    let a = s .args in
-    none-closer (dist s) (a .index .now) (a .child) (a .p) (a .g) (a .x) (a .safe) (a .fs .now) (s .pre .1 .0) (s .pre .1 .2) (s .pre .1 .4)
-    (omega arith)
-
-returns-2 : tie.Need-returns-2 Inv-loop μ-loop
-returns-2 c =
     let l = c .before .before .before .before in
     let f = test (start l) in
     let a = start l .args in
     let m = m# (a .index .now) in
-    let here = sym (tested (c .before)) ∙ c .if2 .taken in
+    let here = sym (tested (c .before)) ∙ c .if1 .taken in
     let F = search-stop f (a .child) (a .child + m) (a .child + l .loop .i) (l .loop .inv .2) (omega arith) here in
     sym (any-first f (a .child) m (a .child + l .loop .i) F (omega arith))
 
@@ -87,11 +79,11 @@ loop-again c =
     let f = test (start l) in
     let child = start l .args .child in
     let e : child + l .loop .i + 1 ≡ child + (l .loop .i + 1) = omega arith in
-    let on = search-on f child (child + l .loop .i) (l .loop .inv .2) (sym (tested (c .before)) ∙ c .if2 .left) in
+    let on = search-on f child (child + l .loop .i) (l .loop .inv .2) (sym (tested (c .before)) ∙ c .if1 .left) in
     (omega arith, l .loop .inv .1, subst (λ (k : ℕ). First f child k k) e on)
 
-returns-3 : tie.Need-returns-3 Inv-loop μ-loop
-returns-3 c =
+returns-2 : tie.Need-returns-2 Inv-loop μ-loop
+returns-2 c =
     let l = c .before in
     let f = test (start l) in
     let a = start l .args in
@@ -104,14 +96,13 @@ closer-to-other-spec =
     (tie.spec
     Inv-loop
     μ-loop
-    returns
     (λ c κs. search needs)
     loop-holds
     mul-is-closer
     element-copy-out-is-closer
     is-closer-requires
-    returns-2
+    returns
     (λ c. search needs)
     (λ c. search needs)
     loop-again
-    returns-3)
+    returns-2)

@@ -58,8 +58,8 @@ loop-holds c =
     let start = near-start (dist s) (s .args .index .now) (s .args .k) in
     (c .before .centres .ensures .0, omega arith, rw (c .before .before .before .before .node-end .ensures) start)
 
-child-stray-requires : tie.Need-child-stray-requires Inv-loop μ-loop
-child-stray-requires c κs =
+child-first-requires : tie.Need-child-first-requires Inv-loop μ-loop
+child-first-requires c κs =
     let l = c .before .before in
     let e = branch l in
     let s = start e in
@@ -73,7 +73,7 @@ loop-again c =
     let l = at-loop .loop in
     let s = start (branch at-loop) in
     let a = s .args in
-    let child = c .before .child-stray in
+    let child = c .before .child-first in
     let more = near-more (dist s) (a .index .now) (a .k) (l .a) (l .low) (child .result) (l .inv .2) (child .ensures) in
     (l .inv .0, omega arith, rw (c .lesser .ensures) more)
 
@@ -97,7 +97,7 @@ first-stray-spec =
     (λ c κs. search needs)
     firsts-requires
     loop-holds
-    child-stray-requires
+    child-first-requires
     (λ c κs. search needs)
     (λ c. search needs)
     (λ c. search needs)

@@ -1,0 +1,9 @@
+pub mod Filling
+pub mod Staying
+pub mod Growing
+pub mod OneRow
+pub mod Rounds
+pub mod Weights
+pub mod InnerNodes
+pub mod Progress
+pub mod Starting

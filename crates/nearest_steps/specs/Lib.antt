@@ -1,0 +1,4 @@
+pub mod Standing
+pub mod Handled
+pub mod Asked
+pub mod Rounds

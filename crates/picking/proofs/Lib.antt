@@ -1,4 +1,0 @@
-pub mod Lines
-pub mod Names
-pub mod Orders
-pub mod Spots

@@ -1,0 +1,2 @@
+pub mod Wiped
+pub mod MetRows
