@@ -262,7 +262,7 @@ static struct gives by_plain(struct set *s, const struct plain_calls *by, int ki
     case BUILD: return (struct gives){ by->build(s->table, l->m, l->l, s->room[1], s->work), 0 };
     case CHECK: return (struct gives){ by->check(s->table, s->room[0], s->work).number, 0 };
     case WRITE: return (struct gives){ by->write(s->room[0], s->image[1]), 0 };
-    case READ: return (struct gives){ by->read(s->image[0], blocks_of(s), s->room[1]), 0 };
+    case READ: return (struct gives){ by->read(s->table, s->image[0], blocks_of(s), s->room[1]), 0 };
     case RADIUS: counts = by->radius(s->table, s->room[0], s->query[q], l->r, s->withdrawn, s->how[1]); break;
     default: counts = by->nearest(s->table, s->room[0], s->query[q], WANTED, s->withdrawn, s->rows[1], s->distances[1], s->how[1], s->work);
     }

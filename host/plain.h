@@ -41,9 +41,9 @@ PLAIN_CALL struct plain_counts plain_nearest(struct plain_table t, const uint32_
 /* Gives the number of blocks. */
 PLAIN_CALL size_t plain_write(const uint32_t *index, uint8_t *image);
 
-/* Gives the number of words, 0 where a check word, the header, the rest after the last word or the shape is wrong. As the library it looks at the
-   shape on the card, before a word is written. */
-PLAIN_CALL size_t plain_read(const uint8_t *image, size_t blocks, uint32_t *room);
+/* Gives the number of words, 0 where a check word, the header, the rest after the last word or the shape is wrong or the table is off its circles. As
+   the library it looks at the shape on the card, before a word is written. */
+PLAIN_CALL size_t plain_read(struct plain_table t, const uint8_t *image, size_t blocks, uint32_t *room);
 
 /* The answers by a scan of every row, where none is withdrawn. */
 PLAIN_CALL uint32_t plain_scan_radius(struct plain_table t, const uint16_t *query, uint32_t r, uint8_t *how);

@@ -132,7 +132,7 @@ static bool card_positions(const uint8_t *image, const uint32_t *header)
     return n == 0 || (row < n && distance <= MOST_DISTANCE);
 }
 
-size_t plain_read(const uint8_t *image, size_t blocks, uint32_t *room)
+size_t plain_read(struct plain_table t, const uint8_t *image, size_t blocks, uint32_t *room)
 {
     uint32_t header[8];
     for (size_t b = 0; b < blocks; b++)
@@ -145,7 +145,7 @@ size_t plain_read(const uint8_t *image, size_t blocks, uint32_t *room)
     for (size_t i = 4 * held_by(blocks - 1, words); i < 4 * HELD; i++)
         if (image[BLOCK * (blocks - 1) + i] != 0)
             return 0;
-    if (!card_tree(image, header) || !card_positions(image, header))
+    if (!card_tree(image, header) || !card_positions(image, header) || plain_off_circle(t))
         return 0;
     for (size_t b = 0; b < blocks; b++)
         memcpy(room + HELD * b, image + BLOCK * b, 4 * held_by(b, words));
