@@ -42,7 +42,6 @@ module _ (d : ℕ → ℕ → ℕ) where
     where
       none : (j : ℕ) → child ≤ j → j < child + m# w → closerThan d w p x j ≡ false
       none j lo hi =
-          let i = j - child in
           let n : child + (j - child) ≡ j = omega arith in
           let f : getD fs (j - child) 0 ≡ first# w j = F .at (j - child) (omega arith) ∙ ap (first# w) n in
           let far = S (j - child) (omega arith) (row# w p) (omega (arith, q, e)) in
