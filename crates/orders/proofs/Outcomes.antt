@@ -3,10 +3,10 @@ use Prim.Native.Nat.{_<_, _≤_, ℕ}
 use Rattle.laws.proofs.Never.{never}
 use Rattle.limits.proofs.Faults.{fault-first, fault-next, fault-none, fault-not, numberOf}
 use Rattle.limits.specs.Said.{fault, said}
-use Rattle.rowset.proofs.Refused.{right-has}
-use Rattle.rowset.proofs.Rows.{Has}
 use Rattle.orders.proofs.Striking.{SetOf, in-ordered, ordered-set}
 use Rattle.orders.specs.Orders.{Order, Orders, names, ordered, rowOf, saidOrder, wants}
+use Rattle.rowset.proofs.Refused.{right-has}
+use Rattle.rowset.proofs.Rows.{Has}
 use Rattle.rowset.specs.Sets.{Narrow, isIn, setBad}
 use borrow.Author.Tests.{eq-eqb, eqb-false, eqb-true, le-leb, leb-false, lt-leb, ne-eqb}
 use lib.Dec.{eqb, leb}

@@ -5,9 +5,9 @@ use Rattle.laws.proofs.Never.{never}
 use Rattle.laws.specs.Every.{Every}
 use Rattle.laws.specs.Lists.{has, keep}
 use Rattle.orders.proofs.Alike.{alike-mixed, alike-offices, alike-strikes, alike-swap, alike-twice}
+use Rattle.orders.specs.Orders.{Agreed, Alike, Mixed, Order, after, names, ordered, restoring, rowOf, standing, striking, wants}
 use Rattle.rowset.proofs.Refused.{right-above, right-has, right-length, right-of}
 use Rattle.rowset.proofs.Rows.{Has, in-restored, in-struck, restored-length, restored-narrow, same-rows, struck-length, struck-narrow}
-use Rattle.orders.specs.Orders.{Agreed, Alike, Mixed, Order, after, names, ordered, restoring, rowOf, standing, striking, wants}
 use Rattle.rowset.specs.Sets.{Narrow, isIn, restored, setBad, struck}
 use borrow.Author.Tests.{eq-eqb, ne-eqb}
 use lib.ListN.{length}

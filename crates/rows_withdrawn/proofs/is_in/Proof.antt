@@ -1,8 +1,8 @@
 -- `rows_withdrawn::is_in` meets its contract. Assumes nothing.
-use Rattle.rowset.proofs.Rows.{beyond}
-use Rattle.rowset.proofs.Shifts.{tested}
 use Rattle.rows_withdrawn.proofs.is_in.Statement.{statement}
 use Rattle.rows_withdrawn.proofs.is_in.Tie as tie
+use Rattle.rowset.proofs.Rows.{beyond}
+use Rattle.rowset.proofs.Shifts.{tested}
 use borrow.Author.Needs.{needs}
 use mathlib.Core.Path.{sym}
 use native.Mathlib.Omega.{arith}

@@ -1,9 +1,9 @@
 -- `set_refusals::set_bad` meets its contract: the length, then the last word. Assumes nothing.
 use Rattle.rowset.proofs.Refused.{by-length, wrong-length}
 use Rattle.rowset.proofs.Shifts.{not-below}
+use Rattle.rowset.specs.Sets.{Narrow, wordsFor}
 use Rattle.set_refusals.proofs.set_bad.Statement.{statement}
 use Rattle.set_refusals.proofs.set_bad.Tie as tie
-use Rattle.rowset.specs.Sets.{Narrow, wordsFor}
 use borrow.Author.Needs.{needs}
 use lib.ListN.{length}
 use mathlib.Core.Path.{_∙_, _≡_}
