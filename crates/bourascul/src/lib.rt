@@ -10,8 +10,8 @@ ghost use Rattle.build.specs.Calls.{Builds};
 ghost use Rattle.image.specs.Calls.{Writes};
 ghost use Rattle.nearest.specs.Calls.{Answered};
 ghost use Rattle.nearest_steps.specs.Asked.{asks, lends};
+ghost use Rattle.orders.specs.Orders.{Orders, restoring, striking};
 ghost use Rattle.radius.specs.Calls.{Searched};
-ghost use Rattle.rowset.specs.Orders.{Orders, restoring, striking};
 ghost use Rattle.words.specs.Calls.{Lists};
 ghost use lib.ListN.{length};
 ghost use mathlib.Core.Path.{_≡_};
@@ -333,7 +333,7 @@ pub extern "C" fn bourascul_list(index: &[u32], node: u32) -> Part
 pub extern "C" fn bourascul_strike(withdrawn: &mut [u32], n: u32, row: u32) -> u32
     ensures { λ k. ⌜ Orders (now (withdrawn .entry)) (now (withdrawn .exit)) n (striking row) k ⌝ }
 {
-    rowset::strike(withdrawn, n as usize, row as usize)
+    orders::strike(withdrawn, n as usize, row as usize)
 }
 
 // Restores a row of n: it is withdrawn no longer.
@@ -341,5 +341,5 @@ pub extern "C" fn bourascul_strike(withdrawn: &mut [u32], n: u32, row: u32) -> u
 pub extern "C" fn bourascul_restore(withdrawn: &mut [u32], n: u32, row: u32) -> u32
     ensures { λ k. ⌜ Orders (now (withdrawn .entry)) (now (withdrawn .exit)) n (restoring row) k ⌝ }
 {
-    rowset::restore(withdrawn, n as usize, row as usize)
+    orders::restore(withdrawn, n as usize, row as usize)
 }

@@ -17,7 +17,7 @@ use marking::row::UNMEASURED;
 use marking::row::enter;
 use marking::row::mark_measured;
 use marking::row::put;
-use rowset::is_in;
+use rows_withdrawn::is_in;
 use words::places::word;
 
 // A row of a leaf is measured as far as r, beyond which it is out however far it is, and marked.

@@ -21,7 +21,7 @@ use measure::distance_to;
 use measure::query_distance;
 use measure::row_of;
 use rows_listed::mark_row;
-use rowset::is_in;
+use rows_withdrawn::is_in;
 use words::places::circles;
 use words::places::node_first;
 

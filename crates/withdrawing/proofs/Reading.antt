@@ -7,11 +7,11 @@ use Rattle.laws.proofs.First.{any-more}
 use Rattle.laws.proofs.Ranges.{every-range}
 use Rattle.laws.specs.Lists.{any, range}
 use Rattle.text_lines.specs.Lines.{lineAt, nextLine, textStart}
-use Rattle.rowset.proofs.Calls.{carried-keep}
-use Rattle.rowset.proofs.Outcomes.{none-said}
+use Rattle.orders.proofs.Calls.{carried-keep}
+use Rattle.orders.proofs.Outcomes.{none-said}
+use Rattle.orders.specs.Orders.{Orders, done, next, striking}
 use Rattle.rowset.proofs.Refused.{right-has}
 use Rattle.rowset.proofs.Rows.{in-struck, struck-length}
-use Rattle.rowset.specs.Orders.{Orders, done, next, striking}
 use Rattle.rowset.specs.Sets.{isIn, setBad, struck, wordsFor}
 use Rattle.withdrawing.proofs.Places.{any-over, full-here, full-none, next-far, place-first, place-next}
 use Rattle.withdrawing.specs.Lines.{anyFull, isBlank, isFull, lineOf, lineSays, placeOf}
