@@ -4,6 +4,7 @@ use Rattle.append_refusals.proofs.Faults.{Free}
 use Rattle.appending.proofs.Appending.{share-ok}
 use Rattle.appending.proofs.Back.{header-last}
 use Rattle.append.specs.Calls.{Grows}
+use Rattle.build.proofs.Outcomes.{small as sixteen}
 use Rattle.build.proofs.Small.{build-small}
 use Rattle.build.specs.Calls.{Builds}
 use Rattle.build_refusals.proofs.Refusals.{clear-none}

@@ -7,6 +7,7 @@ use Rattle.append_rows.proofs.Turning.{append-none, append-writes, rows
 use Rattle.append_rows.specs.Putting.{Puttable}
 use Rattle.appending.proofs.Appending.{append-header}
 use Rattle.appending.proofs.Back.{tree-fits}
+use Rattle.build.proofs.Outcomes.{small as sixteen}
 use Rattle.build.specs.Calls.{Builds}
 use Rattle.build_refusals.specs.Numbers.{roomOf}
 use Rattle.measure.proofs.OnCircle.{round-rows}

@@ -15,6 +15,7 @@ use Rattle.swelling.proofs.Turns.{rows-none}
 use Rattle.swelling.specs.Rows.{appendedRows, joins}
 use Rattle.tree.specs.Build.{build, plant}
 use Rattle.tree.specs.Encode.{encode}
+use Rattle.words.proofs.InShape.{header-there as header-of}
 use Rattle.words.specs.Words.{circles#, l#, m#, n#}
 use borrow.Author.Tests.{leb-false}
 use lib.Dec.{leb}
