@@ -4,10 +4,10 @@ ghost use Rattle.limits.specs.Limits.{maxColumns};
 ghost use Rattle.limits.specs.Said.{said};
 ghost use Rattle.refusals.specs.Refused.{callFaults, circleFaults};
 ghost use mathlib.Core.Path.{_≡_};
+use circular_columns::off_circle;
 use limits::Asked;
 use limits::number_of;
 use limits::rows_in;
-use measure::circles::off_circle;
 use words::index::index_number;
 use words::places::circles;
 
