@@ -10,8 +10,8 @@ use labels::label_in;
 use lines::make_room;
 use lines::put_bytes;
 use lines::put_number;
-use measure::distance;
 use queries::numbers_part;
+use row_distances::distance;
 use text_lines::line_from;
 
 // No distance is as great.

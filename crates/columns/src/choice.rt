@@ -8,7 +8,7 @@ ghost use mathlib.Core.List.{_++_};
 ghost use mathlib.Core.Path.{_≡_};
 use limits::Params;
 use limits::is_within;
-use measure::row_of;
+use row_distances::row_of;
 
 // The greatest product at place j of the chosen columns, in a circle the last tenth of a degree. Without a branch, since every product is held to it.
 pub fn most(circles: u32, j: usize) -> u32

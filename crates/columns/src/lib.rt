@@ -4,7 +4,7 @@ use crate::choice::choose_rows;
 use crate::choice::first_over;
 use crate::choice::first_row_over;
 use crate::choice::fits;
-use measure::row_of;
+use row_distances::row_of;
 
 pub mod choice;
 

@@ -2,8 +2,8 @@
 ghost use Rattle.finder.specs.Calls.{Finds, Near};
 ghost use mathlib.Core.Path.{_≡_};
 use buffers::clear_bytes;
+use circular_columns::off_circle;
 use limits::Params;
-use measure::circles::off_circle;
 use nearest::Given;
 use query_refusals::why_not;
 use radius::Found;

@@ -37,7 +37,7 @@ fn measure_to(
         ((row, byDistance (from (now (table .entry)) c circles (now (query .entry))) r row) ∷ []) (now (how .entry)) (now (how .exit))
         (now (list .entry)) (now (list .exit)) ⌝ }
 {
-    let x = measure::query_distance_to(table, c, circles, query, row, r);
+    let x = ceilings::query_distance_to(table, c, circles, query, row, r);
     mark_measured(x, row, r, withdrawn, how, list);
 }
 

@@ -9,7 +9,7 @@ ghost use lib.ListN.{drop, getD, length, take};
 ghost use mathlib.Core.Bool.{cond};
 ghost use mathlib.Core.List.{_++_, _∷_};
 ghost use mathlib.Core.Path.{_≡_};
-use measure::row_distance;
+use row_distances::row_distance;
 
 // A row number of the workspace, as one to measure by.
 fn wide(x: u32) -> usize
