@@ -2,9 +2,9 @@
 ghost use Rattle.append_refusals.specs.Numbers.{saidAppend};
 ghost use mathlib.Core.Path.{_≡_};
 use build_refusals::writer_number;
+use index_test::index_number;
 use limits::rows_in;
 use refusals::circle_number;
-use index_test::index_number;
 use words::places::circles;
 
 // What refuses an append, or 0. `room` and `work` are the lengths of what is lent. It has no query: an empty part stands for it.

@@ -2,9 +2,9 @@
 ghost use Rattle.append_rows_refusals.specs.Numbers.{saidAppendRows};
 ghost use mathlib.Core.Path.{_≡_};
 use build_refusals::writer_number;
+use index_test::index_number;
 use limits::rows_in;
 use refusals::circle_number;
-use index_test::index_number;
 use words::places::HEADER;
 use words::places::circles;
 use words::places::rows;
