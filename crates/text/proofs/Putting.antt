@@ -1,9 +1,9 @@
 -- A number that ends here, and how it is put. Assumes nothing.
 use Prim.Native.Nat.{_+_, _<_, _≤_, ℕ}
-use Rattle.text.proofs.Place.{the-type}
-use Rattle.text.specs.Reading.{ended, endedBy, parting}
-use Rattle.text.specs.declared.Place.the-variants.{Inside, Line, Lost, Start}
-use Rattle.text.specs.declared.Place.{Place}
+use Rattle.text_reading.proofs.Place.{the-type}
+use Rattle.text_reading.specs.Reading.{ended, endedBy, parting}
+use Rattle.text_reading.specs.declared.Place.the-variants.{Inside, Line, Lost, Start}
+use Rattle.text_reading.specs.declared.Place.{Place}
 use denote.Enum.Declared.{tagOf}
 use lib.ListN.{drop, length, set, take, take-append-drop}
 use lib.Seq.{set-split}

@@ -1,19 +1,12 @@
 // The listing program's text, read as numbers: counted first, so that a text that can't be read changes nothing.
 ghost use Prim.Native.Nat.{_+_, _≤_};
-ghost use Rattle.text.specs.Calls.{Reads};
-ghost use Rattle.text.specs.Reading.{begun, endedBy, ends, grown, howMany, numbers, onward, parting, stepped};
+ghost use Rattle.text_reading.specs.Calls.{Reads};
+ghost use Rattle.text_reading.specs.Reading.{begun, endedBy, ends, grown, howMany, numbers, onward, parting, stepped};
 ghost use lib.ListN.{drop, length, take};
 ghost use mathlib.Core.List.{_++_};
 ghost use mathlib.Core.Path.{_≡_};
 use limits::is_within;
-
-// Where a reader of the text stands: where a number must start, behind a newline, inside a number, or behind a byte that makes the text unreadable.
-pub enum Place {
-    Start,
-    Line,
-    Inside(u16),
-    Lost,
-}
+use text_reading::Place;
 
 // What the reading says: the number, and how many numbers were read.
 pub struct Numbers {

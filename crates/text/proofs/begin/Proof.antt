@@ -3,7 +3,7 @@
 use Rattle.limits.proofs.Ranges.{within-both}
 use Rattle.text.proofs.begin.Statement.{statement}
 use Rattle.text.proofs.begin.Tie as tie
-use Rattle.text.specs.Reading.{begun}
+use Rattle.text_reading.specs.Reading.{begun}
 use borrow.Author.Needs.{needs}
 use mathlib.Core.Path.{_∙_, sym}
 

@@ -3,7 +3,7 @@
 use Rattle.limits.proofs.Ranges.{within-both}
 use Rattle.text.proofs.go_on.Statement.{statement}
 use Rattle.text.proofs.go_on.Tie as tie
-use Rattle.text.specs.Reading.{onward}
+use Rattle.text_reading.specs.Reading.{onward}
 use borrow.Author.Needs.{needs}
 use borrow.Author.Tests.{eq-eqb, ne-eqb}
 use mathlib.Core.Path.{_∙_, sym}

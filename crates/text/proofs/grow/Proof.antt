@@ -2,7 +2,7 @@
 -- Assumes nothing.
 use Rattle.text.proofs.grow.Statement.{statement}
 use Rattle.text.proofs.grow.Tie as tie
-use Rattle.text.specs.Reading.{grown}
+use Rattle.text_reading.specs.Reading.{grown}
 use borrow.Author.Needs.{needs}
 use borrow.Author.Tests.{le-leb, lt-leb}
 

@@ -2,7 +2,7 @@
 -- Assumes nothing.
 use Rattle.text.proofs.parts.Statement.{statement}
 use Rattle.text.proofs.parts.Tie as tie
-use Rattle.text.specs.Reading.{parting}
+use Rattle.text_reading.specs.Reading.{parting}
 use borrow.Author.Tests.{eq-eqb, ne-eqb}
 
 returns : tie.Need-returns

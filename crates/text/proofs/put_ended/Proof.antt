@@ -5,7 +5,7 @@ use Rattle.laws.proofs.Tests.{no, yes}
 use Rattle.text.proofs.Putting.{fits-one, none-inside, not-parted, parted, put-none, put-one}
 use Rattle.text.proofs.put_ended.Statement.{statement}
 use Rattle.text.proofs.put_ended.Tie as tie
-use Rattle.text.specs.Reading.{endedBy}
+use Rattle.text_reading.specs.Reading.{endedBy}
 use borrow.Author.Needs.{needs}
 use mathlib.Core.List.{[], _∷_}
 use mathlib.Core.Path.{_∙_, _≡_}
