@@ -1,8 +1,8 @@
--- `text::go_on` meets its contract: each return has its test, in the order of the definition.
+-- `text_bytes::go_on` meets its contract: each return has its test, in the order of the definition.
 -- Assumes nothing.
 use Rattle.limits.proofs.Ranges.{within-both}
-use Rattle.text.proofs.go_on.Statement.{statement}
-use Rattle.text.proofs.go_on.Tie as tie
+use Rattle.text_bytes.proofs.go_on.Statement.{statement}
+use Rattle.text_bytes.proofs.go_on.Tie as tie
 use Rattle.text_reading.specs.Reading.{onward}
 use borrow.Author.Needs.{needs}
 use borrow.Author.Tests.{eq-eqb, ne-eqb}

@@ -1,8 +1,8 @@
--- `text::begin` meets its contract: one return for a digit, one for any other byte.
+-- `text_bytes::begin` meets its contract: one return for a digit, one for any other byte.
 -- Assumes nothing.
 use Rattle.limits.proofs.Ranges.{within-both}
-use Rattle.text.proofs.begin.Statement.{statement}
-use Rattle.text.proofs.begin.Tie as tie
+use Rattle.text_bytes.proofs.begin.Statement.{statement}
+use Rattle.text_bytes.proofs.begin.Tie as tie
 use Rattle.text_reading.specs.Reading.{begun}
 use borrow.Author.Needs.{needs}
 use mathlib.Core.Path.{_∙_, sym}

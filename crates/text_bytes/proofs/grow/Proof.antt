@@ -1,7 +1,7 @@
--- `text::grow` meets its contract: each return has its test.
+-- `text_bytes::grow` meets its contract: each return has its test.
 -- Assumes nothing.
-use Rattle.text.proofs.grow.Statement.{statement}
-use Rattle.text.proofs.grow.Tie as tie
+use Rattle.text_bytes.proofs.grow.Statement.{statement}
+use Rattle.text_bytes.proofs.grow.Tie as tie
 use Rattle.text_reading.specs.Reading.{grown}
 use borrow.Author.Needs.{needs}
 use borrow.Author.Tests.{le-leb, lt-leb}

@@ -1,9 +1,9 @@
--- `text::ended` meets its contract: one return for a byte that parts nothing, one for a place inside no number, one for a place inside a number.
+-- `text_bytes::ended` meets its contract: one return for a byte that parts nothing, one for a place inside no number, one for a place inside a number.
 -- Assumes nothing.
 use Rattle.laws.proofs.Tests.{no, yes}
-use Rattle.text.proofs.Putting.{none-inside, not-parted, parted}
-use Rattle.text.proofs.ended.Statement.{statement}
-use Rattle.text.proofs.ended.Tie as tie
+use Rattle.text_bytes.proofs.Putting.{none-inside, not-parted, parted}
+use Rattle.text_bytes.proofs.ended.Statement.{statement}
+use Rattle.text_bytes.proofs.ended.Tie as tie
 use borrow.Author.Needs.{needs}
 
 returns : tie.Need-returns

@@ -1,7 +1,7 @@
--- `text::step` meets its contract: one return for each case of the place.
+-- `text_bytes::step` meets its contract: one return for each case of the place.
 -- Assumes nothing.
-use Rattle.text.proofs.step.Statement.{statement}
-use Rattle.text.proofs.step.Tie as tie
+use Rattle.text_bytes.proofs.step.Statement.{statement}
+use Rattle.text_bytes.proofs.step.Tie as tie
 use borrow.Author.Needs.{needs}
 
 returns : tie.Need-returns

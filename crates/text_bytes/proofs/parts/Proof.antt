@@ -1,7 +1,7 @@
--- `text::parts` meets its contract: one return for a space, one for any other byte.
+-- `text_bytes::parts` meets its contract: one return for a space, one for any other byte.
 -- Assumes nothing.
-use Rattle.text.proofs.parts.Statement.{statement}
-use Rattle.text.proofs.parts.Tie as tie
+use Rattle.text_bytes.proofs.parts.Statement.{statement}
+use Rattle.text_bytes.proofs.parts.Tie as tie
 use Rattle.text_reading.specs.Reading.{parting}
 use borrow.Author.Tests.{eq-eqb, ne-eqb}
 

@@ -1,10 +1,10 @@
--- `text::put_ended` meets its contract: as `ended`, with the number stored where one ends.
+-- `text_bytes::put_ended` meets its contract: as `ended`, with the number stored where one ends.
 -- Assumes nothing.
 use Prim.Native.Nat.{ℕ}
 use Rattle.laws.proofs.Tests.{no, yes}
-use Rattle.text.proofs.Putting.{fits-one, none-inside, not-parted, parted, put-none, put-one}
-use Rattle.text.proofs.put_ended.Statement.{statement}
-use Rattle.text.proofs.put_ended.Tie as tie
+use Rattle.text_bytes.proofs.Putting.{fits-one, none-inside, not-parted, parted, put-none, put-one}
+use Rattle.text_bytes.proofs.put_ended.Statement.{statement}
+use Rattle.text_bytes.proofs.put_ended.Tie as tie
 use Rattle.text_reading.specs.Reading.{endedBy}
 use borrow.Author.Needs.{needs}
 use mathlib.Core.List.{[], _∷_}
