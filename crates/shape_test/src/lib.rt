@@ -1,5 +1,5 @@
 // The shape test: one pass over the nodes, one over the positions, with no workspace.
-ghost use Prim.Native.Nat.{_*_, _+_, _<_, _≤_, max};
+ghost use Prim.Native.Nat.{_*_, _+_, _<_, _≤_};
 ghost use Rattle.laws.specs.Lists.{all, range};
 ghost use Rattle.limits.specs.Limits.{maxCentres};
 ghost use Rattle.words.specs.InShape.{Whole};
@@ -9,7 +9,6 @@ ghost use Rattle.words.specs.Words.{N#, edition#, n#, nodeAt, wordsOk};
 ghost use mathlib.Core.Bool.{true};
 ghost use mathlib.Core.Path.{_≡_};
 use limits::Params;
-use numbers::larger;
 use words::places::HEADER;
 use words::places::centres;
 use words::places::leaf_size;
@@ -149,28 +148,23 @@ fn tree_fits(index: &[u32]) -> bool
     next == total
 }
 
-// The positions: the greatest row number and the greatest distance are looked at once, at the end, so that the loop has no branch.
+// The positions. Every one is looked at, and what is wrong is gathered without a branch, so that several are tested at a time.
 fn positions_fit(index: &[u32]) -> bool
     requires { ⌜ Whole (now index) ⌝ }
     ensures { λ r. ⌜ r ≡ all (positionOk (now (index .entry))) (range 0 (n# (now (index .entry)))) ⌝ }
 {
     let n = rows(index);
-    if n == 0 {
-        return true;
-    }
+    let over = n as u32;
     let base = pair_at(index, 0);
-    let mut row: u32 = 0;
-    let mut far: u32 = 0;
+    let mut wrong = false;
     let mut p = 0;
     while p < n {
-        row = larger(row, index[base + 2 * p]);
-        far = larger(far, index[base + 2 * p + 1]);
+        wrong = wrong
+            | (over <= index[base + 2 * p])
+            | (Params::MOST_DISTANCE < index[base + 2 * p + 1]);
         p += 1;
     }
-    if n as u32 <= row {
-        return false;
-    }
-    far <= Params::MOST_DISTANCE
+    !wrong
 }
 
 // The shape is right.
