@@ -12,7 +12,7 @@ use refilling::fill_rows;
 use words::places::rows;
 
 // Writes the index with all of the table's rows in it. Gives the number of nodes. Where the index has no row, that of the first row alone is built
-// here, and takes the others.
+// here, and takes the others, so that the pass over old nodes always has a root.
 fn put_rows(table: &[u16], c: usize, index: &[u32], room: &mut [u32], work: &mut [u32]) -> usize
     requires { ⌜ Puttable (now table) c (now index) (now room) (now work) ⌝ }
     ensures { λ r. ⌜ RowsJoin (now (table .entry)) c (now (index .entry)) (now (room .entry)) (now (work .entry)) (now (room .exit)) (now (work .exit)) r ⌝ }

@@ -65,7 +65,7 @@ pub fn piece_at(t: &[u8], b: u8, i: usize) -> Piece
     }
 }
 
-// The bytes from `start` up to `end`, as far as the text has them.
+// The bytes from `start` up to `end`, as far as the text has them: it can't fail, so that a question may keep pieces as numbers, with no invariant.
 pub fn part(t: &[u8], start: usize, end: usize) -> &[u8]
     ensures { λ r. ⌜ now r ≡ partOf (now (t .entry)) start end ⌝ }
 {

@@ -1,4 +1,5 @@
--- The three demands, as theorems on what the calls give: an index is accepted where a check of it gave 0. Assumes nothing.
+-- The three demands, as theorems on what the calls give: an index is accepted where a check of it gave 0, so that no definition of
+-- ours stands between the analyst's words and the calls. Assumes nothing.
 use Prim.Native.Nat.{_*_, _+_, _/_, _<_, _^_, _≤_, min, ℕ}
 use Rattle.answers.specs.Records.{made}
 use Rattle.answers.specs.declared.Answer.{Answer}

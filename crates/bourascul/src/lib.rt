@@ -1,5 +1,5 @@
 // The calls for C hosts: each calls one of the crates below, and keeps its contract. Every number that is given back has 32 bits; include/bourascul.h
-// says what is lent.
+// says what is lent. They are a crate of their own, since an archive has the exports of the crate that it is made of and no other.
 ghost use Prim.Native.Nat.{min};
 ghost use Rattle.append.specs.Calls.{Appends};
 ghost use Rattle.append_rows.specs.Calls.{AppendsRows};
@@ -255,7 +255,8 @@ fn within(
 }
 
 // The rows nearest to the query, each with its distance as a record, in a row of answers that the caller lends. The two slices of numbers that the
-// search hands out are lent too, and hold the same answers afterwards.
+// search hands out are lent too, and hold the same answers afterwards. It stands here alone: it is proved by a walk through its compiled statements,
+// and one walk is enough.
 #[no_mangle]
 pub extern "C" fn bourascul_nearest_answers(
     table: &[u16],

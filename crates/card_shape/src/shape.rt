@@ -1,4 +1,6 @@
 // The shape test of an index on a card: one pass over the nodes, one over the positions, in the image's bytes and with no workspace.
+// In the bytes, since reading is lent no workspace and a refusal changes no lent memory. A function of the kit can't take words from two kinds of
+// slices, so that the functions of shape_test stand here once more; both cite the same laws, which are over a list of words.
 ghost use Prim.Native.Nat.{_*_, _+_, _<_, _≤_};
 ghost use Rattle.card_shape.specs.Sweep.{GreatestTo, InBlock};
 ghost use Rattle.card_words.specs.Cards.{Carded, Held, cardWords};

@@ -1,4 +1,5 @@
-// The columns of a table: those that a question is about, each with a factor.
+// The columns of a table: those that a question is about, each with a factor. They become a table of their own, so that the library and its theorems
+// know nothing of factors.
 ghost use Rattle.column_products.specs.Chosen.{Chooses};
 use crate::choice::choose_rows;
 use crate::choice::first_over;
@@ -17,7 +18,7 @@ pub struct Chose {
 }
 
 // In place, row after row: of each of the n rows the k chosen columns, in the order chosen, each times its factor. The set of circles
-// is of places among the chosen. A refusal changes nothing.
+// is of places among the chosen. All products are tried before anything is written, so that a refusal changes nothing.
 pub fn choose(
     table: &mut [u16],
     c: usize,

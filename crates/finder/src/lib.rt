@@ -1,4 +1,5 @@
 // Questions about a table, answered exactly: which rows are near, and which are the nearest. The index is built over the table, and searched.
+// A question is a query's numbers, not a row's number: so a row, a label's row and values typed in are one call.
 ghost use Rattle.finder.specs.Calls.{Finds, Near};
 ghost use mathlib.Core.Path.{_≡_};
 use buffers::clear_bytes;
@@ -10,7 +11,8 @@ use radius::Found;
 use set_refusals::set_bad;
 use several_queries::mark_each;
 
-// Centres of an inner node, and rows of a leaf: what measures best for one build and one search.
+// Centres of an inner node, and rows of a leaf: what measures best for one build and one search (docs/FIGURES.md, m and l). For many searches
+// bourascul.h advises others; the answers are the same.
 const CENTRES: usize = 2;
 
 const LEAF: usize = 1024;

@@ -51,7 +51,7 @@ pub record More (work work′ : List ℕ) (len k : ℕ) (g : ℕ → ℕ) (last 
   pub bag : SameBag (entries work′ 0 len′) (atMost keyOf last (upto g k) ++ entries work 0 len)
   pub outside : Outside work work′ 0 (len + k + (len + k))
 
--- there is room to queue k more, on an index in shape and of edition 2 over n rows
+-- there is room to queue k more, on an index in shape and of edition 2 over n rows; no table is lent here
 pub record FrontierRoom (w work : List ℕ) (n len k : ℕ) : Type 0 where
   pub shape : InShape w
   pub edition : edition# w ≡ 2

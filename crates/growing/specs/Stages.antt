@@ -28,7 +28,8 @@ pub record Fit (t : List ℕ) (c m l n : ℕ) : Type 0 where
 abbrev pub withNodes : List ℕ → List Node → List ℕ
 withNodes room ns = take headerWords room ++ (each (nodeWords 2) ns ++ drop (nodeAt (length ns)) room)
 
--- the first half of the workspace is runs that follow each other: none empty, no row in one twice, rows below n, n of them
+-- the first half of the workspace is runs that follow each other: none empty, no row in one twice, rows below n, n of them. A split replaces its tile
+-- in place, so that no argument is needed about which parts lie apart, and counting tiles gives the room for the nodes (`few`)
 pub record Tiled (d : ℕ → ℕ → ℕ) (n : ℕ) (work : List ℕ) (tiles : List (List ℕ)) : Type 0 where
   pub halves : 6 * n ≤ length work
   pub words : take (3 * n) work ≡ each (laid d) tiles

@@ -65,7 +65,7 @@ pub fn get_words(image: &[u8], t: usize, room: &mut [u32])
     }
 }
 
-// The eight header words.
+// The eight header words, copied: the tests of a header take words.
 fn header_of(image: &[u8]) -> [u32; HEADER]
     requires { ⌜ 512 ≤ length (now image) ⌝ }
     ensures { λ r. ⌜ r ≡ imageWords (now (image .entry)) headerWords ⌝ }

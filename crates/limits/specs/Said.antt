@@ -10,7 +10,8 @@ use mathlib.Core.List.{List, [], _++_, _∷_}
 abbrev pub Said : Type 0
 Said = ℕ × ℕ × ℕ
 
--- of the faults, listed with the lowest number and place first, the first; 0 where there is none
+-- of the faults, listed with the lowest number and place first, the first; 0 where there is none. With a list "of several, the lowest" needs no other
+-- words, and all is total: 0 columns have their answer too
 abbrev pub said : List Said → Said
 said [] = (0, 0, 0)
 said (f ∷ fs) = f

@@ -109,7 +109,7 @@ pub fn edition_ok(edition: usize) -> bool
 pub struct Asked {
     pub length: usize,
     pub columns: usize,
-    // 2: m, l, the circles or the edition is out of range
+    // 2: m, l, the circles or the edition is out of range, which the constructor of the parameters decides; it is told here, so that 1 comes first
     pub unfit: bool,
     // 5: a lent room is too short
     pub short: bool,

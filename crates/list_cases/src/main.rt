@@ -1,4 +1,5 @@
-// The listing program on the texts of data/, one after the other, each behind its name.
+// The listing program on the texts of data/, one after the other, each behind its name. One program for all: another would cost the gate its
+// proof, and a text more costs it nothing.
 use libc::STDOUT_FILENO;
 
 fn list(name: &[u8]) {

@@ -166,7 +166,8 @@ fn workspace() -> [u32; WORK]
     [0; WORK]
 }
 
-// The whole program on an open file. Gives the number that it printed behind `refused`, or 0 where it printed an index.
+// The whole program on an open file. Gives the number that it printed behind `refused`, or 0 where it printed an index: of that
+// a contract can speak, and not of standard output.
 pub fn run_on(file: i32) -> u32
     ensures { λ r. ⌜ r ≤ 18 ⌝ }
 {

@@ -1,4 +1,5 @@
--- What the theorems on an index ask of the distance, and nothing else: another distance is another instance. Assumes nothing.
+-- What the theorems on an index ask of the distance, and nothing else: another distance is another instance. That no distance is
+-- above 1,048,560 is no law here: only what writes an index needs it (`between-most`, proofs/Metric), and it asks for 16 bits. Assumes nothing.
 use Prim.Native.Nat.{_+_, _≤_, ℕ}
 use mathlib.Core.Path.{_≡_}
 

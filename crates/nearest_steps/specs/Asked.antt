@@ -1,4 +1,5 @@
--- What is asked of a nearest search, and what it is lent. Assumes nothing.
+-- What is asked of a nearest search, and what it is lent: as records, so that a contract names them whole, before and after, and "nothing is changed"
+-- is one equation. Contracts, and laws over plain names, make them by `asks` and `lends`. Assumes nothing.
 use Prim.Native.Nat.{min, ℕ}
 use Rattle.laws.specs.Lists.{range, tally}
 use Rattle.measure.specs.Table.{from}

@@ -8,7 +8,8 @@ use mathlib.Core.Bool.{Bool, cond, false, true}
 use mathlib.Core.List.{List, [], _++_, _∷_}
 use mathlib.Core.Path.{_≡_}
 
--- what a foreman orders of one row: that it be withdrawn, or that it be so no longer
+-- what a foreman orders of one row: that it be withdrawn, or that it be so no longer. A value, so that one contract and one set of laws serve both
+-- calls, and lists of orders can be spoken of
 pub data Order : Type 0 where
   striking : ℕ → Order
   restoring : ℕ → Order

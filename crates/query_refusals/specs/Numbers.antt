@@ -8,7 +8,7 @@ use lib.ListN.{length}
 use mathlib.Core.Bool.{Bool, _&&_, _||_, cond}
 use mathlib.Core.List.{List}
 
--- numbers for one query at least, no part of one, and no more queries than an index has rows
+-- numbers for one query at least, no part of one, and no more queries than an index has rows, so that the sum of what they measure is a number
 unfoldable pub asks : ℕ → ℕ → Bool
 asks c asked = eqb (asked % c) 0 && within 1 maxRows (asked / c)
 

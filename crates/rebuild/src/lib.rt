@@ -1,4 +1,4 @@
-// A table is built with the centres, the leaf size and the circles of an index that there is.
+// A table is built with the centres, the leaf size and the circles of an index that there is: one row alone, for both appends.
 ghost use Prim.Native.Nat.{_≤_};
 ghost use Rattle.build.specs.Calls.{Builds};
 ghost use Rattle.words.specs.Words.{circles#, headerWords, l#, m#};

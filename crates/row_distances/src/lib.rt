@@ -119,7 +119,7 @@ fn rounded_or_many(a: &[u16], b: &[u16], circles: u32) -> u32
     many(a, b)
 }
 
-// The distance of two rows.
+// The distance of two rows. Those that have no circle take the plain sums, behind one test a row.
 pub fn distance(a: &[u16], b: &[u16], circles: u32) -> u32
     requires { ⌜ (length (now a) ≡ length (now b)) × (length (now a) ≤ maxColumns) ⌝ }
     ensures { λ r. ⌜ (r ≡ l1 (length (now (a .entry))) circles (now (a .entry)) (now (b .entry))) × (r ≤ maxDistance) ⌝ }

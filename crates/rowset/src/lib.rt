@@ -5,7 +5,7 @@ ghost use Rattle.rowset.specs.Sets.{mask, restored, struck};
 ghost use lib.ListN.{length};
 ghost use mathlib.Core.Path.{_≡_};
 
-// A word in which row r's bit alone is on.
+// A word in which row r's bit alone is on: one mask to put a bit on and off, to ask for it, and for the refusal of a set.
 pub fn mask_of(r: usize) -> u32
     ensures { λ m. ⌜ m ≡ mask r ⌝ }
 {

@@ -1,4 +1,4 @@
-// The statuses that the analyst's program ends with.
+// The statuses that the analyst's program ends with: a crate of their own, so that an edit of one rechecks these few lines and not the program.
 ghost use Rattle.statuses.specs.Statuses.{Known, answered, askedWrongly, noRoom, nothingFound, textFaulty};
 ghost use mathlib.Core.Path.{_≡_};
 

@@ -1,4 +1,5 @@
--- Several rows more in the tree, one after the other: 02, R-2. Assumes nothing.
+-- Several rows more in the tree, one after the other: 02, R-2. This is the definition; that they can be put in at once (Swell) is proved, so that a
+-- reader believes no second rule. Assumes nothing.
 use Prim.Native.Nat.{_*_, _+_, _-_, max, suc, zero, ℕ}
 use Rattle.appending.specs.Append.{appended, join}
 use Rattle.laws.specs.Lists.{range}

@@ -68,7 +68,8 @@ nodes (suc deep) next fs = levelNodes next fs ++ nodes deep (next + spans (below
 unfoldable pub numbered : Grove → List Node
 numbered t = nodes maxDepth (span t) ((0, t) ∷ [])
 
--- the words in edition e, over c columns of which the set o are circles: header, nodes, positions. The tree is the same in both editions
+-- the words in edition e, over c columns of which the set o are circles: header, nodes, positions. The tree has the true inner reach
+-- and is the same in both editions, so that no theorem exists twice
 unfoldable pub encode : ℕ → ℕ → ℕ → ℕ → ℕ → Grove → List ℕ
 encode e c o m l t =
     (e ∷ length (entries t) ∷ c ∷ m ∷ l ∷ length (numbered t) ∷ 1 ∷ o ∷ []) ++ (each (nodeWords e) (numbered t) ++ each pairWords (entries t))

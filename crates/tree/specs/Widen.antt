@@ -1,4 +1,5 @@
--- An edition 1 index made edition 2: 02, R-4. Over the distance d between rows. Assumes nothing.
+-- An edition 1 index made edition 2: 02, R-4; since R-11 no call, but what reading an edition 1 card means. Over the distance d between rows.
+-- Assumes nothing.
 use Prim.Native.Nat.{ℕ}
 use Rattle.laws.specs.Lists.{each, range}
 use Rattle.tree.specs.Check.{nearest#}

@@ -1,4 +1,5 @@
--- The index words: 01, The tree, Index words. Assumes nothing.
+-- The index words: 01, The tree, Index words. What names a word is an abbreviation, so that goals show its place; what is long or recurses is
+-- `unfoldable`. Assumes nothing.
 use Prim.Native.Nat.{_*_, _+_, _-_, suc, zero, ℕ}
 use Rattle.laws.specs.Lists.{range}
 use Rattle.limits.specs.Limits.{circlesOk, columnsOk, editionOk, maxRows, shareOk, within}
