@@ -31,3 +31,6 @@ x86_64 | amd64)
     echo "host: x86-64 programs run under ${emulator%% *} here; times measured so say nothing"
     ;;
 esac
+
+# A compiler may be there without the C library's headers.
+echo '#include <stdio.h>' | "$cc" -E - >/dev/null 2>&1 || missing "$cc finds no headers of a C library for x86-64: install them (Debian: libc6-dev; for the cross compiler libc6-dev-amd64-cross)"
