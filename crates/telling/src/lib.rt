@@ -21,11 +21,8 @@ use statuses::no_room;
 fn say_usage(file: i32) {
     say(
         file,
-        b"usage: minutes FILE like WHAT DISTANCE [OPTION ..]\n",
-    );
-    say(
-        file,
-        b"       minutes FILE nearest WHAT HOW_MANY [OPTION ..]\n",
+        b"usage: minutes FILE like WHAT DISTANCE [OPTION ..]\n       \
+          minutes FILE nearest WHAT HOW_MANY [OPTION ..]\n",
     );
 }
 
@@ -40,40 +37,16 @@ fn say_help(file: i32) {
     say_usage(file);
     say(
         file,
-        b"like: every row within DISTANCE, in row order; nearest: the HOW_MANY nearest rows, nearest first, of equals the lower row.\n",
-    );
-    say(
-        file,
-        b"FILE is rows of numbers, a row a line, with a first line of names if you like; - is standard input. Rows count from 0.\n",
-    );
-    say(
-        file,
-        b"WHAT is a row (1046), several (1046,899: within DISTANCE of any; like alone), values (=0,0,88,4), or what one row has: tender_distance=3284\n",
-    );
-    say(
-        file,
-        b"  --columns NAME[*FACTOR],..  the columns that count, by name or number from 1, each times its whole factor\n",
-    );
-    say(
-        file,
-        b"  --circle NAME,..            of these, those that go round: circles of 3,600 tenths of a degree\n",
-    );
-    say(
-        file,
-        b"  --without FILE              rows that are withdrawn, a row number a line: they are in no answer\n",
-    );
-    say(
-        file,
-        b"  --label NAME                a column that is no number and does not count: it is shown, and asked by: time=2026-04-12T07:31\n",
-    );
-    say(
-        file,
-        b"  --count  --csv  --lines     the count alone; commas and a line of names; the recorder's own line behind each answer\n",
-    );
-    say(file, b"  --by distance               like: nearest first\n");
-    say(
-        file,
-        b"Status: 0 answered, 1 nothing found, 2 asked wrongly, 3 the text has a fault, 4 no room.\n",
+        b"like: every row within DISTANCE, in row order; nearest: the HOW_MANY nearest rows, nearest first, of equals the lower row.\n\
+          FILE is rows of numbers, a row a line, with a first line of names if you like; - is standard input. Rows count from 0.\n\
+          WHAT is a row (1046), several (1046,899: within DISTANCE of any; like alone), values (=0,0,88,4), or what one row has: tender_distance=3284\n  \
+          --columns NAME[*FACTOR],..  the columns that count, by name or number from 1, each times its whole factor\n  \
+          --circle NAME,..            of these, those that go round: circles of 3,600 tenths of a degree\n  \
+          --without FILE              rows that are withdrawn, a row number a line: they are in no answer\n  \
+          --label NAME                a column that is no number and does not count: it is shown, and asked by: time=2026-04-12T07:31\n  \
+          --count  --csv  --lines     the count alone; commas and a line of names; the recorder's own line behind each answer\n  \
+          --by distance               like: nearest first\n\
+          Status: 0 answered, 1 nothing found, 2 asked wrongly, 3 the text has a fault, 4 no room.\n",
     );
 }
 
