@@ -1,7 +1,5 @@
 // The plan of a question: its texts are read, its columns chosen, its rows withdrawn and its queries put.
 ghost use Prim.Native.Nat.{_≤_};
-ghost use lib.ListN.{length};
-ghost use mathlib.Core.Path.{_≡_};
 use answer_lines::plan::Plan;
 use asked_queries::put_queries;
 use asked_table::Chosen;
@@ -14,6 +12,7 @@ use asked_texts::withdraw_said;
 use asking::Question;
 use asking::pieces::bytes_of;
 use asking::pieces::part;
+use queries::QUERY_ROOM;
 use queries::product;
 use statuses::answered;
 use statuses::asked_wrongly;
@@ -95,39 +94,82 @@ fn with_table(plan: Plan, circles: u32, k: usize, used: usize, count: usize) -> 
     full
 }
 
-// The plan for the rows of a table whose columns are chosen; the queries are put.
+// The status, 0 where the table is made; the text as it was read, and the columns that were chosen.
+pub struct Made {
+    pub status: u32,
+    pub sheet: Sheet,
+    pub chosen: Chosen,
+}
+
+// No columns are chosen.
+fn none_chosen() -> Chosen {
+    Chosen {
+        status: 0,
+        circles: 0,
+        choice: column_choice::choose_all(0, 0),
+    }
+}
+
+// Makes the table: the text is read into it, and its columns are chosen.
+fn make_table(words: &[u8], q: Question, err: i32, text: &[u8], table: &mut [u16]) -> Made
+    ensures { λ r. ⌜ r .status ≤ 4 ⌝ }
+{
+    let rows = read_text(words, q, err, text, table);
+    let sheet = rows.sheet;
+    if rows.status != 0 {
+        return Made {
+            status: rows.status,
+            sheet,
+            chosen: none_chosen(),
+        };
+    }
+    let chosen = choose_said(words, q, err, sheet, text, table);
+    Made {
+        status: chosen.status,
+        sheet,
+        chosen,
+    }
+}
+
+// The plan for the rows of a table that is made; the queries are put.
 fn plan_rows(
-    what: &[u8],
-    plan: Plan,
-    sheet: Sheet,
-    chosen: Chosen,
+    words: &[u8],
+    q: Question,
+    out: i32,
+    err: i32,
+    made: Made,
     text: &[u8],
     table: &[u16],
     starts: &mut [u32],
     queries: &mut [u16],
 ) -> Plan
-    requires { ⌜ (plan .status ≤ 4) × (length (now queries) ≡ 1024) ⌝ }
     ensures { λ r. ⌜ r .status ≤ 4 ⌝ }
 {
-    let choice = chosen.choice;
+    let sheet = made.sheet;
+    let choice = made.chosen.choice;
+    let circles = made.chosen.circles;
     let k = choice.k;
     let n = sheet.reader.rows;
     if column_names::MOST_COLUMNS < k {
-        return stopped(refuse(plan.err, 1));
+        return stopped(refuse(err, 1));
     }
     if MOST_ROWS < n {
-        return stopped(refuse(plan.err, 4));
+        return stopped(refuse(err, 4));
     }
     let used = product(k, n);
     if table.len() < used {
-        return stopped(refuse(plan.err, 5));
+        return stopped(refuse(err, 5));
     }
+    if queries.len() != QUERY_ROOM {
+        return stopped(refuse(err, 5));
+    }
+    let what = bytes_of(words, q.what);
     let count = put_queries(
-        plan.err,
-        plan.asks,
+        err,
+        q.asks,
         what,
         sheet,
-        chosen.circles,
+        circles,
         choice,
         text,
         table,
@@ -137,7 +179,8 @@ fn plan_rows(
     if count == 0 {
         return stopped(asked_wrongly());
     }
-    with_table(plan, chosen.circles, k, used, count)
+    let plan = plan_of(q, out, err, sheet, text.len());
+    with_table(plan, circles, k, used, count)
 }
 
 // The plan of a question about a text; the second text says which rows are withdrawn.
@@ -153,32 +196,27 @@ fn plan_text(
     queries: &mut [u16],
     struck: &mut [u32],
 ) -> Plan
-    requires { ⌜ length (now queries) ≡ 1024 ⌝ }
     ensures { λ r. ⌜ r .status ≤ 4 ⌝ }
 {
-    let rows = read_text(words, q, err, text, table);
-    if rows.status != 0 {
-        return stopped(rows.status);
+    let made = make_table(words, q, err, text, table);
+    if made.status != 0 {
+        return stopped(made.status);
     }
-    let sheet = rows.sheet;
-    let chosen = choose_said(words, q, err, sheet, text, table);
-    if chosen.status != 0 {
-        return stopped(chosen.status);
-    }
-    let unread = withdraw_said(words, q, err, second, sheet.reader.rows, struck);
+    let n = made.sheet.reader.rows;
+    let unread = withdraw_said(words, q, err, second, n, struck);
     if unread != 0 {
         return stopped(unread);
     }
-    plan_rows(
-        bytes_of(words, q.what),
-        plan_of(q, out, err, sheet, text.len()),
-        sheet,
-        chosen,
-        text,
-        table,
-        starts,
-        queries,
-    )
+    plan_rows(words, q, out, err, made, text, table, starts, queries)
+}
+
+// The question that the words ask; what is wrong with them is said.
+fn question_of(words: &[u8], err: i32) -> Question {
+    let q = asking::ask(words);
+    if q.wrong != 0 {
+        say_asked_wrong(err, words, q);
+    }
+    q
 }
 
 // The plan of a question by its words, each ended by a zero byte: answers go to one file, all else to another. The texts are read, the table is made,
@@ -193,15 +231,13 @@ pub fn plan_question(
     queries: &mut [u16],
     struck: &mut [u32],
 ) -> Plan
-    requires { ⌜ length (now queries) ≡ 1024 ⌝ }
     ensures { λ r. ⌜ r .status ≤ 4 ⌝ }
 {
     if tells(words, out) {
         return stopped(answered());
     }
-    let q = asking::ask(words);
+    let q = question_of(words, err);
     if q.wrong != 0 {
-        say_asked_wrong(err, words, q);
         return stopped(asked_wrongly());
     }
     let texts = read_texts(words, q, err, text);
