@@ -1,13 +1,13 @@
 -- What holds of every call that puts rows into an index, whatever it says and whatever words it writes. Assumes nothing.
 use Prim.Native.Nat.{_*_, _+_, _≤_, ℕ}
-use Rattle.append.proofs.Faults.{Free}
-use Rattle.append.specs.Calls.{Grows}
+use Rattle.append_refusals.proofs.Faults.{Free}
 use Rattle.appending.proofs.Appending.{share-ok}
 use Rattle.appending.proofs.Back.{header-last}
+use Rattle.append.specs.Calls.{Grows}
 use Rattle.build.proofs.Outcomes.{small as sixteen}
-use Rattle.build_refusals.proofs.Refusals.{clear-none}
 use Rattle.build.proofs.Small.{build-small}
 use Rattle.build.specs.Calls.{Builds}
+use Rattle.build_refusals.proofs.Refusals.{clear-none}
 use Rattle.build_refusals.specs.Numbers.{saidBuild}
 use Rattle.limits.specs.Limits.{circlesOk, maxRows}
 use Rattle.limits.specs.Said.{Said}

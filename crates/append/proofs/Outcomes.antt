@@ -1,16 +1,16 @@
 -- The call's outcomes: the build of one row, and the index that a row has joined. Assumes nothing.
 use Prim.Native.Nat.{_*_, _+_, _<_, _≤_, ℕ}
-use Rattle.append.proofs.Growing.{built-grows, free-builds, passed-grows}
-use Rattle.append.proofs.Refusals.{Clear, clear, freed}
-use Rattle.append.specs.Calls.{Appends}
-use Rattle.append.specs.Joining.{Joinable, Joins}
-use Rattle.append.specs.Numbers.{saidAppend}
+use Rattle.append_refusals.proofs.Refusals.{Clear, clear, freed}
+use Rattle.append_refusals.specs.Numbers.{saidAppend}
 use Rattle.appending.proofs.Appending.{append-one}
 use Rattle.appending.proofs.Back.{tree-fits}
+use Rattle.append.proofs.Growing.{built-grows, free-builds, passed-grows}
+use Rattle.append.specs.Calls.{Appends}
 use Rattle.build.specs.Calls.{Builds}
 use Rattle.build_refusals.specs.Numbers.{roomOf}
 use Rattle.limits.specs.Limits.{maxRows}
 use Rattle.measure.specs.Table.{rowsOf}
+use Rattle.row_joined.specs.Joining.{Joinable, Joins}
 use Rattle.words.proofs.Headers.{words-whole}
 use Rattle.words.proofs.InShape.{in-shape}
 use Rattle.words.specs.InShape.{InShape}
@@ -52,11 +52,10 @@ module _ {T : List ℕ} {c : ℕ} {w room work : List ℕ} (passed : Passed T c 
   part-long {k} e = length-take-le (6 * k) work (work-long e)
 
   -- the build of one row: the contract is met
-  pub built-appends : {m l o : ℕ} {room′ work′ : List ℕ} {number words nodes : ℕ} → n# w ≡ 0 → m ≡ m# w → l ≡ l# w → o ≡ circles# w
-      → Builds T c o 2 m l room work room′ work′ number words nodes → Appends T c w room work room′ work′ number words nodes
-  built-appends {room′ = room′} {work′} {number} {words} {nodes} e p q r b =
-      built-grows (passed .narrow) (passed .none) (free-builds (freed T c w (length room) (length work) (passed .none))) (append-one T c w e)
-      (rw (p, q, r) at b)
+  pub built-appends : {room′ work′ : List ℕ} {number words nodes : ℕ} → n# w ≡ 0
+      → Builds T c (circles# w) 2 (m# w) (l# w) room work room′ work′ number words nodes → Appends T c w room work room′ work′ number words nodes
+  built-appends e b =
+      built-grows (passed .narrow) (passed .none) (free-builds (freed T c w (length room) (length work) (passed .none))) (append-one T c w e) b
 
   -- what joining asks
   pub joinable : {k : ℕ} → k ≡ n# w + 1 → (k ≡ 1 → ⊥) → Joinable T c w room (take (6 * k) work)
@@ -78,8 +77,10 @@ module _ {T : List ℕ} {c : ℕ} {w room work : List ℕ} (passed : Passed T c 
       more h = omega arith
 
   -- the row has joined: the contract is met
-  pub joined-appends : {k nodes words : ℕ} {room′ part′ work′ : List ℕ} → k ≡ n# w + 1 → Joins T c w room (take (6 * k) work) room′ part′ nodes
-      → work′ ≡ part′ ++ drop (6 * k) work → words ≡ 8 + 5 * nodes + 2 * k → Appends T c w room work room′ work′ 0 words nodes
+  pub joined-appends : {k nodes number words made : ℕ} {room′ part′ work′ : List ℕ} → k ≡ n# w + 1 → Joins T c w room (take (6 * k) work) room′ part′ nodes
+      → work′ ≡ part′ ++ drop (6 * k) work → (number ≡ 0) × (words ≡ 8 + 5 * nodes + 2 * k) × (made ≡ nodes)
+      → Appends T c w room work room′ work′ number words made
   joined-appends {k} e j h q =
-      passed-grows (passed .narrow) (passed .none) (e ∙ cleared .rows) (omega (arith, rows-are .1)) (work-long e) (j .index) (j .count)
-      (omega (arith, j .few)) (omega (arith, j .long)) (j .cleared) h q
+      rw (q .0, q .2)
+      (passed-grows (passed .narrow) (passed .none) (e ∙ cleared .rows) (omega (arith, rows-are .1)) (work-long e) (j .index) (j .count)
+      (omega (arith, j .few)) (omega (arith, j .long)) (j .cleared) h (q .1))

@@ -1,12 +1,12 @@
 -- The theorems on the call: what it wrote is accepted where the old index was, all other groups keep their order, and no second outcome fits.
 -- Assumes nothing.
 use Prim.Native.Nat.{_*_, _+_, _≤_, ℕ}
-use Rattle.append.proofs.Growing.{grows-only, grows-refused, grows-there}
-use Rattle.append.proofs.Refusals.{Clear, clear}
-use Rattle.append.specs.Calls.{Appends}
+use Rattle.append_refusals.proofs.Refusals.{Clear, clear}
 use Rattle.appending.proofs.Appending.{Longer, append-accepted as words-accepted, append-header, append-length, append-one as words-one, append-order as words-order, longer-of}
 use Rattle.appending.proofs.Order.{Order}
 use Rattle.appending.specs.Append.{appended}
+use Rattle.append.proofs.Growing.{grows-only, grows-refused, grows-there}
+use Rattle.append.specs.Calls.{Appends}
 use Rattle.laws.specs.Every.{Every}
 use Rattle.limits.proofs.Numbers.{Sized}
 use Rattle.measure.proofs.OnCircle.{round-rows}

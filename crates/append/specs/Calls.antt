@@ -1,12 +1,12 @@
 -- What the call promises: 02, R-2. Assumes nothing.
 use Prim.Native.Nat.{_*_, _≤_, ℕ}
+use Rattle.append_refusals.specs.Numbers.{saidAppend}
 use Rattle.appending.specs.Append.{appended}
+use Rattle.build_refusals.specs.Numbers.{roomOf}
 use Rattle.laws.specs.Every.{Every}
 use Rattle.limits.specs.Limits.{maxRows}
 use Rattle.limits.specs.Said.{Said}
 use Rattle.measure.specs.Table.{rowsOf}
-use Rattle.append.specs.Numbers.{saidAppend}
-use Rattle.build_refusals.specs.Numbers.{roomOf}
 use Rattle.words.specs.Words.{N#}
 use lib.Dec.{eqb}
 use lib.ListN.{drop, length, replicate}

@@ -120,8 +120,8 @@ module _ {t : List ℕ} {c : ℕ} {w room work : List ℕ} (J : Puttable t c w r
     further = onward part (omega (arith, J .several))
 
     -- the first row's index has been built
-    module _ {m l o : ℕ} {first spare first′ spare′ : List ℕ} {number words nodes : ℕ} (p : m ≡ m# w) (q : l ≡ l# w) (r : o ≡ circles# w)
-        (space : 20 ≤ length first) (long : 6 ≤ length spare) (b : Builds (take c t) c o 2 m l first spare first′ spare′ number words nodes) where
+    module _ {first spare first′ spare′ : List ℕ} {number words nodes : ℕ} (space : 20 ≤ length first) (long : 6 ≤ length spare)
+        (b : Builds (take c t) c (circles# w) 2 (m# w) (l# w) first spare first′ spare′ number words nodes) where
       -- the room that a row asks for
       enough : roomOf (n# w + 1) ≤ length first
       enough = omega arith
@@ -137,7 +137,8 @@ module _ {t : List ℕ} {c : ℕ} {w room work : List ℕ} (J : Puttable t c w r
       -- the build is that append
       appends : Appends (next part) c w first spare first′ spare′ number words nodes
       appends =
-          built-appends passed e p q r (subst (λ (U : List ℕ). Builds U c o 2 m l first spare first′ spare′ number words nodes) one-row b)
+          built-appends passed e
+          (subst (λ (U : List ℕ). Builds U c (circles# w) 2 (m# w) (l# w) first spare first′ spare′ number words nodes) one-row b)
 
       -- its words
       pub made : take words first′ ≡ then′ part

@@ -1,6 +1,4 @@
-pub mod Refusals
 pub mod Turning
 pub mod First
 pub mod Outcomes
 pub mod Theorems
-pub mod Cases

@@ -1,12 +1,13 @@
 -- The call's outcomes: the build of one row, and the index that all rows have joined. Assumes nothing.
 use Prim.Native.Nat.{_*_, _+_, _-_, _<_, _≤_, ℕ}
-use Rattle.append.proofs.Faults.{Free}
 use Rattle.append.proofs.Growing.{built-grows, free-builds, passed-grows}
-use Rattle.append_rows.proofs.Refusals.{clear}
+use Rattle.append_refusals.proofs.Faults.{Free}
+use Rattle.append_rows_refusals.proofs.Refusals.{clear}
+use Rattle.append_rows_refusals.specs.Numbers.{saidAppendRows}
 use Rattle.append_rows.specs.Calls.{AppendsRows}
-use Rattle.append_rows.specs.Numbers.{saidAppendRows}
 use Rattle.append_rows.specs.Putting.{Puttable}
 use Rattle.build.specs.Calls.{Builds}
+use Rattle.laws.specs.Lists.{range}
 use Rattle.limits.specs.Limits.{maxRows}
 use Rattle.measure.specs.Table.{between, rowsOf}
 use Rattle.refilling.specs.Joining.{RowsJoin}
@@ -16,7 +17,6 @@ use Rattle.tree.specs.Build.{build, plant}
 use Rattle.tree.specs.Encode.{encode}
 use Rattle.words.proofs.InShape.{header-there as header-of}
 use Rattle.words.specs.Words.{circles#, l#, m#, n#}
-use Rattle.laws.specs.Lists.{range}
 use borrow.Author.Tests.{leb-false}
 use lib.Dec.{leb}
 use lib.ListN.{drop, getD, length, take}
@@ -62,11 +62,10 @@ module _ {T : List ℕ} {c : ℕ} {w room work : List ℕ} (passed : Passed T c 
   part-long {k} e = length-take-le (6 * k) work (work-long e)
 
   -- the build of one row: the contract is met
-  pub built-appends : {k m l o : ℕ} {room′ work′ : List ℕ} {number words nodes : ℕ} → k ≡ rowsOf T c → k ≡ 1 → m ≡ m# w → l ≡ l# w → o ≡ circles# w
-      → Builds T c o 2 m l room work room′ work′ number words nodes → AppendsRows T c w room work room′ work′ number words nodes
-  built-appends e one p q r b =
-      built-grows (passed .narrow) (passed .none) (free-builds cleared) (rows-one T c w (omega (arith, rows-are .0)) (sym e ∙ one))
-      (rw (p, q, r) at b)
+  pub built-appends : {k : ℕ} {room′ work′ : List ℕ} {number words nodes : ℕ} → k ≡ rowsOf T c → k ≡ 1
+      → Builds T c (circles# w) 2 (m# w) (l# w) room work room′ work′ number words nodes → AppendsRows T c w room work room′ work′ number words nodes
+  built-appends e one b =
+      built-grows (passed .narrow) (passed .none) (free-builds cleared) (rows-one T c w (omega (arith, rows-are .0)) (sym e ∙ one)) b
 
   -- what putting the rows in asks
   pub puttable : {k : ℕ} → k ≡ rowsOf T c → (k ≡ 1 → ⊥) → Puttable T c w room (take (6 * k) work)
@@ -90,8 +89,10 @@ module _ {T : List ℕ} {c : ℕ} {w room work : List ℕ} (passed : Passed T c 
       several k h q = omega arith
 
   -- all rows have joined: the contract is met
-  pub joined-appends : {k nodes words : ℕ} {room′ part′ work′ : List ℕ} → k ≡ rowsOf T c → RowsJoin T c w room (take (6 * k) work) room′ part′ nodes
-      → work′ ≡ part′ ++ drop (6 * k) work → words ≡ 8 + 5 * nodes + 2 * k → AppendsRows T c w room work room′ work′ 0 words nodes
+  pub joined-appends : {k nodes number words made : ℕ} {room′ part′ work′ : List ℕ} → k ≡ rowsOf T c → RowsJoin T c w room (take (6 * k) work) room′ part′ nodes
+      → work′ ≡ part′ ++ drop (6 * k) work → (number ≡ 0) × (words ≡ 8 + 5 * nodes + 2 * k) × (made ≡ nodes)
+      → AppendsRows T c w room work room′ work′ number words made
   joined-appends {k} e j h q =
-      passed-grows (passed .narrow) (passed .none) e (omega (arith, rows-are .1)) (work-long e) (j .index) (j .count) (omega (arith, j .few))
-      (omega (arith, j .long)) (j .cleared) h q
+      rw (q .0, q .2)
+      (passed-grows (passed .narrow) (passed .none) e (omega (arith, rows-are .1)) (work-long e) (j .index) (j .count) (omega (arith, j .few))
+      (omega (arith, j .long)) (j .cleared) h (q .1))

@@ -1,11 +1,11 @@
 -- The theorems on the call: what it wrote is accepted where the old index was, is what one append after the other writes, and no second outcome fits.
 -- Assumes nothing.
-use Prim.Native.Nat.{_*_, _+_, _-_, _≤_, suc, ℕ}
-use Rattle.append.proofs.Faults.{Free}
+use Prim.Native.Nat.{_*_, _+_, _-_, suc, ℕ}
 use Rattle.append.proofs.Growing.{grows-only, grows-refused, grows-there}
+use Rattle.append_refusals.proofs.Faults.{Free}
+use Rattle.append_rows_refusals.proofs.Refusals.{clear}
 use Rattle.append_rows.proofs.First.{none-accepted}
 use Rattle.append_rows.proofs.Outcomes.{rows-one}
-use Rattle.append_rows.proofs.Refusals.{clear}
 use Rattle.append_rows.proofs.Turning.{Headed, turns-headed, turns-written}
 use Rattle.append_rows.specs.Calls.{AppendsRows}
 use Rattle.append_rows.specs.Turns.{AppendsInTurn}

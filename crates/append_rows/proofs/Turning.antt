@@ -1,23 +1,22 @@
 -- One append after the other, by its outcomes: each is done, and what the last has written is what all rows at once give. Assumes nothing.
 use Prim.Native.Nat.{_%_, _*_, _+_, _-_, _<_, _≤_, suc, zero, ℕ}
 use Rattle.append.proofs.Growing.{grows-there}
-use Rattle.append.proofs.Refusals.{clear-none}
 use Rattle.append.specs.Calls.{Appends}
-use Rattle.append.specs.Numbers.{saidAppend}
+use Rattle.append_refusals.proofs.Refusals.{clear-none}
+use Rattle.append_refusals.specs.Numbers.{saidAppend}
 use Rattle.append_rows.specs.Turns.{AppendsInTurn, none, then}
 use Rattle.appending.proofs.Appending.{append-header, append-length}
 use Rattle.build_refusals.specs.Numbers.{roomOf}
 use Rattle.limits.proofs.Numbers.{Sized, sized-of}
-use Rattle.measure.specs.Table.{offCircle, rowsOf}
+use Rattle.measure.specs.Table.{rowsOf}
 use Rattle.refusals.proofs.OffCircle.{circle-means}
 use Rattle.swelling.proofs.Turns.{Part, next, onward, rows-in-turn, rows-length, step, then′}
-use Rattle.swelling.specs.Rows.{appendedRows, firstRows, inTurn}
+use Rattle.swelling.specs.Rows.{appendedRows, inTurn}
 use Rattle.tree.proofs.Accepted.{shape-of}
 use Rattle.words.proofs.Headers.{whole-words}
 use Rattle.words.specs.InShape.{InShape}
 use Rattle.words.specs.Words.{c#, circles#, edition#, l#, m#, n#, wordsOf}
 use lib.ListN.{length, take}
-use mathlib.Core.Bool.{false}
 use mathlib.Core.List.{List}
 use mathlib.Core.Path.{_∙_, _≡_, ap, refl, subst, sym}
 use native.Mathlib.Nat.{mul-mod-right}

@@ -1,7 +1,7 @@
 -- What the call promises: 02, R-2. Assumes nothing.
 use Prim.Native.Nat.{ℕ}
 use Rattle.append.specs.Calls.{Grows}
-use Rattle.append_rows.specs.Numbers.{saidAppendRows}
+use Rattle.append_rows_refusals.specs.Numbers.{saidAppendRows}
 use Rattle.swelling.specs.Rows.{appendedRows}
 use mathlib.Core.List.{List}
 

@@ -3,7 +3,7 @@ ghost use Prim.Native.Nat.{_≤_};
 use asking::pieces::part;
 use column_names::MOST_COLUMNS;
 use column_names::column_said;
-use sheet::Reader;
+use sheet_reading::Reader;
 use text_lines::first_line;
 use text_lines::next_line;
 use text_lines::text_start;

@@ -155,7 +155,7 @@ fn say_line(file: i32, name: &[u8], wrong: u32, line: usize, n: usize) {
     say(file, name);
     say(file, b"', line ");
     say_number(file, line);
-    if wrong == withdrawing::NO_ROW {
+    if wrong == row_lines::NO_ROW {
         say(file, b": there is no such row: the text has ");
         say_count(file, n, b"row");
         say(file, b", from row 0 on\n");

@@ -3,7 +3,7 @@ use Prim.Native.Nat.{_*_, _+_, _-_, _<_, _≤_, ℕ}
 use Rattle.asking.specs.Worth.{behind, from, worth}
 use Rattle.limits.proofs.Ranges.{both-within}
 use Rattle.limits.specs.Limits.{within}
-use Rattle.text.specs.Text.{Decimal, digit, followed}
+use Rattle.text_reading.specs.Text.{Decimal, digit, followed}
 use lib.ListN.{drop, drop-of-length-le, getD, length, length-append}
 use lib.Seq.{drop-cons}
 use mathlib.Core.Bool.{false, true}

@@ -11,10 +11,10 @@ ghost use Rattle.words.specs.Words.{n#, pairAt, row#};
 ghost use lib.ListN.{length};
 ghost use mathlib.Core.Bool.{false};
 ghost use mathlib.Core.Path.{_≡_};
+use ceilings::query_distance_to;
 use leaf_decision::Verdict;
 use leaf_decision::decide;
 use limits::Params;
-use measure::query_distance_to;
 use numbers::smaller;
 use words::places::word;
 

@@ -30,6 +30,8 @@ use Rattle.index_space.specs.Fits.{homeBound}
 use Rattle.laws.specs.Lists.{has, last, range, tally, times}
 use Rattle.limits.proofs.Numbers.{Sized, sized-of}
 use Rattle.limits.proofs.Ranges.{both-within}
+use Rattle.listing.proofs.Listed.{list-only, node-there, part-none, part-pairs}
+use Rattle.listing.specs.Calls.{Lists, listed, lists}
 use Rattle.meaning.proofs.Meaning.{accepted-means}
 use Rattle.meaning.specs.Conditions.{Conditions}
 use Rattle.measure.proofs.OnCircle.{round-rows}
@@ -48,8 +50,6 @@ use Rattle.tree.specs.Grove.{treeOf}
 use Rattle.tree.specs.Homes.{homes}
 use Rattle.tree.specs.Nearest.{answers, isMeasured, lastDistance, measured, remaining}
 use Rattle.tree.specs.Widen.{widen}
-use Rattle.words.proofs.Listed.{list-only, node-there, part-none, part-pairs}
-use Rattle.words.specs.Calls.{Lists, listed, lists}
 use Rattle.blocks.specs.Blocks.{wordAt}
 use Rattle.words.specs.Shape.{shapeOk}
 use Rattle.words.specs.Words.{c#, circles#, edition#, n#, wordsOf}

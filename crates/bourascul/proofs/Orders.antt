@@ -8,10 +8,10 @@ use Rattle.bourascul.specs.Recorded.{Recorded}
 use Rattle.nearest.proofs.Promises.{nearest-only}
 use Rattle.nearest.specs.Calls.{Answered}
 use Rattle.nearest_steps.specs.Asked.{NearestLent, asks}
+use Rattle.orders.proofs.Calls.{calls-alike}
+use Rattle.orders.specs.Orders.{Alike, Carried, Order}
 use Rattle.radius.proofs.Promises.{radius-only}
 use Rattle.radius.specs.Calls.{Searched}
-use Rattle.rowset.proofs.Calls.{calls-alike}
-use Rattle.rowset.specs.Orders.{Alike, Carried, Order}
 use mathlib.Core.List.{List}
 use mathlib.Core.Path.{_≡_, subst, sym}
 

@@ -8,11 +8,11 @@ ghost use Rattle.bourascul.specs.Calls.{ReadsBlock};
 ghost use Rattle.bourascul.specs.Recorded.{Recorded};
 ghost use Rattle.build.specs.Calls.{Builds};
 ghost use Rattle.image.specs.Calls.{Writes};
+ghost use Rattle.listing.specs.Calls.{Lists};
 ghost use Rattle.nearest.specs.Calls.{Answered};
 ghost use Rattle.nearest_steps.specs.Asked.{asks, lends};
+ghost use Rattle.orders.specs.Orders.{Orders, restoring, striking};
 ghost use Rattle.radius.specs.Calls.{Searched};
-ghost use Rattle.rowset.specs.Orders.{Orders, restoring, striking};
-ghost use Rattle.words.specs.Calls.{Lists};
 ghost use lib.ListN.{length};
 ghost use mathlib.Core.Path.{_≡_};
 use answers::Answer;
@@ -321,7 +321,7 @@ pub extern "C" fn bourascul_read(image: &[u8], table: &[u16], c: u32, room: &mut
 pub extern "C" fn bourascul_list(index: &[u32], node: u32) -> Part
     ensures { λ r. ⌜ Lists (now (index .entry)) node (r .start) (r .length) ⌝ }
 {
-    let part = words::listing::part_of(index, node as usize);
+    let part = listing::part_of(index, node as usize);
     Part {
         start: part.start as u32,
         length: part.length as u32,
@@ -333,7 +333,7 @@ pub extern "C" fn bourascul_list(index: &[u32], node: u32) -> Part
 pub extern "C" fn bourascul_strike(withdrawn: &mut [u32], n: u32, row: u32) -> u32
     ensures { λ k. ⌜ Orders (now (withdrawn .entry)) (now (withdrawn .exit)) n (striking row) k ⌝ }
 {
-    rowset::strike(withdrawn, n as usize, row as usize)
+    orders::strike(withdrawn, n as usize, row as usize)
 }
 
 // Restores a row of n: it is withdrawn no longer.
@@ -341,5 +341,5 @@ pub extern "C" fn bourascul_strike(withdrawn: &mut [u32], n: u32, row: u32) -> u
 pub extern "C" fn bourascul_restore(withdrawn: &mut [u32], n: u32, row: u32) -> u32
     ensures { λ k. ⌜ Orders (now (withdrawn .entry)) (now (withdrawn .exit)) n (restoring row) k ⌝ }
 {
-    rowset::restore(withdrawn, n as usize, row as usize)
+    orders::restore(withdrawn, n as usize, row as usize)
 }

@@ -112,15 +112,15 @@ module _ {T : List ℕ} {c o e m l : ℕ} {room work : List ℕ} {p : Params} (p
       (clear-round T c o e m l (length room) (length work) cleared))
 
   -- the index is filled in: the contract is met
-  pub built-builds : {room′ part′ work′ : List ℕ} {nodes words : ℕ} → ((i : ℕ) → getD T i 0 ≤ 65535)
+  pub built-builds : {room′ part′ work′ : List ℕ} {nodes number words made : ℕ} → ((i : ℕ) → getD T i 0 ≤ 65535)
       → Filled T c (p .circles) (p .centres) (p .leaf) (rowsOf T c) room room′ part′ nodes
-      → work′ ≡ part′ ++ drop (6 * rowsOf T c) work → words ≡ nodeAt nodes + 2 * rowsOf T c
-      → Builds T c o e m l room work room′ work′ 0 words nodes
+      → work′ ≡ part′ ++ drop (6 * rowsOf T c) work → (number ≡ 0) × (words ≡ nodeAt nodes + 2 * rowsOf T c) × (made ≡ nodes)
+      → Builds T c o e m l room work room′ work′ number words made
   unfolding build encode
-  built-builds {room′} {part′} {work′} {nodes} {words} narrow filled h w =
+  built-builds {room′} {part′} {work′} {nodes} {words = words} narrow filled h w =
       let got : Filled T c o m l (rowsOf T c) room room′ part′ nodes = rw (passed .m-is, passed .l-is, passed .o-is) at filled in
-      let long : words ≡ length (build T c o 2 m l) = w ∙ sym (encode-long built-fit o (got .count)) in
-      record {
+      let long : words ≡ length (build T c o 2 m l) = w .1 ∙ sym (encode-long built-fit o (got .count)) in
+      rw (w .0, w .2) record {
         said = sym (passed .none);
         counted = (long, got .count);
         index = got .index;

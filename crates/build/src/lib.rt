@@ -1,5 +1,7 @@
 // The build of an index over a lent table: the call.
 ghost use Rattle.build.specs.Calls.{Builds};
+ghost use Prim.Native.Nat.{_*_, _+_, _≤_};
+ghost use Rattle.limits.specs.Limits.{maxRows};
 ghost use mathlib.Core.Path.{_≡_};
 use build_refusals::build_number;
 use filling::fill;
@@ -23,6 +25,18 @@ pub fn refused(number: u32) -> Built
         number,
         words: 0,
         nodes: 0,
+    }
+}
+
+// An index of n rows that was written: 0, and its counts.
+pub fn written(n: usize, nodes: usize) -> Built
+    requires { ⌜ (n ≤ maxRows) × (nodes ≤ 2 * n) ⌝ }
+    ensures { λ r. ⌜ (r .number ≡ 0) × (r .words ≡ 8 + 5 * nodes + 2 * n) × (r .nodes ≡ nodes) ⌝ }
+{
+    Built {
+        number: 0,
+        words: HEADER + WIDTH * nodes + 2 * n,
+        nodes,
     }
 }
 
@@ -50,9 +64,5 @@ pub fn build(
     let n = table.len() / c;
     let used = 6 * n;
     let nodes = fill(table, c, p, n, room, &mut work[..used]);
-    Built {
-        number: 0,
-        words: HEADER + WIDTH * nodes + 2 * n,
-        nodes,
-    }
+    written(n, nodes)
 }

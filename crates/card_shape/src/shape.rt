@@ -4,7 +4,7 @@ ghost use Rattle.card_shape.specs.Sweep.{GreatestTo, InBlock};
 ghost use Rattle.card_words.specs.Cards.{Carded, Held, cardWords};
 ghost use Rattle.laws.specs.Lists.{all, range};
 ghost use Rattle.limits.specs.Limits.{maxCentres};
-ghost use Rattle.words.specs.Pass.{fits, roomy};
+ghost use Rattle.shape_test.specs.Pass.{fits, roomy};
 ghost use Rattle.words.specs.Shape.{brood, positionOk, rootFits, shapeOk, tile, treeFits};
 ghost use Rattle.words.specs.Words.{N#, n#};
 ghost use mathlib.Core.Path.{_≡_};

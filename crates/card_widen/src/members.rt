@@ -10,8 +10,8 @@ use card_words::places::card_circles;
 use card_words::places::card_count;
 use card_words::places::card_row;
 use card_words::places::card_start;
-use measure::row_distance;
 use numbers::smaller;
+use row_distances::row_distance;
 
 // The distance of row f from the row at position p. The card's circles are handed in, so that a loop over positions reads them once.
 fn card_apart(table: &[u16], c: usize, circles: u32, image: &[u8], f: usize, p: usize) -> u32

@@ -1,19 +1,14 @@
 // The columns that are circles: those that a list names, as a set of the places among the chosen columns.
-ghost use Prim.Native.Nat.{_^_, _<_, _≤_};
-ghost use Rattle.circling.specs.Circles.{Bits, Circled, columnTrouble, counts, isSaid, itemTrouble, says, wrongItem};
-ghost use lib.Bits.{bitOr};
-ghost use mathlib.Core.Bool.{cond};
+ghost use Prim.Native.Nat.{_≤_};
+ghost use Rattle.circle_columns.specs.Circles.{Bits, Circled, isSaid, itemTrouble, says, wrongItem};
 ghost use mathlib.Core.Path.{_≡_};
 use asking::pieces::bytes_of;
 use asking::pieces::piece_at;
+use circle_columns::column_trouble;
+use circle_columns::with_bit;
 use column_names::MOST_COLUMNS;
-use column_names::NO_COLUMN;
 use column_names::TOO_MANY;
-use column_names::TWO_COLUMNS;
 use column_names::column_said;
-
-// What is wrong with a circle, besides what is wrong with any column: it does not count.
-pub const NOT_COUNTED: u32 = 16;
 
 // A list has at most this many items.
 const MOST_ITEMS: usize = 16;
@@ -54,37 +49,6 @@ fn is_said(names: &[u8], c: usize, list: &[u8], j: usize) -> bool
     found
 }
 
-// A column, from 1 on, is one of the k chosen.
-fn is_chosen(chosen: [usize; MOST_COLUMNS], k: usize, column: usize) -> bool
-    requires { ⌜ (k ≤ 16) × (1 ≤ column) ⌝ }
-    ensures { λ r. ⌜ r ≡ counts chosen k column ⌝ }
-{
-    let mut found = false;
-    let mut j = 0;
-    while j < k {
-        found = found | (column - 1 == chosen[j]);
-        j += 1;
-    }
-    found
-}
-
-// What is wrong with a column as a circle, or 0.
-fn column_trouble(chosen: [usize; MOST_COLUMNS], k: usize, column: usize) -> u32
-    requires { ⌜ k ≤ 16 ⌝ }
-    ensures { λ r. ⌜ r ≡ columnTrouble chosen k column ⌝ }
-{
-    if column == 0 {
-        return NO_COLUMN;
-    }
-    if MOST_COLUMNS < column {
-        return TWO_COLUMNS;
-    }
-    if is_chosen(chosen, k, column) {
-        return 0;
-    }
-    NOT_COUNTED
-}
-
 // What is wrong with item i, or 0.
 fn item_trouble(
     names: &[u8],
@@ -120,18 +84,6 @@ fn wrong_item(names: &[u8], c: usize, list: &[u8], chosen: [usize; MOST_COLUMNS]
         i += 1;
     }
     i
-}
-
-// The set with the bit of place j, if it is to be on.
-fn with_bit(set: u32, on: bool, j: usize) -> u32
-    requires { ⌜ j < 16 ⌝ }
-    ensures { λ r. ⌜ r ≡ cond on (bitOr set (2 ^ j)) set ⌝ }
-{
-    if on {
-        let place = j as u32;
-        return set | (1 << place);
-    }
-    set
 }
 
 // The places whose columns an item says.

@@ -1,22 +1,16 @@
 // Which products are too great, and the table of the chosen columns.
-ghost use Prim.Native.Nat.{_*_, _+_, _<_, _≤_};
-ghost use Rattle.columns.specs.Chosen.{Choice, Small, SmallRows, chosenRow, chosenTable, fitting, most, outside, overIn, overRow};
+ghost use Prim.Native.Nat.{_*_, _+_, _≤_};
+ghost use Rattle.column_products.specs.Chosen.{Choice, Small, SmallRows, chosenRow, chosenTable, fitting, outside, overIn, overRow};
 ghost use Rattle.limits.specs.Limits.{maxColumns};
 ghost use lib.ListN.{drop, length, take};
 ghost use lib.Seq.{paste};
 ghost use mathlib.Core.List.{_++_};
 ghost use mathlib.Core.Path.{_≡_};
+use column_products::most;
+use column_products::product;
 use limits::Params;
 use limits::is_within;
-use measure::row_of;
-
-// The greatest product at place j of the chosen columns, in a circle the last tenth of a degree. Without a branch, since every product is held to it.
-pub fn most(circles: u32, j: usize) -> u32
-    requires { ⌜ j < maxColumns ⌝ }
-    ensures { λ r. ⌜ r ≡ most circles j ⌝ }
-{
-    65_535 - 61_936 * ((circles >> j) % 2)
-}
+use row_distances::row_of;
 
 // The first of the k chosen columns that is not one of c, or k.
 fn first_outside(c: usize, chosen: [usize; 16], k: usize) -> usize
@@ -47,13 +41,6 @@ pub fn fits(length: usize, c: usize, n: usize, chosen: [usize; 16], k: usize) ->
         return false;
     }
     k <= first_outside(c, chosen, k)
-}
-
-// A number times its factor.
-fn product(x: u16, factor: u32) -> u64
-    ensures { λ r. ⌜ r ≡ x * factor ⌝ }
-{
-    x as u64 * factor as u64
 }
 
 // The place of the first chosen column whose product is too great, or k.

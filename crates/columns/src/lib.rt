@@ -1,10 +1,10 @@
 // The columns of a table: those that a question is about, each with a factor.
-ghost use Rattle.columns.specs.Chosen.{Chooses};
+ghost use Rattle.column_products.specs.Chosen.{Chooses};
 use crate::choice::choose_rows;
 use crate::choice::first_over;
 use crate::choice::first_row_over;
 use crate::choice::fits;
-use measure::row_of;
+use row_distances::row_of;
 
 pub mod choice;
 

@@ -1,6 +1,5 @@
 -- Level after level: the nodes and members that are still to come make up the whole with those that are there. Assumes nothing.
 use Prim.Native.Nat.{_*_, _+_, _-_, _<_, _≤_, suc, zero, ℕ}
-use Rattle.filling.specs.Filled.{pairsIn}
 use Rattle.dealing.specs.Pending.{StandAll, pendOf, sizeOf, sizes}
 use Rattle.deepening.proofs.Sounding.{sound-some}
 use Rattle.deepening.proofs.Standing.{few-sizes, stand-long}
@@ -17,6 +16,7 @@ use Rattle.lodging.proofs.Lodging.{pairs-under}
 use Rattle.lodging.specs.Standing.{Stands}
 use Rattle.measure.specs.Table.{between}
 use Rattle.opening.specs.Sound.{Sound, Task, waits}
+use Rattle.rounds.specs.Entries.{pairsIn}
 use Rattle.swelling.specs.Pieces.{Piece, grown, grownFrom, lastly, levelFrom, levelsFrom, membersFrom, old, openAll, opens, ownMembers, settled}
 use Rattle.swelling.specs.Swell.{parts}
 use Rattle.tree.specs.Encode.{Node, pairWords}

@@ -1,7 +1,6 @@
 -- What stands in the room and in the workspace while the levels of an index that takes rows are opened. A working notion, on which no promise rests.
 -- Assumes nothing.
 use Prim.Native.Nat.{_*_, _+_, _≤_, suc, ℕ}
-use Rattle.filling.specs.Filled.{pairsIn}
 use Rattle.dealing.specs.Pending.{StandAll, pendOf}
 use Rattle.deepening.specs.Tiles.{Follow, Leafy, Tile, belowAll, current, pieces}
 use Rattle.growing.specs.Stages.{withNodes}
@@ -10,6 +9,7 @@ use Rattle.laws.specs.Lists.{each}
 use Rattle.limits.specs.Limits.{maxDepth}
 use Rattle.measure.specs.Table.{between}
 use Rattle.opening.specs.Sound.{Sound, Task}
+use Rattle.rounds.specs.Entries.{pairsIn}
 use Rattle.swelling.specs.Pieces.{Piece, levelFrom, levelsFrom, membersFrom}
 use Rattle.tree.specs.Encode.{Node, pairWords}
 use Rattle.words.specs.Words.{c#, circles#, headerWords}

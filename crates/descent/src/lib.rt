@@ -12,7 +12,7 @@ use crate::fate::Fate;
 use crate::fate::fate_of;
 use limits::Params;
 use marking::row::mark_measured;
-use measure::query_distance;
+use row_distances::query_distance;
 use sweeping::sweep;
 use words::places::circles;
 use words::places::node_first;

@@ -1,8 +1,8 @@
 -- The positions' pairs, one after the other. Assumes nothing.
 use Prim.Native.Nat.{_*_, _+_, _-_, _<_, _≤_, ℕ}
-use Rattle.filling.specs.Filled.{pairsIn}
 use Rattle.laws.proofs.Parts.{store-more}
 use Rattle.rounds.proofs.Parts.{stretch-three}
+use Rattle.rounds.specs.Entries.{pairsIn}
 use Rattle.rounds.specs.Stretch.{stretch}
 use lib.ListN.{drop, getD, length, length-append, length-drop, length-set, set, take}
 use lib.Seq.{drop-drop, length-take-le, take-add, take-all}

@@ -1,9 +1,9 @@
 -- The positions of the tree that is grown: its leaves' members, one leaf after the other. Assumes nothing.
 use Prim.Native.Nat.{suc, zero, ℕ}
-use Rattle.filling.specs.Filled.{pairsIn}
 use Rattle.growing.specs.Levels.{leaves}
 use Rattle.laws.proofs.Joins.{each-append}
 use Rattle.laws.specs.Lists.{each, head}
+use Rattle.rounds.specs.Entries.{pairsIn}
 use Rattle.split.specs.Runs.{laid}
 use Rattle.tree.specs.Build.{grow, leafOf, reach, split}
 use Rattle.tree.specs.Encode.{pairWords}

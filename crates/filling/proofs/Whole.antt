@@ -5,7 +5,7 @@ use Rattle.buffers.specs.Wiped.{wiped}
 use Rattle.filling.proofs.Framed.{framed}
 use Rattle.filling.proofs.Numbering.{numbered-levels}
 use Rattle.filling.proofs.Positions.{entries-leaves, pairs-laid, pairsOf}
-use Rattle.filling.specs.Filled.{Filled, Grown, pairsIn}
+use Rattle.filling.specs.Filled.{Filled, Grown}
 use Rattle.growing.proofs.Rooting.{root-run}
 use Rattle.growing.specs.Levels.{allNodes, leaves}
 use Rattle.growing.specs.Rooted.{Layered, Room, rootItem}
@@ -16,6 +16,7 @@ use Rattle.laws.proofs.Ranges.{range-length}
 use Rattle.laws.specs.Lists.{each, range}
 use Rattle.limits.specs.Limits.{maxDepth}
 use Rattle.measure.specs.Table.{between}
+use Rattle.rounds.specs.Entries.{pairsIn}
 use Rattle.rounds.specs.Stretch.{stretch}
 use Rattle.split.specs.Places.{nodeAt}
 use Rattle.split.specs.Runs.{laid}

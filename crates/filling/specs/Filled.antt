@@ -3,19 +3,13 @@ use Prim.Native.Nat.{_*_, _≤_, ℕ}
 use Rattle.growing.specs.Stages.{withNodes}
 use Rattle.laws.specs.Lists.{each}
 use Rattle.measure.specs.Table.{between}
+use Rattle.rounds.specs.Entries.{pairsIn}
 use Rattle.tree.specs.Build.{plant}
 use Rattle.tree.specs.Encode.{encode, numbered, pairWords}
 use Rattle.tree.specs.Grove.{entries}
 use lib.ListN.{drop, length, replicate, take}
-use mathlib.Core.List.{List, [], _++_, _∷_}
+use mathlib.Core.List.{List, _++_}
 use mathlib.Core.Path.{_≡_}
-
--- of each entry the row and the distance
-unfoldable pub pairsIn : List ℕ → List ℕ
-pairsIn [] = []
-pairsIn (i ∷ []) = []
-pairsIn (i ∷ x ∷ []) = []
-pairsIn (i ∷ x ∷ a ∷ es) = i ∷ x ∷ pairsIn es
 
 -- the tree's nodes stand in the room, and its positions in the workspace
 pub record Grown (t : List ℕ) (c o m l n : ℕ) (origin room work : List ℕ) (made : ℕ) : Type 0 where

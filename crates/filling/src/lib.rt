@@ -1,7 +1,8 @@
 // The index over a table's rows, filled into a room: its tree grown, and its words.
 ghost use Prim.Native.Nat.{_*_, _≤_};
-ghost use Rattle.filling.specs.Filled.{Filled, Grown, pairsIn};
+ghost use Rattle.filling.specs.Filled.{Filled, Grown};
 ghost use Rattle.growing.specs.Rooted.{Room};
+ghost use Rattle.rounds.specs.Entries.{pairsIn};
 ghost use Rattle.rounds.specs.Stretch.{stretch};
 ghost use lib.ListN.{drop, length};
 ghost use mathlib.Core.List.{_++_};

@@ -2,12 +2,12 @@
 ghost use Rattle.finder.specs.Calls.{Finds, Near};
 ghost use mathlib.Core.Path.{_≡_};
 use buffers::clear_bytes;
+use circular_columns::off_circle;
 use limits::Params;
-use measure::circles::off_circle;
 use nearest::Given;
 use query_refusals::why_not;
 use radius::Found;
-use rowset::set_bad;
+use set_refusals::set_bad;
 use several_queries::mark_each;
 
 // Centres of an inner node, and rows of a leaf: what measures best for one build and one search.

@@ -2,8 +2,8 @@
 ghost use Prim.Native.Nat.{_≤_};
 ghost use lib.ListN.{length};
 use asking::pieces::least;
-use measure::distance;
 use queries::numbers_part;
+use row_distances::distance;
 
 // No distance is as great.
 const FAR: u32 = 0xffff_ffff;

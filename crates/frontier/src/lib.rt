@@ -13,7 +13,7 @@ use bounds::kid_bound;
 use bounds::place_bound;
 use numbers::smaller;
 use queue::pack;
-use queue::push;
+use queue_push::push;
 use words::places::node_count;
 use words::places::node_first;
 use words::places::node_start;

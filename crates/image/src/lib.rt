@@ -4,7 +4,7 @@ use crate::writing::put_blocks;
 use blocks::word::BLOCK;
 use blocks::word::blocks_for;
 use blocks::word::words_of;
-use words::header::words_ok;
+use header_test::words_ok;
 
 pub mod reading;
 mod writing;

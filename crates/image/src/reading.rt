@@ -14,7 +14,7 @@ use blocks::word::blocks_for;
 use blocks::word::get_word;
 use blocks::word::image_word;
 use blocks::word::words_of;
-use words::header::card_ok;
+use header_test::card_ok;
 use words::places::HEADER;
 
 // What is wrong with an image: a number, the block that it names, and with 0 how many words its index has.

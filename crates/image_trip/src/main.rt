@@ -6,9 +6,9 @@ ghost use lib.ListN.{length};
 use card::read_image;
 use libc::STDOUT_FILENO;
 use lines::print_lines;
+use listing::list_node;
 use samples::FIVE_ROWS;
 use samples::five_index;
-use words::listing::list_node;
 
 // Two numbers on a line.
 fn print_pair(a: u32, b: usize) {

@@ -17,7 +17,7 @@ use marking::row::UNMEASURED;
 use marking::row::enter;
 use marking::row::mark_measured;
 use marking::row::put;
-use rowset::is_in;
+use rows_withdrawn::is_in;
 use words::places::word;
 
 // A row of a leaf is measured as far as r, beyond which it is out however far it is, and marked.
@@ -37,7 +37,7 @@ fn measure_to(
         ((row, byDistance (from (now (table .entry)) c circles (now (query .entry))) r row) ∷ []) (now (how .entry)) (now (how .exit))
         (now (list .entry)) (now (list .exit)) ⌝ }
 {
-    let x = measure::query_distance_to(table, c, circles, query, row, r);
+    let x = ceilings::query_distance_to(table, c, circles, query, row, r);
     mark_measured(x, row, r, withdrawn, how, list);
 }
 

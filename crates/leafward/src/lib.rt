@@ -7,7 +7,7 @@ ghost use Rattle.words.specs.Words.{N#, circles#, m#};
 ghost use mathlib.Core.Bool.{true};
 ghost use mathlib.Core.Path.{_≡_};
 use limits::Params;
-use measure::row_distance;
+use row_distances::row_distance;
 use words::places::centres;
 use words::places::circles;
 use words::places::node_child;

@@ -5,7 +5,7 @@ use Rattle.build.specs.Calls.{Builds}
 use Rattle.lister.proofs.Low.{text-low}
 use Rattle.lister.specs.Listing.{Lists, Runs}
 use Rattle.measure.proofs.OnCircle.{plain-on}
-use Rattle.text.specs.Calls.{Reads}
+use Rattle.text_reading.specs.Calls.{Reads}
 use lib.ListN.{drop, getD, length, length-drop, take}
 use lib.Seq.{take-all}
 use mathlib.Core.Bool.{Bool, cond}

@@ -1,7 +1,7 @@
 -- No number of a reading is above 18. Assumes nothing.
 use Prim.Native.Nat.{_≤_, ℕ}
-use Rattle.text.specs.Calls.{saidRead}
-use Rattle.text.specs.Reading.{numbers, readable}
+use Rattle.text_reading.specs.Calls.{saidRead}
+use Rattle.text_reading.specs.Reading.{numbers, readable}
 use lib.Dec.{ltb}
 use lib.ListN.{length}
 use mathlib.Core.Bool.{Bool, cond, false, true}

@@ -1,7 +1,7 @@
 -- What the listing leaves: the build of the numbers that were read, and these are the text's. Assumes nothing.
 use Prim.Native.Nat.{_≤_, ℕ}
 use Rattle.build.specs.Calls.{Builds}
-use Rattle.text.specs.Calls.{Reads}
+use Rattle.text_reading.specs.Calls.{Reads}
 use lib.ListN.{drop, getD, length, take}
 use mathlib.Core.List.{List}
 use mathlib.Core.Path.{_≡_}

@@ -2,7 +2,6 @@
 use Prim.Native.Nat.{_%_, _*_, _+_, _-_, _/_, _<_, _≤_, ℕ}
 use Rattle.appending.proofs.Lowest.{orderly-ascends, orderly-length, orderly-tally, twice-same}
 use Rattle.appending.specs.Append.{Ascends, orderly, twice}
-use Rattle.filling.specs.Filled.{pairsIn}
 use Rattle.laws.proofs.Every.{every-map}
 use Rattle.laws.proofs.Lists.{paired}
 use Rattle.laws.proofs.Ranges.{range-every, range-length}
@@ -16,6 +15,7 @@ use Rattle.lodging.specs.Sorts.{Sorts}
 use Rattle.lodging.specs.Standing.{Lodges, New, Stands, Takes, keptWords, leafRun, markOf, newRows}
 use Rattle.measure.specs.Table.{between}
 use Rattle.rounds.proofs.Parts.{mid-end, put-end}
+use Rattle.rounds.specs.Entries.{pairsIn}
 use Rattle.split.proofs.Laid.{laid-long, under, under-rows}
 use Rattle.split.specs.Runs.{laid, rows}
 use Rattle.swelling.specs.Pieces.{Piece, grown, leafPiece, settled}

@@ -1,12 +1,11 @@
 -- What stands in the workspace of a piece of an index that takes rows: 02, R-2. A working notion, on which no promise rests. Assumes nothing.
 use Prim.Native.Nat.{_%_, _*_, _+_, _<_, _≤_, ℕ}
 use Rattle.appending.specs.Append.{Ascends, orderly}
-use Rattle.filling.specs.Filled.{pairsIn}
 use Rattle.laws.specs.Every.{Every}
 use Rattle.laws.specs.Lists.{each}
 use Rattle.limits.specs.Limits.{maxRows}
 use Rattle.measure.specs.Table.{between}
-use Rattle.rounds.specs.Entries.{InTable}
+use Rattle.rounds.specs.Entries.{InTable, pairsIn}
 use Rattle.split.specs.Runs.{laid, rows}
 use Rattle.swelling.specs.Pieces.{Piece, grown, leafPiece, old, settled}
 use Rattle.tree.specs.Encode.{pairWords}

@@ -9,7 +9,7 @@ ghost use mathlib.Core.Bool.{cond};
 ghost use mathlib.Core.List.{[], _∷_};
 ghost use mathlib.Core.Path.{_≡_};
 use limits::Params;
-use rowset::is_in;
+use rows_withdrawn::is_in;
 
 // What stands in the list for the distance of a row that was not measured.
 pub const UNMEASURED: u32 = 4294967295;

@@ -1,3 +1,4 @@
+pub mod Basics
 pub mod Metric
 pub mod Rows
 pub mod OnCircle

@@ -3,7 +3,7 @@
 mod rooms;
 
 use libc::STDOUT_FILENO;
-use sheet::Reader;
+use sheet_reading::Reader;
 
 fn say(text: &[u8]) {
     io::write_all(STDOUT_FILENO, text);

@@ -9,7 +9,7 @@ use limits::Asked;
 use limits::is_short;
 use limits::rows_in;
 use nearest_search::find;
-use rowset::set_bad;
+use set_refusals::set_bad;
 
 // What a call gives: 0 or why it was refused; on success how many answers, and how many rows were measured.
 pub struct Given {

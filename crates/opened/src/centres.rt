@@ -38,7 +38,7 @@ fn measure_row(
         ((row, byDistance (from (now (table .entry)) c circles (now (query .entry))) r row) ∷ []) (now (how .entry)) (now (how .exit))
         (now (list .entry)) (now (list .exit)) ⌝ }
 {
-    let x = measure::query_distance(table, c, circles, query, row);
+    let x = row_distances::query_distance(table, c, circles, query, row);
     mark_measured(x, row, r, withdrawn, how, list);
     x
 }

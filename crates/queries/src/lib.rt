@@ -9,7 +9,7 @@ use asking::pieces::least;
 use asking::pieces::piece_at;
 use asking::word_number::NO_NUMBER;
 use asking::word_number::number;
-use measure::row_of;
+use row_distances::row_of;
 
 // As many queries as a question may have, and the numbers that these are at most.
 pub const MOST_QUERIES: usize = 64;

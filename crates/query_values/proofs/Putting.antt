@@ -2,9 +2,9 @@
 use Prim.Native.Nat.{_*_, _+_, _<_, _≤_, ℕ}
 use Rattle.asking.specs.Pieces.{Found, cut, endAt, hasPiece, pieceOf}
 use Rattle.asking.specs.Worth.{worth}
-use Rattle.columns.proofs.Firsts.{first-here, first-none, first-on}
-use Rattle.columns.proofs.Items.{items-long, items-stored}
-use Rattle.columns.specs.Chosen.{itemsOf, most}
+use Rattle.column_products.proofs.Firsts.{first-here, first-none, first-on}
+use Rattle.column_products.proofs.Items.{items-long, items-stored}
+use Rattle.column_products.specs.Chosen.{itemsOf, most}
 use Rattle.query_values.specs.Values.{PutsValues, beyond, firstWrong, itemSays, itemTrouble, timesOf, valueOf}
 use borrow.Author.Tests.{le-ltb, lt-ltb, ne-eqb}
 use lib.Dec.{eqb, ltb}

@@ -1,9 +1,9 @@
 -- What the contract on values says. Assumes nothing.
 use Prim.Native.Nat.{_*_, _+_, _<_, _≤_, ℕ}
 use Rattle.asking.specs.Pieces.{hasPiece}
-use Rattle.columns.proofs.Firsts.{first-below, first-passes}
-use Rattle.columns.proofs.Items.{items-at}
-use Rattle.columns.specs.Chosen.{itemsOf, most}
+use Rattle.column_products.proofs.Firsts.{first-below, first-passes}
+use Rattle.column_products.proofs.Items.{items-at}
+use Rattle.column_products.specs.Chosen.{itemsOf, most}
 use Rattle.query_values.specs.Values.{PutsValues, beyond, firstWrong, itemSays, itemTrouble, timesOf, valueOf}
 use borrow.Author.Tests.{ltb-false, ltb-true}
 use lib.Dec.{eqb, ltb}

@@ -2,7 +2,7 @@
 use Prim.Native.Nat.{_*_, _+_, ℕ}
 use Rattle.asking.specs.Pieces.{hasPiece, pieceOf}
 use Rattle.asking.specs.Worth.{worth}
-use Rattle.columns.specs.Chosen.{firstTo, itemsOf, most}
+use Rattle.column_products.specs.Chosen.{firstTo, itemsOf, most}
 use lib.Dec.{eqb, ltb}
 use lib.ListN.{drop, getD}
 use mathlib.Core.Bool.{Bool, _||_, cond}

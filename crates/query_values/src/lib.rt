@@ -6,7 +6,7 @@ ghost use lib.ListN.{length};
 ghost use mathlib.Core.Path.{_≡_};
 use asking::pieces::piece_at;
 use asking::word_number::number;
-use columns::choice::most;
+use column_products::most;
 use limits::Params;
 use queries::NOT_A_VALUE;
 use queries::Named;

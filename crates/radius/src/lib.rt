@@ -6,8 +6,8 @@ use buffers::clear_bytes;
 use descent::search;
 use limits::Asked;
 use limits::rows_in;
-use rowset::set_bad;
-use rowset::words_asked;
+use rows_withdrawn::words_asked;
+use set_refusals::set_bad;
 use tallies::tally;
 use words::places::rows;
 

@@ -5,7 +5,6 @@ use Rattle.filling.proofs.Framed.{framed}
 use Rattle.filling.proofs.Positions.{pairs-laid, pairsOf}
 use Rattle.growing.proofs.Rooms.{room-long}
 use Rattle.filling.proofs.Whole.{encode-words}
-use Rattle.filling.specs.Filled.{pairsIn}
 use Rattle.header_words.specs.Header.{headerOf}
 use Rattle.growing.specs.Levels.{Able, leaves}
 use Rattle.laws.proofs.Joins.{each-append, part-two}
@@ -17,6 +16,7 @@ use Rattle.refill.proofs.Wording.{held-words}
 use Rattle.refill.specs.Calls.{Refilled, pairsThen}
 use Rattle.regrow.proofs.Around.{own-start}
 use Rattle.regrow.specs.Calls.{Regrowable, Regrown, regrownOf}
+use Rattle.rounds.specs.Entries.{pairsIn}
 use Rattle.split.proofs.Laid.{runs-long}
 use Rattle.rounds.specs.Stretch.{stretch}
 use Rattle.split.specs.Places.{nodeAt}

@@ -1,11 +1,11 @@
 -- The positions' words: copied, and put together from three parts. Assumes nothing.
 use Rattle.copies.specs.Copies.{end#}
 use Prim.Native.Nat.{_*_, _+_, _-_, _<_, _≤_, suc, zero, ℕ}
-use Rattle.filling.specs.Filled.{pairsIn}
 use Rattle.laws.proofs.Parts.{put-more, store-more}
 use Rattle.laws.specs.Lists.{each}
 use Rattle.refill.proofs.Positions.{held}
 use Rattle.refill.specs.Calls.{Pairing, pairsThen}
+use Rattle.rounds.specs.Entries.{pairsIn}
 use Rattle.rounds.specs.Stretch.{stretch}
 use Rattle.tree.specs.Encode.{pairWords}
 use Rattle.words.specs.InShape.{InShape}

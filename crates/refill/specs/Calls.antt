@@ -1,9 +1,9 @@
 -- The index whose tree is grown anew below one node, written into the room. A working notion, on which no promise rests. Assumes nothing.
 use Rattle.copies.specs.Copies.{end#}
 use Prim.Native.Nat.{_*_, _+_, _-_, _<_, _≤_, ℕ}
-use Rattle.filling.specs.Filled.{pairsIn}
 use Rattle.limits.specs.Limits.{maxRows}
 use Rattle.regrow.specs.Calls.{Regrowable, regrownOf}
+use Rattle.rounds.specs.Entries.{pairsIn}
 use Rattle.rounds.specs.Stretch.{stretch}
 use Rattle.tree.specs.Encode.{encode, numbered}
 use Rattle.words.specs.Words.{N#, c#, circles#, count#, l#, m#, n#, pairAt, start#}

@@ -3,7 +3,6 @@ use Prim.Native.Nat.{_*_, _+_, _-_, _≤_, ℕ}
 use Rattle.buffers.proofs.Whole.{wiped-whole}
 use Rattle.buffers.specs.Wiped.{wiped}
 use Rattle.filling.proofs.Framed.{framed}
-use Rattle.filling.specs.Filled.{pairsIn}
 use Rattle.header_words.specs.Header.{headerOf}
 use Rattle.deepening.specs.Stages.{Layered, Leveled, Planted}
 use Rattle.laws.specs.Lists.{each, range}
@@ -13,6 +12,7 @@ use Rattle.opening.specs.Sound.{Task}
 use Rattle.refilling.specs.Joining.{RowsJoin, RowsJoinable}
 use Rattle.refilling.specs.Rooted.{RootAsk, Rooted, rootPiece}
 use Rattle.rounds.proofs.Parts.{mid-end}
+use Rattle.rounds.specs.Entries.{pairsIn}
 use Rattle.rounds.specs.Stretch.{stretch}
 use Rattle.split.specs.Places.{nodeAt}
 use Rattle.swelling.proofs.Written.{shape-written}

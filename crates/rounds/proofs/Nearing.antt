@@ -14,27 +14,16 @@ use mathlib.Core.Path.{_∙_, _≡_, ap, ap₂, refl, subst, sym}
 use native.Mathlib.Omega.{arith}
 
 -- ---- one entry learns of a centre
--- the entry changes only where the centre is closer
-near-entry : (d : ℕ → ℕ → ℕ) (j : ℕ) (e : List ℕ) → length e ≡ 3
-    → cond (ltb (d j (getD e 0 0)) (getD e 1 0)) (set (set e 1 (d j (getD e 0 0))) 2 j) e ≡ nearAll d j e
+-- x is how far its row is from the centre: it keeps the lesser distance, and its centre, at a tie too, unless the new one is closer
+pub near-entry : (d : ℕ → ℕ → ℕ) (j x : ℕ) (e : List ℕ) {y k : ℕ} → length e ≡ 3 → x ≡ d j (getD e 0 0)
+    → y ≡ cond (ltb x (getD e 1 0)) x (getD e 1 0) → k ≡ cond (ltb x (getD e 1 0)) j (getD e 2 0) → set (set e 1 y) 2 k ≡ nearAll d j e
 unfolding nearAll
-near-entry d j [] l = absurd (omega arith)
-near-entry d j (i ∷ []) l = absurd (omega arith)
-near-entry d j (i ∷ x ∷ []) l = absurd (omega arith)
-near-entry d j (i ∷ x ∷ a ∷ []) l = go (ltb (d j i) x)
-  where
-    go : (s : Bool) → cond s (i ∷ d j i ∷ j ∷ []) (i ∷ x ∷ a ∷ []) ≡ i ∷ cond s (d j i) x ∷ cond s j a ∷ []
-    go true = refl
-    go false = refl
-near-entry d j (i ∷ x ∷ a ∷ z ∷ e) l = absurd (omega arith)
-
--- the centre is closer, and the entry has it now
-pub near-less : (d : ℕ → ℕ → ℕ) (j x : ℕ) (e : List ℕ) → length e ≡ 3 → x ≡ d j (getD e 0 0) → x < getD e 1 0 → set (set e 1 x) 2 j ≡ nearAll d j e
-near-less d j x e l q h = rw (lt-ltb x (getD e 1 0) h) at (rw (← q) at (near-entry d j e l))
-
--- it is not, and the entry stays: a tie too
-pub near-same : (d : ℕ → ℕ → ℕ) (j x : ℕ) (e : List ℕ) → length e ≡ 3 → x ≡ d j (getD e 0 0) → getD e 1 0 ≤ x → e ≡ nearAll d j e
-near-same d j x e l q h = rw (le-ltb x (getD e 1 0) h) at (rw (← q) at (near-entry d j e l))
+near-entry d j x [] l q y k = absurd (omega arith)
+near-entry d j x (i ∷ []) l q y k = absurd (omega arith)
+near-entry d j x (i ∷ z ∷ []) l q y k = absurd (omega arith)
+near-entry d j x (i ∷ z ∷ a ∷ []) l q y k =
+    ap₂ (λ (u v : ℕ). i ∷ u ∷ v ∷ []) (y ∙ ap (λ (w : ℕ). cond (ltb w z) w z) q) (k ∙ ap (λ (w : ℕ). cond (ltb w z) j a) q)
+near-entry d j x (i ∷ z ∷ a ∷ b ∷ e) l q y k = absurd (omega arith)
 
 -- ---- every entry learns of it
 -- the entries before p have learnt of j

@@ -17,6 +17,13 @@ Entries P (i ∷ x ∷ a ∷ es) = P i × Entries P es
 abbrev pub InTable : List ℕ → ℕ → ℕ → Type 0
 InTable t c i = c * i + c ≤ length t
 
+-- of each entry the row and the distance
+unfoldable pub pairsIn : List ℕ → List ℕ
+pairsIn [] = []
+pairsIn (i ∷ []) = []
+pairsIn (i ∷ x ∷ []) = []
+pairsIn (i ∷ x ∷ a ∷ es) = i ∷ x ∷ pairsIn es
+
 -- the entry of a row that is a centre
 abbrev pub own : ℕ → List ℕ
 own a = a ∷ 0 ∷ a ∷ []

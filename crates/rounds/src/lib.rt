@@ -4,16 +4,26 @@ ghost use Prim.Native.Nat.{_%_, _*_, _+_, _-_, _≤_};
 ghost use Rattle.limits.specs.Limits.{maxColumns};
 ghost use Rattle.measure.specs.Table.{between};
 ghost use Rattle.rounds.specs.Entries.{Entries, InTable, ahead, allBut, far, nearAll, roundOf, roundsOf};
+ghost use lib.Dec.{ltb};
 ghost use lib.ListN.{drop, getD, length, take};
+ghost use mathlib.Core.Bool.{cond};
 ghost use mathlib.Core.List.{_++_, _∷_};
 ghost use mathlib.Core.Path.{_≡_};
-use measure::row_distance;
+use row_distances::row_distance;
 
 // A row number of the workspace, as one to measure by.
 fn wide(x: u32) -> usize
     ensures { λ r. ⌜ r ≡ x ⌝ }
 {
     x as usize
+}
+
+// What an entry keeps, now that it is d away from a new centre and was x away from the closest: the new or the old. A value that is chosen is no
+// branch; one would be guessed wrong as often as a row changes its centre, which costs more than the distance.
+fn kept(d: u32, x: u32, new: u32, old: u32) -> u32
+    ensures { λ r. ⌜ r ≡ cond (ltb d x) new old ⌝ }
+{
+    if d < x { new } else { old }
 }
 
 // An entry's least distance and its centre, now that `centre` is one.
@@ -23,10 +33,10 @@ fn nearer_one(table: &[u16], c: usize, circles: u32, centre: u32, entry: &mut [u
     ensures { λ _. ⌜ now (entry .exit) ≡ nearAll (between (now (table .entry)) c circles) centre (now (entry .entry)) ⌝ }
 {
     let d = row_distance(table, c, circles, wide(centre), wide(entry[0]));
-    if d < entry[1] {
-        entry[1] = d;
-        entry[2] = centre;
-    }
+    let x = entry[1];
+    let a = entry[2];
+    entry[1] = kept(d, x, d, x);
+    entry[2] = kept(d, x, centre, a);
 }
 
 // The same for every entry.

@@ -15,13 +15,13 @@ ghost use mathlib.Core.Path.{_≡_};
 use answers_held::enter;
 use answers_held::last;
 use answers_held::turn;
+use ceilings::distance_to;
 use frontier::workspace::ANSWERS;
 use frontier::workspace::DISTANCES;
-use measure::distance_to;
-use measure::query_distance;
-use measure::row_of;
+use row_distances::query_distance;
+use row_distances::row_of;
 use rows_listed::mark_row;
-use rowset::is_in;
+use rows_withdrawn::is_in;
 use words::places::circles;
 use words::places::node_first;
 

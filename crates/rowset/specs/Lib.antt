@@ -1,3 +1,1 @@
 pub mod Sets
-pub mod Orders
-pub mod Cases

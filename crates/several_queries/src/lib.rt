@@ -15,8 +15,8 @@ ghost use mathlib.Core.Path.{_≡_};
 use buffers::clear_bytes;
 use descent::search;
 use joined_marks::join;
-use measure::row_of;
 use radius::Found;
+use row_distances::row_of;
 use tallies::tally;
 use words::places::rows;
 

@@ -2,9 +2,9 @@
 use Prim.Native.Nat.{ℕ}
 use Rattle.sheet_fields.specs.Fields.{asName, asNumber, asRow, cut, fields, grownBy, value, worths}
 use Rattle.sheet_fields.specs.Kinds.{kindOf, parting, quoting, signing}
-use Rattle.sheet.specs.Lines.{body, kept, lines, named, unmarked}
-use Rattle.sheet_line.specs.Troubles.{trouble}
-use Rattle.sheet.specs.Says.{Told, differs, lineTrouble, orRow, rowTrouble, says, stopped, told, toldAll, toldBy, toldNames}
+use Rattle.sheet_reading.specs.Lines.{body, kept, lines, named, unmarked}
+use Rattle.line_reading.specs.Troubles.{trouble}
+use Rattle.sheet_reading.specs.Says.{Told, differs, lineTrouble, orRow, rowTrouble, says, stopped, told, toldAll, toldBy, toldNames}
 use mathlib.Core.List.{[], _∷_}
 use mathlib.Core.Path.{_≡_, refl}
 

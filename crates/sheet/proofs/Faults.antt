@@ -1,15 +1,15 @@
 -- When each fault is told, and that no row is lost. Assumes nothing.
 use Prim.Native.Nat.{_+_, _≤_, ℕ}
 use Rattle.laws.specs.Lists.{all, joined}
-use Rattle.sheet.proofs.Sheets.{sheet-read}
+use Rattle.sheet_reading.proofs.Sheets.{sheet-read}
 use Rattle.sheet_fields.specs.Fields.{asNames, asNumber, isDigit, value}
-use Rattle.sheet.specs.Lines.{fieldsOf, lines, named, numbers}
-use Rattle.sheet.specs.Reading.{begun, finished, run}
-use Rattle.sheet_line.specs.Troubles.{none, trouble}
-use Rattle.sheet.specs.Says.{Told, lineTrouble, says, stopped, told, toldAll, toldBy, toldNames}
+use Rattle.sheet_reading.specs.Lines.{fieldsOf, lines, named, numbers}
+use Rattle.sheet_reading.specs.Reading.{begun, finished, run}
+use Rattle.line_reading.specs.Troubles.{none, trouble}
+use Rattle.sheet_reading.specs.Says.{Told, lineTrouble, says, stopped, told, toldAll, toldBy, toldNames}
 use Rattle.sheet.specs.Stops.{Right, Stops, StopsText, Wrong, at-names, below-names, empty, great, no-names, right, strange}
 use Rattle.sheet_fields.specs.declared.Kind.{Kind}
-use Rattle.sheet_line.specs.declared.Trouble.{Trouble}
+use Rattle.line_reading.specs.declared.Trouble.{Trouble}
 use borrow.Author.Tests.{eqb-false, eqb-true, le-leb, leb-false, leb-true, lt-leb}
 use lib.Dec.{T, eqb, leb}
 use lib.ListN.{length, length-append, length-map}

@@ -1,9 +1,3 @@
 pub mod Cases
-pub mod Closings
 pub mod Faults
-pub mod Laying
-pub mod LineEnds
-pub mod Runs
-pub mod Sheets
-pub mod Texts
 pub mod Tidying

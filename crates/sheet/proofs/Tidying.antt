@@ -1,19 +1,19 @@
 -- From the first byte on a reader's numbers are in order, whatever the text. Assumes nothing.
 use Prim.Native.Nat.{_*_, _+_, _≤_, ℕ}
-use Rattle.sheet.proofs.Closings.{Fits, closed-cases, decided-cases, line-fits, names-fit}
-use Rattle.sheet_line.specs.InLine.{added, addedAs, along, bare, blankAt, emptied, moved, opened, opens, settled, settledAt}
-use Rattle.sheet.specs.Closing.{closed, decided, endTrouble, failed, firstBlank, onward, titles}
+use Rattle.sheet_reading.proofs.Closings.{Fits, closed-cases, decided-cases, line-fits, names-fit}
+use Rattle.line_reading.specs.InLine.{added, addedAs, along, bare, blankAt, emptied, moved, opened, opens, settled, settledAt}
+use Rattle.sheet_reading.specs.Closing.{closed, decided, endTrouble, failed, firstBlank, onward, titles}
 use Rattle.sheet_fields.specs.Kinds.{kindOf}
-use Rattle.sheet.specs.Reading.{begun, ended, finished, inside, markByte, marking, next, read, released, run, unmarking}
-use Rattle.sheet.specs.Says.{differs}
+use Rattle.sheet_reading.specs.Reading.{begun, ended, finished, inside, markByte, marking, next, read, released, run, unmarking}
+use Rattle.sheet_reading.specs.Says.{differs}
 use Rattle.sheet.specs.Tidy.{Tidy}
-use Rattle.sheet.specs.declared.Reader.{Reader}
+use Rattle.sheet_reading.specs.declared.Reader.{Reader}
 use Rattle.sheet_fields.specs.declared.Kind.the-variants.{Blank, Digit, Other, Parting, Quote, Sign}
 use Rattle.sheet_fields.specs.declared.Kind.{Kind}
-use Rattle.sheet_line.specs.declared.Line.{Line}
-use Rattle.sheet_line.specs.declared.Place.the-variants.{Behind, Great, Inside, Open, Quoted, Strange}
-use Rattle.sheet_line.specs.declared.Place.{Place}
-use Rattle.sheet_line.specs.declared.Trouble.{Trouble}
+use Rattle.line_reading.specs.declared.Line.{Line}
+use Rattle.line_reading.specs.declared.Place.the-variants.{Behind, Great, Inside, Open, Quoted, Strange}
+use Rattle.line_reading.specs.declared.Place.{Place}
+use Rattle.line_reading.specs.declared.Trouble.{Trouble}
 use Rattle.laws.proofs.Never.{never}
 use borrow.Author.Tests.{eq-eqb, eqb-true}
 use lib.Dec.{eqb, leb}

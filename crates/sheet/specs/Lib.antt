@@ -1,7 +1,2 @@
-pub mod Lines
-pub mod Says
-pub mod Closing
-pub mod Reading
-pub mod Reads
 pub mod Tidy
 pub mod Stops

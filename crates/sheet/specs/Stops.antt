@@ -2,9 +2,9 @@
 use Prim.Native.Nat.{_+_, _<_, _≤_, ℕ}
 use Rattle.laws.specs.Lists.{all, joined}
 use Rattle.sheet_fields.specs.Fields.{asNames, isDigit, value}
-use Rattle.sheet.specs.Lines.{fieldsOf, named, numbers}
-use Rattle.sheet_line.specs.Troubles.{trouble}
-use Rattle.sheet.specs.Says.{Told, lineTrouble}
+use Rattle.sheet_reading.specs.Lines.{fieldsOf, named, numbers}
+use Rattle.line_reading.specs.Troubles.{trouble}
+use Rattle.sheet_reading.specs.Says.{Told, lineTrouble}
 use Rattle.sheet_fields.specs.declared.Kind.{Kind}
 use lib.ListN.{length}
 use mathlib.Core.Bool.{false, true}

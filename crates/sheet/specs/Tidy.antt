@@ -1,6 +1,6 @@
 -- A reader whose numbers are in order, as they are from the first byte on. A working notion, on which no promise rests. Assumes nothing.
 use Prim.Native.Nat.{_*_, _≤_, ℕ}
-use Rattle.sheet.specs.declared.Reader.{Reader}
+use Rattle.sheet_reading.specs.declared.Reader.{Reader}
 use lib.ListN.{length}
 use mathlib.Core.Path.{_≡_}
 

@@ -1,43 +1,18 @@
 // The reader of a text of rows: fed piece by piece, it puts each whole row behind the last into a lent table, and names the first line and column
 // with a fault.
-ghost use Prim.Native.Nat.{_+_, _≤_, min};
-ghost use Rattle.sheet.specs.Closing.{closed, counted, endTrouble, failed, firstBlank, judged, onward, orWide, titles, weighed};
-ghost use Rattle.sheet.specs.Reading.{begun, finished, inside, markByte, marking, next, read, released, run, unmarking};
-ghost use Rattle.sheet.specs.Says.{differs, orRow, rowTrouble};
-ghost use lib.Dec.{ltb};
+ghost use Prim.Native.Nat.{_+_, _≤_};
+ghost use Rattle.sheet_reading.specs.Closing.{closed, counted, endTrouble, failed, firstBlank, judged, onward, orWide, titles, weighed};
+ghost use Rattle.sheet_reading.specs.Reading.{begun, finished, inside, markByte, marking, next, read, released, run, unmarking};
+ghost use Rattle.sheet_reading.specs.Says.{orRow};
 ghost use lib.ListN.{length};
 ghost use lib.Seq.{paste};
 ghost use mathlib.Core.Path.{_≡_};
+use line_reading::Line;
+use line_reading::Trouble;
+use row_faults::row_trouble;
 use sheet_fields::Kind;
-use sheet_line::Line;
-use sheet_line::Trouble;
-
-// Where the reading stands: how much of the mark EF BB BF has come (3 behind it), whether a carriage return is held back, the number of the line
-// that is being read or has the fault, the first of the blank lines right above it (0 for none), the columns (0 before the first line), how many rows
-// were put and how many numbers these are, the fault (0 for none) and its column, and what is known of the line.
-pub struct Reader {
-    pub mark: u32,
-    pub held: bool,
-    pub line: u64,
-    pub blank: u64,
-    pub columns: usize,
-    pub rows: usize,
-    pub put: usize,
-    pub fault: u32,
-    pub column: usize,
-    pub here: Line,
-    pub label: usize,
-}
-
-pub const UNEVEN: u32 = 4;
-
-pub const TOO_MANY_ROWS: u32 = 5;
-
-pub const TABLE_SHORT: u32 = 6;
-
-pub const NO_ROWS: u32 = 8;
-
-pub const MOST_ROWS: usize = 1_048_576;
+use sheet_reading::NO_ROWS;
+use sheet_reading::Reader;
 
 const MOST_LINES: u64 = 18_446_744_073_709_551_615;
 
@@ -61,68 +36,6 @@ pub fn start(label: usize) -> Reader
         here: sheet_line::fresh(label),
         label,
     }
-}
-
-// The row has another count than there are columns, if that is known.
-fn uneven(columns: usize, count: usize) -> bool
-    ensures { λ r. ⌜ r ≡ differs columns count ⌝ }
-{
-    if columns == 0 {
-        return false;
-    }
-    columns != count
-}
-
-// The room does not reach `count` places behind `put`.
-fn lacks(room: usize, put: usize, count: usize) -> bool
-    ensures { λ r. ⌜ r ≡ ltb room (put + count) ⌝ }
-{
-    if room < put {
-        return true;
-    }
-    room - put < count
-}
-
-// The first column that is missing, or too many.
-fn uneven_column(columns: usize, count: usize) -> usize
-    requires { ⌜ count ≤ 16 ⌝ }
-    ensures { λ r. ⌜ r ≡ min columns count + 1 ⌝ }
-{
-    if columns < count {
-        return columns + 1;
-    }
-    count + 1
-}
-
-// Why a row of `count` numbers can't be put behind the rows that were.
-fn row_trouble(columns: usize, rows: usize, put: usize, count: usize, room: usize) -> Trouble
-    ensures { λ r. ⌜ r ≡ rowTrouble columns rows put count room ⌝ }
-{
-    if sheet_line::WIDEST < count {
-        return Trouble {
-            kind: sheet_line::TOO_WIDE,
-            column: sheet_line::WIDEST + 1,
-        };
-    }
-    if uneven(columns, count) {
-        return Trouble {
-            kind: UNEVEN,
-            column: uneven_column(columns, count),
-        };
-    }
-    if MOST_ROWS <= rows {
-        return Trouble {
-            kind: TOO_MANY_ROWS,
-            column: 1,
-        };
-    }
-    if lacks(room, put, count) {
-        return Trouble {
-            kind: TABLE_SHORT,
-            column: 1,
-        };
-    }
-    sheet_line::no_trouble()
 }
 
 // What is wrong in a field comes before what is wrong with the row.
@@ -149,13 +62,13 @@ fn name_or_wide(t: Trouble, count: usize) -> Trouble
     if t.kind != 0 {
         return t;
     }
-    if sheet_line::WIDEST < count {
+    if line_reading::WIDEST < count {
         return Trouble {
-            kind: sheet_line::TOO_WIDE,
-            column: sheet_line::WIDEST + 1,
+            kind: line_reading::TOO_WIDE,
+            column: line_reading::WIDEST + 1,
         };
     }
-    sheet_line::no_trouble()
+    row_numbers::no_trouble()
 }
 
 // The line is the first, and names.
@@ -287,7 +200,7 @@ fn judge(r: Reader, ended: Line, table: &mut [u16]) -> Reader
             ended,
             r.blank,
             Trouble {
-                kind: sheet_line::EMPTY,
+                kind: line_reading::EMPTY,
                 column: 1,
             },
         );

@@ -1,3 +1,1 @@
 pub mod Alongs
-pub mod Gathered
-pub mod LineRuns

@@ -13,7 +13,7 @@ ghost use mathlib.Core.Bool.{false};
 ghost use mathlib.Core.Path.{_≡_};
 use marking::row::UNMEASURED;
 use marking::row::enter;
-use rowset::is_in;
+use rows_withdrawn::is_in;
 use words::places::node_count;
 use words::places::node_start;
 use words::places::pair_at;

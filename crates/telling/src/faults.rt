@@ -3,7 +3,7 @@ ghost use Prim.Native.Nat.{_≤_};
 use saying::say;
 use saying::say_count;
 use saying::say_number;
-use sheet::Reader;
+use sheet_reading::Reader;
 use statuses::no_room;
 use statuses::text_faulty;
 
@@ -22,11 +22,11 @@ fn say_uneven(file: i32, count: usize, columns: usize, rows: usize) {
 
 // What is wrong with a line as a row of the table, or with the whole text.
 fn say_row_fault(file: i32, r: Reader) {
-    if r.fault == sheet::UNEVEN {
+    if r.fault == sheet_reading::UNEVEN {
         say_uneven(file, r.here.count, r.columns, r.rows);
-    } else if r.fault == sheet::TOO_MANY_ROWS {
+    } else if r.fault == sheet_reading::TOO_MANY_ROWS {
         say(file, b"more than 1,048,576 rows\n");
-    } else if r.fault == sheet::NO_ROWS {
+    } else if r.fault == sheet_reading::NO_ROWS {
         say(file, b"no rows\n");
     } else {
         say(file, b"more rows than there is room for\n");
@@ -35,13 +35,13 @@ fn say_row_fault(file: i32, r: Reader) {
 
 // What is wrong with the column that the reader stopped at.
 fn say_line_fault(file: i32, r: Reader) {
-    if r.fault == sheet_line::NOT_A_NUMBER {
+    if r.fault == line_reading::NOT_A_NUMBER {
         say(file, b"not a number\n");
-    } else if r.fault == sheet_line::TOO_GREAT {
+    } else if r.fault == line_reading::TOO_GREAT {
         say(file, b"a number above 65,535\n");
-    } else if r.fault == sheet_line::TOO_WIDE {
+    } else if r.fault == line_reading::TOO_WIDE {
         say(file, b"more than 16 columns\n");
-    } else if r.fault == sheet_line::EMPTY {
+    } else if r.fault == line_reading::EMPTY {
         say(file, b"empty\n");
     } else {
         say_row_fault(file, r);
@@ -62,10 +62,10 @@ pub fn say_fault(file: i32, r: Reader) {
 pub fn status_of(fault: u32) -> u32
     ensures { λ r. ⌜ r ≤ 4 ⌝ }
 {
-    if fault == sheet::TOO_MANY_ROWS {
+    if fault == sheet_reading::TOO_MANY_ROWS {
         return no_room();
     }
-    if fault == sheet::TABLE_SHORT {
+    if fault == sheet_reading::TABLE_SHORT {
         return no_room();
     }
     text_faulty()

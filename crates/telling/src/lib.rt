@@ -159,7 +159,7 @@ pub fn say_columns_wrong(file: i32, wrong: u32, item: &[u8], names: &[u8]) {
 
 // What is wrong with an item of the list of circles.
 pub fn say_circles_wrong(file: i32, wrong: u32, item: &[u8], names: &[u8]) {
-    if wrong == circling::NOT_COUNTED {
+    if wrong == circle_columns::NOT_COUNTED {
         say_quoted(
             file,
             b"a circle is one of the columns that count, and ",

@@ -1,8 +1,8 @@
 -- The two passes over a text, one turn at a time: what has been counted, and what has been put. Assumes nothing.
 use Prim.Native.Nat.{_+_, _<_, _≤_, ℕ}
-use Rattle.text.specs.Reading.{behind, ended, endedBy, found, numbers, parting, stepped}
-use Rattle.text.specs.declared.Place.the-variants.{Inside, Line, Lost, Start}
-use Rattle.text.specs.declared.Place.{Place}
+use Rattle.text_reading.specs.Reading.{behind, ended, endedBy, found, numbers, parting, stepped}
+use Rattle.text_reading.specs.declared.Place.the-variants.{Inside, Line, Lost, Start}
+use Rattle.text_reading.specs.declared.Place.{Place}
 use lib.ListN.{drop, drop-of-length-le, getD, length, length-append, length-drop, take}
 use lib.Seq.{drop-at, drop-cons, drop-drop, length-take-le, take-at}
 use mathlib.Core.Bool.{Bool, cond, false, true}

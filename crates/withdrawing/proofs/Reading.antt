@@ -1,21 +1,22 @@
 -- The lines of a text read one after the other, and what is left at each return. Assumes nothing.
 use Prim.Native.Nat.{_+_, _-_, _<_, _≤_, min, suc, zero, ℕ}
-use Rattle.columns.proofs.Firsts.{first-here, first-none, first-on}
-use Rattle.columns.specs.Chosen.{firstTo}
+use Rattle.column_products.proofs.Firsts.{first-here, first-none, first-on}
+use Rattle.column_products.specs.Chosen.{firstTo}
 use Rattle.laws.proofs.Empty.{any-false}
 use Rattle.laws.proofs.First.{any-more}
 use Rattle.laws.proofs.Ranges.{every-range}
 use Rattle.laws.specs.Lists.{any, range}
 use Rattle.text_lines.specs.Lines.{lineAt, nextLine, textStart}
-use Rattle.rowset.proofs.Calls.{carried-keep}
-use Rattle.rowset.proofs.Outcomes.{none-said}
+use Rattle.orders.proofs.Calls.{carried-keep}
+use Rattle.orders.proofs.Outcomes.{none-said}
+use Rattle.orders.specs.Orders.{Orders, done, next, striking}
 use Rattle.rowset.proofs.Refused.{right-has}
 use Rattle.rowset.proofs.Rows.{in-struck, struck-length}
-use Rattle.rowset.specs.Orders.{Orders, done, next, striking}
 use Rattle.rowset.specs.Sets.{isIn, setBad, struck, wordsFor}
-use Rattle.withdrawing.proofs.Places.{any-over, full-here, full-none, next-far, place-first, place-next}
-use Rattle.withdrawing.specs.Lines.{anyFull, isBlank, isFull, lineOf, lineSays, placeOf}
-use Rattle.withdrawing.specs.Withdrawn.{Withdraws, isSaid, lineTrouble, rowTrouble, saysRow, setWords, wrongLine}
+use Rattle.row_lines.proofs.Places.{any-over, full-here, full-none, next-far, place-first, place-next}
+use Rattle.row_lines.specs.Lines.{anyFull, isBlank, isFull, lineOf, lineSays, placeOf}
+use Rattle.row_lines.specs.Rows.{rowTrouble}
+use Rattle.withdrawing.specs.Withdrawn.{Withdraws, isSaid, lineTrouble, saysRow, setWords, wrongLine}
 use borrow.Author.Tests.{eq-eqb, le-ltb, lt-ltb, ltb-true, ne-eqb}
 use lib.Dec.{T, eqb, ltb}
 use lib.ListN.{drop, length, take}

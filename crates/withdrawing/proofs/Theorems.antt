@@ -1,6 +1,6 @@
 -- What the set says of a text that is taken, and that no second outcome fits. Assumes nothing.
 use Prim.Native.Nat.{ℕ}
-use Rattle.rowset.proofs.Striking.{same-set}
+use Rattle.orders.proofs.Striking.{same-set}
 use Rattle.rowset.specs.Sets.{Narrow, isIn, setBad}
 use Rattle.withdrawing.specs.Withdrawn.{Withdraws, isSaid, wrongLine}
 use mathlib.Core.Bool.{Bool, _||_, false, true}

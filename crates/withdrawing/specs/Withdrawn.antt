@@ -1,18 +1,15 @@
 -- Which rows a text withdraws, and what is wrong with it. Assumes nothing.
 use Prim.Native.Nat.{min, suc, ℕ}
-use Rattle.columns.specs.Chosen.{firstTo}
+use Rattle.column_products.specs.Chosen.{firstTo}
 use Rattle.laws.specs.Lists.{any, range}
 use Rattle.rowset.specs.Sets.{isIn, setBad, wordsFor}
-use Rattle.withdrawing.specs.Lines.{anyFull, isFull, lineOf, lineSays}
+use Rattle.row_lines.specs.Lines.{anyFull, isFull, lineOf, lineSays}
+use Rattle.row_lines.specs.Rows.{rowTrouble}
 use lib.Dec.{eqb, ltb}
 use lib.ListN.{length}
 use mathlib.Core.Bool.{Bool, _&&_, _||_, cond, false, not, true}
 use mathlib.Core.List.{List}
 use mathlib.Core.Path.{_≡_}
-
--- what is wrong with a number that shall be one of n rows: 1 it is none, 2 there is no such row; else 0
-unfoldable pub rowTrouble : ℕ → ℕ → ℕ
-rowTrouble n v = cond (ltb v 10_000_000) (cond (ltb v n) 0 2) 1
 
 -- what is wrong with line i of the text t: that of its number, or 3, it is blank and one below it is not; else 0
 unfoldable pub lineTrouble : ℕ → List ℕ → ℕ → ℕ

@@ -1,11 +1,8 @@
 pub mod Levels
 pub mod Tiles
 pub mod Nodes
-pub mod Pass
-pub mod Fits
 pub mod Headers
 pub mod InShape
 pub mod Positions
 pub mod Indexes
-pub mod Listed
 pub mod Strides

@@ -34,7 +34,10 @@ module _ (w : List ℕ) (k : ℕ) where
 
 -- the room's product, taken apart
 pub spread : (e n : ℕ) → width e * (2 * n) + 2 * n ≡ (8 + 2 * e) * n
-spread e n = rw (add-mul 3 e (2 * n), add-mul 8 (2 * e) n, mul-assoc 2 e n, mul-left-comm e 2 n) (omega arith)
+spread e n =
+    let a : width e * (2 * n) ≡ 3 * (2 * n) + e * (2 * n) = add-mul 3 e (2 * n) in
+    let b : (8 + 2 * e) * n ≡ 8 * n + 2 * e * n = add-mul 8 (2 * e) n in
+    omega (arith, a, b, mul-assoc 2 e n, mul-left-comm e 2 n)
 
 module _ (w : List ℕ) (W : Whole w) where
   -- the header's words are there

@@ -1,7 +1,3 @@
-// The index words: the header and its test, the words by place, the shape test, the listing of a node, and a node written.
-pub mod header;
-pub mod index;
-pub mod listing;
+// The index words by place, and a node written.
 pub mod places;
-pub mod shape;
 pub mod writing;

@@ -23,7 +23,7 @@ narrow c i = omega (arith, c .shared-slice-known .given i)
 -- there is no refusal
 none : (c : tie.Else1)
     → Passed (start c .args .table .now) (start c .args .c) (start c .args .index .now) (start c .args .room .now) (start c .args .work .now)
-none c = record { narrow = narrow (c .before .before .before .before .before); none = sym (c .before .refusal-of .ensures) ∙ c .if1 .left }
+none c = record { narrow = narrow (c .before .before .before .before .before); none = sym (c .before .append-number .ensures) ∙ c .if1 .left }
 
 -- few rows
 few : (c : tie.Else1) → n# (start c .args .index .now) + 1 ≤ maxRows
@@ -35,7 +35,7 @@ little : (c : tie.After-join-row)
 little c = c .join-row .ensures .few
 
 returns : tie.Need-returns
-returns c = refused-grows (narrow (c .before .before .before .before .before .before)) (c .before .before .refusal-of .ensures) (c .before .if1 .taken) (c .refused .ensures)
+returns c = refused-grows (narrow (c .before .before .before .before .before .before)) (c .before .before .append-number .ensures) (c .before .if1 .taken) (c .refused .ensures)
 
 rows-requires : tie.Need-rows-requires
 rows-requires c κs = header-there (none c)
@@ -43,22 +43,14 @@ rows-requires c κs = header-there (none c)
 add-n : tie.Need-add-n
 add-n c = omega (arith, few (c .before), c .rows .ensures)
 
-centres-requires : tie.Need-centres-requires
-centres-requires c κs = header-there (none (c .before .before))
-
-leaf-size-requires : tie.Need-leaf-size-requires
-leaf-size-requires c κs = header-there (none (c .before .before .before))
-
-circles-requires : tie.Need-circles-requires
-circles-requires c κs = header-there (none (c .before .before .before .before))
+rebuild-requires : tie.Need-rebuild-requires
+rebuild-requires c κs = header-there (none (c .before .before .before .before))
 
 returns-2 : tie.Need-returns-2
 returns-2 c =
     let b = c .before .before .before .before in
-    let o = b .before .before .before in
-    let i = o .before .before .before in
-    built-appends (none (i .before .before)) (omega (arith, i .if2 .taken, i .before .rows .ensures)) (o .before .before .centres .ensures .0)
-    (o .before .leaf-size .ensures .0) (o .circles .ensures) (b .build .ensures)
+    let i = b .before .before .before in
+    built-appends (none (i .before .before)) (omega (arith, i .if2 .taken, i .before .rows .ensures)) (b .rebuild .ensures)
 
 mul-used : tie.Need-mul-used
 mul-used c = omega (arith, few (c .before .before), c .before .rows .ensures)
@@ -78,11 +70,17 @@ join-row-requires c κs =
     let i = c .before .before in
     joinable (none (i .before .before)) (ap (λ (k : ℕ). k + 1) (i .before .rows .ensures .0)) (i .if2 .left)
 
-returns-3 : tie.Need-returns-3
-returns-3 c =
+written-requires : tie.Need-written-requires
+written-requires c κs =
     let j = c .before .before .before .before in
     let r = j .before .before .before .before in
-    joined-appends (none (r .before)) (ap (λ (k : ℕ). k + 1) (r .rows .ensures .0)) (j .join-row .ensures) (search needs) (omega arith)
+    (omega (arith, few (r .before), r .rows .ensures), omega (arith, little j, r .rows .ensures))
+
+returns-3 : tie.Need-returns-3
+returns-3 c =
+    let j = c .before .before .before .before .before in
+    let r = j .before .before .before .before in
+    joined-appends (none (r .before)) (ap (λ (k : ℕ). k + 1) (r .rows .ensures .0)) (j .join-row .ensures) (search needs) (c .written .ensures)
 
 pub append-spec : {M : Type 1} → statement M
 append-spec =
@@ -93,10 +91,7 @@ append-spec =
     returns
     rows-requires
     add-n
-    centres-requires
-    leaf-size-requires
-    circles-requires
-    (λ c κs. search needs)
+    rebuild-requires
     (λ c. search needs)
     (λ c. search needs)
     returns-2
@@ -104,10 +99,7 @@ append-spec =
     slice-relend-prefix-join-row
     slice-aggregate-join-row
     join-row-requires
-    (λ c. search needs)
-    (λ c. search needs)
-    (λ c. search needs)
-    (λ c. search needs)
+    written-requires
     (λ c. search needs)
     (λ c. search needs)
     returns-3)

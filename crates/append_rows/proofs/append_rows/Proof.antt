@@ -6,7 +6,6 @@ use Rattle.append_rows.proofs.Outcomes.{Passed, built-appends, header-t
 use Rattle.append_rows.proofs.append_rows.Statement.{statement}
 use Rattle.append_rows.proofs.append_rows.Tie as tie
 use Rattle.limits.specs.Limits.{maxRows}
-use Rattle.measure.specs.Table.{rowsOf}
 use borrow.Author.Needs.{needs}
 use lib.ListN.{getD}
 use mathlib.Core.Path.{_∙_, sym}
@@ -23,7 +22,7 @@ narrow c i = omega (arith, c .shared-slice-known .given i)
 -- there is no refusal
 none : (c : tie.Else1)
     → Passed (start c .args .table .now) (start c .args .c) (start c .args .index .now) (start c .args .room .now) (start c .args .work .now)
-none c = record { narrow = narrow (c .before .before .before .before .before); none = sym (c .before .refusal-of .ensures) ∙ c .if1 .left }
+none c = record { narrow = narrow (c .before .before .before .before .before); none = sym (c .before .append-rows-number .ensures) ∙ c .if1 .left }
 
 -- few rows
 few : (c : tie.After-rows-in) → c .rows-in .result ≤ maxRows
@@ -35,26 +34,18 @@ little c = omega (arith, c .put-rows .ensures .few, c .before .before .before .b
 
 returns : tie.Need-returns
 returns c =
-    refused-grows (narrow (c .before .before .before .before .before .before)) (c .before .before .refusal-of .ensures) (c .before .if1 .taken)
+    refused-grows (narrow (c .before .before .before .before .before .before)) (c .before .before .append-rows-number .ensures) (c .before .if1 .taken)
     (c .refused .ensures)
 
-centres-requires : tie.Need-centres-requires
-centres-requires c κs = header-there (none (c .before .before))
-
-leaf-size-requires : tie.Need-leaf-size-requires
-leaf-size-requires c κs = header-there (none (c .before .before .before))
-
-circles-requires : tie.Need-circles-requires
-circles-requires c κs = header-there (none (c .before .before .before .before))
+rebuild-requires : tie.Need-rebuild-requires
+rebuild-requires c κs = header-there (none (c .before .before .before .before))
 
 returns-2 : tie.Need-returns-2
 returns-2 c =
     let b = c .before .before .before .before in
-    let o = b .before .before .before in
-    let i = o .before .before .before in
+    let i = b .before .before .before in
     let n = i .before in
-    built-appends (none (n .before)) (n .rows-in .ensures) (omega arith) (o .before .before .centres .ensures .0) (o .before .leaf-size .ensures .0)
-    (o .circles .ensures) (b .build .ensures)
+    built-appends (none (n .before)) (n .rows-in .ensures) (omega arith) (b .rebuild .ensures)
 
 mul-used : tie.Need-mul-used
 mul-used c = omega (arith, few (c .before))
@@ -75,31 +66,16 @@ put-rows-requires c κs =
     let n = i .before in
     puttable (none (n .before)) (n .rows-in .ensures) (omega (arith, i .if2 .left))
 
-mul-t10 : tie.Need-mul-t10
-mul-t10 c =
+written-requires : tie.Need-written-requires
+written-requires c κs =
     let p = c .before .before .before .before in
-    omega (arith, little p, few (p .before .before .before .before))
-
-add-t11 : tie.Need-add-t11
-add-t11 c =
-    let p = c .before .before .before .before in
-    omega (arith, little p, few (p .before .before .before .before))
-
-mul-t24 : tie.Need-mul-t24
-mul-t24 c =
-    let p = c .before .before .before .before in
-    omega (arith, few (p .before .before .before .before))
-
-add-t25 : tie.Need-add-t25
-add-t25 c =
-    let p = c .before .before .before .before in
-    omega (arith, little p, few (p .before .before .before .before))
+    (omega (arith, few (p .before .before .before .before)), little p)
 
 returns-3 : tie.Need-returns-3
 returns-3 c =
-    let p = c .before .before .before .before in
+    let p = c .before .before .before .before .before in
     let n = p .before .before .before .before in
-    joined-appends (none (n .before)) (n .rows-in .ensures) (p .put-rows .ensures) (search needs) (omega arith)
+    joined-appends (none (n .before)) (n .rows-in .ensures) (p .put-rows .ensures) (search needs) (c .written .ensures)
 
 pub append-rows-spec : {M : Type 1} → statement M
 append-rows-spec =
@@ -109,10 +85,7 @@ append-rows-spec =
     (λ c κs. search needs)
     returns
     (λ c κs. search needs)
-    centres-requires
-    leaf-size-requires
-    circles-requires
-    (λ c κs. search needs)
+    rebuild-requires
     (λ c. search needs)
     (λ c. search needs)
     returns-2
@@ -120,10 +93,7 @@ append-rows-spec =
     slice-relend-prefix-put-rows
     slice-aggregate-put-rows
     put-rows-requires
-    mul-t10
-    add-t11
-    mul-t24
-    add-t25
+    written-requires
     (λ c. search needs)
     (λ c. search needs)
     returns-3)

@@ -2,7 +2,7 @@
 -- Assumes nothing.
 use Rattle.bourascul.proofs.bourascul_list.Statement.{statement}
 use Rattle.bourascul.proofs.bourascul_list.Tie as tie
-use Rattle.words.proofs.Listed.{part-small}
+use Rattle.listing.proofs.Listed.{part-small}
 use borrow.Author.Needs.{needs}
 use native.Mathlib.Omega.{arith}
 

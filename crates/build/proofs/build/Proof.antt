@@ -104,22 +104,13 @@ slice-aggregate-fill c = sym (part-long (passed (c .before .before)))
 fill-requires : tie.Need-fill-requires
 fill-requires c κs = built-room (passed (c .before .before))
 
-mul-t19 : tie.Need-mul-t19
-mul-t19 c = omega (arith, few (c .before .before .before .before))
-
-add-t18 : tie.Need-add-t18
-add-t18 c = omega (arith, few (c .before .before .before .before))
-
-mul-t25 : tie.Need-mul-t25
-mul-t25 c = omega (arith, few (c .before .before .before .before))
-
-add-t26 : tie.Need-add-t26
-add-t26 c = omega (arith, few (c .before .before .before .before))
+written-requires : tie.Need-written-requires
+written-requires c κs = few (c .before .before .before .before)
 
 returns-3 : tie.Need-returns-3
 returns-3 c =
-    let f = c .before .before .before .before in
-    built-builds (passed (past f)) (narrow (held (past f))) (f .fill .ensures) (search needs) (omega arith)
+    let f = c .before .before .before .before .before in
+    built-builds (passed (past f)) (narrow (held (past f))) (f .fill .ensures) (search needs) (c .written .ensures)
 
 pub build-spec : {M : Type 1} → statement M
 build-spec =
@@ -139,10 +130,7 @@ build-spec =
     slice-relend-prefix-fill
     slice-aggregate-fill
     fill-requires
-    mul-t19
-    add-t18
-    mul-t25
-    add-t26
+    written-requires
     (λ c. search needs)
     (λ c. search needs)
     returns-3)

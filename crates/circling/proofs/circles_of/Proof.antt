@@ -1,6 +1,6 @@
 -- `circling::circles_of` meets its contract: no item is wrong, or the first that is.
 -- Assumes nothing.
-use Rattle.circling.proofs.Items.{circled-right, circled-wrong}
+use Rattle.circle_columns.proofs.Items.{circled-right, circled-wrong}
 use Rattle.circling.proofs.circles_of.Statement.{statement}
 use Rattle.circling.proofs.circles_of.Tie as tie
 use borrow.Author.Needs.{needs}

@@ -1,10 +1,10 @@
 -- `circling::is_said` meets its contract: the items so far were asked.
 -- Assumes nothing.
 use Prim.Native.Nat.{_-_, _≤_, ℕ}
-use Rattle.circling.proofs.Gathering.{said-next}
+use Rattle.circle_columns.proofs.Gathering.{said-next}
 use Rattle.circling.proofs.is_said.Statement.{statement}
 use Rattle.circling.proofs.is_said.Tie as tie
-use Rattle.circling.specs.Circles.{isSaid, says}
+use Rattle.circle_columns.specs.Circles.{isSaid, says}
 use Rattle.laws.specs.Lists.{any, range}
 use borrow.Author.Needs.{needs}
 use mathlib.Core.Path.{_∙_, _≡_, ap, refl}

@@ -1,6 +1,6 @@
 -- `circling::item_says` meets its contract: there is no such item, or its column is compared.
 -- Assumes nothing.
-use Rattle.circling.proofs.Items.{item-said, says-none, says-one, says-zero}
+use Rattle.circle_columns.proofs.Items.{item-said, says-none, says-one, says-zero}
 use Rattle.circling.proofs.item_says.Statement.{statement}
 use Rattle.circling.proofs.item_says.Tie as tie
 use borrow.Author.Needs.{needs}

@@ -1,6 +1,6 @@
 -- `circling::item_trouble` meets its contract: there is no such item, it is one too many, or its column decides.
 -- Assumes nothing.
-use Rattle.circling.proofs.Items.{item-said, trouble-column, trouble-many, trouble-none}
+use Rattle.circle_columns.proofs.Items.{item-said, trouble-column, trouble-many, trouble-none}
 use Rattle.circling.proofs.item_trouble.Statement.{statement}
 use Rattle.circling.proofs.item_trouble.Tie as tie
 use borrow.Author.Needs.{needs}

@@ -1,10 +1,10 @@
 -- `circling::set_of` meets its contract: the places so far have their bits.
 -- Assumes nothing.
 use Prim.Native.Nat.{_-_, _≤_}
-use Rattle.circling.proofs.Gathering.{set-all, set-next, set-none}
+use Rattle.circle_columns.proofs.Gathering.{set-all, set-next, set-none}
 use Rattle.circling.proofs.set_of.Statement.{statement}
 use Rattle.circling.proofs.set_of.Tie as tie
-use Rattle.circling.specs.Circles.{Bits}
+use Rattle.circle_columns.specs.Circles.{Bits}
 use borrow.Author.Needs.{needs}
 use native.Mathlib.Omega.{arith}
 

@@ -1,7 +1,7 @@
 -- `circling::wrong_item` meets its contract: the items so far are right.
 -- Assumes nothing.
 use Prim.Native.Nat.{_-_, _≤_}
-use Rattle.circling.proofs.Items.{Right, right-all, right-next, right-none, right-not}
+use Rattle.circle_columns.proofs.Items.{Right, right-all, right-next, right-none, right-not}
 use Rattle.circling.proofs.wrong_item.Statement.{statement}
 use Rattle.circling.proofs.wrong_item.Tie as tie
 use borrow.Author.Needs.{needs}

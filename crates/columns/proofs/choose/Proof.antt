@@ -1,6 +1,6 @@
 -- `columns::choose` meets its contract: no choice, a product too great, and the table of the chosen columns.
 -- Assumes nothing.
-use Rattle.columns.proofs.Choosing.{all-passed, choice-of, chose-done, chose-none, chose-over, fit-of, rows-small}
+use Rattle.column_products.proofs.Choosing.{all-passed, choice-of, chose-done, chose-none, chose-over, fit-of, rows-small}
 use Rattle.columns.proofs.choose.Statement.{statement}
 use Rattle.columns.proofs.choose.Tie as tie
 use Rattle.laws.proofs.Tests.{no, yes}

@@ -3,7 +3,7 @@
 use Rattle.lister.proofs.Listed.{runs-listed, runs-unread}
 use Rattle.lister.proofs.run_in.Statement.{statement}
 use Rattle.lister.proofs.run_in.Tie as tie
-use Rattle.text.proofs.Outcome.{zero-reads}
+use Rattle.text_reading.proofs.Outcome.{zero-reads}
 use borrow.Author.Needs.{needs}
 use lib.Seq.{length-take-le}
 use mathlib.Core.Path.{refl, sym}

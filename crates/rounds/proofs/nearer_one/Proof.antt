@@ -1,9 +1,9 @@
--- `rounds::nearer_one` meets its contract: the branch that writes is the one where the new centre is strictly closer.
+-- `rounds::nearer_one` meets its contract: both words are what an entry keeps of a new centre (`near-entry`).
 -- Assumes nothing.
 
 use Prim.Native.Nat.{ℕ}
 use Rattle.measure.specs.Table.{between}
-use Rattle.rounds.proofs.Nearing.{near-less, near-same}
+use Rattle.rounds.proofs.Nearing.{near-entry}
 use Rattle.rounds.proofs.nearer_one.Statement.{statement}
 use Rattle.rounds.proofs.nearer_one.Tie as tie
 use borrow.Author.Needs.{needs}
@@ -33,15 +33,9 @@ row-distance-requires c κs =
 
 returns : tie.Need-returns
 returns c =
-    let m = c .before .before in
+    let m = c .before .before .before .before in
     let s = start m in
-    near-less (apart s) (s .args .centre) _ (s .args .entry .now) (s .pre .2) (measured m) (c .if1 .taken)
-
-returns-2 : tie.Need-returns-2
-returns-2 c =
-    let m = c .before .before in
-    let s = start m in
-    near-same (apart s) (s .args .centre) _ (s .args .entry .now) (s .pre .2) (measured m) (c .if1 .left)
+    near-entry (apart s) (s .args .centre) _ (s .args .entry .now) (s .pre .2) (measured m) (c .before .kept .ensures) (c .kept2 .ensures)
 
 pub nearer-one-spec : {M : Type 1} → statement M
 nearer-one-spec =
@@ -53,7 +47,9 @@ nearer-one-spec =
     row-distance-requires
     (λ c. search needs)
     (λ c. search needs)
+    (λ c κs. search needs)
+    (λ c. search needs)
+    (λ c κs. search needs)
     (λ c. search needs)
     (λ c. search needs)
-    returns
-    returns-2)
+    returns)

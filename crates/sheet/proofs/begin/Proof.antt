@@ -1,6 +1,6 @@
 -- `sheet::begin` meets its contract: one return for a byte of the mark, one for another.
 -- Assumes nothing.
-use Rattle.sheet.proofs.Runs.{marking-next, marking-past}
+use Rattle.sheet_reading.proofs.Runs.{marking-next, marking-past}
 use Rattle.sheet.proofs.begin.Statement.{statement}
 use Rattle.sheet.proofs.begin.Tie as tie
 use borrow.Author.Needs.{needs}

@@ -1,6 +1,6 @@
 -- `sheet::close` meets its contract: a blank line is passed over, any other is judged.
 -- Assumes nothing.
-use Rattle.sheet.proofs.Closings.{closed-bare, closed-full}
+use Rattle.sheet_reading.proofs.Closings.{closed-bare, closed-full}
 use Rattle.sheet.proofs.close.Statement.{statement}
 use Rattle.sheet.proofs.close.Tie as tie
 use borrow.Author.Needs.{needs}

@@ -2,7 +2,7 @@
 -- Assumes nothing.
 use Rattle.sheet.proofs.count_line.Statement.{statement}
 use Rattle.sheet.proofs.count_line.Tie as tie
-use Rattle.sheet.specs.Closing.{counted}
+use Rattle.sheet_reading.specs.Closing.{counted}
 use borrow.Author.Needs.{needs}
 use borrow.Author.Tests.{le-ltb, lt-ltb}
 

@@ -1,6 +1,6 @@
 -- `sheet::decide` meets its contract: one return for each way on from a line that has ended.
 -- Assumes nothing.
-use Rattle.sheet.proofs.Closings.{decided-failed, decided-taken, decided-titled, line-fits}
+use Rattle.sheet_reading.proofs.Closings.{decided-failed, decided-taken, decided-titled, line-fits}
 use Rattle.sheet.proofs.decide.Statement.{statement}
 use Rattle.sheet.proofs.decide.Tie as tie
 use borrow.Author.Needs.{needs}

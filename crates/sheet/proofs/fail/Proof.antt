@@ -2,7 +2,7 @@
 -- Assumes nothing.
 use Rattle.sheet.proofs.fail.Statement.{statement}
 use Rattle.sheet.proofs.fail.Tie as tie
-use Rattle.sheet.specs.Closing.{failed}
+use Rattle.sheet_reading.specs.Closing.{failed}
 use borrow.Author.Needs.{needs}
 
 returns : tie.Need-returns

@@ -1,7 +1,7 @@
 -- `sheet::feed` meets its contract: a turn reads one byte, and what is left leads to the same end.
 -- Assumes nothing.
 use Prim.Native.Nat.{_-_}
-use Rattle.sheet.proofs.Runs.{Fed, fed-end, fed-next, fed-start}
+use Rattle.sheet_reading.proofs.Runs.{Fed, fed-end, fed-next, fed-start}
 use Rattle.sheet.proofs.feed.Statement.{statement}
 use Rattle.sheet.proofs.feed.Tie as tie
 use borrow.Author.Needs.{needs}

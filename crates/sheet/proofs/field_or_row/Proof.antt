@@ -2,7 +2,7 @@
 -- Assumes nothing.
 use Rattle.sheet.proofs.field_or_row.Statement.{statement}
 use Rattle.sheet.proofs.field_or_row.Tie as tie
-use Rattle.sheet.specs.Says.{orRow}
+use Rattle.sheet_reading.specs.Says.{orRow}
 use borrow.Author.Needs.{needs}
 use borrow.Author.Tests.{eq-eqb, ne-eqb}
 

@@ -1,6 +1,6 @@
 -- `sheet::finish` meets its contract: the last line ends, and a text without rows is a fault.
 -- Assumes nothing.
-use Rattle.sheet.proofs.Runs.{finish-fault, finish-none, finish-rows, finish-table}
+use Rattle.sheet_reading.proofs.Runs.{finish-fault, finish-none, finish-rows, finish-table}
 use Rattle.sheet.proofs.finish.Statement.{statement}
 use Rattle.sheet.proofs.finish.Tie as tie
 use borrow.Author.Needs.{needs}

@@ -2,7 +2,7 @@
 -- Assumes nothing.
 use Rattle.sheet.proofs.first_blank.Statement.{statement}
 use Rattle.sheet.proofs.first_blank.Tie as tie
-use Rattle.sheet.specs.Closing.{firstBlank}
+use Rattle.sheet_reading.specs.Closing.{firstBlank}
 use borrow.Author.Tests.{eq-eqb, ne-eqb}
 
 returns : tie.Need-returns

@@ -2,7 +2,7 @@
 -- Assumes nothing.
 use Rattle.sheet.proofs.go_onward.Statement.{statement}
 use Rattle.sheet.proofs.go_onward.Tie as tie
-use Rattle.sheet.proofs.Closings.{onward-with}
+use Rattle.sheet_reading.proofs.Closings.{onward-with}
 use borrow.Author.Needs.{needs}
 
 returns : tie.Need-returns

@@ -2,7 +2,7 @@
 -- Assumes nothing.
 use Rattle.sheet.proofs.has_titles.Statement.{statement}
 use Rattle.sheet.proofs.has_titles.Tie as tie
-use Rattle.sheet.specs.Closing.{titles}
+use Rattle.sheet_reading.specs.Closing.{titles}
 use borrow.Author.Tests.{eq-eqb, ne-eqb}
 
 returns : tie.Need-returns

@@ -1,6 +1,6 @@
 -- `sheet::judge` meets its contract: a blank line above is a fault.
 -- Assumes nothing.
-use Rattle.sheet.proofs.Closings.{judged-blank, judged-none}
+use Rattle.sheet_reading.proofs.Closings.{judged-blank, judged-none}
 use Rattle.sheet.proofs.judge.Statement.{statement}
 use Rattle.sheet.proofs.judge.Tie as tie
 use borrow.Author.Needs.{needs}

@@ -2,7 +2,7 @@
 -- Assumes nothing.
 use Rattle.sheet.proofs.line_trouble.Statement.{statement}
 use Rattle.sheet.proofs.line_trouble.Tie as tie
-use Rattle.sheet.specs.Closing.{endTrouble}
+use Rattle.sheet_reading.specs.Closing.{endTrouble}
 use borrow.Author.Needs.{needs}
 use mathlib.Core.Path.{_∙_, sym}
 

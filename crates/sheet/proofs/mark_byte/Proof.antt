@@ -2,7 +2,7 @@
 -- Assumes nothing.
 use Rattle.sheet.proofs.mark_byte.Statement.{statement}
 use Rattle.sheet.proofs.mark_byte.Tie as tie
-use Rattle.sheet.specs.Reading.{markByte}
+use Rattle.sheet_reading.specs.Reading.{markByte}
 use borrow.Author.Tests.{eq-eqb, ne-eqb}
 
 returns : tie.Need-returns

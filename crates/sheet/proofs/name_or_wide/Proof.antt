@@ -2,7 +2,7 @@
 -- Assumes nothing.
 use Rattle.sheet.proofs.name_or_wide.Statement.{statement}
 use Rattle.sheet.proofs.name_or_wide.Tie as tie
-use Rattle.sheet.specs.Closing.{orWide}
+use Rattle.sheet_reading.specs.Closing.{orWide}
 use borrow.Author.Needs.{needs}
 use borrow.Author.Tests.{eq-eqb, le-ltb, lt-ltb, ne-eqb}
 

@@ -1,6 +1,6 @@
 -- `sheet::read_byte` meets its contract: one return for a newline, one for a carriage return, one for any other byte.
 -- Assumes nothing.
-use Rattle.sheet.proofs.Runs.{read-newline, read-other, read-return}
+use Rattle.sheet_reading.proofs.Runs.{read-newline, read-other, read-return}
 use Rattle.sheet.proofs.read_byte.Statement.{statement}
 use Rattle.sheet.proofs.read_byte.Tie as tie
 use borrow.Author.Needs.{needs}

@@ -2,7 +2,7 @@
 -- Assumes nothing.
 use Rattle.sheet.proofs.release.Statement.{statement}
 use Rattle.sheet.proofs.release.Tie as tie
-use Rattle.sheet.specs.Reading.{released}
+use Rattle.sheet_reading.specs.Reading.{released}
 use borrow.Author.Needs.{needs}
 
 returns : tie.Need-returns

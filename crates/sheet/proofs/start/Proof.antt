@@ -2,7 +2,7 @@
 -- Assumes nothing.
 use Rattle.sheet.proofs.start.Statement.{statement}
 use Rattle.sheet.proofs.start.Tie as tie
-use Rattle.sheet.specs.Reading.{begun}
+use Rattle.sheet_reading.specs.Reading.{begun}
 use borrow.Author.Needs.{needs}
 
 returns : tie.Need-returns

@@ -2,7 +2,7 @@
 -- Assumes nothing.
 use Rattle.sheet.proofs.stay.Statement.{statement}
 use Rattle.sheet.proofs.stay.Tie as tie
-use Rattle.sheet.specs.Reading.{inside}
+use Rattle.sheet_reading.specs.Reading.{inside}
 use borrow.Author.Needs.{needs}
 
 returns : tie.Need-returns

@@ -1,6 +1,6 @@
 -- `sheet::step` meets its contract: behind a fault nothing changes, and the start of a text is looked at.
 -- Assumes nothing.
-use Rattle.sheet.proofs.Runs.{next-marking, next-read, next-stays}
+use Rattle.sheet_reading.proofs.Runs.{next-marking, next-read, next-stays}
 use Rattle.sheet.proofs.step.Statement.{statement}
 use Rattle.sheet.proofs.step.Tie as tie
 use borrow.Author.Needs.{needs}

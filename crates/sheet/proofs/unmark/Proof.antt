@@ -2,8 +2,8 @@
 -- Assumes nothing.
 use Rattle.sheet.proofs.unmark.Statement.{statement}
 use Rattle.sheet.proofs.unmark.Tie as tie
-use Rattle.sheet.proofs.Runs.{unmarking-some}
-use Rattle.sheet.specs.Reading.{unmarking}
+use Rattle.sheet_reading.proofs.Runs.{unmarking-some}
+use Rattle.sheet_reading.specs.Reading.{unmarking}
 use borrow.Author.Needs.{needs}
 use borrow.Author.Tests.{eq-eqb}
 

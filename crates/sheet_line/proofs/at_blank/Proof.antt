@@ -3,7 +3,7 @@
 use Rattle.sheet_line.proofs.Alongs.{blank-in}
 use Rattle.sheet_line.proofs.at_blank.Statement.{statement}
 use Rattle.sheet_line.proofs.at_blank.Tie as tie
-use Rattle.sheet_line.specs.declared.Place.the-variants.{Great, Quoted, Strange}
+use Rattle.line_reading.specs.declared.Place.the-variants.{Great, Quoted, Strange}
 use borrow.Author.Needs.{needs}
 
 returns : tie.Need-returns

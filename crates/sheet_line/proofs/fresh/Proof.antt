@@ -2,7 +2,7 @@
 -- Assumes nothing.
 use Rattle.sheet_line.proofs.fresh.Statement.{statement}
 use Rattle.sheet_line.proofs.fresh.Tie as tie
-use Rattle.sheet_line.specs.InLine.{emptied}
+use Rattle.line_reading.specs.InLine.{emptied}
 use borrow.Author.Needs.{needs}
 
 returns : tie.Need-returns

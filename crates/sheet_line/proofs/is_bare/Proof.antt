@@ -2,7 +2,7 @@
 -- Assumes nothing.
 use Rattle.sheet_line.proofs.is_bare.Statement.{statement}
 use Rattle.sheet_line.proofs.is_bare.Tie as tie
-use Rattle.sheet_line.specs.InLine.{bare}
+use Rattle.line_reading.specs.InLine.{bare}
 use borrow.Author.Needs.{needs}
 use borrow.Author.Tests.{eq-eqb, ne-eqb}
 

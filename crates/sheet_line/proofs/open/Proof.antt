@@ -2,7 +2,7 @@
 -- Assumes nothing.
 use Rattle.sheet_line.proofs.open.Statement.{statement}
 use Rattle.sheet_line.proofs.open.Tie as tie
-use Rattle.sheet_line.specs.InLine.{opened}
+use Rattle.line_reading.specs.InLine.{opened}
 use borrow.Author.Needs.{needs}
 
 returns : tie.Need-returns

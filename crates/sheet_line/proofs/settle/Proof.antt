@@ -3,7 +3,7 @@
 use Rattle.sheet_line.proofs.Alongs.{settled-in}
 use Rattle.sheet_line.proofs.settle.Statement.{statement}
 use Rattle.sheet_line.proofs.settle.Tie as tie
-use Rattle.sheet_line.specs.declared.Place.the-variants.{Great, Open, Quoted, Strange}
+use Rattle.line_reading.specs.declared.Place.the-variants.{Great, Open, Quoted, Strange}
 use borrow.Author.Needs.{needs}
 
 returns : tie.Need-returns

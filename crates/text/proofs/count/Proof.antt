@@ -3,12 +3,12 @@
 use Prim.Native.Nat.{_+_, _-_, ℕ}
 use Rattle.laws.proofs.Tests.{no, yes}
 use Rattle.limits.specs.Limits.{within}
-use Rattle.text.proofs.Answers.{all-counted, none-counted, not-counted}
+use Rattle.text_reading.proofs.Answers.{all-counted, none-counted, not-counted}
 use Rattle.text.proofs.Passes.{Counted, counted-done, counted-start, counted-step, ended-few}
 use Rattle.text.proofs.count.Statement.{statement}
 use Rattle.text.proofs.count.Tie as tie
-use Rattle.text.specs.Reading.{behind, ends, numbers}
-use Rattle.text.specs.declared.Place.the-variants.{Start}
+use Rattle.text_reading.specs.Reading.{behind, ends, numbers}
+use Rattle.text_reading.specs.declared.Place.the-variants.{Start}
 use borrow.Author.Needs.{needs}
 use denote.Ref.{now}
 use lib.ListN.{length}

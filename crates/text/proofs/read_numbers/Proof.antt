@@ -1,6 +1,6 @@
 -- `text::read_numbers` meets its contract: the count decides the answer before anything is put.
 -- Assumes nothing.
-use Rattle.text.proofs.Answers.{done, read, refused-room, refused-text, unread}
+use Rattle.text_reading.proofs.Answers.{done, read, refused-room, refused-text, unread}
 use Rattle.text.proofs.read_numbers.Statement.{statement}
 use Rattle.text.proofs.read_numbers.Tie as tie
 use borrow.Author.Needs.{needs}

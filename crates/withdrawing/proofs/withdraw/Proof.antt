@@ -1,7 +1,7 @@
 -- `withdrawing::withdraw` meets its contract: each turn reads one line.
 -- Assumes nothing.
 use Prim.Native.Nat.{_-_}
-use Rattle.withdrawing.proofs.Places.{less}
+use Rattle.row_lines.proofs.Places.{less}
 use Rattle.withdrawing.proofs.Reading.{Reading, as-told, reading-blank, reading-end, reading-next, reading-rest, reading-start, reading-wrong, withdrew-not}
 use Rattle.withdrawing.proofs.withdraw.Statement.{statement}
 use Rattle.withdrawing.proofs.withdraw.Tie as tie

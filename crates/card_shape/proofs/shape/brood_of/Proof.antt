@@ -3,7 +3,7 @@
 use Rattle.card_shape.proofs.shape.brood_of.Statement.{statement}
 use Rattle.card_shape.proofs.shape.brood_of.Tie as tie
 use Rattle.card_words.specs.Cards.{cardWords}
-use Rattle.words.proofs.Fits.{brood-inner, brood-leaf}
+use Rattle.shape_test.proofs.Fits.{brood-inner, brood-leaf}
 use borrow.Author.Needs.{needs}
 use mathlib.Core.Path.{_∙_, sym}
 

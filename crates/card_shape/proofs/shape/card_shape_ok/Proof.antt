@@ -5,7 +5,7 @@ use Rattle.card_shape.proofs.shape.card_shape_ok.Tie as tie
 use Rattle.card_words.proofs.Cards.{card-held}
 use Rattle.card_words.specs.Cards.{cardWords}
 use Rattle.laws.proofs.Tests.{no, yes}
-use Rattle.words.proofs.Pass.{shape-go-on, shape-stop}
+use Rattle.shape_test.proofs.Pass.{shape-go-on, shape-stop}
 use mathlib.Core.Path.{_∙_}
 
 tree-fits-requires : tie.Need-tree-fits-requires

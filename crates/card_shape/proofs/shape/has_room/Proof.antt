@@ -3,7 +3,7 @@
 use Rattle.card_shape.proofs.shape.has_room.Statement.{statement}
 use Rattle.card_shape.proofs.shape.has_room.Tie as tie
 use Rattle.card_words.specs.Cards.{cardWords}
-use Rattle.words.proofs.Fits.{room-inner, room-leaf}
+use Rattle.shape_test.proofs.Fits.{room-inner, room-leaf}
 use borrow.Author.Needs.{needs}
 use mathlib.Core.Path.{_∙_, sym}
 

@@ -6,8 +6,8 @@ use Rattle.card_shape.proofs.shape.node_fits.Tie as tie
 use Rattle.card_words.specs.Cards.{cardWords}
 use Rattle.laws.proofs.Tests.{no, yes}
 use Rattle.limits.specs.Limits.{maxDistance}
-use Rattle.words.proofs.Fits.{fit-crowd, fit-deep, fit-empty, fit-far, fit-few, fit-other, fit-tiled, fit-wide, room-is, tile-same}
-use Rattle.words.specs.Pass.{roomy}
+use Rattle.shape_test.proofs.Fits.{fit-crowd, fit-deep, fit-empty, fit-far, fit-few, fit-other, fit-tiled, fit-wide, room-is, tile-same}
+use Rattle.shape_test.specs.Pass.{roomy}
 use Rattle.words.specs.Words.{count#, inner#, l#, radius#}
 use borrow.Author.Needs.{needs}
 use mathlib.Core.Bool.{true}

@@ -3,7 +3,7 @@
 use Rattle.card_shape.proofs.shape.root_fits.Statement.{statement}
 use Rattle.card_shape.proofs.shape.root_fits.Tie as tie
 use Rattle.card_words.specs.Cards.{cardWords}
-use Rattle.words.proofs.Fits.{root-off, root-on}
+use Rattle.shape_test.proofs.Fits.{root-off, root-on}
 use borrow.Author.Needs.{needs}
 use mathlib.Core.Path.{_∙_, sym}
 

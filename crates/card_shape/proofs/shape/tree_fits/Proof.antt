@@ -6,8 +6,8 @@ use Rattle.card_shape.proofs.shape.tree_fits.Statement.{statement}
 use Rattle.card_shape.proofs.shape.tree_fits.Tie as tie
 use Rattle.card_words.specs.Cards.{cardWords}
 use Rattle.laws.proofs.Tests.{no, yes}
+use Rattle.shape_test.proofs.Pass.{Going, ends-empty, ends-rootless, going-done, going-on, going-orphan, going-start, going-turn, going-unfit}
 use Rattle.words.proofs.Levels.{brood-few}
-use Rattle.words.proofs.Pass.{Going, ends-empty, ends-rootless, going-done, going-on, going-orphan, going-start, going-turn, going-unfit}
 use borrow.Author.Needs.{needs}
 use mathlib.Core.Path.{_∙_, sym}
 use native.Mathlib.Omega.{arith}

@@ -1,8 +1,8 @@
 -- `columns::choice::choose_rows` meets its contract: the rows laid so far, and behind them the table as it was.
 -- Assumes nothing.
 use Prim.Native.Nat.{_-_}
-use Rattle.columns.proofs.Choosing.{choice-of}
-use Rattle.columns.proofs.Laying.{Laid, laid-all, laid-chosen, laid-fits, laid-next, laid-small, laid-start, laid-there}
+use Rattle.column_products.proofs.Choosing.{choice-of}
+use Rattle.column_products.proofs.Laying.{Laid, laid-all, laid-chosen, laid-fits, laid-next, laid-small, laid-start, laid-there}
 use Rattle.columns.proofs.choice.choose_rows.Statement.{statement}
 use Rattle.columns.proofs.choice.choose_rows.Tie as tie
 use borrow.Author.Needs.{needs}

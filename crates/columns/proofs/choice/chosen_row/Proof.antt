@@ -1,7 +1,7 @@
 -- `columns::choice::chosen_row` meets its contract: the chosen columns taken so far.
 -- Assumes nothing.
 use Prim.Native.Nat.{_-_}
-use Rattle.columns.proofs.Laying.{Taken, taken-all, taken-next, taken-start}
+use Rattle.column_products.proofs.Laying.{Taken, taken-all, taken-next, taken-start}
 use Rattle.columns.proofs.choice.chosen_row.Statement.{statement}
 use Rattle.columns.proofs.choice.chosen_row.Tie as tie
 use borrow.Author.Needs.{needs}

@@ -1,10 +1,10 @@
 -- `columns::choice::first_outside` meets its contract: each column so far is one of c.
 -- Assumes nothing.
 use Prim.Native.Nat.{_-_, _≤_}
-use Rattle.columns.proofs.Choosing.{outside-end, outside-here, outside-none, outside-on}
+use Rattle.column_products.proofs.Choosing.{outside-end, outside-here, outside-none, outside-on}
 use Rattle.columns.proofs.choice.first_outside.Statement.{statement}
 use Rattle.columns.proofs.choice.first_outside.Tie as tie
-use Rattle.columns.specs.Chosen.{outside}
+use Rattle.column_products.specs.Chosen.{outside}
 use borrow.Author.Needs.{needs}
 use mathlib.Core.Path.{_≡_}
 use native.Mathlib.Omega.{arith}

@@ -1,10 +1,10 @@
 -- `columns::choice::first_over` meets its contract: no product so far is above 65,535.
 -- Assumes nothing.
 use Prim.Native.Nat.{_-_, _≤_}
-use Rattle.columns.proofs.Choosing.{over-end, over-here, over-none, over-on}
+use Rattle.column_products.proofs.Choosing.{over-end, over-here, over-none, over-on}
 use Rattle.columns.proofs.choice.first_over.Statement.{statement}
 use Rattle.columns.proofs.choice.first_over.Tie as tie
-use Rattle.columns.specs.Chosen.{Choice, overIn}
+use Rattle.column_products.specs.Chosen.{Choice, overIn}
 use borrow.Author.Needs.{needs}
 use lib.ListN.{length}
 use mathlib.Core.Path.{_≡_}

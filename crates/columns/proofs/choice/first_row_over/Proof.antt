@@ -1,7 +1,7 @@
 -- `columns::choice::first_row_over` meets its contract: no row so far has a product above 65,535.
 -- Assumes nothing.
 use Prim.Native.Nat.{_-_}
-use Rattle.columns.proofs.Choosing.{Passed, choice-of, passed-all, passed-here, passed-next, passed-start, passed-there}
+use Rattle.column_products.proofs.Choosing.{Passed, choice-of, passed-all, passed-here, passed-next, passed-start, passed-there}
 use Rattle.columns.proofs.choice.first_row_over.Statement.{statement}
 use Rattle.columns.proofs.choice.first_row_over.Tie as tie
 use borrow.Author.Needs.{needs}

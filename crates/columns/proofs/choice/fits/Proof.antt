@@ -1,6 +1,6 @@
 -- `columns::choice::fits` meets its contract: each return has its test.
 -- Assumes nothing.
-use Rattle.columns.proofs.Choosing.{fit-by, unfit-columns, unfit-count, unfit-rows, within-both}
+use Rattle.column_products.proofs.Choosing.{fit-by, unfit-columns, unfit-count, unfit-rows, within-both}
 use Rattle.columns.proofs.choice.fits.Statement.{statement}
 use Rattle.columns.proofs.choice.fits.Tie as tie
 use Rattle.laws.proofs.Tests.{no, yes}

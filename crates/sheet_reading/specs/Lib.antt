@@ -1,0 +1,5 @@
+pub mod Lines
+pub mod Says
+pub mod Closing
+pub mod Reading
+pub mod Reads

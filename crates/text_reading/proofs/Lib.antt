@@ -1,0 +1,5 @@
+pub mod Bytes
+pub mod Answers
+pub mod Readings
+pub mod Lengths
+pub mod Outcome
