@@ -1,29 +1,20 @@
 // The analyst's program: a text of rows is read into a table, the columns that count are chosen, an index is built over it, and one question is
 // answered. Answers go to one file, all else to another; the number given back is the status that the program ends with.
-mod about;
-mod answering;
-mod asked_rows;
-mod asked_text;
-mod choosing;
-mod faults;
-mod finding;
-mod gone;
-mod plan;
-mod reading;
-mod saying;
-mod telling;
-mod writing;
-
 ghost use Prim.Native.Nat.{_≤_};
 ghost use lib.ListN.{length};
-use asked_text::ask_file;
-use asking::pieces::bytes_of;
-use files::opened;
+use answer_lines::plan::Plan;
+use answer_lines::write_given;
+use asked_queries::query_room;
+use asked_texts::none_struck;
+use asking::pieces::least;
+use asking::pieces::part;
+use finding::Outcome;
+use finding::find_rows;
 use lines::put_bytes;
+use planning::plan_question;
 use saying::say;
-use saying::say_quoted;
-use statuses::answered;
 use statuses::asked_wrongly;
+use telling::refuse;
 
 // The descriptor at which the launcher listens for the status, since a program of the kit has no exit status; where nobody does, nothing is written.
 pub const STATUS_FILE: i32 = 3;
@@ -34,17 +25,31 @@ pub struct Ends {
     pub err: i32,
 }
 
-// Help or the version is asked for, and told.
-pub fn tells(words: &[u8], out: i32) -> bool {
-    if asking::has_word(words, b"--help") {
-        telling::say_help(out);
-        return true;
+// Writes what was found, or that the library refused. Gives the status.
+fn write_found(
+    plan: Plan,
+    found: Outcome,
+    text: &[u8],
+    starts: &mut [u32],
+    rows: &[u32],
+    distances: &[u32],
+) -> u32
+    ensures { λ r. ⌜ r ≤ 4 ⌝ }
+{
+    let number = found.number;
+    if number != 0 {
+        return refuse(plan.err, number);
     }
-    if asking::has_word(words, b"--version") {
-        telling::say_version(out);
-        return true;
-    }
-    false
+    let given = least(found.given, least(rows.len(), distances.len()));
+    write_given(
+        plan,
+        part(text, 0, plan.length),
+        starts,
+        rows,
+        distances,
+        given,
+        found.measured,
+    )
 }
 
 // The whole program: the words of its arguments, each ended by a zero byte; the rooms that it works in; and where answers and all else go.
@@ -63,33 +68,34 @@ pub fn run(
 ) -> u32
     ensures { λ r. ⌜ r ≤ 4 ⌝ }
 {
-    if tells(words, ends.out) {
-        return answered();
-    }
-    let q = asking::ask(words);
-    if q.wrong != 0 {
-        telling::say_asked_wrong(ends.err, words, q);
-        return asked_wrongly();
-    }
-    let file = opened(bytes_of(words, q.file));
-    if file < 0 {
-        say_quoted(ends.err, b"can't open ", bytes_of(words, q.file), b"");
-        return asked_wrongly();
-    }
-    ask_file(
+    let mut queries = query_room();
+    let mut struck = none_struck();
+    let plan = plan_question(
         words,
-        q,
-        ends,
-        file,
+        ends.out,
+        ends.err,
         text,
         table,
+        room,
+        &mut queries,
+        &mut struck,
+    );
+    if !plan.ready {
+        return plan.status;
+    }
+    let found = find_rows(
+        plan,
+        table,
+        &queries,
+        &struck,
         room,
         work,
         how,
         marks,
         rows,
         distances,
-    )
+    );
+    write_found(plan, found, text, room, rows, distances)
 }
 
 // The words of the program's arguments: whether all of them fit, and how many bytes they are.
