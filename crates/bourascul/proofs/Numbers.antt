@@ -9,9 +9,9 @@ use Rattle.limits.proofs.Numbers.{passed-none, sized-of}
 use Rattle.limits.specs.Said.{Said, fault, said, tabled}
 use Rattle.limits.specs.declared.Asked.{Asked}
 use Rattle.measure.specs.Table.{offCircle, rowsOf}
-use Rattle.nearest.proofs.Refusals as near
+use Rattle.nearest_refusals.proofs.Refusals as near
 use Rattle.nearest.specs.Calls.{Answered}
-use Rattle.nearest.specs.Numbers.{nearestAsks, nearestShort, saidNearest}
+use Rattle.nearest_refusals.specs.Numbers.{nearestAsks, nearestShort, saidNearest}
 use Rattle.nearest_search.specs.Found.{Settled}
 use Rattle.nearest_steps.specs.Asked.{NearestLent, asks}
 use Rattle.radius.proofs.Refusals as within-radius
