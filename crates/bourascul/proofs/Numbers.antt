@@ -14,9 +14,9 @@ use Rattle.nearest.specs.Calls.{Answered}
 use Rattle.nearest_refusals.specs.Numbers.{nearestAsks, nearestShort, saidNearest}
 use Rattle.nearest_search.specs.Found.{Settled}
 use Rattle.nearest_steps.specs.Asked.{NearestLent, asks}
-use Rattle.radius.proofs.Refusals as within-radius
+use Rattle.radius_refusals.proofs.Refusals as within-radius
 use Rattle.radius.specs.Calls.{Searched}
-use Rattle.radius.specs.Numbers.{radiusAsks, saidRadius}
+use Rattle.radius_refusals.specs.Numbers.{radiusAsks, saidRadius}
 use Rattle.refusals.proofs.Refusals.{Clear, by-circles, call-early, clear, clear-none, nineteen}
 use Rattle.refusals.specs.Refused.{callFaults}
 use Rattle.rowset.specs.Sets.{isIn, setBad}

@@ -8,7 +8,7 @@ use Rattle.limits.specs.Said.{numberFaults}
 use Rattle.measure.specs.Distance.{l1}
 use Rattle.measure.specs.Table.{between, offCircle}
 use Rattle.nearest_refusals.specs.Numbers.{saidNearest}
-use Rattle.radius.specs.Numbers.{saidRadius}
+use Rattle.radius_refusals.specs.Numbers.{saidRadius}
 use Rattle.tree.specs.Cases.{Case, checked, five, fiveWords, found, grown, near, nearest, old, oldWords, order, radius, right, round, seam, sought, swept}
 use Rattle.tree.specs.Cases.{withdrawn, without, words}
 use Rattle.tree.specs.Check.{again, faults, strays, wrongDist, wrongInner, wrongRadius}
