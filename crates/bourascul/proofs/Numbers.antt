@@ -9,14 +9,14 @@ use Rattle.limits.proofs.Numbers.{passed-none, sized-of}
 use Rattle.limits.specs.Said.{Said, fault, said, tabled}
 use Rattle.limits.specs.declared.Asked.{Asked}
 use Rattle.measure.specs.Table.{offCircle, rowsOf}
-use Rattle.nearest.proofs.Refusals as near
+use Rattle.nearest_refusals.proofs.Refusals as near
 use Rattle.nearest.specs.Calls.{Answered}
-use Rattle.nearest.specs.Numbers.{nearestAsks, nearestShort, saidNearest}
+use Rattle.nearest_refusals.specs.Numbers.{nearestAsks, nearestShort, saidNearest}
 use Rattle.nearest_search.specs.Found.{Settled}
 use Rattle.nearest_steps.specs.Asked.{NearestLent, asks}
-use Rattle.radius.proofs.Refusals as within-radius
+use Rattle.radius_refusals.proofs.Refusals as within-radius
 use Rattle.radius.specs.Calls.{Searched}
-use Rattle.radius.specs.Numbers.{radiusAsks, saidRadius}
+use Rattle.radius_refusals.specs.Numbers.{radiusAsks, saidRadius}
 use Rattle.refusals.proofs.Refusals.{Clear, by-circles, call-early, clear, clear-none, nineteen}
 use Rattle.refusals.specs.Refused.{callFaults}
 use Rattle.rowset.specs.Sets.{isIn, setBad}

@@ -7,8 +7,8 @@ use Rattle.laws.specs.Upto.{sumTo}
 use Rattle.limits.specs.Said.{numberFaults}
 use Rattle.measure.specs.Distance.{l1}
 use Rattle.measure.specs.Table.{between, offCircle}
-use Rattle.nearest.specs.Numbers.{saidNearest}
-use Rattle.radius.specs.Numbers.{saidRadius}
+use Rattle.nearest_refusals.specs.Numbers.{saidNearest}
+use Rattle.radius_refusals.specs.Numbers.{saidRadius}
 use Rattle.tree.specs.Cases.{Case, checked, five, fiveWords, found, grown, near, nearest, old, oldWords, order, radius, right, round, seam, sought, swept}
 use Rattle.tree.specs.Cases.{withdrawn, without, words}
 use Rattle.tree.specs.Check.{again, faults, strays, wrongDist, wrongInner, wrongRadius}

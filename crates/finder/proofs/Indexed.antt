@@ -4,7 +4,7 @@ use Rattle.build.specs.Calls.{Builds}
 use Rattle.finder.specs.Answers.{Closest}
 use Rattle.measure.specs.Table.{between, from, rowsOf}
 use Rattle.nearest.proofs.Promises.{nearest-exact}
-use Rattle.nearest.proofs.Refusals.{not-refused}
+use Rattle.nearest_refusals.proofs.Refusals.{not-refused}
 use Rattle.nearest.specs.Calls.{Answered}
 use Rattle.nearest_search.specs.Found.{Settled}
 use Rattle.nearest_steps.specs.Asked.{asks, lends}

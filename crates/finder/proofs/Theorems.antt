@@ -13,7 +13,7 @@ use Rattle.measure.proofs.Metric.{query-point}
 use Rattle.measure.proofs.OnCircle.{round-rows}
 use Rattle.measure.specs.Table.{Rounded, between, from, offCircle, row, rowsOf}
 use Rattle.nearest.proofs.Promises.{nearest-only}
-use Rattle.nearest.proofs.Refusals.{not-refused}
+use Rattle.nearest_refusals.proofs.Refusals.{not-refused}
 use Rattle.nearest.specs.Calls.{Answered}
 use Rattle.nearest_steps.specs.Asked.{NearestLent, asks, lends}
 use Rattle.query_refusals.proofs.Why.{asked-well}

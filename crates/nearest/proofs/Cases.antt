@@ -8,7 +8,7 @@ use Rattle.measure.proofs.OnCircle.{plain-on, round-rows}
 use Rattle.measure.specs.Distance.{l1}
 use Rattle.measure.specs.Table.{between, from, offCircle}
 use Rattle.nearest.proofs.Promises.{count-is, nearest-exact}
-use Rattle.nearest.proofs.Refusals.{taken, twenty}
+use Rattle.nearest_refusals.proofs.Refusals.{taken, twenty}
 use Rattle.nearest.specs.Cases.{Case, Gets, Twenty, asked, struckOut, wrongSets}
 use Rattle.refusals.proofs.Refusals.{clear}
 use Rattle.refusals.specs.Refused.{callFaults, circleFaults}

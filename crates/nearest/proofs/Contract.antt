@@ -11,9 +11,9 @@ use Rattle.measure.proofs.OnCircle.{round-query}
 use Rattle.measure.specs.Table.{Round, between, from, rowsOf}
 use Rattle.nearest_search.specs.Found.{FoundAnswers, FoundNearest, Searchable, Settled, SoundAnswers}
 use Rattle.nearest_steps.specs.Asked.{NearestAsked, NearestLent, asks, away, due, gone, positionsLeft, rowsIn}
-use Rattle.nearest.proofs.Refusals.{not-refused, rooms}
+use Rattle.nearest_refusals.proofs.Refusals.{not-refused, rooms}
 use Rattle.nearest.specs.Calls.{Answered, Serves, saidOf}
-use Rattle.nearest.specs.Numbers.{nearestAsks}
+use Rattle.nearest_refusals.specs.Numbers.{nearestAsks}
 use Rattle.refusals.proofs.Tested.{tested}
 use Rattle.tree.proofs.Accepted.{each-once, shape-of}
 use Rattle.tree.proofs.Answers.{candidates-length, near-at, passes-all, sort-length}

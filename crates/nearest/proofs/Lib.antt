@@ -1,4 +1,3 @@
-pub mod Refusals
 pub mod Contract
 pub mod Ranking
 pub mod Promises

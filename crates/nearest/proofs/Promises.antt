@@ -19,9 +19,9 @@ use Rattle.nearest_search.specs.Found.{Settled}
 use Rattle.nearest_steps.specs.Asked.{NearestAsked, NearestLent, asks, away, gone, lends, rowsIn}
 use Rattle.nearest.proofs.Contract.{byte-measured, left-most, query-round}
 use Rattle.nearest.proofs.Ranking.{answers-ranked, answers-remain}
-use Rattle.nearest.proofs.Refusals.{not-refused, rooms}
+use Rattle.nearest_refusals.proofs.Refusals.{not-refused, rooms}
 use Rattle.nearest.specs.Calls.{Answered, Serves}
-use Rattle.nearest.specs.Numbers.{nearestAsks}
+use Rattle.nearest_refusals.specs.Numbers.{nearestAsks}
 use Rattle.nearest.specs.Ranked.{ahead}
 use Rattle.refusals.proofs.Refusals.{Clear}
 use Rattle.refusals.proofs.Tested.{clear-rounded}

@@ -3,7 +3,7 @@ use Prim.Native.Nat.{_*_, _<_, ℕ}
 use Rattle.measure.specs.Table.{Rounded, between, from, row, rowsOf}
 use Rattle.nearest_search.specs.Found.{Settled, SoundAnswers}
 use Rattle.nearest_steps.specs.Asked.{NearestAsked, NearestLent, away, gone, positionsLeft, rowsIn}
-use Rattle.nearest.specs.Numbers.{saidNearest}
+use Rattle.nearest_refusals.specs.Numbers.{saidNearest}
 use Rattle.tree.specs.Check.{Accepted}
 use Rattle.tree.specs.Grove.{treeOf}
 use Rattle.tree.specs.Nearest.{isMeasured, measured, nearHow}

@@ -1,62 +1,17 @@
-// The nearest call: its refusals, and the search.
+// The nearest call: refused, or the search.
 ghost use Prim.Native.Nat.{_≤_, min};
 ghost use Rattle.nearest_steps.specs.Asked.{asks, lends};
 ghost use Rattle.nearest.specs.Calls.{Answered};
-ghost use Rattle.nearest.specs.Numbers.{saidNearest};
 ghost use lib.ListN.{length};
-ghost use mathlib.Core.Path.{_≡_};
-use limits::Asked;
-use limits::is_short;
-use limits::rows_in;
+use nearest_refusals::least;
+use nearest_refusals::nearest_number;
 use nearest_search::find;
-use set_refusals::set_bad;
 
 // What a call gives: 0 or why it was refused; on success how many answers, and how many rows were measured.
 pub struct Given {
     pub number: u32,
     pub given: usize,
     pub measured: usize,
-}
-
-// The lesser of two.
-fn least(a: usize, b: usize) -> usize
-    ensures { λ r. ⌜ r ≡ min a b ⌝ }
-{
-    if b < a { b } else { a }
-}
-
-// Why a call is refused, or 0: of several, the lowest number. Lent are room for so many answers, how-bytes and words.
-fn refusal(
-    table: &[u16],
-    c: usize,
-    index: &[u32],
-    query: &[u16],
-    wanted: usize,
-    withdrawn: &[u32],
-    room: usize,
-    how: usize,
-    work: usize,
-) -> u32
-    ensures { λ r. ⌜ r ≡ saidNearest (now (table .entry)) c (now (index .entry)) (now (query .entry)) wanted
-        (now (withdrawn .entry)) room how work .0 ⌝ }
-{
-    let n = rows_in(table.len(), c);
-    let asked = Asked {
-        length: table.len(),
-        columns: c,
-        unfit: false,
-        short: (room < least(wanted, n)) | (how < n) | is_short(work, 6, n),
-        unlike: query.len() != c,
-        none: wanted == 0,
-    };
-    let number = refusals::refusal(asked, table, index, query);
-    if number != 0 {
-        return number;
-    }
-    if set_bad(withdrawn, n) {
-        return 20;
-    }
-    0
 }
 
 // The rows nearest to the query, as `nearest` gives them, where there is room for so many.
@@ -78,7 +33,7 @@ fn answer(
         (lends (now (rows .entry)) (now (distances .entry)) (now (how .entry)) (now (work .entry)))
         (lends (now (rows .exit)) (now (distances .exit)) (now (how .exit)) (now (work .exit))) (g .number) (g .given) (g .measured) ⌝ }
 {
-    let number = refusal(
+    let number = nearest_number(
         table,
         c,
         index,

@@ -5,7 +5,7 @@ use Rattle.radius.proofs.How.{written-is}
 use Rattle.radius.specs.Calls.{Searched}
 use Rattle.buffers.specs.Wiped.{wiped}
 use Rattle.marking.specs.Written.{write}
-use Rattle.radius.specs.Numbers.{saidRadius}
+use Rattle.radius_refusals.specs.Numbers.{saidRadius}
 use Rattle.rowset.specs.Sets.{isIn}
 use Rattle.tree.specs.Grove.{treeOf}
 use Rattle.tree.specs.Nearest.{measured}

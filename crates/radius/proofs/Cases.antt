@@ -10,9 +10,9 @@ use Rattle.limits.specs.declared.Asked.{Asked}
 use Rattle.measure.specs.Distance.{l1}
 use Rattle.measure.specs.Table.{between, from, offCircle, rowsOf}
 use Rattle.radius.proofs.Promises.{first-bytes, radius-call-marks}
-use Rattle.radius.proofs.Refusals.{none-said, right-call, twenty}
+use Rattle.radius_refusals.proofs.Refusals.{none-said, right-call, twenty}
 use Rattle.radius.specs.Cases.{Gives, Refuses}
-use Rattle.radius.specs.Numbers.{radiusAsks}
+use Rattle.radius_refusals.specs.Numbers.{radiusAsks}
 use Rattle.radius.specs.Once.{Once}
 use Rattle.refusals.proofs.Refusals.{clear}
 use Rattle.refusals.specs.Refused.{callFaults, circleFaults}

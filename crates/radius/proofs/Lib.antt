@@ -1,4 +1,3 @@
-pub mod Refusals
 pub mod How
 pub mod Answered
 pub mod Promises

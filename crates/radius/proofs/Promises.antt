@@ -5,7 +5,7 @@ use Rattle.laws.proofs.Lists.{tally-take}
 use Rattle.limits.specs.Limits.{maxRows}
 use Rattle.measure.specs.Table.{between, from, row}
 use Rattle.radius.proofs.How.{bytes-are, gone-never, how-length, written-length}
-use Rattle.radius.proofs.Refusals.{fits, point, set-fits}
+use Rattle.radius_refusals.proofs.Refusals.{fits, point, set-fits}
 use Rattle.radius.specs.Calls.{Searched}
 use Rattle.radius.specs.Once.{Once}
 use Rattle.marking.specs.Written.{write}

@@ -2,7 +2,7 @@
 use Prim.Native.Nat.{ℕ}
 use Rattle.measure.specs.Table.{from}
 use Rattle.marking.specs.Written.{write}
-use Rattle.radius.specs.Numbers.{saidRadius}
+use Rattle.radius_refusals.specs.Numbers.{saidRadius}
 use Rattle.rowset.specs.Sets.{isIn}
 use Rattle.tree.specs.Grove.{treeOf}
 use Rattle.tree.specs.Nearest.{measured}

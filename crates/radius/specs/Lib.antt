@@ -1,4 +1,3 @@
-pub mod Numbers
 pub mod Once
 pub mod Calls
 pub mod Cases

@@ -1,13 +1,9 @@
-// The radius call: what is refused, the search, and its counts.
+// The radius call: refused, or the search and its counts.
 ghost use Rattle.radius.specs.Calls.{Searched};
-ghost use Rattle.radius.specs.Numbers.{saidRadius};
-ghost use mathlib.Core.Path.{_≡_};
 use buffers::clear_bytes;
 use descent::search;
-use limits::Asked;
-use limits::rows_in;
+use radius_refusals::radius_number;
 use rows_withdrawn::words_asked;
-use set_refusals::set_bad;
 use tallies::tally;
 use words::places::rows;
 
@@ -16,36 +12,6 @@ pub struct Found {
     pub number: u32,
     pub inside: usize,
     pub measured: usize,
-}
-
-// Why a call is refused, or 0: of several, the lowest number. `room` is how many how-bytes are lent.
-fn refusal(
-    table: &[u16],
-    c: usize,
-    index: &[u32],
-    query: &[u16],
-    withdrawn: &[u32],
-    room: usize,
-) -> u32
-    ensures { λ r. ⌜ r ≡ saidRadius (now (table .entry)) c (now (index .entry)) (now (query .entry)) (now (withdrawn .entry)) room .0 ⌝ }
-{
-    let n = rows_in(table.len(), c);
-    let asked = Asked {
-        length: table.len(),
-        columns: c,
-        unfit: false,
-        short: room < n,
-        unlike: query.len() != c,
-        none: false,
-    };
-    let early = refusals::refusal(asked, table, index, query);
-    if early != 0 {
-        return early;
-    }
-    if set_bad(withdrawn, n) {
-        return 20;
-    }
-    0
 }
 
 // Which rows of the table are within r of the query, by the index, those withdrawn left out. Of the first n how-bytes each says whether its
@@ -62,7 +28,7 @@ pub fn radius(
     ensures { λ f. ⌜ Searched (now (table .entry)) c (now (index .entry)) (now (query .entry)) r (now (withdrawn .entry))
         (now (how .entry)) (now (how .exit)) (f .number) (f .inside) (f .measured) ⌝ }
 {
-    let number = refusal(table, c, index, query, withdrawn, how.len());
+    let number = radius_number(table, c, index, query, withdrawn, how.len());
     if number != 0 {
         return Found {
             number,

@@ -31,18 +31,18 @@ lending s = lends (s .args .rows .now) (s .args .distances .now) (s .args .how .
 lent : (l : tie.After-least) → Searchable (butFor (asking (start (going l))) (l .least .result)) (lending (start (going l)))
 lent l =
     let e = going l in
-    core-asks (asking (start e)) (lending (start e)) (start e .pre) (e .before .refusal .ensures) _ _ (e .if1 .left) (l .before .rows .ensures .0)
+    core-asks (asking (start e)) (lending (start e)) (start e .pre) (e .before .nearest-number .ensures) _ _ (e .if1 .left) (l .before .rows .ensures .0)
     (l .least .ensures)
 
 returns : tie.Need-returns
 returns c =
     let s = c .before .before .before .before .before .before .before .before .before .before in
-    refused-is (asking s) (lending s) (s .pre) (c .before .refusal .ensures) (c .if1 .taken)
+    refused-is (asking s) (lending s) (s .pre) (c .before .nearest-number .ensures) (c .if1 .taken)
 
 rows-requires : tie.Need-rows-requires
 rows-requires c κs =
     let s = start c in
-    let L = core-asks (asking s) (lending s) (s .pre) (c .before .refusal .ensures) _ _ (c .if1 .left) refl refl in
+    let L = core-asks (asking s) (lending s) (s .pre) (c .before .nearest-number .ensures) _ _ (c .if1 .left) refl refl in
     omega (arith, L .tested .shape .whole .words)
 
 find-requires : tie.Need-find-requires
@@ -53,7 +53,7 @@ returns-2 c =
     let f = c .before .before .before .before .before .before .before .before in
     let l = asked f in
     let e = going l in
-    done-is (asking (start e)) (lending (start e)) (start e .pre) (e .before .refusal .ensures) _ _ _ _ _ _ _ (e .if1 .left)
+    done-is (asking (start e)) (lending (start e)) (start e .pre) (e .before .nearest-number .ensures) _ _ _ _ _ _ _ (e .if1 .left)
     (l .before .rows .ensures .0) (l .least .ensures) (f .find .ensures) (omega arith) (omega arith)
 
 pub answer-spec : {M : Type 1} → statement M

@@ -7,10 +7,10 @@ use Rattle.marking.specs.Lent.{Lent}
 use Rattle.marking.specs.Written.{write}
 use Rattle.measure.specs.Table.{from}
 use Rattle.radius.proofs.Answered.{done-is, refused-is}
-use Rattle.radius.proofs.Refusals.{fits, room}
+use Rattle.radius_refusals.proofs.Refusals.{fits, room}
 use Rattle.radius.proofs.radius.Statement.{statement}
 use Rattle.radius.proofs.radius.Tie as tie
-use Rattle.radius.specs.Numbers.{saidRadius}
+use Rattle.radius_refusals.specs.Numbers.{saidRadius}
 use Rattle.rowset.specs.Sets.{isIn}
 use Rattle.tree.proofs.Veiled.{veiled-same}
 use Rattle.tree.specs.Grove.{treeOf}
@@ -28,14 +28,14 @@ start c = c .before .before .before .before .before .before .before
 
 none : (c : tie.Else1)
     → saidRadius (start c .args .table .now) (start c .args .c) (start c .args .index .now) (start c .args .query .now) (start c .args .withdrawn .now) (length (start c .args .how .now)) .0 ≡ 0
-none c = sym (c .before .refusal .ensures) ∙ c .if1 .left
+none c = sym (c .before .radius-number .ensures) ∙ c .if1 .left
 
 -- what is lent fits
 lent : (c : tie.Else1) → Lent (start c .args .index .now) (start c .args .table .now) (start c .args .c) (start c .args .query .now) (start c .args .how .now)
 lent c = fits _ _ _ _ _ (start c .args .how .now) (none c)
 
 returns : tie.Need-returns
-returns c = refused-is _ _ _ _ _ _ _ (c .before .refusal .ensures) (c .if1 .taken)
+returns c = refused-is _ _ _ _ _ _ _ (c .before .radius-number .ensures) (c .if1 .taken)
 
 rows-requires : tie.Need-rows-requires
 rows-requires c κs = omega (arith, lent c .tested .shape .whole .words)
@@ -70,7 +70,7 @@ returns-2 c =
     let all = marks (from (a .table .now) (a .c) (circles# (a .index .now)) (a .query .now)) (a .r) (treeOf (a .index .now)) in
     let ms = veiled (isIn (a .withdrawn .now)) all in
     let asked = c .before .before .before .before .before .before .before .before .before .words-asked in
-    done-is _ _ _ _ _ _ (a .how .now) (e .before .refusal .ensures) _ (e .if1 .left) (lent e .tested .shape) n
+    done-is _ _ _ _ _ _ (a .how .now) (e .before .radius-number .ensures) _ (e .if1 .left) (lent e .tested .shape) n
     (c .before .before .before .before .before .search .ensures .bytes
     ∙ ap (λ ms. write ms (c .before .before .before .before .before .before .before .before .before .before .before .before .clear-bytes .last .0)) (veiled-same (isIn (take (asked .result) (a .withdrawn .now))) (isIn (a .withdrawn .now)) (asked .ensures .1) all)
     ∙ ap (write ms) (c .before .before .before .before .before .before .before .before .before .before .before .before .clear-bytes .ensures ∙ ap (λ (n : ℕ). wiped n (a .how .now)) n))

@@ -5,7 +5,7 @@ use Rattle.limits.proofs.Faults.{Numbered, early-numbered, fault-not, numberOf,
 use Rattle.limits.specs.Said.{Said, fault, said, tabled}
 use Rattle.limits.specs.declared.Asked.{Asked}
 use Rattle.measure.specs.Table.{rowsOf}
-use Rattle.nearest.specs.Numbers.{nearestAsks, nearestShort, saidNearest}
+use Rattle.nearest_refusals.specs.Numbers.{nearestAsks, nearestShort, saidNearest}
 use Rattle.refusals.proofs.Refusals.{Clear, call-early, clear, clear-none}
 use Rattle.refusals.specs.Refused.{callFaults}
 use Rattle.rowset.specs.Sets.{setBad}

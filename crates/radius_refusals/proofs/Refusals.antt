@@ -6,7 +6,7 @@ use Rattle.limits.specs.declared.Asked.{Asked}
 use Rattle.marking.specs.Lent.{Lent}
 use Rattle.measure.specs.Space.{Point}
 use Rattle.measure.specs.Table.{between, from, rowsOf}
-use Rattle.radius.specs.Numbers.{radiusAsks, saidRadius}
+use Rattle.radius_refusals.specs.Numbers.{radiusAsks, saidRadius}
 use Rattle.refusals.proofs.Refusals.{Clear, call-early, clear, clear-none}
 use Rattle.refusals.proofs.Tested.{clear-point, tested}
 use Rattle.refusals.specs.Refused.{callFaults}

@@ -1,10 +1,10 @@
--- `nearest::refusal` meets its contract: it asks what the definition asks, in its order.
+-- `nearest_refusals::nearest_number` meets its contract: it asks what the definition asks, in its order.
 -- Assumes nothing.
 use Rattle.limits.specs.Said.{said}
-use Rattle.nearest.proofs.Refusals.{by-call, by-right-set, by-wrong-set}
-use Rattle.nearest.proofs.refusal.Statement.{statement}
-use Rattle.nearest.proofs.refusal.Tie as tie
-use Rattle.nearest.specs.Numbers.{nearestAsks}
+use Rattle.nearest_refusals.proofs.Refusals.{by-call, by-right-set, by-wrong-set}
+use Rattle.nearest_refusals.proofs.nearest_number.Statement.{statement}
+use Rattle.nearest_refusals.proofs.nearest_number.Tie as tie
+use Rattle.nearest_refusals.specs.Numbers.{nearestAsks}
 use Rattle.refusals.specs.Refused.{callFaults}
 use borrow.Author.Needs.{needs}
 use mathlib.Core.Path.{_≡_}
@@ -35,8 +35,8 @@ returns-3 c =
     by-right-set _ _ _ _ _ _ _ _ _ (call r) (c .before .before .if1 .left) (r .before .before .before .rows-in .ensures) (c .before .set-bad .ensures)
     (c .if2 .left)
 
-pub refusal-spec : {M : Type 1} → statement M
-refusal-spec =
+pub nearest-number-spec : {M : Type 1} → statement M
+nearest-number-spec =
     tie.close
     (tie.spec
     (λ c κs. search needs)

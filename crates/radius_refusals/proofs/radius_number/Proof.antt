@@ -1,12 +1,12 @@
--- `radius::refusal` meets its contract: it asks what the definition asks, and the set last.
+-- `radius_refusals::radius_number` meets its contract: it asks what the definition asks, and the set last.
 -- Assumes nothing.
 use Prim.Native.Nat.{ℕ}
 use Rattle.limits.specs.Said.{said}
 use Rattle.measure.specs.Table.{rowsOf}
-use Rattle.radius.proofs.Refusals.{by-call, none-said, twenty}
-use Rattle.radius.proofs.refusal.Statement.{statement}
-use Rattle.radius.proofs.refusal.Tie as tie
-use Rattle.radius.specs.Numbers.{radiusAsks}
+use Rattle.radius_refusals.proofs.Refusals.{by-call, none-said, twenty}
+use Rattle.radius_refusals.proofs.radius_number.Statement.{statement}
+use Rattle.radius_refusals.proofs.radius_number.Tie as tie
+use Rattle.radius_refusals.specs.Numbers.{radiusAsks}
 use Rattle.refusals.specs.Refused.{callFaults}
 use borrow.Author.Needs.{needs}
 use mathlib.Core.Path.{_≡_}
@@ -33,5 +33,5 @@ returns-3 c =
     let a = start (c .before .before .before) .args in
     none-said (a .table .now) (a .c) (a .index .now) (a .query .now) (a .withdrawn .now) (a .room) (early (c .before .before .before)) (omega (arith, c .before .before .if1 .left)) (c .before .before .before .before .rows-in .ensures) (c .before .set-bad .ensures) (c .if2 .left)
 
-pub refusal-spec : {M : Type 1} → statement M
-refusal-spec = tie.close (tie.spec (λ c κs. search needs) (λ c κs. search needs) returns (λ c κs. search needs) returns-2 returns-3)
+pub radius-number-spec : {M : Type 1} → statement M
+radius-number-spec = tie.close (tie.spec (λ c κs. search needs) (λ c κs. search needs) returns (λ c κs. search needs) returns-2 returns-3)
