@@ -1,28 +1,24 @@
 // 13 of the full check: a member is closer to the centre of another child of its node.
-mod few;
-
 ghost use Prim.Native.Nat.{_+_, _<_, _≤_};
-ghost use Rattle.laws.specs.Lists.{any, range};
+ghost use Rattle.child_strays.specs.Strays.{FirstIn, Firsts, kidStrays};
 ghost use Rattle.limits.specs.Said.{said};
 ghost use Rattle.measure.specs.Space.{Space};
 ghost use Rattle.measure.specs.Table.{between};
-ghost use Rattle.nearness.specs.Strays.{FirstIn, Firsts, allStrays, closerThan, kidStrays, told};
+ghost use Rattle.nearness.specs.Strays.{allStrays, told};
 ghost use Rattle.tree.specs.Check.{strays};
 ghost use Rattle.tree.specs.Tested.{Tested};
 ghost use Rattle.words.specs.InShape.{InShape};
 ghost use Rattle.words.specs.Shape.{inner};
-ghost use Rattle.words.specs.Words.{N#, child#, circles#, m#, n#, row#};
-ghost use lib.Dec.{ltb};
+ghost use Rattle.words.specs.Words.{N#, child#, circles#, m#};
 ghost use mathlib.Core.Bool.{true};
 ghost use mathlib.Core.Path.{_≡_};
+use child_strays::child_stray;
 use limits::Params;
-use reach::apart;
 use reach::lesser;
 use reach::node_end;
 use words::places::centres;
 use words::places::node_child;
 use words::places::node_first;
-use words::places::node_start;
 use words::places::nodes;
 
 // 13 with the lowest node that has a member closer to another centre and the lowest such position there, or zeros.
@@ -49,88 +45,6 @@ fn firsts(index: &[u32], child: usize) -> [usize; Params::MOST_CENTRES]
     fs
 }
 
-// The row at p is closer to row f than to row g, from which it is x away. Row g is not measured again.
-fn is_closer(
-    table: &[u16],
-    c: usize,
-    circles: u32,
-    index: &[u32],
-    f: usize,
-    g: usize,
-    x: u32,
-    p: usize,
-) -> bool
-    requires { ⌜ Tested (now index) (now table) c ⌝ }
-    requires { ⌜ (f < n# (now index)) × (p < n# (now index)) × (x ≡ between (now table) c (circles# (now index)) g (row# (now index) p))
-        × (circles ≡ circles# (now index)) ⌝ }
-    ensures { λ r. ⌜ r ≡ ltb (between (now (table .entry)) c (circles# (now (index .entry))) f (row# (now (index .entry)) p)) x ⌝ }
-{
-    if f == g {
-        return false;
-    }
-    apart(table, c, circles, index, f, p) < x
-}
-
-// The row at p, which is x away from row g, is closer to the first of one of the m nodes from number `child` on: fs are these.
-fn closer_to_other(
-    table: &[u16],
-    c: usize,
-    circles: u32,
-    index: &[u32],
-    child: usize,
-    fs: &[usize; Params::MOST_CENTRES],
-    g: usize,
-    x: u32,
-    p: usize,
-) -> bool
-    requires { ⌜ Tested (now index) (now table) c ⌝ }
-    requires { ⌜ Firsts (now index) child (now fs) × (p < n# (now index))
-        × (x ≡ between (now table) c (circles# (now index)) g (row# (now index) p)) × (circles ≡ circles# (now index)) ⌝ }
-    ensures { λ r. ⌜ r ≡ any (closerThan (between (now (table .entry)) c (circles# (now (index .entry)))) (now (index .entry)) p x)
-        (range child (m# (now (index .entry)))) ⌝ }
-{
-    let m = centres(index);
-    let mut i = 0;
-    while i < m {
-        if is_closer(table, c, circles, index, fs[i], g, x, p) {
-            return true;
-        }
-        i += 1;
-    }
-    false
-}
-
-// In child a of inner node k, whose children's firsts are fs: the lowest position whose row is closer to another child's centre, or the end of k's
-// run.
-fn child_stray(
-    table: &[u16],
-    c: usize,
-    index: &[u32],
-    fs: &[usize; Params::MOST_CENTRES],
-    k: usize,
-    a: usize,
-) -> usize
-    requires { ⌜ Tested (now index) (now table) c ⌝ }
-    requires { ⌜ (k < N# (now index)) × (inner (now index) k ≡ true) × (a < m# (now index)) × Firsts (now index) (child# (now index) k) (now fs) ⌝ }
-    ensures { λ r. ⌜ FirstIn (now (index .entry)) k (kidStrays (between (now (table .entry)) c (circles# (now (index .entry)))) (now (index .entry)) k
-        (child# (now (index .entry)) k + a)) r ⌝ }
-{
-    let child = node_child(index, k);
-    let j = child + a;
-    let f = node_first(index, j);
-    let end = node_end(index, j);
-    let circles = words::places::circles(index);
-    let mut p = node_start(index, j);
-    while p < end {
-        let x = apart(table, c, circles, index, f, p);
-        if closer_to_other(table, c, circles, index, child, fs, f, x, p) {
-            return p;
-        }
-        p += 1;
-    }
-    node_end(index, k)
-}
-
 // The same, by the loop for few columns where there are no more and no circle.
 fn child_first(
     table: &[u16],
@@ -146,7 +60,7 @@ fn child_first(
         (child# (now (index .entry)) k + a)) r ⌝ }
 {
     if (words::places::circles(index) == 0) & (c <= 6) {
-        return few::child_stray(table, c, index, fs, k, a);
+        return few_columns::child_stray(table, c, index, fs, k, a);
     }
     child_stray(table, c, index, fs, k, a)
 }

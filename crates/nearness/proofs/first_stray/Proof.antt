@@ -6,7 +6,7 @@ use Rattle.reach.proofs.Pairing.{inner-no, inner-yes}
 use Rattle.nearness.proofs.Strays.{near-done, near-leaf, near-more, near-start, straysTo}
 use Rattle.nearness.proofs.first_stray.Statement.{statement}
 use Rattle.nearness.proofs.first_stray.Tie as tie
-use Rattle.nearness.specs.Strays.{FirstIn, Firsts}
+use Rattle.child_strays.specs.Strays.{FirstIn, Firsts}
 use Rattle.measure.specs.Table.{between}
 use Rattle.words.specs.Shape.{inner}
 use Rattle.words.specs.Words.{circles#, m#}

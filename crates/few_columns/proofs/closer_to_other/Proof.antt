@@ -1,11 +1,11 @@
--- `nearness::few::closer_to_other` meets its contract: no centre passed is closer. The measure is what is left of the centres.
+-- `few_columns::closer_to_other` meets its contract: no centre passed is closer. The measure is what is left of the centres.
 -- Assumes nothing.
 use Prim.Native.Nat.{_+_, _-_, _≤_, ℕ}
-use Rattle.nearness.proofs.Safe.{none-closer}
-use Rattle.nearness.proofs.Strays.{closer-is}
-use Rattle.nearness.proofs.few.closer_to_other.Statement.{statement}
-use Rattle.nearness.proofs.few.closer_to_other.Tie as tie
-use Rattle.nearness.specs.Strays.{closerThan}
+use Rattle.few_columns.proofs.Spared.{none-closer}
+use Rattle.child_strays.proofs.Strays.{closer-is}
+use Rattle.few_columns.proofs.closer_to_other.Statement.{statement}
+use Rattle.few_columns.proofs.closer_to_other.Tie as tie
+use Rattle.child_strays.specs.Strays.{closerThan}
 use Rattle.laws.proofs.First.{any-first, any-lost, search-on, search-start, search-stop}
 use Rattle.laws.specs.First.{First}
 use Rattle.measure.specs.Table.{between}

@@ -1,10 +1,11 @@
--- `nearness::is_closer` meets its contract: the row is no closer to g than it is, and any other row is measured.
+-- `child_strays::is_closer` meets its contract: the row is no closer to g than it is, and any other row is measured.
 -- Assumes nothing.
-use Rattle.nearness.proofs.Strays.{closer-own}
-use Rattle.nearness.proofs.is_closer.Statement.{statement}
-use Rattle.nearness.proofs.is_closer.Tie as tie
+use Rattle.child_strays.proofs.Strays.{closer-own}
+use Rattle.child_strays.proofs.is_closer.Statement.{statement}
+use Rattle.child_strays.proofs.is_closer.Tie as tie
 use Rattle.measure.specs.Table.{between}
 use Rattle.words.specs.Words.{circles#}
+use mathlib.Core.Path.{refl}
 
 returns : tie.Need-returns
 returns c =
@@ -18,7 +19,7 @@ apart-requires c κs =
     (s .pre .0, (s .pre .1 .0, s .pre .1 .1, s .pre .1 .3))
 
 returns-2 : tie.Need-returns-2
-returns-2 c = rw (c .apart .ensures)
+returns-2 c = rw (c .apart .ensures) refl
 
 pub is-closer-spec : {M : Type 1} → statement M
 is-closer-spec = tie.close (tie.spec returns apart-requires returns-2)

@@ -1,12 +1,12 @@
--- `nearness::child_stray` meets its contract: no position of the child that was passed is closer to another centre. The measure is
+-- `child_strays::child_stray` meets its contract: no position of the child that was passed is closer to another centre. The measure is
 -- what is left of the child's run.
 -- Assumes nothing.
 use Prim.Native.Nat.{_+_, _-_, _≤_, ℕ}
 use Rattle.reach.proofs.Pairing.{Kid, kid-of}
-use Rattle.nearness.proofs.Strays.{kid-end, kid-named, kid-on, kid-stop}
-use Rattle.nearness.proofs.child_stray.Statement.{statement}
-use Rattle.nearness.proofs.child_stray.Tie as tie
-use Rattle.nearness.specs.Strays.{Firsts, kidStrays}
+use Rattle.child_strays.proofs.Strays.{kid-end, kid-named, kid-on, kid-stop}
+use Rattle.child_strays.proofs.child_stray.Statement.{statement}
+use Rattle.child_strays.proofs.child_stray.Tie as tie
+use Rattle.child_strays.specs.Strays.{Firsts, kidStrays}
 use Rattle.laws.proofs.First.{search-start}
 use Rattle.laws.specs.First.{First}
 use Rattle.measure.specs.Table.{between}

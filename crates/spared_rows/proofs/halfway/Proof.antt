@@ -1,10 +1,10 @@
--- `nearness::few::halfway` meets its contract: one row is safe from itself, and half the way to another is safe.
+-- `spared_rows::halfway` meets its contract: one row is safe from itself, and half the way to another is safe.
 -- Assumes nothing.
 use Prim.Native.Nat.{ℕ}
 use Rattle.measure.specs.Table.{between}
-use Rattle.nearness.proofs.Safe.{half-safe, own-safe}
-use Rattle.nearness.proofs.few.halfway.Statement.{statement}
-use Rattle.nearness.proofs.few.halfway.Tie as tie
+use Rattle.spared_rows.proofs.Safe.{half-safe, own-safe}
+use Rattle.spared_rows.proofs.halfway.Statement.{statement}
+use Rattle.spared_rows.proofs.halfway.Tie as tie
 use Rattle.reach.proofs.Runs.{in-table}
 use Rattle.words.specs.Words.{circles#}
 use mathlib.Core.Path.{_∙_, ap, sym}

@@ -1,11 +1,11 @@
--- `nearness::few::safe_within` meets its contract: after i turns no row within `least` is closer to the first i of fs. The measure is what is left of them.
+-- `spared_rows::safe_within` meets its contract: after i turns no row within `least` is closer to the first i of fs. The measure is what is left of them.
 -- Assumes nothing.
 use Prim.Native.Nat.{_-_, _≤_, ℕ}
 use Rattle.measure.specs.Table.{between}
-use Rattle.nearness.proofs.Safe.{safe-more, zero-safe}
-use Rattle.nearness.proofs.few.safe_within.Statement.{statement}
-use Rattle.nearness.proofs.few.safe_within.Tie as tie
-use Rattle.nearness.specs.Safe.{SafeTo}
+use Rattle.spared_rows.proofs.Safe.{safe-more, zero-safe}
+use Rattle.spared_rows.proofs.safe_within.Statement.{statement}
+use Rattle.spared_rows.proofs.safe_within.Tie as tie
+use Rattle.spared_rows.specs.Safe.{SafeTo}
 use Rattle.words.specs.Words.{circles#, m#}
 use borrow.Author.Needs.{needs}
 use lib.ListN.{getD}
@@ -42,17 +42,17 @@ loop-holds : tie.Need-loop-holds Inv-loop μ-loop
 loop-holds c = (omega arith, c .before .centres .ensures .0, λ i h. absurd (omega arith))
 
 mul-halfway : tie.Need-mul-halfway Inv-loop μ-loop
-mul-halfway c = omega (arith, c .before .loop .inv .1, start (c .before) .pre .0 .0 .shape .whole .fan)
+mul-halfway c = omega (arith, c .before .loop .inv .1, start (c .before) .pre .1 .0, start (c .before) .pre .0 .0 .shape .whole .fan)
 
 element-copy-out-halfway : tie.Need-element-copy-out-halfway Inv-loop μ-loop
-element-copy-out-halfway c = omega (arith, c .before .loop .inv .1, start (c .before) .pre .0 .0 .shape .whole .fan)
+element-copy-out-halfway c = omega (arith, c .before .loop .inv .1, start (c .before) .pre .1 .0, start (c .before) .pre .0 .0 .shape .whole .fan)
 
 halfway-requires : tie.Need-halfway-requires Inv-loop μ-loop
 halfway-requires c κs =
     let l = c .before .before in
     let s = start l in
     let low = s .pre .1 .1 in
-    (s .pre .0, (low (s .args .a) (s .pre .1 .0), low (l .loop .i) (omega (arith, l .loop .inv .1))))
+    (s .pre .0, (low (s .args .a) (s .pre .1 .0), low _ (omega (arith, l .loop .inv .1, s .pre .1 .0))))
 
 loop-again : tie.Need-loop-again Inv-loop μ-loop
 loop-again c =

@@ -1,69 +1,26 @@
-// The same for rows of at most six columns with no circle, which questions about a minute have: the loop over a child's positions then knows which way
-// of measuring it is, and a row that is no farther from its own centre than half the way to the nearest other is not measured from the others. (With
-// more columns or with circles that was found to cost more than it saved.)
-ghost use Prim.Native.Nat.{_+_, _<_, ℕ};
+// 13 of the full check in one child of a node, for rows of at most six columns with no circle, which questions about a minute have: the loop over a
+// child's positions then knows which way of measuring it is, and a row that is no farther from its own centre than half the way to the nearest other
+// is not measured from the others. (With more columns or with circles that was found to cost more than it saved.)
+ghost use Prim.Native.Nat.{_+_, _<_};
+ghost use Rattle.child_strays.specs.Strays.{FirstIn, Firsts, closerThan, kidStrays};
 ghost use Rattle.laws.specs.Lists.{any, range};
 ghost use Rattle.measure.specs.Space.{Space};
 ghost use Rattle.measure.specs.Table.{between};
-ghost use Rattle.nearness.specs.Safe.{Safe, SafeTo};
-ghost use Rattle.nearness.specs.Strays.{FirstIn, Firsts, closerThan, kidStrays};
+ghost use Rattle.spared_rows.specs.Safe.{SafeTo};
 ghost use Rattle.tree.specs.Tested.{Tested};
 ghost use Rattle.words.specs.Shape.{inner};
 ghost use Rattle.words.specs.Words.{N#, child#, circles#, m#, n#, row#};
 ghost use lib.Dec.{ltb};
-ghost use lib.ListN.{getD};
 ghost use mathlib.Core.Bool.{true};
 ghost use mathlib.Core.Path.{_≡_};
 use limits::Params;
-use numbers::smaller;
 use reach::apart;
 use reach::node_end;
-use row_distances::row_distance;
+use spared_rows::safe_within;
 use words::places::centres;
 use words::places::node_child;
 use words::places::node_first;
 use words::places::node_start;
-
-// How far a row can be from row g and is still no closer to row f: half the way between the two, and any distance where they are one.
-fn halfway(table: &[u16], c: usize, index: &[u32], g: usize, f: usize) -> u32
-    requires { ⌜ Tested (now index) (now table) c × Space (between (now table) c (circles# (now index))) × (circles# (now index) ≡ 0) ⌝ }
-    requires { ⌜ (g < n# (now index)) × (f < n# (now index)) ⌝ }
-    ensures { λ h. ⌜ Safe (between (now (table .entry)) c (circles# (now (index .entry)))) g f h ⌝ }
-{
-    if f == g {
-        return Params::MOST_DISTANCE;
-    }
-    row_distance(table, c, 0, g, f) / 2
-}
-
-// How far a row can be from the first of child a, whose run has `count` positions, and is still closer to none of fs, so that it need not be measured
-// from them: the least half of the ways to these. In a short run the rows are sooner measured than the ways, and then it is 0.
-fn safe_within(
-    table: &[u16],
-    c: usize,
-    index: &[u32],
-    fs: &[usize; Params::MOST_CENTRES],
-    a: usize,
-    count: usize,
-) -> u32
-    requires { ⌜ Tested (now index) (now table) c × Space (between (now table) c (circles# (now index))) × (circles# (now index) ≡ 0) ⌝ }
-    requires { ⌜ (a < m# (now index)) × ((i : ℕ) → i < m# (now index) → getD (now fs) i 0 < n# (now index)) ⌝ }
-    ensures { λ h. ⌜ SafeTo (between (now (table .entry)) c (circles# (now (index .entry)))) (now (fs .entry)) (getD (now (fs .entry)) a 0)
-        (m# (now (index .entry))) h ⌝ }
-{
-    if count < 32 {
-        return 0;
-    }
-    let m = centres(index);
-    let g = fs[a];
-    let mut least = Params::MOST_DISTANCE;
-    let mut i = 0;
-    while i < m {
-        least = smaller(least, halfway(table, c, index, g, fs[i]));
-        i += 1;
-    }
-    least
-}
 
 // The row at p is closer to row f than to row g, from which it is x away. Row g is not measured again.
 fn is_closer(table: &[u16], c: usize, index: &[u32], f: usize, g: usize, x: u32, p: usize) -> bool

@@ -1,13 +1,13 @@
--- `nearness::few::child_stray` meets its contract: no position of the child that was passed is closer to another centre. The measure is
+-- `few_columns::child_stray` meets its contract: no position of the child that was passed is closer to another centre. The measure is
 -- what is left of the child's run.
 -- Assumes nothing.
 use Prim.Native.Nat.{_+_, _-_, _≤_, ℕ}
 use Rattle.reach.proofs.Pairing.{Kid, kid-of}
-use Rattle.nearness.proofs.Strays.{kid-end, kid-named, kid-on, kid-stop}
-use Rattle.nearness.proofs.few.child_stray.Statement.{statement}
-use Rattle.nearness.proofs.few.child_stray.Tie as tie
-use Rattle.nearness.specs.Safe.{SafeTo}
-use Rattle.nearness.specs.Strays.{Firsts, kidStrays}
+use Rattle.child_strays.proofs.Strays.{kid-end, kid-named, kid-on, kid-stop}
+use Rattle.few_columns.proofs.child_stray.Statement.{statement}
+use Rattle.few_columns.proofs.child_stray.Tie as tie
+use Rattle.spared_rows.specs.Safe.{SafeTo}
+use Rattle.child_strays.specs.Strays.{Firsts, kidStrays}
 use Rattle.laws.proofs.First.{search-start}
 use Rattle.laws.specs.First.{First}
 use Rattle.measure.specs.Table.{between}

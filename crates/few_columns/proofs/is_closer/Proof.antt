@@ -1,8 +1,8 @@
--- `nearness::few::is_closer` meets its contract: the row is no closer to g than it is, and any other row is measured.
+-- `few_columns::is_closer` meets its contract: the row is no closer to g than it is, and any other row is measured.
 -- Assumes nothing.
-use Rattle.nearness.proofs.Strays.{closer-own}
-use Rattle.nearness.proofs.few.is_closer.Statement.{statement}
-use Rattle.nearness.proofs.few.is_closer.Tie as tie
+use Rattle.child_strays.proofs.Strays.{closer-own}
+use Rattle.few_columns.proofs.is_closer.Statement.{statement}
+use Rattle.few_columns.proofs.is_closer.Tie as tie
 use Rattle.measure.specs.Table.{between}
 use Rattle.words.specs.Words.{circles#}
 use mathlib.Core.Path.{sym}
