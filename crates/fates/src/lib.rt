@@ -1,6 +1,6 @@
 // What becomes of a node. The rule stands here once: the root and every child go through it.
 ghost use Prim.Native.Nat.{_<_, _≤_};
-ghost use Rattle.descent.specs.Descent.{Settled, fateOf};
+ghost use Rattle.fates.specs.Settling.{Settled, fateOf};
 ghost use Rattle.limits.specs.Limits.{maxDistance};
 ghost use Rattle.marking.specs.Lent.{Bytes};
 ghost use Rattle.rowset.specs.Sets.{isIn};

@@ -1,9 +1,9 @@
--- `descent::fate::settle` meets its contract: only a swept node's rows are stored.
+-- `fates::settle` meets its contract: only a swept node's rows are stored.
 -- Assumes nothing.
-use Rattle.descent.proofs.Ways.{swept-did, unswept}
-use Rattle.descent.proofs.fate.settle.Statement.{statement}
-use Rattle.descent.proofs.fate.settle.Tie as tie
-use Rattle.descent.specs.Descent.{fateOf}
+use Rattle.fates.proofs.Settling.{swept-did, unswept}
+use Rattle.fates.proofs.settle.Statement.{statement}
+use Rattle.fates.proofs.settle.Tie as tie
+use Rattle.fates.specs.Settling.{fateOf}
 use Prim.Native.Nat.{ℕ}
 use Rattle.rowset.specs.Sets.{isIn}
 use Rattle.words.specs.Words.{radius#}

@@ -1,9 +1,9 @@
--- `descent::fate::fate_of` meets its contract: its two tests are those of the definition, in its order.
+-- `fates::fate_of` meets its contract: its two tests are those of the definition, in its order.
 -- Assumes nothing.
 use Prim.Native.Nat.{_+_, _<_, _≤_}
-use Rattle.descent.proofs.fate.fate_of.Statement.{statement}
-use Rattle.descent.proofs.fate.fate_of.Tie as tie
-use Rattle.descent.specs.Descent.{fateOf}
+use Rattle.fates.proofs.fate_of.Statement.{statement}
+use Rattle.fates.proofs.fate_of.Tie as tie
+use Rattle.fates.specs.Settling.{fateOf}
 use borrow.Author.Needs.{needs}
 use borrow.Author.Tests.{le-leb, le-ltb, lt-leb, lt-ltb}
 use native.Mathlib.Omega.{arith}
