@@ -1,10 +1,10 @@
--- `audit::leaves::first_wrong_distance` meets its contract: `low` is the lowest wrong position of the leaves passed. The measure is what is
+-- `stored_distances::first_wrong_distance` meets its contract: `low` is the lowest wrong position of the leaves passed. The measure is what is
 -- left of the nodes.
 -- Assumes nothing.
 use Prim.Native.Nat.{_-_, _≤_, ℕ}
-use Rattle.audit.proofs.Distances.{distances-done, distances-more, distances-start, wrongTo}
-use Rattle.audit.proofs.leaves.first_wrong_distance.Statement.{statement}
-use Rattle.audit.proofs.leaves.first_wrong_distance.Tie as tie
+use Rattle.stored_distances.proofs.Distances.{distances-done, distances-more, distances-start, wrongTo}
+use Rattle.stored_distances.proofs.first_wrong_distance.Statement.{statement}
+use Rattle.stored_distances.proofs.first_wrong_distance.Tie as tie
 use Rattle.laws.specs.First.{First}
 use Rattle.measure.specs.Table.{between}
 use Rattle.words.specs.Words.{N#, circles#, n#}

@@ -1,6 +1,6 @@
-// 11: a stored distance is wrong. Leaves come in the order of nodes, which is not that of their positions, so that the least of all is taken.
+// 11: the pass of the full check over stored distances. Leaves come in the order of nodes, which is not that of their positions, so that the least of all is taken.
 ghost use Prim.Native.Nat.{_<_};
-ghost use Rattle.audit.specs.Passes.{leafWrong};
+ghost use Rattle.stored_distances.specs.Leaves.{leafWrong};
 ghost use Rattle.laws.specs.First.{First};
 ghost use Rattle.measure.specs.Table.{between};
 ghost use Rattle.tree.specs.Check.{wrongDist};

@@ -1,10 +1,10 @@
--- `audit::repeats::first_again` meets its contract: marked are just the rows of the positions passed, none of them again. The measure is
+-- `repeated_rows::first_again` meets its contract: marked are just the rows of the positions passed, none of them again. The measure is
 -- what is left of the positions.
 -- Assumes nothing.
 use Prim.Native.Nat.{_-_, _<_}
-use Rattle.audit.proofs.Marks.{Marks, marks-found, marks-more, marks-start, row-marked}
-use Rattle.audit.proofs.repeats.first_again.Statement.{statement}
-use Rattle.audit.proofs.repeats.first_again.Tie as tie
+use Rattle.repeated_rows.proofs.Marks.{Marks, marks-found, marks-more, marks-start, row-marked}
+use Rattle.repeated_rows.proofs.first_again.Statement.{statement}
+use Rattle.repeated_rows.proofs.first_again.Tie as tie
 use Rattle.laws.proofs.First.{search-end}
 use Rattle.words.specs.Words.{n#}
 use borrow.Author.Needs.{needs}

@@ -1,5 +1,5 @@
-// 10: a row number again. The workspace marks the rows met so far.
-ghost use Rattle.audit.specs.Workspace.{Clear};
+// 10: the pass of the full check over row numbers that stand again. The workspace marks the rows met so far.
+ghost use Rattle.repeated_rows.specs.Zeros.{Clear};
 ghost use Rattle.laws.specs.First.{First};
 ghost use Rattle.tree.specs.Check.{again};
 ghost use Rattle.words.specs.InShape.{InShape};

@@ -1,6 +1,6 @@
 -- The pass for 10: a row's mark says whether it stood at a lower position. Assumes nothing.
 use Prim.Native.Nat.{_+_, _<_, _≤_, ℕ}
-use Rattle.audit.specs.Workspace.{Clear}
+use Rattle.repeated_rows.specs.Zeros.{Clear}
 use Rattle.laws.proofs.First.{any-more, search-on, search-start, search-stop}
 use Rattle.laws.specs.First.{First}
 use Rattle.laws.specs.Lists.{any, has, range}

@@ -1,7 +1,7 @@
 -- The pass for 11: leaf by leaf, the least of the firsts. Assumes nothing.
 use Prim.Native.Nat.{_+_, _<_, _≤_, min, ℕ}
 use Rattle.reach.proofs.Searches.{least-more, run-end, run-stop}
-use Rattle.audit.specs.Passes.{leafWrong}
+use Rattle.stored_distances.specs.Leaves.{leafWrong}
 use Rattle.laws.proofs.First.{first-none, first-same, search-on}
 use Rattle.laws.specs.First.{First}
 use Rattle.laws.specs.Lists.{any, range}

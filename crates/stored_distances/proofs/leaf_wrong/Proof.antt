@@ -1,11 +1,11 @@
--- `audit::leaves::leaf_wrong` meets its contract: no position of the leaf that was passed is wrong. The measure is what is left of the run.
+-- `stored_distances::leaf_wrong` meets its contract: no position of the leaf that was passed is wrong. The measure is what is left of the run.
 -- Assumes nothing.
 use Prim.Native.Nat.{_+_, _-_, _≤_, ℕ}
-use Rattle.audit.proofs.Distances.{leaf-end, leaf-on, leaf-stop, none-inner}
+use Rattle.stored_distances.proofs.Distances.{leaf-end, leaf-on, leaf-stop, none-inner}
 use Rattle.reach.proofs.Pairing.{inner-no, inner-yes}
-use Rattle.audit.proofs.leaves.leaf_wrong.Statement.{statement}
-use Rattle.audit.proofs.leaves.leaf_wrong.Tie as tie
-use Rattle.audit.specs.Passes.{leafWrong}
+use Rattle.stored_distances.proofs.leaf_wrong.Statement.{statement}
+use Rattle.stored_distances.proofs.leaf_wrong.Tie as tie
+use Rattle.stored_distances.specs.Leaves.{leafWrong}
 use Rattle.laws.proofs.First.{first-none, search-start}
 use Rattle.laws.specs.First.{First}
 use Rattle.measure.specs.Table.{between}
