@@ -1,19 +1,20 @@
 -- The contract: on a refusal, and past all of them. Assumes nothing.
 use Prim.Native.Nat.{_*_, _<_, _≤_, ℕ}
+use Rattle.audit_refusals.proofs.Keeping.{early-keeps}
 use Rattle.audit.proofs.Faults.{Late, faults-late}
 use Rattle.audit.specs.Calls.{Checks}
-use Rattle.audit.specs.Workspace.{clears}
+use Rattle.audit_refusals.specs.Workspace.{clears}
 use Rattle.buffers.specs.Wiped.{wiped}
 use Rattle.laws.specs.Every.{Every}
 use Rattle.limits.proofs.Faults.{Early, early-numbered, early-placeless, early-unfound, numberOf, says-first, says-next}
 use Rattle.limits.specs.Limits.{within}
 use Rattle.limits.specs.Said.{Said, said}
 use Rattle.measure.specs.Table.{between, rowsOf}
-use Rattle.audit.specs.Numbers.{checkAsks, refusals, saidCheck}
+use Rattle.audit_refusals.specs.Numbers.{checkAsks, refusals, saidCheck}
 use Rattle.refusals.proofs.Refusals.{call-early}
 use Rattle.tree.specs.Check.{faults}
 use Rattle.words.specs.Words.{circles#, n#}
-use borrow.Author.Tests.{leb-true, lt-leb, ne-eqb}
+use borrow.Author.Tests.{leb-true, lt-leb}
 use lib.Dec.{eqb, leb}
 use lib.ListN.{length}
 use mathlib.Core.Bool.{Bool, _&&_, cond, false, or-true, true}
@@ -28,18 +29,10 @@ unfolding saidCheck
 said-check T c w room = refl
 
 -- ---- the workspace
--- 19 leaves it
-nineteen-keeps : clears 19 ≡ false
-nineteen-keeps = refl
-
 -- 0 and the numbers of the passes clear it
 late-clears : (l : List Said) → Every Late l → clears (said l .0) ≡ true
 late-clears [] h = refl
 late-clears (s ∷ l) h = rw (h .0) (or-true (eqb (s .0) 0))
-
--- the numbers of the refusals leave it
-early-keeps : (r : ℕ) → (r ≡ 0 → ⊥) → within 10 13 r ≡ false → clears r ≡ false
-early-keeps r h q = rw (ne-eqb r 0 h, q)
 
 -- a number that is at least 10 only where it is above 13 is none of 10 to 13
 pub unfound : (k : ℕ) → (10 ≤ k → 13 < k) → within 10 13 k ≡ false

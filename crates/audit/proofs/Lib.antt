@@ -1,6 +1,4 @@
 pub mod Wiping
-pub mod Marks
-pub mod Distances
 pub mod Faults
 pub mod Contract
 pub mod Theorems

@@ -3,8 +3,8 @@ use Prim.Native.Nat.{_*_, _<_, _≤_, ℕ}
 use Rattle.audit.proofs.Contract.{said-check, unfound}
 use Rattle.audit.proofs.Faults.{Late, Small, faults-late, faults-small}
 use Rattle.audit.specs.Calls.{Checks, Passed}
-use Rattle.audit.specs.Numbers.{checkAsks, refusals}
-use Rattle.audit.specs.Workspace.{clears}
+use Rattle.audit_refusals.specs.Numbers.{checkAsks, refusals}
+use Rattle.audit_refusals.specs.Workspace.{clears}
 use Rattle.buffers.specs.Wiped.{wiped}
 use Rattle.laws.proofs.Every.{every-of}
 use Rattle.laws.specs.Every.{Every}

@@ -1,6 +1,6 @@
 -- The workspace, wiped before the marks and after them. Assumes nothing.
 use Prim.Native.Nat.{_*_, _+_, _-_, _<_, _≤_, ℕ}
-use Rattle.audit.specs.Workspace.{Clear}
+use Rattle.repeated_rows.specs.Zeros.{Clear}
 use Rattle.buffers.specs.Wiped.{wiped}
 use lib.ListN.{List·getD-append, drop, getD-replicate, length, length-append, length-drop, length-replicate, replicate}
 use lib.Seq.{drop-at, drop-drop}

@@ -1,10 +1,10 @@
 -- THE FULL CHECK'S CONTRACT, and what its 0 stands for: 01, The tree, full check, and Numbers given back. Assumes nothing.
 use Prim.Native.Nat.{_%_, _*_, _≤_, ℕ}
-use Rattle.audit.specs.Workspace.{clears}
+use Rattle.audit_refusals.specs.Workspace.{clears}
 use Rattle.buffers.specs.Wiped.{wiped}
 use Rattle.limits.specs.Limits.{maxColumns, maxRows}
 use Rattle.measure.specs.Table.{between, offCircle, rowsOf}
-use Rattle.audit.specs.Numbers.{saidCheck}
+use Rattle.audit_refusals.specs.Numbers.{saidCheck}
 use Rattle.tree.specs.Check.{Accepted}
 use Rattle.words.specs.Words.{c#, circles#, edition#, n#}
 use lib.ListN.{length}

@@ -1,4 +1,2 @@
-pub mod Numbers
-pub mod Workspace
 pub mod Passes
 pub mod Calls

@@ -1,15 +1,12 @@
--- The tests of the full check as the passes make them. Over the distance d between rows. A working notion, on which no promise
+-- What the passes of the full check find, one after the other. Over the distance d between rows. A working notion, on which no promise
 -- rests. Assumes nothing.
 use Prim.Native.Nat.{ℕ}
 use Rattle.audit.specs.declared.Checked.{Checked}
 use Rattle.laws.specs.Lists.{keep, range}
 use Rattle.limits.specs.Said.{Said}
 use Rattle.nearness.specs.Strays.{allStrays}
-use Rattle.tree.specs.Check.{inRun, wrongDist, wrongReach}
-use Rattle.words.specs.Shape.{inner}
-use Rattle.words.specs.Words.{N#, dist#, first#, n#, row#}
-use lib.Dec.{eqb}
-use mathlib.Core.Bool.{Bool, _&&_, not}
+use Rattle.tree.specs.Check.{wrongDist, wrongReach}
+use Rattle.words.specs.Words.{N#, n#}
 use mathlib.Core.List.{List, _++_, map}
 
 -- what the code hands back, as a number and two places
@@ -17,10 +14,6 @@ abbrev pub told : Checked → Said
 told r = (r .number, r .place, r .second)
 
 module _ (d : ℕ → ℕ → ℕ) (w : List ℕ) where
-  -- 11, of one node: it is a leaf with position p, whose stored distance is wrong
-  unfoldable pub leafWrong : ℕ → ℕ → Bool
-  leafWrong k p = not (inner w k) && inRun w p k && not (eqb (dist# w p) (d (first# w k) (row# w p)))
-
   -- 11 to 13: the faults that distances show
   unfoldable pub measuredFaults : List Said
   measuredFaults =

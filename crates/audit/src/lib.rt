@@ -1,11 +1,7 @@
 // The full check: it takes an index from anyone, and names its first fault.
-mod leaves;
-mod repeats;
-
 ghost use Prim.Native.Nat.{_*_, _≤_};
 ghost use Rattle.audit.specs.Calls.{Checks};
 ghost use Rattle.audit.specs.Passes.{measuredFaults, told};
-ghost use Rattle.audit.specs.Numbers.{refusals};
 ghost use Rattle.buffers.specs.Wiped.{wiped};
 ghost use Rattle.limits.specs.Said.{said};
 ghost use Rattle.measure.specs.Space.{Space};
@@ -15,15 +11,12 @@ ghost use Rattle.tree.specs.Tested.{Tested};
 ghost use Rattle.words.specs.Words.{circles#, n#};
 ghost use lib.ListN.{length};
 ghost use mathlib.Core.Path.{_≡_};
+use audit_refusals::check_number;
 use buffers::clear_words;
-use leaves::first_wrong_distance;
-use limits::Asked;
-use limits::is_short;
-use limits::rows_in;
 use nearness::closeness;
 use reach::radii::first_wrong_reach;
-use refusals::refusal;
-use repeats::first_again;
+use repeated_rows::first_again;
+use stored_distances::first_wrong_distance;
 use words::places::nodes;
 use words::places::rows;
 
@@ -32,22 +25,6 @@ pub struct Checked {
     pub number: u32,
     pub place: usize,
     pub second: usize,
-}
-
-// 1 to 9 and 19: what refuses the call before the passes, or 0. `room` is the workspace's length. A check has no query: an empty part stands for it.
-fn refusal_of(table: &[u16], c: usize, index: &[u32], room: usize) -> u32
-    ensures { λ r. ⌜ r ≡ said (refusals (now (table .entry)) c (now (index .entry)) room) .0 ⌝ }
-{
-    let n = rows_in(table.len(), c);
-    let asked = Asked {
-        length: table.len(),
-        columns: c,
-        unfit: false,
-        short: is_short(room, 6, n),
-        unlike: false,
-        none: false,
-    };
-    refusal(asked, table, index, &table[..0])
 }
 
 // 11 to 13: the first fault that distances show, or 0.
@@ -106,7 +83,7 @@ fn first_fault(table: &[u16], c: usize, index: &[u32], work: &mut [u32]) -> Chec
 pub fn check(table: &[u16], c: usize, index: &[u32], work: &mut [u32]) -> Checked
     ensures { λ r. ⌜ Checks (now (table .entry)) c (now (index .entry)) (now (work .entry)) (now (work .exit)) (r .number) (r .place) (r .second) ⌝ }
 {
-    let number = refusal_of(table, c, index, work.len());
+    let number = check_number(table, c, index, work.len());
     if number != 0 {
         return Checked {
             number,

@@ -5,7 +5,7 @@ use Rattle.card.proofs.RoundTrip.{inner-own, own-alike, own-shape}
 use Rattle.limits.specs.Said.{Said, fault, numberFaults, said}
 use Rattle.meaning.proofs.SameFaults.{faults-same}
 use Rattle.measure.specs.Table.{between, rowsOf}
-use Rattle.audit.specs.Numbers.{checkAsks, saidCheck}
+use Rattle.audit_refusals.specs.Numbers.{checkAsks, saidCheck}
 use Rattle.tree.specs.Check.{faults}
 use Rattle.words.proofs.Headers.{edition-two, good-words, words-whole}
 use Rattle.words.proofs.InShape.{header-possible, in-shape, whole}

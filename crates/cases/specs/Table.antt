@@ -1,6 +1,6 @@
 -- The cases of 01, The five-row table, as one table: those marked P, and ours where P would let a wrong reading pass. Assumes nothing.
 use Prim.Native.Nat.{ℕ}
-use Rattle.audit.specs.Numbers.{saidCheck}
+use Rattle.audit_refusals.specs.Numbers.{saidCheck}
 use Rattle.build_refusals.specs.Numbers.{saidBuild}
 use Rattle.blocks.specs.Blocks.{checkFrom, checkWord, rotate, step, window}
 use Rattle.laws.specs.Upto.{sumTo}

@@ -1,8 +1,9 @@
 -- The marks at a node of an index in shape, by its words: swept, closed, an opened leaf's or an opened inner node's. Assumes nothing.
 use Prim.Native.Nat.{_+_, _-_, _<_, _≤_, suc, zero, ℕ}
-use Rattle.descent.specs.Descent.{fateMarks, fateOf, kidMarks, nodeMarks}
-use Rattle.descent.specs.declared.fate.Fate.the-variants.{Closed, Opened, Swept}
-use Rattle.descent.specs.declared.fate.Fate.{Fate}
+use Rattle.descent.specs.Descent.{fateMarks, kidMarks, nodeMarks}
+use Rattle.fates.specs.Settling.{fateOf}
+use Rattle.fates.specs.declared.Fate.the-variants.{Closed, Opened, Swept}
+use Rattle.fates.specs.declared.Fate.{Fate}
 use Rattle.laws.proofs.Lists.{map-map, paired, rest-map}
 use Rattle.laws.proofs.Maps.{map-agree, map-each}
 use Rattle.laws.proofs.Times.{lefts}

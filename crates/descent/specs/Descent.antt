@@ -1,35 +1,19 @@
--- The descent by the words of the index: what becomes of a node, and the marks of its rows. A working notion, on which no promise rests.
+-- The descent by the words of the index: the marks of a node's rows. A working notion, on which no promise rests.
 -- Assumes nothing.
-use Prim.Native.Nat.{_+_, ℕ}
-use Rattle.descent.specs.declared.fate.Fate.the-variants.{Closed, Opened, Swept}
-use Rattle.descent.specs.declared.fate.Fate.{Fate}
-use Rattle.marking.specs.Marks.{firstAt, leastFrom, sweptAt}
-use Rattle.marking.specs.Listed.{Leaves, span}
+use Prim.Native.Nat.{ℕ}
+use Rattle.fates.specs.declared.Fate.the-variants.{Closed, Opened, Swept}
+use Rattle.fates.specs.declared.Fate.{Fate}
+use Rattle.marking.specs.Marks.{firstAt, leastFrom}
 use Rattle.tree.specs.Grove.{bare, reach#, treeAt}
 use Rattle.tree.specs.Homes.{childBound}
 use Rattle.tree.specs.Radius.{marksIn}
-use Rattle.words.specs.Words.{count#, start#}
-use lib.Dec.{leb, ltb}
-use mathlib.Core.Bool.{Bool, cond}
 use mathlib.Core.List.{List, map}
-use mathlib.Core.Path.{_≡_}
-
--- 01, Which rows are measured, Radius: a node whose first is at x, with the radius R and the bound b, in this order: x + R ≤ r, it is swept;
--- bound > r, it is closed; else opened
-unfoldable pub fateOf : ℕ → ℕ → ℕ → ℕ → Fate
-fateOf x R b r = cond (leb (x + R) r) Swept (cond (ltb r b) Closed Opened)
 
 -- the how-bytes of each case for all rows but the first: 2, in unmeasured; 0, out unmeasured; or what opening the node gives
 abbrev pub fateMarks : List ℕ → List (ℕ × ℕ) → Fate → List (ℕ × ℕ)
 fateMarks others opened Swept = map (λ i. (i, 2)) others
 fateMarks others opened Closed = map (λ i. (i, 0)) others
 fateMarks others opened Opened = opened
-
--- what is left once the fate of node k is known, those rows being gone: of these cases only the swept one stores, and it lists no distance
-abbrev pub Settled : (ℕ → Bool) → List ℕ → ℕ → Fate → List ℕ → List ℕ → List ℕ → List ℕ → Type 0
-Settled gone w k Swept h h′ l l′ = Leaves gone (λ (i : ℕ). 0) (span (sweptAt w) (start# w k + 1) (start# w k + count# w k)) h h′ l l′
-Settled gone w k Closed h h′ l l′ = (h′ ≡ h) × (l′ ≡ l)
-Settled gone w k Opened h h′ l l′ = (h′ ≡ h) × (l′ ≡ l)
 
 module _ (x : ℕ → ℕ) (r : ℕ) (w : List ℕ) where
   -- the marks of the rows of node k but its first, with the bound b and `levels` left below it

@@ -1,7 +1,8 @@
 // The descent: an opened node's rows, and then its children, each of which is swept, closed or opened.
 ghost use Prim.Native.Nat.{_<_, _≤_};
-ghost use Rattle.descent.specs.Descent.{fateOf, nodeMarks};
-ghost use Rattle.descent.specs.declared.fate.Fate.the-variants.{Opened};
+ghost use Rattle.descent.specs.Descent.{nodeMarks};
+ghost use Rattle.fates.specs.Settling.{fateOf};
+ghost use Rattle.fates.specs.declared.Fate.the-variants.{Opened};
 ghost use Rattle.limits.specs.Limits.{maxDistance};
 ghost use Rattle.marking.specs.Lent.{Lent};
 ghost use Rattle.marking.specs.Listed.{Leaves};
@@ -11,9 +12,9 @@ ghost use Rattle.rowset.specs.Sets.{isIn};
 ghost use Rattle.words.specs.InShape.{Left};
 ghost use Rattle.words.specs.Words.{N#, circles#, radius#};
 ghost use mathlib.Core.Path.{_≡_};
-use crate::fate::Fate;
-use crate::fate::settle;
 use bounds::kid_bound;
+use fates::Fate;
+use fates::settle;
 use opened::centres::least_of;
 use opened::centres::open_inner;
 use opened::leaf::open_leaf;

@@ -8,8 +8,8 @@ ghost use Rattle.tree.specs.Radius.{marks};
 ghost use Rattle.words.specs.Words.{circles#};
 ghost use mathlib.Core.Path.{_≡_};
 use crate::descent::descend;
-use crate::fate::Fate;
-use crate::fate::fate_of;
+use fates::Fate;
+use fates::fate_of;
 use limits::Params;
 use marking::row::mark_measured;
 use row_distances::query_distance;
@@ -20,7 +20,6 @@ use words::places::node_radius;
 use words::places::nodes;
 
 mod descent;
-mod fate;
 
 // The search, with what is lent known to fit the index: so that many searches take one test. A withdrawn row is measured as any other, and
 // never in; the set may have any length, and a row beyond its words is not withdrawn. Of the how-bytes and the list each may be empty, and

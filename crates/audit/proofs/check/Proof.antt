@@ -3,7 +3,7 @@
 use Rattle.audit.proofs.Contract.{refused, taken}
 use Rattle.audit.proofs.check.Statement.{statement}
 use Rattle.audit.proofs.check.Tie as tie
-use Rattle.audit.specs.Numbers.{checkAsks}
+use Rattle.audit_refusals.specs.Numbers.{checkAsks}
 use Prim.Native.Nat.{_*_}
 use Rattle.limits.specs.Said.{said}
 use Rattle.limits.specs.declared.Asked.{Asked}
@@ -28,7 +28,7 @@ asks s = checkAsks (s .args .table .now) (s .args .c) (length (s .args .work .no
 
 -- there is no refusal in that branch
 none : (c : tie.Else1) → said (callFaults (asks (start c)) (start c .args .table .now) (start c .args .index .now) []) .0 ≡ 0
-none c = sym (c .before .refusal-of .ensures) ∙ c .if1 .left
+none c = sym (c .before .check-number .ensures) ∙ c .if1 .left
 
 -- table, workspace and index are what the passes need
 going : (c : tie.Else1) → Clear (asks (start c)) (start c .args .table .now) (start c .args .index .now) []
@@ -37,7 +37,7 @@ going c = clear (asks (start c)) (start c .args .table .now) (start c .args .ind
 returns : tie.Need-returns
 returns c =
     let a = c .before .before .before .before .before .args in
-    refused (a .table .now) (a .c) (a .index .now) (a .work .now) (c .before .refusal-of .ensures) (c .if1 .taken)
+    refused (a .table .now) (a .c) (a .index .now) (a .work .now) (c .before .check-number .ensures) (c .if1 .taken)
 
 first-fault-requires : tie.Need-first-fault-requires
 first-fault-requires c κs =

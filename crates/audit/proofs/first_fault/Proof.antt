@@ -5,7 +5,7 @@ use Rattle.audit.proofs.Faults.{again-found, again-none}
 use Rattle.audit.proofs.Wiping.{wiped-again, wiped-clear}
 use Rattle.audit.proofs.first_fault.Statement.{statement}
 use Rattle.audit.proofs.first_fault.Tie as tie
-use Rattle.audit.specs.Workspace.{Clear}
+use Rattle.repeated_rows.specs.Zeros.{Clear}
 use Rattle.buffers.specs.Wiped.{wiped}
 use Rattle.measure.specs.Table.{between}
 use Rattle.words.specs.Words.{circles#, n#}

@@ -1,10 +1,11 @@
 -- `descent::search` meets its contract: the root's first is marked, and the root swept or descended, which are the tree's marks in their order.
 -- Assumes nothing.
 use Prim.Native.Nat.{_<_, ℕ}
-use Rattle.descent.proofs.Ways.{not-opened-swept, root-did, root-none, root-opened, settled-did, swept-did}
+use Rattle.descent.proofs.Ways.{root-did, root-none, settled-did}
 use Rattle.descent.proofs.search.Statement.{statement}
 use Rattle.descent.proofs.search.Tie as tie
-use Rattle.descent.specs.Descent.{fateOf}
+use Rattle.fates.proofs.Settling.{not-opened-swept, root-opened, swept-did}
+use Rattle.fates.specs.Settling.{fateOf}
 use Rattle.limits.specs.Limits.{maxDepth}
 use Rattle.marking.proofs.Did.{centre-did}
 use Rattle.marking.proofs.Fitted.{lent-same, measurable}

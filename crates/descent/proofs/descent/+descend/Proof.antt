@@ -3,8 +3,9 @@
 use borrow.Author.Needs.{needs}
 use Prim.Native.Nat.{_+_, _-_, _<_, _≤_, ℕ}
 use Rattle.descent.proofs.Below.{Below, below}
-use Rattle.descent.proofs.Ways.{child-did, inner-opened, leaf-opened, not-opened, settled-did, still-opened}
+use Rattle.descent.proofs.Ways.{child-did, inner-opened, leaf-opened, settled-did}
 use Rattle.descent.specs.Descent.{kidMarks}
+use Rattle.fates.proofs.Settling.{not-opened, still-opened}
 use Rattle.marking.proofs.Fitted.{lent-same}
 use Rattle.marking.proofs.Listed.{leaves-as, leaves-from, leaves-then, span-end, span-next, span-none}
 use Rattle.marking.specs.Lent.{Lent}
@@ -24,7 +25,7 @@ use borrow.Fn.PlainCycle.{Measures, is, falls, and}
 use Rattle.descent.proofs.descent.descend.Reads as descend
 use Rattle.descent.proofs.descent.descend.Kinds as descend-kinds
 use Rattle.descent.proofs.descent.+descend.Lts-descend as descend-lts
-use Rattle.descent.proofs.fate.settle.Reads as settle-reads
+use Rattle.fates.proofs.settle.Reads as settle-reads
 use Rattle.opened.proofs.centres.least_of.Reads as least-of-reads
 use Rattle.opened.proofs.centres.open_inner.Reads as open-inner-reads
 use Rattle.opened.proofs.leaf.open_leaf.Reads as open-leaf-reads
