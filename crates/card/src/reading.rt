@@ -1,6 +1,6 @@
 // A card read over its table: an edition 2 index, whatever the card's edition. Nothing of the room is touched before every test has passed.
 ghost use Prim.Native.Nat.{_*_, _+_, _≤_};
-ghost use Rattle.card_widen.specs.Tabled.{Tabled};
+ghost use Rattle.card_members.specs.Tabled.{Tabled};
 ghost use Rattle.card_words.specs.Cards.{Carded, Held};
 ghost use Rattle.card.specs.Calls.{CardTested, cardFaults, readTotal, readWords};
 ghost use Rattle.limits.specs.Said.{numberFaults, said, tabled};
