@@ -1,7 +1,8 @@
 -- The call's two ends: a refusal, and the index in the room. Assumes nothing.
 use Prim.Native.Nat.{ℕ}
-use Rattle.card.proofs.Refusals.{Clear, clear}
-use Rattle.card.specs.Calls.{CardTested, Reads, readTotal, readWords}
+use Rattle.card_refusals.proofs.Refusals.{Clear, clear}
+use Rattle.card_refusals.specs.Tests.{CardTested, readTotal}
+use Rattle.card.specs.Calls.{Reads, readWords}
 use borrow.Author.Tests.{eq-eqb, ne-eqb}
 use lib.Dec.{eqb}
 use lib.ListN.{drop, length}

@@ -2,9 +2,10 @@
 use Prim.Native.Nat.{_%_, _/_, _<_, _^_, _≤_, ℕ}
 use Rattle.blocks.proofs.Wrong.{lowest-le}
 use Rattle.blocks.specs.Blocks.{blockGood}
-use Rattle.card.proofs.Refusals.{said-image}
+use Rattle.card_refusals.proofs.Refusals.{said-image}
 use Rattle.card.proofs.Theorems.{read-refused}
-use Rattle.card.specs.Calls.{Reads, saidRead}
+use Rattle.card_refusals.specs.Tests.{saidRead}
+use Rattle.card.specs.Calls.{Reads}
 use Rattle.image.proofs.Found.{one-block, one-word, wrong-first, wrong-said}
 use Rattle.image.proofs.OneByte.{one-byte-said}
 use Rattle.image.specs.Below.{Below}

@@ -4,7 +4,8 @@ use Rattle.blocks.specs.Blocks.{imageWords}
 use Rattle.card_widen.specs.Parts.{wideLong, withWide}
 use Rattle.card_words.proofs.Cards.{card-long, card-total}
 use Rattle.card_words.specs.Cards.{Held, cardWords}
-use Rattle.card.specs.Calls.{readTotal, readWords}
+use Rattle.card_refusals.specs.Tests.{readTotal}
+use Rattle.card.specs.Calls.{readWords}
 use Rattle.image.specs.Image.{imageTotal}
 use Rattle.measure.specs.Table.{between}
 use Rattle.tree.specs.Widen.{widen}

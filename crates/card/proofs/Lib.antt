@@ -1,5 +1,4 @@
 pub mod Filling
-pub mod Refusals
 pub mod Contract
 pub mod Theorems
 pub mod Damage

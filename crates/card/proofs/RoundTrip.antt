@@ -2,9 +2,10 @@
 use Prim.Native.Nat.{_*_, _+_, _<_, _^_, _≤_, ℕ}
 use Rattle.card_words.specs.Cards.{cardWords}
 use Rattle.card.proofs.Filling.{total-wide}
-use Rattle.card.proofs.Refusals.{Clear}
+use Rattle.card_refusals.proofs.Refusals.{Clear}
 use Rattle.card.proofs.Theorems.{read-count, read-own, read-room, read-taken}
-use Rattle.card.specs.Calls.{Reads, readTotal}
+use Rattle.card_refusals.specs.Tests.{readTotal}
+use Rattle.card.specs.Calls.{Reads}
 use Rattle.image.proofs.RoundTrip.{image-sound, image-words, written-image, written-ok}
 use Rattle.image.specs.Below.{Below}
 use Rattle.image.specs.Calls.{Writes}

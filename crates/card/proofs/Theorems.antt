@@ -4,8 +4,9 @@ use Rattle.card_widen.proofs.Writing.{widen-long}
 use Rattle.card_words.proofs.Cards.{card-long}
 use Rattle.card_words.specs.Cards.{Held, cardWords}
 use Rattle.card.proofs.Filling.{total-same, total-wide}
-use Rattle.card.proofs.Refusals.{Clear, clear, clear-none, clear-tabled, placeless}
-use Rattle.card.specs.Calls.{Reads, readTotal, readWords}
+use Rattle.card_refusals.proofs.Refusals.{Clear, clear, clear-none, clear-tabled, placeless}
+use Rattle.card_refusals.specs.Tests.{readTotal}
+use Rattle.card.specs.Calls.{Reads, readWords}
 use Rattle.laws.specs.Every.{Every}
 use Rattle.limits.proofs.Numbers.{sized-columns}
 use Rattle.limits.specs.Limits.{circlesOk, maxRows, shareOk}

@@ -3,7 +3,8 @@ use Prim.Native.Nat.{ℕ}
 use Rattle.blocks.specs.Blocks.{block, blockGood, blocks, blocksFor, bytes, checkFrom, checkWord}
 use Rattle.blocks.specs.Blocks.{imageWord, imageWords, rotate, step, window, wordAt, wordsAt}
 use Rattle.card_words.specs.Cards.{cardWords}
-use Rattle.card.specs.Calls.{readTotal, readWords, saidRead}
+use Rattle.card_refusals.specs.Tests.{readTotal, saidRead}
+use Rattle.card.specs.Calls.{readWords}
 use Rattle.image.specs.Image.{image, imageFaults, imageTotal}
 use Rattle.laws.specs.Lists.{same}
 use Rattle.laws.specs.Upto.{sumTo}

@@ -1,16 +1,10 @@
 // Reading a card over its table, as a call: the tests, and the index in the room.
 ghost use Rattle.card.specs.Calls.{Reads};
 use crate::reading::put_index;
-use crate::reading::refusal_of;
+use card_refusals::Read;
+use card_refusals::refusal_of;
 
 mod reading;
-
-// What reading says: a number, the block that it names, and how many words it read.
-pub struct Read {
-    pub number: u32,
-    pub place: usize,
-    pub words: usize,
-}
 
 // Reads a card over its table, of c columns, to the front of the room. The index need not be accepted: one in shape is enough.
 pub fn read_image(image: &[u8], table: &[u16], c: usize, room: &mut [u32]) -> Read

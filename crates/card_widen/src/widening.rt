@@ -1,14 +1,14 @@
 // An edition 1 card's index in edition 2's words, written to a room: the header, the nodes with their inner reach, the positions.
 ghost use Prim.Native.Nat.{_*_, _+_, _≤_};
+ghost use Rattle.card_members.specs.Tabled.{Tabled};
 ghost use Rattle.card_widen.specs.Parts.{topOf, wideLong, withNodes, withPairs, withWide};
-ghost use Rattle.card_widen.specs.Tabled.{Tabled};
 ghost use Rattle.card_words.specs.Cards.{Held, cardWords};
 ghost use Rattle.measure.specs.Table.{between};
 ghost use Rattle.words.specs.Words.{N#, circles#, headerWords, n#};
 ghost use lib.ListN.{drop, length};
 ghost use mathlib.Core.List.{_++_};
 ghost use mathlib.Core.Path.{_≡_};
-use crate::members::card_nearest;
+use card_members::card_nearest;
 use card_words::places::card_child;
 use card_words::places::card_count;
 use card_words::places::card_nodes;

@@ -1,7 +1,7 @@
 -- `card::read_image` meets its contract: the call is refused, or past all refusals the index is put into the room.
 -- Assumes nothing.
 use Rattle.card.proofs.Contract.{counts, passed, refused, taken}
-use Rattle.card.proofs.Refusals.{clear-tabled}
+use Rattle.card_refusals.proofs.Refusals.{clear-tabled}
 use Rattle.card.proofs.read_image.Statement.{statement}
 use Rattle.card.proofs.read_image.Tie as tie
 use borrow.Author.Needs.{needs}

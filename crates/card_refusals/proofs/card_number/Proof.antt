@@ -1,11 +1,11 @@
--- `card::reading::card_number` meets its contract: each return is one end of the test, in its order.
+-- `card_refusals::card_number` meets its contract: each return is one end of the test, in its order.
 -- Assumes nothing.
 use Prim.Native.Nat.{ℕ}
 use Rattle.card_words.proofs.Cards.{card-held}
 use Rattle.card_words.specs.Cards.{cardWords}
-use Rattle.card.proofs.Refusals.{by-fit, by-off}
-use Rattle.card.proofs.reading.card_number.Statement.{statement}
-use Rattle.card.proofs.reading.card_number.Tie as tie
+use Rattle.card_refusals.proofs.Refusals.{by-fit, by-off}
+use Rattle.card_refusals.proofs.card_number.Statement.{statement}
+use Rattle.card_refusals.proofs.card_number.Tie as tie
 use Rattle.laws.proofs.Tests.{no, yes}
 use Rattle.limits.specs.Said.{Said, fault, said}
 use Rattle.measure.specs.Table.{rowsOf}

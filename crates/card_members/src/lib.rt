@@ -1,6 +1,6 @@
 // How near a node's members are to its first: a card gives the row numbers, the table the distances.
 ghost use Prim.Native.Nat.{_<_};
-ghost use Rattle.card_widen.specs.Tabled.{Tabled};
+ghost use Rattle.card_members.specs.Tabled.{Tabled};
 ghost use Rattle.card_words.specs.Cards.{cardWords};
 ghost use Rattle.measure.specs.Table.{between};
 ghost use Rattle.tree.specs.Check.{nearest#};

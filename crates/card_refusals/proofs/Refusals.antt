@@ -1,10 +1,10 @@
 -- Why a reading is refused: one law for each return of the code, and what holds where nothing is refused. Assumes nothing.
 use Prim.Native.Nat.{_<_, _≤_, ℕ}
-use Rattle.card_widen.proofs.Tabled.{card-tabled}
-use Rattle.card_widen.specs.Tabled.{Tabled}
+use Rattle.card_members.proofs.Tabled.{card-tabled}
+use Rattle.card_members.specs.Tabled.{Tabled}
 use Rattle.card_words.proofs.Cards.{carded}
 use Rattle.card_words.specs.Cards.{Carded, cardWords}
-use Rattle.card.specs.Calls.{CardTested, cardFaults, readTotal, saidRead}
+use Rattle.card_refusals.specs.Tests.{CardTested, cardFaults, readTotal, saidRead}
 use Rattle.image.proofs.Refusals.{faults-numbered, faults-placed}
 use Rattle.image.specs.Image.{imageFaults}
 use Rattle.image.specs.Sound.{Sound}

@@ -1,9 +1,9 @@
--- `card_widen::members::card_nearest` meets its contract: the least of what was found and of the rest is the least of all. The measure is what is
+-- `card_members::card_nearest` meets its contract: the least of what was found and of the rest is the least of all. The measure is what is
 -- left of the run.
 -- Assumes nothing.
 use Prim.Native.Nat.{_-_, _<_, ℕ}
-use Rattle.card_widen.proofs.members.card_nearest.Statement.{statement}
-use Rattle.card_widen.proofs.members.card_nearest.Tie as tie
+use Rattle.card_members.proofs.card_nearest.Statement.{statement}
+use Rattle.card_members.proofs.card_nearest.Tie as tie
 use Rattle.card_words.specs.Cards.{cardWords}
 use Rattle.measure.specs.Table.{between}
 use Rattle.tree.proofs.Nearest.{NearTo, near-done, near-next, near-none, near-start}

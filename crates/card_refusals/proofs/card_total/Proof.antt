@@ -1,6 +1,6 @@
-use Rattle.card.proofs.reading.card_total.Statement.{statement}
-use Rattle.card.proofs.reading.card_total.Tie as tie
-use Rattle.card.specs.Calls.{readTotal}
+use Rattle.card_refusals.proofs.card_total.Statement.{statement}
+use Rattle.card_refusals.proofs.card_total.Tie as tie
+use Rattle.card_refusals.specs.Tests.{readTotal}
 use borrow.Author.Needs.{needs}
 
 returns : tie.Need-returns

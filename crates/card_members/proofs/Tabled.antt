@@ -1,6 +1,6 @@
 -- A card whose index is in shape and the table's: its rows lie in the table. Assumes nothing.
 use Prim.Native.Nat.{_*_, _+_, _<_, _≤_, ℕ}
-use Rattle.card_widen.specs.Tabled.{Tabled}
+use Rattle.card_members.specs.Tabled.{Tabled}
 use Rattle.card_words.proofs.Cards.{card-held, card-words}
 use Rattle.card_words.specs.Cards.{Carded, cardWords}
 use Rattle.limits.specs.Limits.{maxColumns}

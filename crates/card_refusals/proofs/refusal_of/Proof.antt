@@ -1,9 +1,9 @@
--- `card::reading::refusal_of` meets its contract: the table's refusals, the image's, the card's and the room's, in that order.
+-- `card_refusals::refusal_of` meets its contract: the table's refusals, the image's, the card's and the room's, in that order.
 -- Assumes nothing.
 use Rattle.card_words.proofs.Cards.{card-held}
-use Rattle.card.proofs.Refusals.{by-card, by-image, by-table, five, image-right, none-refused}
-use Rattle.card.proofs.reading.refusal_of.Statement.{statement}
-use Rattle.card.proofs.reading.refusal_of.Tie as tie
+use Rattle.card_refusals.proofs.Refusals.{by-card, by-image, by-table, five, image-right, none-refused}
+use Rattle.card_refusals.proofs.refusal_of.Statement.{statement}
+use Rattle.card_refusals.proofs.refusal_of.Tie as tie
 use Rattle.limits.proofs.Numbers.{passed}
 use borrow.Author.Needs.{needs}
 use mathlib.Core.Path.{_∙_, sym}

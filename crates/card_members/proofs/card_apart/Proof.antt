@@ -1,8 +1,8 @@
--- `card_widen::members::card_apart` meets its contract: both rows lie in the table.
+-- `card_members::card_apart` meets its contract: both rows lie in the table.
 -- Assumes nothing.
-use Rattle.card_widen.proofs.Tabled.{columns-few, row-there}
-use Rattle.card_widen.proofs.members.card_apart.Statement.{statement}
-use Rattle.card_widen.proofs.members.card_apart.Tie as tie
+use Rattle.card_members.proofs.Tabled.{columns-few, row-there}
+use Rattle.card_members.proofs.card_apart.Statement.{statement}
+use Rattle.card_members.proofs.card_apart.Tie as tie
 use Rattle.measure.specs.Table.{between}
 use borrow.Author.Needs.{needs}
 use mathlib.Core.Path.{_∙_, ap₂}
