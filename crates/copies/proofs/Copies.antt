@@ -1,7 +1,7 @@
--- An old node's words when rows have come to the end of node v's run: what each test of the code says of them; and the room with copies
--- of old nodes behind those that are there. Assumes nothing.
+-- How far an old node reaches when rows have come to the end of node v's run: what each test of the code says of it; and the room with copies of old
+-- nodes behind those that are there. Assumes nothing.
 use Prim.Native.Nat.{_*_, _+_, _-_, _<_, _≤_, max, min, ℕ}
-use Rattle.copies.specs.Copies.{Change, Numbers, copied, end#, holds, newChild, newCount, newReach, newStart, withCopies}
+use Rattle.copies.specs.Copies.{Change, Numbers, copied, newReach, withCopies}
 use Rattle.laws.proofs.Joins.{each-append}
 use Rattle.laws.proofs.Lists.{map-append}
 use Rattle.laws.proofs.Parts.{put-more}
@@ -10,11 +10,12 @@ use Rattle.laws.specs.Lists.{each, lower, range}
 use Rattle.limits.specs.Limits.{maxColumns}
 use Rattle.measure.proofs.Rows.{row-ends}
 use Rattle.measure.specs.Table.{between}
+use Rattle.moved_runs.specs.Runs.{holds, newChild, newCount, newStart}
 use Rattle.split.specs.Places.{nodeAt}
 use Rattle.tree.proofs.Written.{each-words}
 use Rattle.tree.specs.Encode.{Node, nodeWords}
-use Rattle.words.specs.Words.{c#, child#, circles#, count#, first#, inner#, n#, radius#, start#}
-use borrow.Author.Tests.{eq-eqb, eqb-false, eqb-true, le-leb, lt-leb, lt-ltb, ne-eqb}
+use Rattle.words.specs.Words.{c#, circles#, count#, first#, inner#, n#, radius#}
+use borrow.Author.Tests.{eqb-false, eqb-true, le-leb, lt-leb, lt-ltb}
 use borrow.Rule.Slice.PartMut.{midOf, putMid}
 use lib.Dec.{eqb, leb}
 use lib.ListN.{drop, length, length-append, length-map, take, take-append-drop}
@@ -25,80 +26,39 @@ use mathlib.Core.Path.{_∙_, _≡_, ap, ap₂, refl, sym}
 use native.Mathlib.Nat.{add-zero}
 use native.Mathlib.Omega.{arith}
 
-module _ (w : List ℕ) (v k : ℕ) where
-  -- ---- whether node k's run holds node v's
-  -- it starts behind
-  pub holds-not : {a b : ℕ} → a ≡ start# w v → b ≡ start# w k → a < b → false ≡ holds w v k
-  unfolding holds
-  holds-not ea eb h = rw (lt-leb (start# w k) (start# w v) (omega arith)) refl
-
-  -- it does not
-  pub holds-is : {a b e f : ℕ} → a ≡ start# w v → b ≡ start# w k → b ≤ a → e ≡ end# w v → f ≡ end# w k → leb e f ≡ holds w v k
-  unfolding holds
-  holds-is ea eb h ee ef = rw (ee, ef, le-leb (start# w k) (start# w v) (omega arith)) refl
-
-  module _ (added : ℕ) where
-    -- ---- its start
-    -- behind node v's run
-    pub start-moved : {s e : ℕ} → s ≡ start# w k → e ≡ end# w v → e ≤ s → s + added ≡ newStart w v added k
-    unfolding newStart
-    start-moved es ee h = rw (es, le-leb (end# w v) (start# w k) (omega arith)) refl
-
-    -- not
-    pub start-stays : {s e : ℕ} → s ≡ start# w k → e ≡ end# w v → s < e → s ≡ newStart w v added k
-    unfolding newStart
-    start-stays es ee h = rw (es, lt-leb (end# w v) (start# w k) (omega arith)) refl
-
-    -- ---- its count
-    pub count-more : {x : ℕ} {b : Bool} → x ≡ count# w k → b ≡ holds w v k → b ≡ true → x + added ≡ newCount w v added k
-    unfolding newCount
-    count-more ex eb h = rw (ex, sym eb ∙ h) refl
-
-    pub count-stays : {x : ℕ} {b : Bool} → x ≡ count# w k → b ≡ holds w v k → b ≡ false → x ≡ newCount w v added k
-    unfolding newCount
-    count-stays ex eb h = rw (ex, sym eb ∙ h) refl
-
-    -- ---- how far it reaches
-    module _ (d : ℕ → ℕ → ℕ) where
-      -- as far as it did: its run stands apart
-      pub reach-apart : {x y : ℕ} {b : Bool} → x ≡ radius# w k → y ≡ inner# w k → b ≡ holds w v k → b ≡ false → Numbers (newReach d w v added k) x y
-      unfolding newReach
-      reach-apart ex ey eb h = rw (sym eb ∙ h) (ex, ey)
-
-      -- or no row has come
-      pub reach-none : {x y : ℕ} {b : Bool} → x ≡ radius# w k → y ≡ inner# w k → b ≡ holds w v k → b ≡ true → added ≡ 0
-          → Numbers (newReach d w v added k) x y
-      unfolding newReach
-      reach-none ex ey eb h z = rw (sym eb ∙ h, z) (ex, ey)
-
-    -- to the row that has come too
-    pub reach-more : (t : List ℕ) {c o x y f n e a r i : ℕ} {b : Bool} → x ≡ radius# w k → y ≡ inner# w k → b ≡ holds w v k → b ≡ true
-        → (added ≡ 0 → ⊥)
-        → f ≡ first# w k → n ≡ n# w → c ≡ c# w → o ≡ circles# w → e ≡ between t c o f n → a ≡ count# w k → 1 ≤ count# w k → r ≡ max x e → i
-        ≡ lower a y e
-        → Numbers (newReach (between t (c# w) (circles# w)) w v added k) r i
+module _ (w : List ℕ) (v k added : ℕ) where
+  -- ---- how far it reaches
+  module _ (d : ℕ → ℕ → ℕ) where
+    -- as far as it did: its run stands apart
+    pub reach-apart : {x y : ℕ} {b : Bool} → x ≡ radius# w k → y ≡ inner# w k → b ≡ holds w v k → b ≡ false → Numbers (newReach d w v added k) x y
     unfolding newReach
-    reach-more t {x = x} {y = y} {e = e} ex ey eb h z ef en ec eo ee ea some er ei =
-        let far : e ≡ between t (c# w) (circles# w) (first# w k) (n# w) = ee ∙ rw (ef, en, ec, eo) refl in
-        let one : leb (count# w k) 1 ≡ eqb (count# w k) 1 = go (eqb (count# w k) 1) refl in
-        rw (sym eb ∙ h, lt-ltb 0 added (omega arith)) (
-          er ∙ ap₂ max ex far,
-          ei ∙ ap (λ (k : ℕ). lower k y e) ea ∙ ap (λ (q : Bool). cond q e (min y e)) one
-              ∙ ap₂ (λ (p q : ℕ). cond (eqb (count# w k) 1) q (min p q)) ey far,
-        )
-      where
-        go : (q : Bool) → eqb (count# w k) 1 ≡ q → leb (count# w k) 1 ≡ q
-        go true q = le-leb (count# w k) 1 (omega (arith, eqb-true (count# w k) 1 q))
-        go false q = lt-leb (count# w k) 1 (omega (arith, eqb-false (count# w k) 1 q, some))
+    reach-apart ex ey eb h = rw (sym eb ∙ h) (ex, ey)
 
-  -- ---- its first child
-  pub child-none : k ≡ v → 0 ≡ newChild w v k
-  unfolding newChild
-  child-none e = rw (eq-eqb k v e) refl
+    -- or no row has come
+    pub reach-none : {x y : ℕ} {b : Bool} → x ≡ radius# w k → y ≡ inner# w k → b ≡ holds w v k → b ≡ true → added ≡ 0
+        → Numbers (newReach d w v added k) x y
+    unfolding newReach
+    reach-none ex ey eb h z = rw (sym eb ∙ h, z) (ex, ey)
 
-  pub child-old : {x : ℕ} → (k ≡ v → ⊥) → x ≡ child# w k → x ≡ newChild w v k
-  unfolding newChild
-  child-old h e = rw (ne-eqb k v h) e
+  -- to the row that has come too
+  pub reach-more : (t : List ℕ) {c o x y f n e a r i : ℕ} {b : Bool} → x ≡ radius# w k → y ≡ inner# w k → b ≡ holds w v k → b ≡ true
+      → (added ≡ 0 → ⊥)
+      → f ≡ first# w k → n ≡ n# w → c ≡ c# w → o ≡ circles# w → e ≡ between t c o f n → a ≡ count# w k → 1 ≤ count# w k → r ≡ max x e → i
+      ≡ lower a y e
+      → Numbers (newReach (between t (c# w) (circles# w)) w v added k) r i
+  unfolding newReach
+  reach-more t {x = x} {y = y} {e = e} ex ey eb h z ef en ec eo ee ea some er ei =
+      let far : e ≡ between t (c# w) (circles# w) (first# w k) (n# w) = ee ∙ rw (ef, en, ec, eo) refl in
+      let one : leb (count# w k) 1 ≡ eqb (count# w k) 1 = go (eqb (count# w k) 1) refl in
+      rw (sym eb ∙ h, lt-ltb 0 added (omega arith)) (
+        er ∙ ap₂ max ex far,
+        ei ∙ ap (λ (k : ℕ). lower k y e) ea ∙ ap (λ (q : Bool). cond q e (min y e)) one
+            ∙ ap₂ (λ (p q : ℕ). cond (eqb (count# w k) 1) q (min p q)) ey far,
+      )
+    where
+      go : (q : Bool) → eqb (count# w k) 1 ≡ q → leb (count# w k) 1 ≡ q
+      go true q = le-leb (count# w k) 1 (omega (arith, eqb-true (count# w k) 1 q))
+      go false q = lt-leb (count# w k) 1 (omega (arith, eqb-false (count# w k) 1 q, some))
 
 -- ---- what is measured
 -- a row of the old index and the first that has come stand in the table

@@ -3,34 +3,19 @@ use Prim.Native.Nat.{_*_, _+_, _<_, _≤_, ℕ}
 use Rattle.appending.specs.Append.{reachWith}
 use Rattle.laws.specs.Lists.{each, range}
 use Rattle.limits.specs.Limits.{maxRows}
+use Rattle.moved_runs.specs.Runs.{holds, newChild, newCount, newStart}
 use Rattle.split.specs.Places.{nodeAt}
 use Rattle.tree.specs.Encode.{Node, nodeWords}
 use Rattle.tree.specs.Grove.{Reach, reach#}
 use Rattle.words.specs.InShape.{InShape}
-use Rattle.words.specs.Words.{N#, c#, child#, count#, edition#, first#, l#, n#, start#}
-use lib.Dec.{eqb, leb, ltb}
+use Rattle.words.specs.Words.{N#, c#, count#, edition#, first#, l#, n#}
+use lib.Dec.{ltb}
 use lib.ListN.{drop, length, take}
-use mathlib.Core.Bool.{Bool, _&&_, cond}
+use mathlib.Core.Bool.{_&&_, cond}
 use mathlib.Core.List.{List, _++_, map}
 use mathlib.Core.Path.{_≡_}
 
--- ---- an old node where it stands when `added` rows have come to the end of node v's run
--- where a node's run ends
-abbrev pub end# : List ℕ → ℕ → ℕ
-end# w k = start# w k + count# w k
-
--- node k's run holds node v's
-unfoldable pub holds : List ℕ → ℕ → ℕ → Bool
-holds w v k = leb (start# w k) (start# w v) && leb (end# w v) (end# w k)
-
--- its start: a run behind node v's has moved
-unfoldable pub newStart : List ℕ → ℕ → ℕ → ℕ → ℕ
-newStart w v added k = cond (leb (end# w v) (start# w k)) (start# w k + added) (start# w k)
-
--- its count
-unfoldable pub newCount : List ℕ → ℕ → ℕ → ℕ → ℕ
-newCount w v added k = cond (holds w v k) (count# w k + added) (count# w k)
-
+-- ---- an old node when `added` rows have come to the end of node v's run
 -- how far it reaches: where its run holds node v's and rows have come, to the first of them too, which is row n of the old index
 unfoldable pub newReach : (ℕ → ℕ → ℕ) → List ℕ → ℕ → ℕ → ℕ → Reach
 newReach d w v added k =
@@ -39,10 +24,6 @@ newReach d w v added k =
 -- the two numbers of a reach
 abbrev pub Numbers : Reach → ℕ → ℕ → Type 0
 Numbers R radius inner = (radius ≡ R .outer) × (inner ≡ R .inner)
-
--- its first child's number in the old index; node v has no child yet
-unfoldable pub newChild : List ℕ → ℕ → ℕ → ℕ
-newChild w v k = cond (eqb k v) 0 (child# w k)
 
 -- its words while it waits
 unfoldable pub copied : (ℕ → ℕ → ℕ) → List ℕ → ℕ → ℕ → ℕ → Node

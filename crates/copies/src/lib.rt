@@ -1,28 +1,28 @@
 // The nodes of an old index copied into the room where it is grown anew: their runs moved, counted and reaching as the rows that have come make them.
-ghost use Prim.Native.Nat.{_*_, _+_, _<_, _≤_};
-ghost use Rattle.copies.specs.Copies.{Change, Numbers, copied, holds, newChild, newCount, newReach, newStart, withCopies};
+ghost use Prim.Native.Nat.{_+_, _<_, _≤_};
+ghost use Rattle.copies.specs.Copies.{Change, Numbers, copied, newReach, withCopies};
 ghost use Rattle.measure.specs.Table.{between};
 ghost use Rattle.split.specs.Places.{nodeAt};
-ghost use Rattle.words.specs.InShape.{InShape};
-ghost use Rattle.words.specs.Words.{N#, c#, circles#, m#, n#};
+ghost use Rattle.words.specs.Words.{N#, c#, circles#, m#};
 ghost use lib.ListN.{length};
 ghost use mathlib.Core.Path.{_≡_};
 use groups::least_of;
 use growing::Reach;
+use moved_runs::child_of;
+use moved_runs::count_of;
+use moved_runs::holds_run;
+use moved_runs::start_of;
 use numbers::larger;
-use reach::node_end;
 use row_distances::row_distance;
 use split::WIDTH;
 use words::places::HEADER;
 use words::places::centres;
 use words::places::circles;
 use words::places::columns;
-use words::places::node_child;
 use words::places::node_count;
 use words::places::node_first;
 use words::places::node_inner;
 use words::places::node_radius;
-use words::places::node_start;
 use words::places::rows;
 use words::writing::put_node;
 
@@ -31,56 +31,6 @@ pub struct Growth {
     pub node: usize,
     pub added: usize,
     pub limit: usize,
-}
-
-// Node k's run holds node v's.
-fn holds_run(index: &[u32], v: usize, k: usize) -> bool
-    requires { ⌜ InShape (now index) ⌝ }
-    requires { ⌜ (v < N# (now index)) × (k < N# (now index)) ⌝ }
-    ensures { λ r. ⌜ r ≡ holds (now (index .entry)) v k ⌝ }
-{
-    if node_start(index, v) < node_start(index, k) {
-        return false;
-    }
-    node_end(index, v) <= node_end(index, k)
-}
-
-// Node k's start when `added` rows have come to the end of node v's run.
-fn start_of(index: &[u32], v: usize, added: usize, k: usize) -> usize
-    requires { ⌜ InShape (now index) ⌝ }
-    requires { ⌜ (v < N# (now index)) × (k < N# (now index)) × (added ≤ 1048576) ⌝ }
-    ensures { λ r. ⌜ (r ≡ newStart (now (index .entry)) v added k) × (r ≤ n# (now (index .entry)) + added) ⌝ }
-{
-    let s = node_start(index, k);
-    if node_end(index, v) <= s {
-        return s + added;
-    }
-    s
-}
-
-// Node k's count then.
-fn count_of(index: &[u32], v: usize, added: usize, k: usize) -> usize
-    requires { ⌜ InShape (now index) ⌝ }
-    requires { ⌜ (v < N# (now index)) × (k < N# (now index)) × (added ≤ 1048576) ⌝ }
-    ensures { λ r. ⌜ (r ≡ newCount (now (index .entry)) v added k) × (r ≤ n# (now (index .entry)) + added) ⌝ }
-{
-    let count = node_count(index, k);
-    if holds_run(index, v, k) {
-        return count + added;
-    }
-    count
-}
-
-// Node k's first child in the old index; node v has none yet.
-fn child_of(index: &[u32], v: usize, k: usize) -> usize
-    requires { ⌜ InShape (now index) ⌝ }
-    requires { ⌜ k < N# (now index) ⌝ }
-    ensures { λ r. ⌜ (r ≡ newChild (now (index .entry)) v k) × (r < 4294967296) ⌝ }
-{
-    if k == v {
-        return 0;
-    }
-    node_child(index, k)
 }
 
 // How far node k reaches then: where its run holds node v's, to the first row that has come too.

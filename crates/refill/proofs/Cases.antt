@@ -1,5 +1,6 @@
 -- The five-row index with one row more, computed: 6 goes to a leaf that stays, 12 to one that is split. Assumes nothing.
-use Rattle.copies.specs.Copies.{holds, newReach}
+use Rattle.copies.specs.Copies.{newReach}
+use Rattle.moved_runs.specs.Runs.{holds}
 use Rattle.laws.specs.Upto.{sumTo}
 use Rattle.leafward.specs.Changed.{changedAt}
 use Rattle.measure.specs.Distance.{l1}

@@ -1,6 +1,7 @@
 -- The positions of the tree that is grown anew: those of the old index before the run and behind it, and its leaves' members between.
 -- Assumes nothing.
-use Rattle.copies.specs.Copies.{end#, newReach}
+use Rattle.copies.specs.Copies.{newReach}
+use Rattle.moved_runs.specs.Runs.{end#}
 use Prim.Native.Nat.{_+_, _-_, _<_, _≤_, suc, zero, ℕ}
 use Rattle.appending.specs.Append.{keepOwn}
 use Rattle.filling.proofs.Positions.{entries-leaves, pairsOf}

@@ -1,5 +1,5 @@
 -- The words of the whole index: header, nodes, positions. Assumes nothing.
-use Rattle.copies.specs.Copies.{end#}
+use Rattle.moved_runs.specs.Runs.{end#}
 use Prim.Native.Nat.{_*_, _+_, _-_, _≤_, ℕ}
 use Rattle.filling.proofs.Framed.{framed}
 use Rattle.filling.proofs.Positions.{pairs-laid, pairsOf}

@@ -1,5 +1,5 @@
 -- The positions' words: copied, and put together from three parts. Assumes nothing.
-use Rattle.copies.specs.Copies.{end#}
+use Rattle.moved_runs.specs.Runs.{end#}
 use Prim.Native.Nat.{_*_, _+_, _-_, _<_, _≤_, suc, zero, ℕ}
 use Rattle.laws.proofs.Parts.{put-more, store-more}
 use Rattle.laws.specs.Lists.{each}

@@ -1,5 +1,5 @@
 -- The index whose tree is grown anew below one node, written into the room. A working notion, on which no promise rests. Assumes nothing.
-use Rattle.copies.specs.Copies.{end#}
+use Rattle.moved_runs.specs.Runs.{end#}
 use Prim.Native.Nat.{_*_, _+_, _-_, _<_, _≤_, ℕ}
 use Rattle.limits.specs.Limits.{maxRows}
 use Rattle.regrow.specs.Calls.{Regrowable, regrownOf}

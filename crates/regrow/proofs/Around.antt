@@ -1,7 +1,8 @@
 -- The old nodes' words when rows have come to the end of node v's run: each run holds node v's or stands apart from it, so that runs follow each
 -- other as before. Assumes nothing.
 use Prim.Native.Nat.{_+_, _-_, _<_, _≤_, suc, zero, ℕ}
-use Rattle.copies.specs.Copies.{copied, end#, newChild, newCount, newStart}
+use Rattle.copies.specs.Copies.{copied}
+use Rattle.moved_runs.specs.Runs.{end#, newChild, newCount, newStart}
 use Rattle.growing.specs.Levels.{Able, Item}
 use Rattle.laws.proofs.Every.{every-map}
 use Rattle.laws.proofs.Ranges.{every-range, range-every, range-length}
@@ -13,7 +14,7 @@ use Rattle.limits.specs.Limits.{maxDepth}
 use Rattle.regrow.proofs.Dues.{both-none}
 use Rattle.regrow.proofs.Found.{child-same, dues, dues-down, j, kids, leaf-few, own-piece, stays-kept}
 use Rattle.regrow.proofs.Rows.{piece-node}
-use Rattle.copies.specs.Copies as copies
+use Rattle.moved_runs.specs.Runs as runs
 use Rattle.regrow.specs.Pieces as pieces
 use Rattle.regrow.specs.Pieces.{Fitting, Follow, due, pending, piece}
 use Rattle.regrow.specs.Stages.{Own}
@@ -66,12 +67,12 @@ module _ (t w : List ℕ) (v added limit : ℕ) (run : List ℕ) (fits : T (tree
 
   -- the count of a run that holds node v's
   count-holds : (k : ℕ) → Holds w v k → J .copy k .1 ≡ count# w k + added
-  unfolding copied newCount copies.holds
+  unfolding copied newCount runs.holds
   count-holds k h = rw (le-leb (start# w k) (start# w v) (h .0), le-leb (end# w v) (end# w k) (h .1)) refl
 
   -- and of one that stands apart
   count-apart : (k : ℕ) → 1 ≤ count# w k → Apart k → J .copy k .1 ≡ count# w k
-  unfolding copied newCount copies.holds
+  unfolding copied newCount runs.holds
   count-apart k c (inl h) = go (leb (start# w k) (start# w v)) (lt-leb (end# w v) (end# w k) (omega (arith, some)))
     where
       go : (b : Bool) → leb (end# w v) (end# w k) ≡ false → cond (b && leb (end# w v) (end# w k)) (count# w k + added) (count# w k) ≡ count# w k

@@ -1,7 +1,8 @@
 -- The tree of an index with one node grown anew, told by pieces; and how far its nodes reach. Assumes nothing.
 use Prim.Native.Nat.{_<_, suc, zero, ℕ}
 use Rattle.appending.specs.Append.{keepOwn}
-use Rattle.copies.specs.Copies.{copied, end#, holds, newReach}
+use Rattle.copies.specs.Copies.{copied, newReach}
+use Rattle.moved_runs.specs.Runs.{end#, holds}
 use Rattle.laws.specs.Lists.{range}
 use Rattle.leafward.specs.Changed.{Holds, NewReach, changedAt}
 use Rattle.measure.specs.Table.{between}

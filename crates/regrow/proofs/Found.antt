@@ -1,6 +1,7 @@
 -- An index in shape comes to each of its nodes once: the run of the node that is grown anew is due at the root, and no other. Assumes nothing.
 use Prim.Native.Nat.{_+_, _-_, _<_, _≤_, suc, zero, ℕ}
-use Rattle.copies.specs.Copies.{copied, newChild}
+use Rattle.copies.specs.Copies.{copied}
+use Rattle.moved_runs.specs.Runs.{newChild}
 use Rattle.growing.specs.Levels.{Item}
 use Rattle.laws.proofs.Joins.{each-append}
 use Rattle.laws.proofs.Lists.{map-append}

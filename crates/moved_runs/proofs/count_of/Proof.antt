@@ -1,8 +1,8 @@
--- `copies::count_of` meets its contract: a run that holds node v's has the added rows, any other has not.
+-- `moved_runs::count_of` meets its contract: a run that holds node v's has the added rows, any other has not.
 -- Assumes nothing.
-use Rattle.copies.proofs.Copies.{count-more, count-stays}
-use Rattle.copies.proofs.count_of.Statement.{statement}
-use Rattle.copies.proofs.count_of.Tie as tie
+use Rattle.moved_runs.proofs.Runs.{count-more, count-stays}
+use Rattle.moved_runs.proofs.count_of.Statement.{statement}
+use Rattle.moved_runs.proofs.count_of.Tie as tie
 use borrow.Author.Needs.{needs}
 use native.Mathlib.Omega.{arith}
 

@@ -1,8 +1,8 @@
--- `copies::holds_run` meets its contract: the two tests are those of `holds`.
+-- `moved_runs::holds_run` meets its contract: the two tests are those of `holds`.
 -- Assumes nothing.
-use Rattle.copies.proofs.Copies.{holds-is, holds-not}
-use Rattle.copies.proofs.holds_run.Statement.{statement}
-use Rattle.copies.proofs.holds_run.Tie as tie
+use Rattle.moved_runs.proofs.Runs.{holds-is, holds-not}
+use Rattle.moved_runs.proofs.holds_run.Statement.{statement}
+use Rattle.moved_runs.proofs.holds_run.Tie as tie
 use borrow.Author.Needs.{needs}
 
 returns : tie.Need-returns

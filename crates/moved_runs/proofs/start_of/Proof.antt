@@ -1,8 +1,8 @@
--- `copies::start_of` meets its contract: a run behind node v's has moved, any other has not.
+-- `moved_runs::start_of` meets its contract: a run behind node v's has moved, any other has not.
 -- Assumes nothing.
-use Rattle.copies.proofs.Copies.{start-moved, start-stays}
-use Rattle.copies.proofs.start_of.Statement.{statement}
-use Rattle.copies.proofs.start_of.Tie as tie
+use Rattle.moved_runs.proofs.Runs.{start-moved, start-stays}
+use Rattle.moved_runs.proofs.start_of.Statement.{statement}
+use Rattle.moved_runs.proofs.start_of.Tie as tie
 use borrow.Author.Needs.{needs}
 use native.Mathlib.Omega.{arith}
 

@@ -1,8 +1,8 @@
--- `copies::child_of` meets its contract: node v has no child yet, any other its old one.
+-- `moved_runs::child_of` meets its contract: node v has no child yet, any other its old one.
 -- Assumes nothing.
-use Rattle.copies.proofs.Copies.{child-none, child-old}
-use Rattle.copies.proofs.child_of.Statement.{statement}
-use Rattle.copies.proofs.child_of.Tie as tie
+use Rattle.moved_runs.proofs.Runs.{child-none, child-old}
+use Rattle.moved_runs.proofs.child_of.Statement.{statement}
+use Rattle.moved_runs.proofs.child_of.Tie as tie
 use borrow.Author.Needs.{needs}
 
 returns : tie.Need-returns
