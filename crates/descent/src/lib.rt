@@ -1,4 +1,4 @@
-// The radius search on words that are known to be right: a descent that calls itself, over the index and the lent table.
+// The radius search on words that are known to be right: the root, and the descent below it, over the index and the lent table.
 ghost use Rattle.marking.specs.Lent.{Lent};
 ghost use Rattle.marking.specs.Listed.{Leaves};
 ghost use Rattle.measure.specs.Table.{from};
@@ -7,7 +7,7 @@ ghost use Rattle.tree.specs.Grove.{treeOf};
 ghost use Rattle.tree.specs.Radius.{marks};
 ghost use Rattle.words.specs.Words.{circles#};
 ghost use mathlib.Core.Path.{_≡_};
-use crate::descent::descend;
+use descending::descend;
 use fates::Fate;
 use fates::fate_of;
 use limits::Params;
@@ -18,8 +18,6 @@ use words::places::circles;
 use words::places::node_first;
 use words::places::node_radius;
 use words::places::nodes;
-
-mod descent;
 
 // The search, with what is lent known to fit the index: so that many searches take one test. A withdrawn row is measured as any other, and
 // never in; the set may have any length, and a row beyond its words is not withdrawn. Of the how-bytes and the list each may be empty, and

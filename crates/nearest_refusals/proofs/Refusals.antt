@@ -2,21 +2,29 @@
 use Prim.Native.Nat.{_*_, _≤_, min, ℕ}
 use Rattle.laws.proofs.Tests.{or-none, or-parts}
 use Rattle.limits.proofs.Faults.{Numbered, early-numbered, fault-not, numberOf, says-first, says-next, says-none}
-use Rattle.limits.specs.Said.{Said, fault, said, tabled}
+use Rattle.limits.specs.Said.{Said, fault, numberFaults, said, tabled}
 use Rattle.limits.specs.declared.Asked.{Asked}
 use Rattle.measure.specs.Table.{rowsOf}
 use Rattle.nearest_refusals.specs.Numbers.{nearestAsks, nearestShort, saidNearest}
 use Rattle.refusals.proofs.Refusals.{Clear, call-early, clear, clear-none}
 use Rattle.refusals.specs.Refused.{callFaults}
 use Rattle.rowset.specs.Sets.{setBad}
+use Rattle.words.specs.Index.{fitFaults}
+use Rattle.words.specs.Words.{wordsOk}
 use borrow.Author.Tests.{eq-eqb, le-ltb, ltb-false, ne-eqb}
 use lib.Dec.{eqb, ltb}
 use lib.ListN.{length}
 use mathlib.Core.Bool.{Bool, _||_, false, not, true}
-use mathlib.Core.List.{List}
+use mathlib.Core.List.{List, [], _∷_}
 use mathlib.Core.Logic.{_≢_}
 use mathlib.Core.Path.{_∙_, _≡_, ap, refl, sym}
 use native.Mathlib.Omega.{arith}
+
+-- of several numbers the lowest is said, computed: of a table with no row and a query of one number, the index has no words, and the set has one too
+-- many
+eight-first : saidNearest [] 1 [] (5 ∷ []) 1 (0 ∷ []) 0 0 0 .0 ≡ 8
+unfolding numberFaults wordsOk fitFaults callFaults setBad saidNearest
+eight-first = refl
 
 -- the rooms that are not too short, and the other way
 pub rooms : (n wanted room how work : ℕ) → nearestShort n wanted room how work ≡ false → (min wanted n ≤ room) × (n ≤ how) × (6 * n ≤ work)

@@ -1,7 +1,7 @@
 -- `descent::search` meets its contract: the root's first is marked, and the root swept or descended, which are the tree's marks in their order.
 -- Assumes nothing.
 use Prim.Native.Nat.{_<_, ℕ}
-use Rattle.descent.proofs.Ways.{root-did, root-none, settled-did}
+use Rattle.descending.proofs.Ways.{root-did, root-none, settled-did}
 use Rattle.descent.proofs.search.Statement.{statement}
 use Rattle.descent.proofs.search.Tie as tie
 use Rattle.fates.proofs.Settling.{not-opened-swept, root-opened, swept-did}

@@ -1,6 +1,6 @@
 // The descent: an opened node's rows, and then its children, each of which is swept, closed or opened.
 ghost use Prim.Native.Nat.{_<_, _≤_};
-ghost use Rattle.descent.specs.Descent.{nodeMarks};
+ghost use Rattle.descending.specs.Descent.{nodeMarks};
 ghost use Rattle.fates.specs.Settling.{fateOf};
 ghost use Rattle.fates.specs.declared.Fate.the-variants.{Opened};
 ghost use Rattle.limits.specs.Limits.{maxDistance};

@@ -1,7 +1,7 @@
 -- What the code does at a node is what is written there: it sweeps, closes, opens a leaf or opens an inner node. Assumes nothing.
 use Prim.Native.Nat.{_+_, _-_, _<_, _≤_, suc, ℕ}
-use Rattle.descent.proofs.Nodes.{innerOpened, leafOpened, node-any, node-inner, node-leaf, rest#, visit-at}
-use Rattle.descent.specs.Descent.{kidMarks, nodeMarks}
+use Rattle.descending.proofs.Nodes.{innerOpened, leafOpened, node-any, node-inner, node-leaf, rest#, visit-at}
+use Rattle.descending.specs.Descent.{kidMarks, nodeMarks}
 use Rattle.fates.specs.Settling.{Settled, fateOf}
 use Rattle.fates.specs.declared.Fate.the-variants.{Closed, Opened, Swept}
 use Rattle.fates.specs.declared.Fate.{Fate}

@@ -1,6 +1,6 @@
 -- The marks at a node of an index in shape, by its words: swept, closed, an opened leaf's or an opened inner node's. Assumes nothing.
 use Prim.Native.Nat.{_+_, _-_, _<_, _≤_, suc, zero, ℕ}
-use Rattle.descent.specs.Descent.{fateMarks, kidMarks, nodeMarks}
+use Rattle.descending.specs.Descent.{fateMarks, kidMarks, nodeMarks}
 use Rattle.fates.specs.Settling.{fateOf}
 use Rattle.fates.specs.declared.Fate.the-variants.{Closed, Opened, Swept}
 use Rattle.fates.specs.declared.Fate.{Fate}

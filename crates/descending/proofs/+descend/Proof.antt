@@ -1,10 +1,10 @@
--- `descent::descent::descend` meets its contract: an opened leaf's rows are marked, or the centres and then each child, which is swept, closed
+-- `descending::descend` meets its contract: an opened leaf's rows are marked, or the centres and then each child, which is swept, closed
 -- or descended into; and a child has a level less left. Assumes nothing.
 use borrow.Author.Needs.{needs}
 use Prim.Native.Nat.{_+_, _-_, _<_, _≤_, ℕ}
-use Rattle.descent.proofs.Below.{Below, below}
-use Rattle.descent.proofs.Ways.{child-did, inner-opened, leaf-opened, settled-did}
-use Rattle.descent.specs.Descent.{kidMarks}
+use Rattle.descending.proofs.Below.{Below, below}
+use Rattle.descending.proofs.Ways.{child-did, inner-opened, leaf-opened, settled-did}
+use Rattle.descending.specs.Descent.{kidMarks}
 use Rattle.fates.proofs.Settling.{not-opened, still-opened}
 use Rattle.marking.proofs.Fitted.{lent-same}
 use Rattle.marking.proofs.Listed.{leaves-as, leaves-from, leaves-then, span-end, span-next, span-none}
@@ -22,9 +22,9 @@ use mathlib.Core.Path.{_∙_, _≡_, ap, refl, sym}
 use native.Mathlib.Omega.{arith}
 use borrow.Fn.Kinds.{In}
 use borrow.Fn.PlainCycle.{Measures, is, falls, and}
-use Rattle.descent.proofs.descent.descend.Reads as descend
-use Rattle.descent.proofs.descent.descend.Kinds as descend-kinds
-use Rattle.descent.proofs.descent.+descend.Lts-descend as descend-lts
+use Rattle.descending.proofs.descend.Reads as descend
+use Rattle.descending.proofs.descend.Kinds as descend-kinds
+use Rattle.descending.proofs.+descend.Lts-descend as descend-lts
 use Rattle.fates.proofs.settle.Reads as settle-reads
 use Rattle.opened.proofs.centres.least_of.Reads as least-of-reads
 use Rattle.opened.proofs.centres.open_inner.Reads as open-inner-reads
@@ -32,8 +32,8 @@ use Rattle.opened.proofs.leaf.open_leaf.Reads as open-leaf-reads
 use Rattle.bounds.proofs.kid_bound.Reads as kid-bound-reads
 use Rattle.words.proofs.places.centres.Reads as centres-reads
 use Rattle.words.proofs.places.node_child.Reads as node-child-reads
-use Rattle.descent.proofs.descent.+descend.{statement}
-use Rattle.descent.proofs.descent.+descend.Tie.{close}
+use Rattle.descending.proofs.+descend.{statement}
+use Rattle.descending.proofs.+descend.Tie.{close}
 
 abbrev μ-descend : Measures 6 descend-kinds.ps ℕ
 μ-descend κs a = a .1 .1 .1 .1 .1 .1 .1 .1 .0
