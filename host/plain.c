@@ -49,10 +49,10 @@ static uint32_t one_round(struct making *k, uint32_t start, uint32_t count, uint
     k->group[at] = j | CENTRE;
     for (uint32_t p = start; p < start + count; p++) {
         uint32_t d = far(k->table, centre, row_of(k->table, k->order[p]));
-        if (d < k->least[p]) {
-            k->least[p] = d;
-            k->group[p] = j;
-        }
+        /* A branch is guessed wrong as often as a row changes its centre, so that both are always stored, as the library does. */
+        uint32_t x = k->least[p], g = k->group[p];
+        k->least[p] = d < x ? d : x;
+        k->group[p] = d < x ? j : g;
         uint32_t key = (k->group[p] & CENTRE) != 0 ? 0 : k->least[p] + 1;
         if (key > best) {
             best = key;
@@ -175,12 +175,10 @@ uint32_t plain_build(struct plain_table t, uint32_t m, uint32_t l, uint32_t *roo
 static bool positions_right(const uint32_t *index)
 {
     const uint32_t *pair = pairs_of(index);
-    uint32_t n = index[1], row = 0, distance = 0;
-    for (size_t p = 0; p < n; p++) {
-        row = greater(row, pair[2 * p]);
-        distance = greater(distance, pair[2 * p + 1]);
-    }
-    return n == 0 || (row < n && distance <= MOST_DISTANCE);
+    uint32_t n = index[1], wrong = 0;
+    for (size_t p = 0; p < n; p++)
+        wrong |= (uint32_t)(pair[2 * p] >= n) | (uint32_t)(pair[2 * p + 1] > MOST_DISTANCE);
+    return wrong == 0;
 }
 
 static bool children_tile(const uint32_t *index, const uint32_t *v, uint32_t m)
