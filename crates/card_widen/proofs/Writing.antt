@@ -1,7 +1,8 @@
 -- The widened words written one node and one position at a time. They are those of any index w, and the numbers that are written are told by
 -- equations: where w was read from does not matter. Assumes nothing.
 use Prim.Native.Nat.{_*_, _+_, _-_, _≤_, ℕ}
-use Rattle.card_widen.specs.Parts.{nodesTo, pairsTo, topOf, wideLong, withNodes, withPairs, withWide}
+use Rattle.card_top.specs.Header.{topOf}
+use Rattle.card_widen.specs.Parts.{nodesTo, pairsTo, wideLong, withNodes, withPairs, withWide}
 use Rattle.laws.proofs.Joins.{each-append}
 use Rattle.laws.proofs.Lists.{map-append}
 use Rattle.laws.proofs.Parts.{put-more, store-more}

@@ -4,13 +4,9 @@ use Prim.Native.Nat.{_*_, _+_, ℕ}
 use Rattle.laws.specs.Lists.{each, range}
 use Rattle.tree.specs.Encode.{nodeWords, pairWords}
 use Rattle.tree.specs.Widen.{widen, widened}
-use Rattle.words.specs.Words.{N#, c#, circles#, dist#, headerWords, kind#, l#, m#, n#, row#}
+use Rattle.words.specs.Words.{N#, dist#, headerWords, n#, row#}
 use lib.ListN.{drop}
-use mathlib.Core.List.{List, [], _++_, _∷_, map}
-
--- the header: edition 2, and all else as it was
-abbrev pub topOf : List ℕ → List ℕ
-topOf w = 2 ∷ n# w ∷ c# w ∷ m# w ∷ l# w ∷ N# w ∷ kind# w ∷ circles# w ∷ []
+use mathlib.Core.List.{List, _++_, map}
 
 -- the words of the first k nodes, widened
 unfoldable pub nodesTo : (ℕ → ℕ → ℕ) → List ℕ → ℕ → List ℕ

@@ -1,14 +1,14 @@
 // An edition 1 card's index in edition 2's words, written to a room: the header, the nodes with their inner reach, the positions.
-ghost use Prim.Native.Nat.{_*_, _+_, _≤_};
+ghost use Prim.Native.Nat.{_*_, _≤_};
 ghost use Rattle.card_members.specs.Tabled.{Tabled};
-ghost use Rattle.card_widen.specs.Parts.{topOf, wideLong, withNodes, withPairs, withWide};
+ghost use Rattle.card_widen.specs.Parts.{wideLong, withNodes, withPairs, withWide};
 ghost use Rattle.card_words.specs.Cards.{Held, cardWords};
 ghost use Rattle.measure.specs.Table.{between};
-ghost use Rattle.words.specs.Words.{N#, circles#, headerWords, n#};
-ghost use lib.ListN.{drop, length};
-ghost use mathlib.Core.List.{_++_};
+ghost use Rattle.words.specs.Words.{N#, circles#, n#};
+ghost use lib.ListN.{length};
 ghost use mathlib.Core.Path.{_≡_};
 use card_members::card_nearest;
+use card_top::put_top;
 use card_words::places::card_child;
 use card_words::places::card_count;
 use card_words::places::card_nodes;
@@ -17,22 +17,11 @@ use card_words::places::card_radius;
 use card_words::places::card_rows;
 use card_words::places::card_start;
 use card_words::places::held_word;
-use image::reading::get_words;
 use words::places::HEADER;
 use words::writing::put_node;
 
 // How many words a node of edition 2 has.
 pub const WIDE: usize = 5;
-
-// The header: edition 2, and all else as it was.
-fn put_top(image: &[u8], room: &mut [u32])
-    requires { ⌜ Held (now image) ⌝ }
-    requires { ⌜ headerWords ≤ length (now room) ⌝ }
-    ensures { λ _. ⌜ now (room .exit) ≡ topOf (cardWords (now (image .entry))) ++ drop headerWords (now (room .entry)) ⌝ }
-{
-    get_words(image, HEADER, room);
-    room[0] = 2;
-}
 
 // The nodes' words. Each member is measured once for each node that it is in.
 fn put_nodes(table: &[u16], c: usize, image: &[u8], part: &mut [u32])

@@ -1,8 +1,8 @@
--- `card_widen::widening::put_top` meets its contract: the header as it stands, and then the edition.
+-- `card_top::put_top` meets its contract: the header as it stands, and then the edition.
 -- Assumes nothing.
-use Rattle.card_widen.proofs.Top.{top-put}
-use Rattle.card_widen.proofs.widening.put_top.Statement.{statement}
-use Rattle.card_widen.proofs.widening.put_top.Tie as tie
+use Rattle.card_top.proofs.Header.{top-put}
+use Rattle.card_top.proofs.put_top.Statement.{statement}
+use Rattle.card_top.proofs.put_top.Tie as tie
 use borrow.Author.Needs.{needs}
 
 returns : tie.Need-returns

@@ -1,7 +1,7 @@
 -- The widened header, as it is put into the room. Assumes nothing.
 use Prim.Native.Nat.{_+_, _<_, ℕ}
 use Rattle.blocks.specs.Blocks.{imageWord, imageWords}
-use Rattle.card_widen.specs.Parts.{topOf}
+use Rattle.card_top.specs.Header.{topOf}
 use Rattle.card_words.proofs.Cards.{card-at}
 use Rattle.card_words.specs.Cards.{Held, cardWords}
 use Rattle.words.proofs.Strides.{header-in}
