@@ -25,7 +25,8 @@ fn halfway(table: &[u16], c: usize, index: &[u32], g: usize, f: usize) -> u32
 }
 
 // How far a row can be from the first of child a, whose run has `count` positions, and is still closer to none of fs, so that it need not be measured
-// from them: the least half of the ways to these. In a short run the rows are sooner measured than the ways, and then it is 0.
+// from them: the least half of the ways to these. In a short run the rows are sooner measured than the ways, and then it is 0:
+// the fewer columns, the longer it must be.
 pub fn safe_within(
     table: &[u16],
     c: usize,
@@ -39,7 +40,7 @@ pub fn safe_within(
     ensures { λ h. ⌜ SafeTo (between (now (table .entry)) c (circles# (now (index .entry)))) (now (fs .entry)) (getD (now (fs .entry)) a 0)
         (m# (now (index .entry))) h ⌝ }
 {
-    if count < 32 {
+    if (count < 32) | (c <= 4) & (count < 128) {
         return 0;
     }
     let m = centres(index);

@@ -62,7 +62,7 @@ is-closer-requires : tie.Need-is-closer-requires Inv-loop μ-loop
 is-closer-requires c κs =
     let l = c .before .before in
     let s = start l in
-    (s .pre .0, (s .pre .1 .0 .low (l .loop .i) (omega (arith, l .loop .inv .1)), s .pre .1 .1, s .pre .1 .2))
+    (s .pre .0, (s .pre .1 .0 .low (l .loop .i) (omega (arith, l .loop .inv .1)), s .pre .1 .1))
 
 returns : tie.Need-returns Inv-loop μ-loop
 returns c =

@@ -10,6 +10,7 @@ use Rattle.laws.proofs.Parts.{put-more}
 use Rattle.laws.specs.Lists.{each}
 use Rattle.words.specs.Words.{at}
 use borrow.Author.Needs.{needs}
+use borrow.Author.Tests.{leb-true}
 use borrow.Rule.Slice.PartMut.{midOf, putMid}
 use lib.ListN.{drop, drop-of-length-le, length}
 use mathlib.Core.List.{List, _++_, append-nil}
@@ -43,10 +44,10 @@ four-more : (i : ℕ) → 4 * (i + 1) ≡ 4 * i + 4
 four-more i = omega arith
 
 abbrev Inv-loop : tie.InvT-loop
-Inv-loop index b part₀ first check₀ i₀ part check i = Filled index first check₀ part₀ part check i
+Inv-loop index b part₀ first whole check₀ i₀ part check i = Filled index first check₀ part₀ part check i
 
 abbrev μ-loop : tie.MeasureT-loop
-μ-loop index b part₀ first check₀ i₀ part check i = 127 - i
+μ-loop index b part₀ first whole check₀ i₀ part check i = 127 - i
 
 -- the start, seen from the loop
 abbrev start : tie.At-loop Inv-loop μ-loop → tie.Start Inv-loop μ-loop
@@ -55,6 +56,12 @@ start l = l .before .before .before .before
 loop-holds : tie.Need-loop-holds Inv-loop μ-loop
 unfolding checkFrom window
 loop-holds c = search needs
+
+-- a whole block's words are all there
+word-of-requires : tie.Need-word-of-requires Inv-loop μ-loop
+word-of-requires c κs =
+    let a = start (c .before) .args in
+    λ whole. omega (arith, leb-true (127 * a .b + 127) (length (a .index .now)) whole)
 
 loop-again : tie.Need-loop-again Inv-loop μ-loop
 loop-again c =
@@ -70,11 +77,11 @@ loop-again c =
     record {
       bound = search needs;
       long = search needs;
-      sum = window-check index _ _ _ _ _ _ (inv .sum) (wo .word-or-zero .ensures) (st .stepped .ensures);
+      sum = window-check index _ _ _ _ _ _ (inv .sum) (wo .word-of .ensures) (st .stepped .ensures);
       wrote =
           put-more (each bytes (window index first i)) (bytes (at index (first + i))) (a .part .now) (l .loop .part)
           (pw .put-word .last .0) (4 * i) 4 (window-bytes-length index first i) (search needs) (inv .wrote)
-          (rw (← wo .word-or-zero .ensures) (pw .put-word .ensures))
+          (rw (← wo .word-of .ensures) (pw .put-word .ensures))
           ∙ rw (window-bytes index first i, four-more i);
     }
 
@@ -93,10 +100,11 @@ put-block-spec =
     Inv-loop
     μ-loop
     (λ c. search needs)
+    (λ c. search needs)
     (λ c κs. search needs)
     loop-holds
     (λ c. search needs)
-    (λ c κs. search needs)
+    word-of-requires
     (λ c κs. search needs)
     (λ c. search needs)
     (λ c. search needs)
