@@ -243,7 +243,7 @@ static uint32_t row_again(const uint32_t *index, uint32_t *work)
 static uint32_t safe_within(struct plain_table t, const uint16_t *const *centre, uint32_t centres, uint32_t own, uint32_t members)
 {
     uint32_t safe = MOST_DISTANCE;
-    if (members < SHORT_CHILD || t.c > FEW_COLUMNS || t.circles != 0)
+    if (members < (t.c <= 4 ? 4 * SHORT_CHILD : SHORT_CHILD) || t.c > FEW_COLUMNS || t.circles != 0)
         return 0;
     for (uint32_t j = 0; j < centres; j++) {
         uint32_t half = j == own ? MOST_DISTANCE : far(t, centre[own], centre[j]) / 2;

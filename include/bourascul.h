@@ -19,7 +19,7 @@
    struck from or restored to) each thread lends of its own.
 
    STACK. Nothing else is taken. Bytes of stack that a call takes at most, measured on x86-64 code (target/host/stack): strike and
-   restore 8, write 40, list 128, read 344, build 680, append 744, nearest 976, nearest_answers 976, append_rows 1,048, check 1,680,
+   restore 8, write 32, list 128, read 344, build 680, append 728, nearest 976, nearest_answers 976, append_rows 984, check 1,680,
    radius 23,096 (25 levels). A loader that binds late takes about 3,500 more in the first call that needs memcpy, memmove or memset.
 
    NUMBERS. Each call but bourascul_list gives a number, first or alone. 0 is done; any other is a refusal, and of several the lowest
