@@ -1,4 +1,5 @@
-// 11: the pass of the full check over stored distances. Leaves come in the order of nodes, which is not that of their positions, so that the least of all is taken.
+// 11: the pass of the full check over stored distances. Leaves come in the order of nodes, which is not that of their positions, so that the least
+// of all is taken.
 ghost use Prim.Native.Nat.{_<_};
 ghost use Rattle.stored_distances.specs.Leaves.{leafWrong};
 ghost use Rattle.laws.specs.First.{First};
