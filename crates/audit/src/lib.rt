@@ -79,7 +79,7 @@ fn first_fault(table: &[u16], c: usize, index: &[u32], work: &mut [u32]) -> Chec
 
 // The full check of an index for a table of c columns: 0 where it is accepted, else the number and the places of the first refusal or fault.
 // Each row is measured once for its stored distance, and at each level of the tree once for the radius and the inner reach and at most m times for
-// the centres: with few columns and no circle, not where it is too near to its own to be closer to another.
+// the centres; with few columns and no circle m + 1 times, its own twice, and once alone where it is too near to its own to be closer to another.
 pub fn check(table: &[u16], c: usize, index: &[u32], work: &mut [u32]) -> Checked
     ensures { λ r. ⌜ Checks (now (table .entry)) c (now (index .entry)) (now (work .entry)) (now (work .exit)) (r .number) (r .place) (r .second) ⌝ }
 {
