@@ -1,5 +1,7 @@
 // The analyst's program: a text of rows is read into a table, the columns that count are chosen, an index is built over it, and one question is
 // answered. Answers go to one file, all else to another; the number given back is the status that the program ends with.
+#![tactic(auto)]
+
 ghost use Rattle.std.specs.Prelude.{◌≤◌, length};
 
 use answer_lines::plan::Plan;

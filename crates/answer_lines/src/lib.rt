@@ -1,4 +1,6 @@
 // The answers that were found, written, with the closing line.
+#![tactic(auto)]
+
 pub mod plan;
 mod showing;
 

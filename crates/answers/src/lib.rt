@@ -1,4 +1,6 @@
 // Answers as records: a row number and its distance side by side, where the searches hand out two slices of numbers.
+#![tactic(auto)]
+
 ghost use Rattle.std.specs.Prelude.{◌≤◌, drop, length, ◌++◌, ◌≡◌};
 ghost use Rattle.answers.specs.Records.{records};
 

@@ -1,4 +1,6 @@
 // Appending a row: the index of a table that has one row more.
+#![tactic(auto)]
+
 ghost use Rattle.append.specs.Calls.{Appends};
 
 use append_refusals::append_number;

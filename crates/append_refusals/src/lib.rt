@@ -1,4 +1,6 @@
 // Why an append is refused, and what refuses every call that puts rows into an index.
+#![tactic(auto)]
+
 ghost use Rattle.append_refusals.specs.Numbers.{said_append};
 ghost use Rattle.std.specs.Prelude.{◌≡◌};
 

@@ -1,4 +1,6 @@
 // Appending several rows: the index of a table that has more rows, in one pass.
+#![tactic(auto)]
+
 ghost use Rattle.append_rows.specs.Calls.{AppendsRows};
 ghost use Rattle.append_rows.specs.Putting.{Puttable};
 ghost use Rattle.refilling.specs.Joining.{RowsJoin};

@@ -1,4 +1,6 @@
 // Why a call is refused that appends several rows.
+#![tactic(auto)]
+
 ghost use Rattle.append_rows_refusals.specs.Numbers.{said_append_rows};
 ghost use Rattle.std.specs.Prelude.{◌≡◌};
 

@@ -1,4 +1,6 @@
 // What a question is about: rows, values, or the row that has a label, put as queries.
+#![tactic(auto)]
+
 ghost use Rattle.std.specs.Prelude.{◌*◌, ◌≤◌, length, ◌≡◌};
 ghost use Rattle.limits.specs.Limits.{max_columns};
 

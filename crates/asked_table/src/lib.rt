@@ -1,4 +1,6 @@
 // The table that a question is about: the text of the rows read into it, its column of labels known, and the columns chosen that count.
+#![tactic(auto)]
+
 mod choosing;
 pub mod reading;
 

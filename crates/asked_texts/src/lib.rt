@@ -1,4 +1,6 @@
 // The texts of a question: that of the rows, and behind it that of the rows that are withdrawn, with the set of the rows that it says.
+#![tactic(auto)]
+
 ghost use Rattle.std.specs.Prelude.{◌≤◌, length, ◌≡◌};
 
 use asking::Question;

@@ -1,4 +1,6 @@
 // The question that the words of the arguments ask. Each word is ended by a zero byte.
+#![tactic(auto)]
+
 pub mod pieces;
 pub mod word_number;
 

@@ -1,5 +1,7 @@
 // The full check on the five-row index, on spoilt copies and on a few more, a line each: the number, its two places, and what the
 // workspace's words sum to after the call. Each word was 7; for the five rows one more is lent than is asked for, so that 7 is left.
+#![tactic(auto)]
+
 ghost use Rattle.std.specs.Prelude.{◌≡◌, length};
 
 use samples::{FIVE_ROWS as ROWS, five_index, put};

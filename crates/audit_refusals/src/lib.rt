@@ -1,4 +1,6 @@
 // Why a full check is refused.
+#![tactic(auto)]
+
 ghost use Rattle.audit_refusals.specs.Numbers.{refusals};
 ghost use Rattle.limits.specs.Said.{said};
 ghost use Rattle.std.specs.Prelude.{◌≡◌};

@@ -1,4 +1,6 @@
 // An opened leaf where no row is withdrawn and no list is lent: how-bytes alone are stored, and no row is asked of a set or a list.
+#![tactic(auto)]
+
 ghost use Rattle.std.specs.Prelude.{◌*◌, ◌+◌, ◌<◌, ◌≤◌, ℕ, length, false, ◌≡◌};
 ghost use Rattle.bare_leaf.specs.Bare.{Bare};
 ghost use Rattle.leaf_decision.specs.Decision.{leafAt, leafMark};

@@ -1,4 +1,6 @@
 // Bounds, from distances and radii. Nothing here knows of a search.
+#![tactic(auto)]
+
 ghost use Rattle.std.specs.Prelude.{◌+◌, ◌-◌, ◌/◌, ◌<◌, max, ◌≡◌};
 ghost use Rattle.laws.specs.Lists.{gap};
 ghost use Rattle.tree.specs.Grove.{reach#, reaching};

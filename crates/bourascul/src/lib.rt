@@ -1,5 +1,7 @@
 // The calls for C hosts: each calls one of the crates below, and keeps its contract. Every number that is given back has 32 bits; include/bourascul.h
 // says what is lent. They are a crate of their own, since an archive has the exports of the crate that it is made of and no other.
+#![tactic(auto)]
+
 ghost use Rattle.std.specs.Prelude.{min, length, ◌≡◌};
 ghost use Rattle.append.specs.Calls.{Appends};
 ghost use Rattle.append_rows.specs.Calls.{AppendsRows};

@@ -1,4 +1,6 @@
 // A lent buffer, its front set to zero.
+#![tactic(auto)]
+
 ghost use Rattle.std.specs.Prelude.{◌≤◌, length, ◌≡◌};
 ghost use Rattle.buffers.specs.Wiped.{wiped};
 

@@ -1,4 +1,6 @@
 // The build of an index over a lent table: the call.
+#![tactic(auto)]
+
 ghost use Rattle.build.specs.Calls.{Builds};
 ghost use Rattle.std.specs.Prelude.{◌*◌, ◌+◌, ◌≤◌, ◌≡◌};
 ghost use Rattle.limits.specs.Limits.{max_rows};

@@ -1,4 +1,6 @@
 // Why a build is refused, and what numbers refuse of every call that writes an index.
+#![tactic(auto)]
+
 ghost use Rattle.build_refusals.specs.Numbers.{build_faults, short_of, writer_asks};
 ghost use Rattle.limits.specs.Said.{number_faults, said};
 ghost use Rattle.std.specs.Prelude.{length, ◌≡◌};

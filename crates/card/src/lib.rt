@@ -1,4 +1,6 @@
 // Reading a card over its table, as a call: the tests, and the index in the room.
+#![tactic(auto)]
+
 ghost use Rattle.card.specs.Calls.{Reads};
 
 use crate::reading::put_index;

@@ -1,4 +1,6 @@
 // How near a node's members are to its first: a card gives the row numbers, the table the distances.
+#![tactic(auto)]
+
 ghost use Rattle.std.specs.Prelude.{◌<◌, ◌≡◌};
 ghost use Rattle.card_members.specs.Tabled.{Tabled};
 ghost use Rattle.card_words.specs.Cards.{card_words_lem};

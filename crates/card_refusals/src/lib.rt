@@ -1,4 +1,6 @@
 // What refuses the reading of a card over its table. Nothing of the room is touched before every test has passed.
+#![tactic(auto)]
+
 ghost use Rattle.std.specs.Prelude.{◌≤◌, ◌≡◌};
 ghost use Rattle.card_refusals.specs.Tests.{CardTested, card_faults, read_total};
 ghost use Rattle.card_words.specs.Cards.{Carded, Held};

@@ -1,2 +1,4 @@
 // The shape test of an index on a card, in the image's bytes.
+#![tactic(auto)]
+
 pub mod shape;

@@ -1,4 +1,6 @@
 // The header of an edition 1 card's index in edition 2's words.
+#![tactic(auto)]
+
 ghost use Rattle.std.specs.Prelude.{◌≤◌, drop, length, ◌++◌, ◌≡◌};
 ghost use Rattle.card_top.specs.Header.{top_of};
 ghost use Rattle.card_words.specs.Cards.{Held, card_words_lem};

@@ -1,4 +1,6 @@
 // The distance of two rows as far as a ceiling: 02, R-8.
+#![tactic(auto)]
+
 ghost use Rattle.std.specs.Prelude.{◌*◌, ◌+◌, ◌<◌, ◌≤◌, min, length, ◌≡◌};
 ghost use Rattle.limits.specs.Limits.{max_columns, max_distance};
 ghost use Rattle.measure.specs.Distance.{capped, l1};

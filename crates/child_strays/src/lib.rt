@@ -1,4 +1,6 @@
 // 13 of the full check, in one child of a node: the members that are closer to the centre of another child.
+#![tactic(auto)]
+
 ghost use Rattle.std.specs.Prelude.{◌+◌, ◌<◌, ltb, true, ◌≡◌};
 ghost use Rattle.child_strays.specs.Strays.{FirstIn, Firsts, closerThan, kidStrays};
 ghost use Rattle.laws.specs.Lists.{any, range};

@@ -1,4 +1,6 @@
 // A column that shall be a circle: what is wrong with it, and its bit in the set.
+#![tactic(auto)]
+
 ghost use Rattle.std.specs.Prelude.{◌^◌, ◌<◌, ◌≤◌, cond, ◌≡◌};
 ghost use Rattle.circle_columns.specs.Circles.{column_trouble_lem, counts};
 ghost use Rattle.std.specs.Int.Bits.{bit_or};

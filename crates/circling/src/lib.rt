@@ -1,4 +1,6 @@
 // The columns that are circles: those that a list names, as a set of the places among the chosen columns.
+#![tactic(auto)]
+
 ghost use Rattle.std.specs.Prelude.{◌≤◌, ◌≡◌};
 ghost use Rattle.circle_columns.specs.Circles.{Bits, Circled, is_said_lem, item_trouble_lem, says, wrongItem};
 

@@ -1,4 +1,6 @@
 // The columns that are circles, and whether they hold a number that does not stand on one.
+#![tactic(auto)]
+
 ghost use Rattle.std.specs.Prelude.{◌<◌, ◌≤◌, ◌&&◌, ◌≡◌};
 ghost use Rattle.limits.specs.Limits.{max_columns};
 ghost use Rattle.measure.specs.Distance.{is_circle_lem};

@@ -1,4 +1,6 @@
 // The columns that count: those that a question's list picks, each with its factor, or all.
+#![tactic(auto)]
+
 ghost use Rattle.std.specs.Prelude.{◌≤◌, length};
 
 use asking::pieces::{Piece, end_from, part, piece_at};

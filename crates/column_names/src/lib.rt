@@ -1,4 +1,6 @@
 // What names a column: its number from 1 on, or its name in the line of names.
+#![tactic(auto)]
+
 ghost use Rattle.std.specs.Prelude.{◌≤◌, ◌≡◌};
 ghost use Rattle.column_names.specs.Names.{column_said_lem, named_to, with_name};
 

@@ -1,4 +1,6 @@
 // The products of the chosen columns with their factors: a product, and the greatest that there may be.
+#![tactic(auto)]
+
 ghost use Rattle.std.specs.Prelude.{◌*◌, ◌<◌, ◌≡◌};
 ghost use Rattle.column_products.specs.Chosen.{most};
 ghost use Rattle.limits.specs.Limits.{max_columns};

@@ -1,5 +1,7 @@
 // The columns of a table: those that a question is about, each with a factor. They become a table of their own, so that the library and its theorems
 // know nothing of factors.
+#![tactic(auto)]
+
 ghost use Rattle.column_products.specs.Chosen.{Chooses};
 
 use crate::choice::{choose_rows, first_over, first_row_over, fits};

@@ -1,4 +1,6 @@
 // The nodes of an old index copied into the room where it is grown anew: their runs moved, counted and reaching as the rows that have come make them.
+#![tactic(auto)]
+
 ghost use Rattle.std.specs.Prelude.{◌+◌, ◌<◌, ◌≤◌, length, ◌≡◌};
 ghost use Rattle.copies.specs.Copies.{Change, Numbers, copied, new_reach, with_copies};
 ghost use Rattle.measure.specs.Table.{between};

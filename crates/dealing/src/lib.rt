@@ -1,5 +1,7 @@
 // The new rows of an old inner node, dealt out to its children: each goes to the closest, and every child is laid in the second half of the
 // workspace, its new rows behind room for its own; a leaf is laid whole.
+#![tactic(auto)]
+
 ghost use Rattle.std.specs.Prelude.{◌*◌, ◌+◌, ◌<◌, ◌≤◌, ◌≡◌};
 ghost use Rattle.dealing.specs.Dealt.{ChildAsk, ChildDeals, KidsAsk, KidsDeal};
 ghost use Rattle.dealing.specs.Marked.{Marks, Reaching, marked};

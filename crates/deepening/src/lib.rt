@@ -1,4 +1,6 @@
 // The levels of an index that takes rows, one below the other: each piece of a level is opened, from the root down to depth 24.
+#![tactic(auto)]
+
 ghost use Rattle.deepening.specs.Stages.{Level, Leveled, Planted, Staged};
 
 use limits::Params;

@@ -1,4 +1,6 @@
 // The descent: an opened node's rows, and then its children, each of which is swept, closed or opened.
+#![tactic(auto)]
+
 ghost use Rattle.std.specs.Prelude.{◌<◌, ◌≤◌, ◌≡◌};
 ghost use Rattle.descending.specs.Descent.{nodeMarks};
 ghost use Rattle.fates.specs.Settling.{fate_of_lem};

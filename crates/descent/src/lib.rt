@@ -1,4 +1,6 @@
 // The radius search on words that are known to be right: the root, and the descent below it, over the index and the lent table.
+#![tactic(auto)]
+
 ghost use Rattle.marking.specs.Lent.{Lent};
 ghost use Rattle.marking.specs.Listed.{Leaves};
 ghost use Rattle.measure.specs.Table.{from};

@@ -1,4 +1,6 @@
 // What becomes of a node. The rule stands here once: the root and every child go through it.
+#![tactic(auto)]
+
 ghost use Rattle.std.specs.Prelude.{◌<◌, ◌≤◌, ◌≡◌};
 ghost use Rattle.fates.specs.Settling.{Settled, fate_of_lem};
 ghost use Rattle.limits.specs.Limits.{max_distance};

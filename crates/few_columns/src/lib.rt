@@ -1,6 +1,8 @@
 // 13 of the full check in one child of a node, for rows of at most six columns with no circle, which questions about a minute have: the loop over a
 // child's positions then knows which way of measuring it is, and a row that is no farther from its own centre than half the way to the nearest other
 // is not measured from the others. (With more columns or with circles that was found to cost more than it saved.)
+#![tactic(auto)]
+
 ghost use Rattle.std.specs.Prelude.{◌+◌, ◌<◌, ltb, true, ◌≡◌};
 ghost use Rattle.child_strays.specs.Strays.{FirstIn, Firsts, closerThan, kidStrays};
 ghost use Rattle.laws.specs.Lists.{any, range};

@@ -1,4 +1,6 @@
 // A file or standard input, read whole into a lent text.
+#![tactic(auto)]
+
 ghost use Rattle.std.specs.Prelude.{◌+◌, ◌≤◌, length};
 
 // What came of the reading: it may have failed before the text's end, and the text may be longer than its room.

@@ -1,4 +1,6 @@
 // The index over a table's rows, filled into a room: its tree grown, and its words.
+#![tactic(auto)]
+
 ghost use Rattle.std.specs.Prelude.{◌*◌, ◌≤◌, drop, length, ◌++◌, ◌≡◌};
 ghost use Rattle.filling.specs.Filled.{Filled, Grown};
 ghost use Rattle.growing.specs.Rooted.{Room};

@@ -1,5 +1,7 @@
 // Questions about a table, answered exactly: which rows are near, and which are the nearest. The index is built over the table, and searched.
 // A question is a query's numbers, not a row's number: so a row, a label's row and values typed in are one call.
+#![tactic(auto)]
+
 ghost use Rattle.finder.specs.Calls.{Finds, Near};
 ghost use Rattle.std.specs.Prelude.{◌≡◌};
 

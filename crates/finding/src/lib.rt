@@ -1,4 +1,6 @@
 // The rows that answer a question: found by the library, and put in the order that is asked for.
+#![tactic(auto)]
+
 mod kept;
 
 ghost use Rattle.std.specs.Prelude.{◌≤◌, length};

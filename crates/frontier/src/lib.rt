@@ -1,4 +1,6 @@
 // The frontier of a nearest search: what waits, under its bounds.
+#![tactic(auto)]
+
 ghost use Rattle.std.specs.Prelude.{◌+◌, ◌-◌, ◌*◌, ◌<◌, ◌≤◌, suc, ℕ, length, ◌≡◌};
 ghost use Rattle.frontier.specs.Waiting.{FrontierRoom, More, least_kept, noded, placed};
 ghost use Rattle.frontier.specs.Workspace.{kept};

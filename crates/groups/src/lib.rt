@@ -1,4 +1,6 @@
 // One centre's group: the entries of a run that are closest to it, written behind it.
+#![tactic(auto)]
+
 ghost use Rattle.groups.specs.Groups.{Gatherable, Gathered, Picked, Picking};
 ghost use Rattle.laws.specs.Lists.{lower};
 ghost use Rattle.std.specs.Prelude.{◌≡◌};

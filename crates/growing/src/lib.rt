@@ -1,5 +1,7 @@
 // The tree of a table, grown level by level into a lent room. While it grows, the first half of the workspace holds an entry of three words for
 // each position: the row, its distance from the first of its run, and that first. The second half takes a run's entries as they are shared out.
+#![tactic(auto)]
+
 ghost use Rattle.std.specs.Prelude.{◌*◌, ◌≤◌, length};
 ghost use Rattle.growing.specs.Rooted.{Leveled, Planted, Room, RootLaid, Rooted};
 ghost use Rattle.growing.specs.Stages.{Fit, Level, Openable, Opened, Staged};

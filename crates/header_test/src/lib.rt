@@ -1,4 +1,6 @@
 // The header's test, and that no word is missing.
+#![tactic(auto)]
+
 ghost use Rattle.std.specs.Prelude.{◌≤◌, length, ◌≡◌};
 ghost use Rattle.limits.specs.Limits.{max_rows};
 ghost use Rattle.words.specs.Words.{card_ok_lem, header_ok_lem, header_words, nodes_ok_lem, words_ok_lem};

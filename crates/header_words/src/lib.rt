@@ -1,4 +1,6 @@
 // The header of an index, written.
+#![tactic(auto)]
+
 ghost use Rattle.std.specs.Prelude.{◌≤◌, drop, length, ◌++◌, ◌≡◌};
 ghost use Rattle.header_words.specs.Header.{header_of};
 ghost use Rattle.limits.specs.Limits.{max_columns, max_rows};

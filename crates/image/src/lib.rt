@@ -1,4 +1,6 @@
 // The image of an index: writing one, and what reading one takes.
+#![tactic(auto)]
+
 ghost use Rattle.image.specs.Calls.{Writes};
 
 use crate::writing::put_blocks;

@@ -1,5 +1,7 @@
 // The image of the five-row index, written to a file and read back over its table, two nodes of it listed, and what reading says of images that are
 // wrong.
+#![tactic(auto)]
+
 ghost use Rattle.std.specs.Prelude.{◌<◌, ◌≤◌, length};
 ghost use Rattle.io.specs.Counts.{IsPrefixLen};
 

@@ -1,4 +1,6 @@
 // What is wrong with an index for a table.
+#![tactic(auto)]
+
 ghost use Rattle.limits.specs.Said.{said};
 ghost use Rattle.words.specs.Index.{index_faults};
 ghost use Rattle.std.specs.Prelude.{◌≡◌};

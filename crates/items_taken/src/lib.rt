@@ -1,4 +1,6 @@
 // Taking an item that waits: a row is measured, a leaf is opened, an inner node is opened.
+#![tactic(auto)]
+
 ghost use Rattle.std.specs.Prelude.{◌<◌, ◌≡◌};
 ghost use Rattle.frontier.specs.Waiting.{item_of};
 ghost use Rattle.index_space.specs.Items.{node};

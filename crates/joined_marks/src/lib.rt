@@ -1,4 +1,6 @@
 // The rows that several searches mark, put together: one search more.
+#![tactic(auto)]
+
 ghost use Rattle.std.specs.Prelude.{◌≤◌, length, ◌≡◌};
 ghost use Rattle.joined_marks.specs.Joins.{fresh, merged, sum_fresh, united};
 

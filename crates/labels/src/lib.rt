@@ -1,4 +1,6 @@
 // The label that a line has in a column, and the rows that have one.
+#![tactic(auto)]
+
 ghost use Rattle.std.specs.Prelude.{◌+◌, ◌<◌, ◌≤◌, min, length, cond, ◌≡◌};
 ghost use Rattle.labels.specs.Labels.{hits_to, labelled, last_to};
 ghost use Rattle.line_fields.specs.Fields.{field_in};

@@ -1,1 +1,2 @@
 // What holds of any list or number. The work stands in specs/ and proofs/; the crates above cite it.
+#![tactic(auto)]

@@ -1,4 +1,6 @@
 // The leaf decision: what the stored distance of a row in an opened leaf says of it.
+#![tactic(auto)]
+
 ghost use Rattle.std.specs.Prelude.{◌≤◌, ◌≡◌};
 ghost use Rattle.leaf_decision.specs.Decision.{decision};
 ghost use Rattle.limits.specs.Limits.{max_distance};

@@ -1,4 +1,6 @@
 // A row of an opened leaf: it is decided by its stored distance, or measured.
+#![tactic(auto)]
+
 ghost use Rattle.std.specs.Prelude.{◌*◌, ◌+◌, ◌<◌, ◌≤◌, length, [], ◌∷◌, ◌≡◌};
 ghost use Rattle.leaf_decision.specs.Decision.{leafAt};
 ghost use Rattle.limits.specs.Limits.{max_columns, max_distance, max_rows};

@@ -1,4 +1,6 @@
 // From the root down to the leaf that a new row joins.
+#![tactic(auto)]
+
 ghost use Rattle.std.specs.Prelude.{◌<◌, ◌≤◌, true, ◌≡◌};
 ghost use Rattle.leafward.specs.Way.{LeafFound, NewRow, closestKid};
 ghost use Rattle.measure.specs.Table.{between};

@@ -1,4 +1,6 @@
 // The index kind: its fixed limits, and the refusals that numbers alone decide.
+#![tactic(auto)]
+
 ghost use Rattle.std.specs.Prelude.{◌*◌, ◌/◌, ◌≤◌, ltb, ◌≡◌};
 ghost use Rattle.limits.specs.Chosen.{chosen, told};
 ghost use Rattle.limits.specs.Limits.{circles_ok_lem, columns_ok_lem, edition_ok_lem, share_ok_lem, within};

@@ -1,4 +1,6 @@
 // The fields of a line: what stands between commas, semicolons, tabs and blanks. In a line that was read, no field is empty.
+#![tactic(auto)]
+
 ghost use Rattle.std.specs.Prelude.{◌-◌, ◌≤◌, length, ◌≡◌};
 ghost use Rattle.asking.specs.Pieces.{place_from};
 ghost use Rattle.line_fields.specs.Fields.{between, span_of, stopping};

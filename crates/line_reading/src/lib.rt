@@ -1,4 +1,5 @@
 // What is read in one line of a text of rows: what is known of its fields so far, and where its reader stands. No code: definitions and theorems.
+#![tactic(auto)]
 
 // In a field in which nothing stands yet, in a number, in one that is too great, in a field that is no number, behind a field, or in one in which
 // only quotes stand yet.

@@ -1,5 +1,7 @@
 // Numbers as text. They are put into a lent buffer, which is written to a file where the next may not fit, so that many numbers take few writes:
 // an answer of 65,536 rows takes 192, and took 262,161 number by number.
+#![tactic(auto)]
+
 ghost use Rattle.std.specs.Prelude.{◌+◌, ◌≤◌, length, ◌≡◌};
 ghost use Rattle.lines.specs.Told.{Told};
 ghost use Rattle.std.proofs.Math.Seq.{paste};

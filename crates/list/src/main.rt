@@ -1,4 +1,6 @@
 // The listing program.
+#![tactic(auto)]
+
 fn main() {
     lister::run();
 }

@@ -1,5 +1,7 @@
 // The listing program on the texts of data/, one after the other, each behind its name. One program for all: another would cost the gate its
 // proof, and a text more costs it nothing.
+#![tactic(auto)]
+
 use libc::STDOUT_FILENO;
 
 fn list(name: &[u8]) {

@@ -1,4 +1,6 @@
 // The listing program: the text of a file or of standard input, read as c, m, l and a table; the table's index; its nodes and positions as lines of numbers.
+#![tactic(auto)]
+
 ghost use Rattle.std.specs.Prelude.{◌*◌, ◌+◌, ◌≤◌, min, length, ◌≡◌};
 ghost use Rattle.lister.specs.Keeps.{Keeps};
 ghost use Rattle.lister.specs.Listing.{Lists, Runs};

@@ -1,4 +1,6 @@
 // The listing of a node.
+#![tactic(auto)]
+
 ghost use Rattle.listing.specs.Calls.{Lists, listed};
 ghost use Rattle.std.specs.Prelude.{◌≡◌};
 

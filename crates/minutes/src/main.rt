@@ -1,4 +1,6 @@
 // The analyst's program, for 65,536 rows. It needs 16 MB of stack, which bin/minutes sets; help and the version need little.
+#![tactic(auto)]
+
 mod rooms;
 
 use analyst::Ends;

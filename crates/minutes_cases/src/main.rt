@@ -1,4 +1,6 @@
 // The analyst's program on the texts of data/: each question behind a question mark, what is written to either file, and the status.
+#![tactic(auto)]
+
 mod rooms;
 
 use analyst::Ends;

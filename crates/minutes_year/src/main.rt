@@ -1,4 +1,6 @@
 // The analyst's program, for 1,048,576 rows. It needs 320 MB of stack, which bin/minutes sets; help and the version need little.
+#![tactic(auto)]
+
 mod rooms;
 
 use analyst::Ends;

@@ -1,5 +1,7 @@
 // The analyst's reader on a text of as many rows as the library takes, of one row more, and of as many in a table that is one row too short. The
 // text is fed in pieces, and a row has one column, so that table and program fit a stack of 8 MB.
+#![tactic(auto)]
+
 mod rooms;
 
 use libc::STDOUT_FILENO;

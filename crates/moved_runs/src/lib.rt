@@ -1,5 +1,7 @@
 // The run of an old node when rows have come to the end of another node's run: whether it holds that run, where it starts, how many rows it has; and
 // the old node's first child.
+#![tactic(auto)]
+
 ghost use Rattle.std.specs.Prelude.{◌+◌, ◌<◌, ◌≤◌, ◌≡◌};
 ghost use Rattle.moved_runs.specs.Runs.{holds, new_child, new_count, new_start};
 ghost use Rattle.words.specs.InShape.{InShape};

@@ -1,4 +1,6 @@
 // The nearest call: refused, or the search.
+#![tactic(auto)]
+
 ghost use Rattle.std.specs.Prelude.{◌≤◌, min, length};
 ghost use Rattle.nearest_steps.specs.Asked.{asks, lends};
 ghost use Rattle.nearest.specs.Calls.{Answered};

@@ -1,6 +1,8 @@
 // The nearest call, run. A line for each case: its number in two digits, how many answers there are, how many rows were measured; six row numbers,
 // which are 9
 // before; six distances, which are 99 before; eight how-bytes, which are 9 before; and words 0, 29 and 30 of the workspace, which are 9 before.
+#![tactic(auto)]
+
 ghost use Rattle.std.specs.Prelude.{length, ◌≡◌};
 
 use nearest::Given;

@@ -1,4 +1,6 @@
 // Why a nearest call is refused.
+#![tactic(auto)]
+
 ghost use Rattle.std.specs.Prelude.{min, ◌≡◌};
 ghost use Rattle.nearest_refusals.specs.Numbers.{said_nearest};
 

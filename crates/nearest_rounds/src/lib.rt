@@ -1,4 +1,6 @@
 // The rounds of a nearest search: best first, until what waits is farther than the last answer.
+#![tactic(auto)]
+
 ghost use Rattle.nearest_steps.specs.Asked.{asks};
 ghost use Rattle.nearest_steps.specs.Rounds.{SearchEnd, SearchStart};
 ghost use Rattle.rows_listed.specs.Listed.{ListedTo};

@@ -1,4 +1,6 @@
 // The nearest search itself: the rounds, over the nodes of an index and the single rows of its opened leaves, and the answers handed out.
+#![tactic(auto)]
+
 ghost use Rattle.nearest_search.specs.Found.{FoundListed, FoundNearest, Searchable};
 ghost use Rattle.nearest_steps.specs.Asked.{asks, lends};
 ghost use Rattle.rows_listed.specs.Listed.{Blank};

@@ -1,4 +1,6 @@
 // 13 of the full check: a member is closer to the centre of another child of its node.
+#![tactic(auto)]
+
 ghost use Rattle.std.specs.Prelude.{◌+◌, ◌<◌, ◌≤◌, true, ◌≡◌};
 ghost use Rattle.child_strays.specs.Strays.{FirstIn, Firsts, kidStrays};
 ghost use Rattle.limits.specs.Said.{said};

@@ -1,4 +1,6 @@
 // The lesser and the greater of two numbers, and how far they are apart, the shorter way round too.
+#![tactic(auto)]
+
 ghost use Rattle.std.specs.Prelude.{◌-◌, ◌≤◌, max, min, ◌≡◌};
 ghost use Rattle.laws.specs.Lists.{gap};
 

@@ -1,5 +1,7 @@
 // One piece of an index that takes rows, opened where it stands: an old inner node's children with its new rows dealt out to them; the children of a
 // run that has grown beyond the leaf size; or nothing, where it is a leaf.
+#![tactic(auto)]
+
 ghost use Rattle.opening.specs.Opened.{OldAsk, OldOpens, PieceAsk, PieceOpens};
 
 use dealing::{Deal, deal_out, mark_rows};

@@ -1,4 +1,6 @@
 // The foremen's orders on a set of rows: to strike a row and to restore one.
+#![tactic(auto)]
+
 ghost use Rattle.orders.specs.Orders.{Orders, restoring, said_order, striking};
 ghost use Rattle.std.specs.Prelude.{◌≡◌};
 

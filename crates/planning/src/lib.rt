@@ -1,4 +1,6 @@
 // The plan of a question: its texts are read, its columns chosen, its rows withdrawn and its queries put.
+#![tactic(auto)]
+
 ghost use Rattle.std.specs.Prelude.{◌≤◌};
 
 use answer_lines::plan::Plan;

@@ -1,4 +1,6 @@
 // What is asked about, as the numbers of one query or of several: rows, or the row that has a label.
+#![tactic(auto)]
+
 ghost use Rattle.std.specs.Prelude.{◌*◌, ◌+◌, ◌<◌, ◌≤◌, length, ◌≡◌};
 ghost use Rattle.limits.specs.Limits.{max_columns};
 ghost use Rattle.measure.specs.Table.{row as Table·row};

@@ -1,4 +1,6 @@
 // Why queries can't be searched for.
+#![tactic(auto)]
+
 ghost use Rattle.std.specs.Prelude.{◌≤◌, ◌≡◌};
 ghost use Rattle.query_refusals.specs.Numbers.{said_near};
 

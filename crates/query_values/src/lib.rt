@@ -1,4 +1,6 @@
 // The values that are asked about, as the numbers of one query.
+#![tactic(auto)]
+
 ghost use Rattle.std.specs.Prelude.{◌≤◌, length, ◌≡◌};
 ghost use Rattle.limits.specs.Limits.{max_columns};
 ghost use Rattle.query_values.specs.Values.{PutsValues, times_of};

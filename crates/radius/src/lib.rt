@@ -1,4 +1,6 @@
 // The radius call: refused, or the search and its counts.
+#![tactic(auto)]
+
 ghost use Rattle.radius.specs.Calls.{Searched};
 
 use buffers::clear_bytes;

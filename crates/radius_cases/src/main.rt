@@ -1,5 +1,7 @@
 // The radius call, run. A line for each case: its number in two digits, how many rows are in, how many were measured, and eight how-bytes,
 // which are 9 before.
+#![tactic(auto)]
+
 ghost use Rattle.std.specs.Prelude.{length, ◌≡◌};
 
 use radius::Found;

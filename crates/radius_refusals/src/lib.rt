@@ -1,4 +1,6 @@
 // Why a radius call is refused.
+#![tactic(auto)]
+
 ghost use Rattle.radius_refusals.specs.Numbers.{said_radius};
 ghost use Rattle.std.specs.Prelude.{◌≡◌};
 

@@ -1,4 +1,6 @@
 // How far a node's members are from its first: the farthest of them, and the nearest other than the first.
+#![tactic(auto)]
+
 ghost use Rattle.std.specs.Prelude.{◌+◌, ◌<◌, min, ◌≡◌};
 ghost use Rattle.measure.specs.Table.{between};
 ghost use Rattle.reach.specs.Runs.{Reaches};

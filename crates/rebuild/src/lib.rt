@@ -1,4 +1,6 @@
 // A table is built with the centres, the leaf size and the circles of an index that there is: one row alone, for both appends.
+#![tactic(auto)]
+
 ghost use Rattle.std.specs.Prelude.{◌≤◌, length};
 ghost use Rattle.build.specs.Calls.{Builds};
 ghost use Rattle.words.specs.Words.{circles#, header_words, l#, m#};

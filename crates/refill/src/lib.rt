@@ -1,4 +1,6 @@
 // The words of an index whose tree is grown anew below one node: header, nodes, positions.
+#![tactic(auto)]
+
 ghost use Rattle.std.specs.Prelude.{◌*◌, ◌+◌, ◌≤◌, drop, length, take, ◌++◌, ◌≡◌};
 ghost use Rattle.refill.specs.Calls.{Pairing, Refills, pairs_then};
 ghost use Rattle.regrow.specs.Calls.{Regrowable};

@@ -1,5 +1,7 @@
 // All of a table's rows that an index has not, put into it in one pass: the root takes them, every level below is opened, and header and positions
 // are written.
+#![tactic(auto)]
+
 ghost use Rattle.std.specs.Prelude.{◌*◌, ◌≤◌, length};
 ghost use Rattle.opening.specs.Sound.{Task};
 ghost use Rattle.refilling.specs.Joining.{RowsJoin, RowsJoinable};

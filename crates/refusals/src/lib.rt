@@ -1,4 +1,6 @@
 // Why a call on a table and an index is refused: what numbers decide, then what the index decides, then what the circles decide.
+#![tactic(auto)]
+
 ghost use Rattle.std.specs.Prelude.{◌≤◌, ◌≡◌};
 ghost use Rattle.limits.specs.Limits.{max_columns};
 ghost use Rattle.limits.specs.Said.{said};

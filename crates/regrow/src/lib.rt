@@ -1,5 +1,7 @@
 // A tree grown anew below one node of an index: the build's own level loop, whose nodes come from the old index where they stay. A node
 // that waits to be opened has the number of its first child in the old index, or 0: then it is a leaf, or a run of the workspace.
+#![tactic(auto)]
+
 ghost use Rattle.std.specs.Prelude.{◌*◌, ◌+◌, ◌<◌};
 ghost use Rattle.copies.specs.Copies.{copied};
 ghost use Rattle.regrow.specs.Calls.{Regrowable, Regrows};

@@ -1,4 +1,6 @@
 // 10: the pass of the full check over row numbers that stand again. The workspace marks the rows met so far.
+#![tactic(auto)]
+
 ghost use Rattle.repeated_rows.specs.Zeros.{Clear};
 ghost use Rattle.laws.specs.First.{First};
 ghost use Rattle.tree.specs.Check.{again};

@@ -1,5 +1,7 @@
 // Choosing the centres of a run: farthest first. A run's part of the workspace has an entry of three words for each member: the row,
 // its least distance to the centres so far, and the centre that is so close.
+#![tactic(auto)]
+
 ghost use Rattle.std.specs.Prelude.{◌%◌, ◌*◌, ◌+◌, ◌-◌, ◌≤◌, ltb, drop, get_or, length, take, cond, ◌++◌, ◌∷◌, ◌≡◌};
 ghost use Rattle.limits.specs.Limits.{max_columns};
 ghost use Rattle.measure.specs.Table.{between};

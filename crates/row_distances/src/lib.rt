@@ -1,4 +1,6 @@
 // A row of the lent table, and the distance of two rows measured where they stand.
+#![tactic(auto)]
+
 ghost use Rattle.std.specs.Prelude.{◌*◌, ◌+◌, ◌<◌, ◌≤◌, length, ◌≡◌};
 ghost use Rattle.limits.specs.Limits.{max_columns, max_distance};
 ghost use Rattle.measure.specs.Distance.{l1};

@@ -1,4 +1,6 @@
 // Why a row can't be put behind the rows that were.
+#![tactic(auto)]
+
 ghost use Rattle.std.specs.Prelude.{◌+◌, ◌≤◌, min, ltb, ◌≡◌};
 ghost use Rattle.sheet_reading.specs.Says.{differs, row_trouble_lem};
 

@@ -1,4 +1,6 @@
 // A row joins an index: its leaf is found and laid with it, and the index is written anew.
+#![tactic(auto)]
+
 ghost use Rattle.row_joined.specs.Joining.{Joinable, Joins};
 ghost use Rattle.std.specs.Prelude.{◌≤◌, length, cond, ◌≡◌};
 ghost use Rattle.limits.specs.Limits.{max_rows};

@@ -1,4 +1,6 @@
 // A line of a text of row numbers, one to a line: it is blank, or says a row.
+#![tactic(auto)]
+
 ghost use Rattle.std.specs.Prelude.{◌≤◌, length, ◌≡◌};
 ghost use Rattle.row_lines.specs.Lines.{any_full, is_blank_lem, line_says, past_blanks_lem, place_of};
 ghost use Rattle.row_lines.specs.Rows.{row_trouble_lem};

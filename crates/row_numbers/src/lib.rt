@@ -1,4 +1,6 @@
 // The numbers of a row while its line is read: one grows by a digit, and a field that ends is judged and its number kept behind the others.
+#![tactic(auto)]
+
 ghost use Rattle.line_reading.specs.InLine.{added, added_as, grown, marked, only_empty};
 ghost use Rattle.line_reading.specs.Troubles.{none};
 ghost use Rattle.std.specs.Prelude.{◌+◌, eqb, ◌≡◌};

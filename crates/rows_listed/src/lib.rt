@@ -1,4 +1,6 @@
 // The rows measured, listed in the workspace: what a search marked is unmarked by the list, with no pass over all rows.
+#![tactic(auto)]
+
 ghost use Rattle.std.specs.Prelude.{◌<◌, ◌≤◌, ◌≡◌};
 ghost use Rattle.buffers.specs.Wiped.{wiped};
 ghost use Rattle.rows_listed.specs.Listed.{Listed, ListedTo, Marked};

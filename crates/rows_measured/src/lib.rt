@@ -1,4 +1,6 @@
 // A row measured in a nearest search: it is marked and listed, and entered among the answers unless it is withdrawn.
+#![tactic(auto)]
+
 ghost use Rattle.std.specs.Prelude.{◌+◌, ◌-◌, ◌*◌, ◌<◌, ◌≤◌, suc, ℕ, ◌≡◌};
 ghost use Rattle.answers_held.specs.Answers.{HeldQueue};
 ghost use Rattle.laws.specs.Bags.{is};

@@ -1,4 +1,6 @@
 // Which rows are in a set, asked row by row, and of the whole set.
+#![tactic(auto)]
+
 ghost use Rattle.std.specs.Prelude.{◌≤◌, length, take, ◌≡◌};
 ghost use Rattle.rowset.specs.Sets.{AllOff, SameRows, is_in_lem};
 

@@ -1,5 +1,7 @@
 // A set of rows as bits, 32 rows to a word: a row's bit put on and off. What is asked of a set, which sets are refused and the foremen's orders are crates of
 // their own.
+#![tactic(auto)]
+
 ghost use Rattle.std.specs.Prelude.{◌/◌, ◌<◌, length, ◌≡◌};
 ghost use Rattle.rowset.specs.Sets.{mask, restored, struck};
 

@@ -1,4 +1,6 @@
 // Tables and indexes that more than one program runs on, and a digit to print.
+#![tactic(auto)]
+
 ghost use Rattle.std.specs.Prelude.{◌+◌, ◌≤◌, length, ◌≡◌};
 ghost use Rattle.samples.specs.Digit.{digit_of};
 ghost use Rattle.std.proofs.Math.Seq.{paste};

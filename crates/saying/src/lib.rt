@@ -1,4 +1,6 @@
 // Words and numbers, written to a file.
+#![tactic(auto)]
+
 pub fn say(file: i32, text: &[u8]) {
     io::write_all(file, text);
 }

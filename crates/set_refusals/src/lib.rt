@@ -1,4 +1,6 @@
 // Which sets are refused as sets of n rows: 20.
+#![tactic(auto)]
+
 ghost use Rattle.rowset.specs.Sets.{set_bad_lem, words_for_lem};
 ghost use Rattle.std.specs.Prelude.{◌≡◌};
 

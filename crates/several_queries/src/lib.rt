@@ -1,4 +1,6 @@
 // One search after the other over one index, and what they found put together.
+#![tactic(auto)]
+
 ghost use Rattle.std.specs.Prelude.{◌≤◌, length, take, ◌≡◌};
 ghost use Rattle.buffers.specs.Wiped.{wiped};
 ghost use Rattle.marking.specs.Lent.{Lent};

@@ -1,4 +1,6 @@
 // The shape test: one pass over the nodes, one over the positions, with no workspace.
+#![tactic(auto)]
+
 ghost use Rattle.std.specs.Prelude.{◌*◌, ◌+◌, ◌<◌, ◌≤◌, true, ◌≡◌};
 ghost use Rattle.laws.specs.Lists.{all, range};
 ghost use Rattle.limits.specs.Limits.{max_centres};

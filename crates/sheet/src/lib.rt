@@ -1,5 +1,7 @@
 // The reader of a text of rows: fed piece by piece, it puts each whole row behind the last into a lent table, and names the first line and column
 // with a fault.
+#![tactic(auto)]
+
 ghost use Rattle.std.specs.Prelude.{◌+◌, ◌≤◌, length, ◌≡◌};
 ghost use Rattle.sheet_reading.specs.Closing.{closed, counted, end_trouble, failed, first_blank_lem, judged, onward, or_wide, titles, weighed};
 ghost use Rattle.sheet_reading.specs.Reading.{begun, finished, inside, mark_byte_lem, marking, next, read, released, run, unmarking};

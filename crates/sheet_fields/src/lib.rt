@@ -1,4 +1,6 @@
 // What one byte of a text of rows is.
+#![tactic(auto)]
+
 ghost use Rattle.sheet_fields.specs.Kinds.{kind_of, parting, quoting, signing};
 ghost use Rattle.std.specs.Prelude.{◌≡◌};
 

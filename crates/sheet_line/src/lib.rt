@@ -1,4 +1,6 @@
 // One line of a text of rows, byte by byte: what is known of its fields so far, and where its reader stands.
+#![tactic(auto)]
+
 ghost use Rattle.line_reading.specs.InLine.{along as along·, bare, begins, blank_at, digit_at, emptied};
 ghost use Rattle.line_reading.specs.InLine.{moved, opened, opens, quote_at, settled};
 ghost use Rattle.std.specs.Prelude.{◌&&◌, ◌||◌, ◌≡◌};

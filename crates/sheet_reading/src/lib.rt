@@ -1,4 +1,6 @@
 // What a text of rows says, and what is read of it byte by byte. No code: definitions and theorems.
+#![tactic(auto)]
+
 use line_reading::Line;
 
 // Where the reading stands: how much of the mark EF BB BF has come (3 behind it), whether a carriage return is held back, the number of the line

@@ -1,4 +1,6 @@
 // How far from its own centre a row may be and need not be measured from the others, in a table with no circle.
+#![tactic(auto)]
+
 ghost use Rattle.std.specs.Prelude.{◌<◌, ℕ, get_or, ◌≡◌};
 ghost use Rattle.measure.specs.Space.{Space};
 ghost use Rattle.measure.specs.Table.{between};

@@ -1,4 +1,6 @@
 // The split of one run: its centres are chosen, and its entries go to the second half of the workspace, group by group, and back.
+#![tactic(auto)]
+
 ghost use Rattle.std.specs.Prelude.{◌+◌, ◌≤◌, drop, length, take, ◌++◌, ◌≡◌};
 ghost use Rattle.rounds.specs.Stretch.{stretch};
 ghost use Rattle.split.specs.Runs.{SplitAmong, Splittable};

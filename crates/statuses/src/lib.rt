@@ -1,4 +1,6 @@
 // The statuses that the analyst's program ends with: a crate of their own, so that an edit of one rechecks these few lines and not the program.
+#![tactic(auto)]
+
 ghost use Rattle.statuses.specs.Statuses.{Known, answered, asked_wrongly_lem, no_room_lem, nothing_found_lem, text_faulty_lem};
 ghost use Rattle.std.specs.Prelude.{◌≡◌};
 

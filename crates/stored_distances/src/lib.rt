@@ -1,5 +1,7 @@
 // 11: the pass of the full check over stored distances. Leaves come in the order of nodes, which is not that of their positions, so that the least
 // of all is taken.
+#![tactic(auto)]
+
 ghost use Rattle.std.specs.Prelude.{◌<◌};
 ghost use Rattle.stored_distances.specs.Leaves.{leafWrong};
 ghost use Rattle.laws.specs.First.{First};

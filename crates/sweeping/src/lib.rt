@@ -1,4 +1,6 @@
 // A swept run.
+#![tactic(auto)]
+
 ghost use Rattle.std.specs.Prelude.{◌+◌, ◌<◌, ◌≤◌, ℕ, length, false, ◌≡◌};
 ghost use Rattle.marking.specs.Lent.{Bytes};
 ghost use Rattle.marking.specs.Listed.{Leaves, span, told};

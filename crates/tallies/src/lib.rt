@@ -1,4 +1,6 @@
 // The how-bytes, counted.
+#![tactic(auto)]
+
 ghost use Rattle.std.specs.Prelude.{◌+◌, ◌<◌, ◌≤◌, leb, length, take, cond, ◌≡◌};
 ghost use Rattle.tree.specs.Nearest.{is_measured, measured};
 ghost use Rattle.tree.specs.Radius.{inside};

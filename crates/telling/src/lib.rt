@@ -1,4 +1,6 @@
 // What is wrong with a question, and what would be right; help, and the version.
+#![tactic(auto)]
+
 pub mod faults;
 
 ghost use Rattle.std.specs.Prelude.{◌≤◌};

@@ -1,4 +1,6 @@
 // The listing program's text, read as numbers: counted first, so that a text that can't be read changes nothing.
+#![tactic(auto)]
+
 ghost use Rattle.std.specs.Prelude.{◌≤◌, drop, length, ◌++◌, ◌≡◌};
 ghost use Rattle.text_reading.specs.Calls.{Reads};
 ghost use Rattle.text_reading.specs.Reading.{how_many, numbers};

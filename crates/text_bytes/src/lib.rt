@@ -1,4 +1,6 @@
 // One byte more of the listing program's text: where its reader stands then, and the number that ends there.
+#![tactic(auto)]
+
 ghost use Rattle.std.specs.Prelude.{◌+◌, ◌≤◌, drop, length, take, ◌++◌, ◌≡◌};
 ghost use Rattle.text_reading.specs.Reading.{begun, ended_by, ends, grown, onward, parting, stepped};
 

@@ -1,4 +1,6 @@
 // Where the lines of a text stand, and those of its rows.
+#![tactic(auto)]
+
 ghost use Rattle.std.specs.Prelude.{◌≤◌, drop, length, ◌++◌, ◌≡◌};
 ghost use Rattle.text_lines.specs.Lines.{body_end_lem, keeps, kept, line_at, line_from_lem, line_starts, marked, next_line_lem, text_start_lem};
 

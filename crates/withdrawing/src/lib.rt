@@ -1,4 +1,6 @@
 // Rows that are withdrawn: a text of row numbers, one to a line, read into a set.
+#![tactic(auto)]
+
 ghost use Rattle.withdrawing.specs.Withdrawn.{Withdraws, set_words};
 ghost use Rattle.std.specs.Prelude.{take, ◌≡◌};
 

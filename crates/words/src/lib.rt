@@ -1,3 +1,5 @@
 // The index words by place, and a node written.
+#![tactic(auto)]
+
 pub mod places;
 pub mod writing;

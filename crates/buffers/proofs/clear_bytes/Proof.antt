@@ -10,23 +10,23 @@ use lib.ListN.{length, length-set}
 use mathlib.Core.Path.{◌≡◌, refl}
 use native.Mathlib.Omega.{arith}
 
-abbrev invariant-loop : tie.invariant-loop
+abbrev invariant-loop : tie.invariant-loop-i
 invariant-loop bytes₀ n i₀ bytes i = (i ≤ n) × (n ≤ length bytes₀) × (length bytes ≡ length bytes₀) × (bytes ≡ wiped i bytes₀)
 
-abbrev decreases-loop : tie.decreases-loop
+abbrev decreases-loop : tie.decreases-loop-i
 decreases-loop bytes₀ n i₀ bytes i = n - i
 
-loop-holds : tie.Need-loop-init invariant-loop decreases-loop
+loop-holds : tie.Need-loop-i-init invariant-loop decreases-loop
 loop-holds c = (omega arith, c.requires, refl, fill_none _ 0)
 
-loop-again : tie.Need-loop-preserved invariant-loop decreases-loop
-loop-again c = let l = c.before.loop in (omega arith, l.invariant.1, simp length-set l.invariant.2, rw l.invariant.3 (fill_more l.i 0 _ (omega arith)))
+loop-again : tie.Need-loop-i-preserved invariant-loop decreases-loop
+loop-again c = let l = c.before.loop-i in (omega arith, l.invariant.1, simp length-set l.invariant.2, rw l.invariant.3 (fill_more l.i 0 _ (omega arith)))
 
 returns : tie.Need-returns invariant-loop decreases-loop
-returns c = let l = c.before.loop in let e : l.i ≡ c.before.before.args.n = omega arith in rw e at l.invariant.3
+returns c = let l = c.before.loop-i in let e : l.i ≡ c.before.before.args.n = omega arith in rw e at l.invariant.3
 
-pub clear-bytes-spec : {M : Type 1} → statement M
-clear-bytes-spec =
+pub clear_bytes_spec : {M : Type 1} → statement M
+clear_bytes_spec =
     tie.close
     (tie.spec
     invariant-loop

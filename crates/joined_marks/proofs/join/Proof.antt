@@ -7,25 +7,25 @@ use Rattle.joined_marks.proofs.join.Tie as tie
 use borrow.Author.Rules.{rules}
 use native.Mathlib.Omega.{arith}
 
-abbrev invariant-loop : tie.invariant-loop
+abbrev invariant-loop : tie.invariant-loop-i
 invariant-loop how marks₀ n new₀ i₀ marks new i = Joined how marks₀ n marks new i
 
-abbrev decreases-loop : tie.decreases-loop
+abbrev decreases-loop : tie.decreases-loop-i
 decreases-loop how marks₀ n new₀ i₀ marks new i = n - i
 
-loop-holds : tie.Need-loop-init invariant-loop decreases-loop
+loop-holds : tie.Need-loop-i-init invariant-loop decreases-loop
 loop-holds c = join_start _ _ _ c.before.before.requires.0 c.before.before.requires.1
 
-loop-again : tie.Need-loop-preserved invariant-loop decreases-loop
+loop-again : tie.Need-loop-i-preserved invariant-loop decreases-loop
 loop-again c =
-    let l = c.before.before.before.before.before.before.before.loop in
-    join-next _ _ _ l.invariant (omega arith) c.merge.ensures c.before.before.before.newly.ensures.0 c.before.before.before.newly.ensures.1
+    let l = c.before.before.before.before.before.before.before.loop-i in
+    join-next _ _ _ l.invariant (omega arith) c.merge.ensures c.before.before.before.newly-new.ensures.0 c.before.before.before.newly-new.ensures.1
 
 returns : tie.Need-returns invariant-loop decreases-loop
-returns c = join-done _ _ _ c.before.loop.invariant (omega arith)
+returns c = join-done _ _ _ c.before.loop-i.invariant (omega arith)
 
-pub join-spec : {M : Type 1} → statement M
-join-spec =
+pub join_spec : {M : Type 1} → statement M
+join_spec =
     tie.close
     (tie.spec
     invariant-loop

@@ -6,10 +6,14 @@ use Rattle.limits.proofs.circles_ok.Tie as tie
 use borrow.Author.Rules.{rules}
 use native.Mathlib.Omega.{arith}
 
-returns : tie.Need-returns
+returns : tie.Need-returns-then-c-ge32
 returns c =
     let a = c.before.args in
     no_bit_above a.c a.circles (omega arith) (omega arith)
 
-pub circles-ok-spec : {M : Type 1} → statement M
-circles-ok-spec = tie.close (tie.spec returns (λ c. search rules) (λ c. search rules) (λ c. search rules))
+pub circles_ok_spec : {M : Type 1} → statement M
+circles_ok_spec = tie.close (tie.spec
+    returns
+    (λ c. search rules)
+    (λ c. search rules)
+    (λ c. search rules))

@@ -5,7 +5,9 @@ use Rattle.limits.proofs.columns_ok.Tie as tie
 use borrow.Author.Rules.{rules}
 
 returns : tie.Need-returns
-returns c = c.is_Within.ensures
+returns c = c.is_within.ensures
 
-pub columns-ok-spec : {M : Type 1} → statement M
-columns-ok-spec = tie.close (tie.spec (λ c κs. search rules) returns)
+pub columns_ok_spec : {M : Type 1} → statement M
+columns_ok_spec = tie.close (tie.spec
+    (λ c κs. search rules)
+    returns)

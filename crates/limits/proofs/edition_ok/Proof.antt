@@ -5,7 +5,9 @@ use Rattle.limits.proofs.edition_ok.Tie as tie
 use borrow.Author.Rules.{rules}
 
 returns : tie.Need-returns
-returns c = c.is_Within.ensures
+returns c = c.is_within.ensures
 
-pub edition-ok-spec : {M : Type 1} → statement M
-edition-ok-spec = tie.close (tie.spec (λ c κs. search rules) returns)
+pub edition_ok_spec : {M : Type 1} → statement M
+edition_ok_spec = tie.close (tie.spec
+    (λ c κs. search rules)
+    returns)

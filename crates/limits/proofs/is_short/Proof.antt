@@ -8,5 +8,7 @@ use borrow.Author.Rules.{rules}
 returns : tie.Need-returns
 returns c = short_is c.args.room c.args.each c.args.n c.requires
 
-pub is-short-spec : {M : Type 1} → statement M
-is-short-spec = tie.close (tie.spec (λ c. search rules) returns)
+pub is_short_spec : {M : Type 1} → statement M
+is_short_spec = tie.close (tie.spec
+    (λ c. search rules)
+    returns)

@@ -4,11 +4,13 @@ use Rattle.limits.proofs.is_within.Statement.{statement}
 use Rattle.limits.proofs.is_within.Tie as tie
 use borrow.Author.Tests.{le-leb, lt-leb}
 
-returns : tie.Need-returns
-returns c = simp (lt-leb _ _ c.if1.true)
+returns : tie.Need-returns-then-x-low
+returns c = simp (lt-leb _ _ c.if-x-low.true)
 
-returns-2 : tie.Need-returns-2
-returns-2 c = simp (le-leb _ _ c.if1.false)
+returns-2 : tie.Need-returns
+returns-2 c = simp (le-leb _ _ c.if-x-low.false)
 
-pub is-within-spec : {M : Type 1} → statement M
-is-within-spec = tie.close (tie.spec returns returns-2)
+pub is_within_spec : {M : Type 1} → statement M
+is_within_spec = tie.close (tie.spec
+    returns
+    returns-2)

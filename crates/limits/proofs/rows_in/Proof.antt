@@ -5,8 +5,11 @@ use Rattle.limits.proofs.rows_in.Statement.{statement}
 use Rattle.limits.proofs.rows_in.Tie as tie
 use borrow.Author.Rules.{rules}
 
-returns : tie.Need-returns
-returns c = no_rows c.before.args.length c.if1.true
+returns : tie.Need-returns-then-c-eq0
+returns c = no_rows c.before.args.length c.if-c-eq0.true
 
-pub rows-in-spec : {M : Type 1} → statement M
-rows-in-spec = tie.close (tie.spec returns (λ c. search rules) (λ c. search rules))
+pub rows_in_spec : {M : Type 1} → statement M
+rows_in_spec = tie.close (tie.spec
+    returns
+    (λ c. search rules)
+    (λ c. search rules))

@@ -7,9 +7,14 @@ use lib.Seq.{length-take-le}
 use mathlib.Core.Path.{sym}
 use native.Mathlib.Omega.{arith}
 
-slice-aggregate-write-all : tie.Need-slice-aggregate-write-all
+slice-aggregate-write-all : tie.Need-slice_bounds-write_all-end
 slice-aggregate-write-all c = sym (length-take-le _ _ (omega arith))
 
-pub make-room-spec : {M : Type 1} → statement M
-make-room-spec =
-    tie.close (tie.spec (λ c. search rules) (λ c. search rules) slice-aggregate-write-all (λ c κs. search rules) (λ c. search rules))
+pub make_room_spec : {M : Type 1} → statement M
+make_room_spec =
+    tie.close (tie.spec
+    (λ c. search rules)
+    (λ c. search rules)
+    slice-aggregate-write-all
+    (λ c κs. search rules)
+    (λ c. search rules))

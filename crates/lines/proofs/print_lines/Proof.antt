@@ -9,17 +9,17 @@ use lib.Seq.{length-take-le}
 use mathlib.Core.Path.{◌≡◌, sym}
 use native.Mathlib.Omega.{arith}
 
-abbrev invariant-loop : tie.invariant-loop
+abbrev invariant-loop : tie.invariant-loop-i
 invariant-loop words width shown text₀ at₀ i₀ text at i = (i ≤ length words) × (4096 ≡ length text) × (at ≤ 4096)
 
-abbrev decreases-loop : tie.decreases-loop
+abbrev decreases-loop : tie.decreases-loop-i
 decreases-loop words width shown text₀ at₀ i₀ text at i = length words - i
 
-slice-aggregate-write-all : tie.Need-slice-aggregate-write-all invariant-loop decreases-loop
+slice-aggregate-write-all : tie.Need-slice_bounds-write_all-end invariant-loop decreases-loop
 slice-aggregate-write-all c = sym (length-take-le _ _ (omega arith))
 
-pub print-lines-spec : {M : Type 1} → statement M
-print-lines-spec =
+pub print_lines_spec : {M : Type 1} → statement M
+print_lines_spec =
     tie.close
     (tie.spec
     invariant-loop

@@ -8,27 +8,27 @@ use native.Mathlib.Omega.{arith}
 
 copy-requires : tie.Need-copy-requires
 copy-requires c κs =
-    let d = c.before.before.decimal.ensures in omega (arith, twenty (omega arith) d.1.0, d.0.1)
+    let d = c.before.before.decimal-k.ensures in omega (arith, twenty (omega arith) d.1.0, d.0.1)
 
-add-end : tie.Need-overflow-add-end
+add-end : tie.Need-overflow_add-end
 add-end c =
-    omega (arith, twenty (omega arith) c.before.before.before.before.before.decimal.ensures.1.0)
+    omega (arith, twenty (omega arith) c.before.before.before.before.before.decimal-k.ensures.1.0)
 
-slice-write-text : tie.Need-slice-write-text
+slice-write-text : tie.Need-bounds-text-end
 slice-write-text c =
-    omega (arith, twenty (omega arith) c.before.before.before.before.before.decimal.ensures.1.0)
+    omega (arith, twenty (omega arith) c.before.before.before.before.before.decimal-k.ensures.1.0)
 
-add-result : tie.Need-overflow-add-result
+add-result : tie.Need-overflow_add-result
 add-result c =
-    omega (arith, twenty (omega arith) c.before.before.before.before.before.decimal.ensures.1.0)
+    omega (arith, twenty (omega arith) c.before.before.before.before.before.decimal-k.ensures.1.0)
 
 returns : tie.Need-returns
 returns c =
-    let d = c.before.before.before.before.before.decimal.ensures in
+    let d = c.before.before.before.before.before.decimal-k.ensures in
     told _ _ _ _ (omega arith) d.1.0 d.0.1 d.1.1 c.before.before.copy.ensures (omega arith)
 
-pub put-number-spec : {M : Type 1} → statement M
-put-number-spec =
+pub put_number_spec : {M : Type 1} → statement M
+put_number_spec =
     tie.close
     (tie.spec
     (λ c κs. search rules)

@@ -4,11 +4,13 @@ use Rattle.numbers.proofs.less.Statement.{statement}
 use Rattle.numbers.proofs.less.Tie as tie
 use native.Mathlib.Omega.{arith}
 
-returns : tie.Need-returns
+returns : tie.Need-returns-then-a-b
 returns c = omega arith
 
-returns-2 : tie.Need-returns-2
+returns-2 : tie.Need-returns-else-a-b
 returns-2 c = omega arith
 
-pub less-spec : {M : Type 1} → statement M
-less-spec = tie.close (tie.spec returns returns-2)
+pub less_spec : {M : Type 1} → statement M
+less_spec = tie.close (tie.spec
+    returns
+    returns-2)

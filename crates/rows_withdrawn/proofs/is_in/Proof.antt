@@ -7,13 +7,18 @@ use borrow.Author.Rules.{rules}
 use mathlib.Core.Path.{sym}
 use native.Mathlib.Omega.{arith}
 
-returns : tie.Need-returns
+returns : tie.Need-returns-then-set-at
 returns c = sym (beyond c.before.before.args.set.now c.before.before.args.r (omega arith))
 
-returns-2 : tie.Need-returns-2
+returns-2 : tie.Need-returns
 returns-2 c =
     let m = c.before in
-    tested m.before.before.before.args.set.now m.before.before.before.args.r _ _ (omega arith) (omega (arith, m.mask-of.ensures))
+    tested m.before.before.before.args.set.now m.before.before.before.args.r _ _ (omega arith) (omega (arith, m.mask_of-bit.ensures))
 
-pub is-in-spec : {M : Type 1} → statement M
-is-in-spec = tie.close (tie.spec returns (λ c κs. search rules) (λ c. search rules) (λ c. search rules) returns-2)
+pub is_in_spec : {M : Type 1} → statement M
+is_in_spec = tie.close (tie.spec
+    returns
+    (λ c κs. search rules)
+    (λ c. search rules)
+    (λ c. search rules)
+    returns-2)

@@ -10,27 +10,27 @@ use mathlib.Core.Bool.{false}
 use mathlib.Core.Path.{◌≡◌}
 use native.Mathlib.Omega.{arith}
 
-abbrev invariant-loop : tie.invariant-loop
+abbrev invariant-loop : tie.invariant-loop-i
 invariant-loop set on₀ i₀ on i = (i ≤ length set) × (on ≡ false → (k : ℕ) → k < i → get_or set k 0 ≡ 0)
 
-abbrev decreases-loop : tie.decreases-loop
+abbrev decreases-loop : tie.decreases-loop-i
 decreases-loop set on₀ i₀ on i = length set - i
 
-loop-holds : tie.Need-loop-init invariant-loop decreases-loop
+loop-holds : tie.Need-loop-i-init invariant-loop decreases-loop
 loop-holds c = (omega arith, λ e k l. absurd (omega arith))
 
-loop-again : tie.Need-loop-preserved invariant-loop decreases-loop
+loop-again : tie.Need-loop-i-preserved invariant-loop decreases-loop
 loop-again c =
     let l = c.before.before in
-    (omega arith, λ e k h. off_next l.before.args.set.now l.loop.i l.loop.on l.loop.invariant.1 e k (omega arith))
+    (omega arith, λ e k h. off_next l.before.args.set.now l.loop-i.i l.loop-i.on l.loop-i.invariant.1 e k (omega arith))
 
 returns : tie.Need-returns invariant-loop decreases-loop
 returns c =
     let l = c.before in
-    λ e k. off-beyond l.before.args.set.now l.loop.i (omega arith) (l.loop.invariant.1 e) k
+    λ e k. off-beyond l.before.args.set.now l.loop-i.i (omega arith) (l.loop-i.invariant.1 e) k
 
-pub some-on-spec : {M : Type 1} → statement M
-some-on-spec =
+pub some_on_spec : {M : Type 1} → statement M
+some_on_spec =
     tie.close
     (tie.spec
     invariant-loop

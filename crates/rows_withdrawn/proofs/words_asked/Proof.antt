@@ -5,11 +5,14 @@ use Rattle.rows_withdrawn.proofs.words_asked.Statement.{statement}
 use Rattle.rows_withdrawn.proofs.words_asked.Tie as tie
 use borrow.Author.Rules.{rules}
 
-returns : tie.Need-returns
+returns : tie.Need-returns-then-some_on
 returns c = (search rules, all_asked _)
 
-returns-2 : tie.Need-returns-2
-returns-2 c = (search rules, none_in _ (c.before.some-on.ensures c.if1.false))
+returns-2 : tie.Need-returns
+returns-2 c = (search rules, none_in _ (c.before.some_on.ensures c.if-some_on.false))
 
-pub words-asked-spec : {M : Type 1} → statement M
-words-asked-spec = tie.close (tie.spec (λ c κs. search rules) returns returns-2)
+pub words_asked_spec : {M : Type 1} → statement M
+words_asked_spec = tie.close (tie.spec
+    (λ c κs. search rules)
+    returns
+    returns-2)

@@ -8,5 +8,8 @@ use native.Mathlib.Omega.{arith}
 returns : tie.Need-returns
 returns c = shifted c.args.r _ (omega arith)
 
-pub mask-of-spec : {M : Type 1} → statement M
-mask-of-spec = tie.close (tie.spec (λ c. search rules) (λ c. search rules) returns)
+pub mask_of_spec : {M : Type 1} → statement M
+mask_of_spec = tie.close (tie.spec
+    (λ c. search rules)
+    (λ c. search rules)
+    returns)

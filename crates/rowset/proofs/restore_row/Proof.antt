@@ -8,10 +8,10 @@ use native.Mathlib.Omega.{arith}
 returns : tie.Need-returns
 returns c =
     let m = c.before in
-    put-off m.before.before.args.set.now m.before.before.args.r _ _ (omega arith) (omega (arith, m.mask-of.ensures))
+    put-off m.before.before.args.set.now m.before.before.args.r _ _ (omega arith) (omega (arith, m.mask_of-bit.ensures))
 
-pub restore-row-spec : {M : Type 1} → statement M
-restore-row-spec =
+pub restore_row_spec : {M : Type 1} → statement M
+restore_row_spec =
     tie.close
     (tie.spec
     (λ c κs. search rules)

@@ -8,10 +8,10 @@ use native.Mathlib.Omega.{arith}
 returns : tie.Need-returns
 returns c =
     let m = c.before in
-    put_on m.before.before.args.set.now m.before.before.args.r _ _ (omega arith) (omega (arith, m.mask-of.ensures))
+    put_on m.before.before.args.set.now m.before.before.args.r _ _ (omega arith) (omega (arith, m.mask_of-bit.ensures))
 
-pub strike-row-spec : {M : Type 1} → statement M
-strike-row-spec =
+pub strike_row_spec : {M : Type 1} → statement M
+strike_row_spec =
     tie.close
     (tie.spec
     (λ c κs. search rules)

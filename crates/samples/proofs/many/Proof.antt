@@ -9,5 +9,6 @@ use mathlib.Core.Path.{sym}
 returns : tie.Need-returns
 returns c = sym (length-replicate {0} {A = ℕ} 1_048_577 0)
 
-pub many-spec : {M : Type 1} → statement M
-many-spec = tie.close (tie.spec returns)
+pub many_spec : {M : Type 1} → statement M
+many_spec = tie.close (tie.spec
+    returns)

@@ -8,26 +8,26 @@ use borrow.Author.Rules.{rules}
 use lib.ListN.{length}
 use native.Mathlib.Omega.{arith}
 
-abbrev invariant-loop : tie.invariant-loop
+abbrev invariant-loop : tie.invariant-loop-i
 invariant-loop line index₀ at i₀ index i = Copied line index₀ at (length line) index i
 
-abbrev decreases-loop : tie.decreases-loop
+abbrev decreases-loop : tie.decreases-loop-i
 decreases-loop line index₀ at i₀ index i = length line - i
 
-loop-holds : tie.Need-loop-init invariant-loop decreases-loop
+loop-holds : tie.Need-loop-i-init invariant-loop decreases-loop
 loop-holds c = copied_start _ _ _ _ (omega arith) (omega arith)
 
-slice-write-index : tie.Need-slice-write-index invariant-loop decreases-loop
-slice-write-index c = omega (arith, copied-long _ _ _ _ _ _ c.before.before.loop.invariant)
+slice-write-index : tie.Need-bounds-index-at invariant-loop decreases-loop
+slice-write-index c = omega (arith, copied-long _ _ _ _ _ _ c.before.before.loop-i.invariant)
 
-loop-again : tie.Need-loop-preserved invariant-loop decreases-loop
-loop-again c = copied_next _ _ _ _ _ _ c.before.before.loop.invariant c.before.loop-test.true
+loop-again : tie.Need-loop-i-preserved invariant-loop decreases-loop
+loop-again c = copied_next _ _ _ _ _ _ c.before.before.loop-i.invariant c.before.loop-i-test.true
 
-same_length : tie.Need-same-length invariant-loop decreases-loop
-same_length c = copied-long _ _ _ _ _ _ c.before.loop.invariant
+same_length : tie.Need-shape_of-index invariant-loop decreases-loop
+same_length c = copied-long _ _ _ _ _ _ c.before.loop-i.invariant
 
 returns : tie.Need-returns invariant-loop decreases-loop
-returns c = copied_all _ _ _ _ _ _ c.before.loop.invariant c.loop-test.false
+returns c = copied_all _ _ _ _ _ _ c.before.loop-i.invariant c.loop-i-test.false
 
 pub put_spec : {M : Type 1} → statement M
 put_spec =

@@ -10,28 +10,28 @@ use mathlib.Core.Path.{◌∙◌, ◌≡◌}
 use native.Mathlib.Omega.{arith}
 
 -- the words have 32 bits
-narrow : (c : tie.After-shared-slice-known) → Narrow c.before.args.set.now
-narrow c i = omega (arith, c.shared-slice-known.given i)
+narrow : (c : tie.After-shared_slice_known-1) → Narrow c.before.args.set.now
+narrow c i = omega (arith, c.shared_slice_known-1.given i)
 
 -- past the first test there are as many as n rows take
-long : (c : tie.Else1) → length c.before.before.before.args.set.now ≡ words_for_lem c.before.before.before.args.n
-long c = c.if1.false ∙ c.before.words-for.ensures
+long : (c : tie.Else-set-words_for) → length c.before.before.before.args.set.now ≡ words_for_lem c.before.before.before.args.n
+long c = c.if-set-words_for.false ∙ c.before.words_for.ensures
 
-returns : tie.Need-returns
-returns c = wrong-length _ _ (λ e. c.if1.true (omega (arith, c.before.words-for.ensures)))
+returns : tie.Need-returns-then-set-words_for
+returns c = wrong-length _ _ (λ e. c.if-set-words_for.true (omega (arith, c.before.words_for.ensures)))
 
-returns-2 : tie.Need-returns-2
+returns-2 : tie.Need-returns-then-set-at
 returns-2 c = by_length _ _ (long c.before) (omega arith)
 
-returns-3 : tie.Need-returns-3
+returns-3 : tie.Need-returns
 returns-3 c =
     let m = c.before in
     let e = m.before.before in
-    not-below e.before.before.before.args.set.now e.before.before.before.args.n _ _ (omega arith) (omega (arith, m.mask-of.ensures))
+    not-below e.before.before.before.args.set.now e.before.before.before.args.n _ _ (omega arith) (omega (arith, m.mask_of-bit.ensures))
     (narrow e.before.before) (long e)
 
-pub set-bad-spec : {M : Type 1} → statement M
-set-bad-spec =
+pub set_bad_spec : {M : Type 1} → statement M
+set_bad_spec =
     tie.close
     (tie.spec
     (λ c κs. search rules)

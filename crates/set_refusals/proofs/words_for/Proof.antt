@@ -7,5 +7,8 @@ use native.Mathlib.Omega.{arith}
 returns : tie.Need-returns
 returns c = omega arith
 
-pub words-for-spec : {M : Type 1} → statement M
-words-for-spec = tie.close (tie.spec (λ c. search rules) (λ c. search rules) returns)
+pub words_for_spec : {M : Type 1} → statement M
+words_for_spec = tie.close (tie.spec
+    (λ c. search rules)
+    (λ c. search rules)
+    returns)

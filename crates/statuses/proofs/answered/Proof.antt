@@ -7,5 +7,6 @@ use native.Mathlib.Omega.{arith}
 returns : tie.Need-returns
 returns c = (omega arith, omega arith)
 
-pub answered-spec : {M : Type 1} → statement M
-answered-spec = tie.close (tie.spec returns)
+pub answered_spec : {M : Type 1} → statement M
+answered_spec = tie.close (tie.spec
+    returns)

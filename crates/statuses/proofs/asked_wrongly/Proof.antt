@@ -7,5 +7,6 @@ use native.Mathlib.Omega.{arith}
 returns : tie.Need-returns
 returns c = (omega arith, omega arith)
 
-pub asked-wrongly-spec : {M : Type 1} → statement M
-asked-wrongly-spec = tie.close (tie.spec returns)
+pub asked_wrongly_spec : {M : Type 1} → statement M
+asked_wrongly_spec = tie.close (tie.spec
+    returns)

@@ -7,5 +7,6 @@ use native.Mathlib.Omega.{arith}
 returns : tie.Need-returns
 returns c = (omega arith, omega arith)
 
-pub no-room-spec : {M : Type 1} → statement M
-no-room-spec = tie.close (tie.spec returns)
+pub no_room_spec : {M : Type 1} → statement M
+no_room_spec = tie.close (tie.spec
+    returns)

@@ -7,5 +7,6 @@ use native.Mathlib.Omega.{arith}
 returns : tie.Need-returns
 returns c = (omega arith, omega arith)
 
-pub nothing-found-spec : {M : Type 1} → statement M
-nothing-found-spec = tie.close (tie.spec returns)
+pub nothing_found_spec : {M : Type 1} → statement M
+nothing_found_spec = tie.close (tie.spec
+    returns)

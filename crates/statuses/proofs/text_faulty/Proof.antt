@@ -7,5 +7,6 @@ use native.Mathlib.Omega.{arith}
 returns : tie.Need-returns
 returns c = (omega arith, omega arith)
 
-pub text-faulty-spec : {M : Type 1} → statement M
-text-faulty-spec = tie.close (tie.spec returns)
+pub text_faulty_spec : {M : Type 1} → statement M
+text_faulty_spec = tie.close (tie.spec
+    returns)

@@ -4,35 +4,41 @@ use Rattle.laws.proofs.Tests.{no, yes}
 use Rattle.limits.proofs.Params.new.Statement.{statement}
 use Rattle.limits.proofs.Params.new.Tie as tie
 use borrow.Author.Rules.{rules}
-use borrow.Author.Tests.{eq-eqb, ne_eqb}
+use borrow.Author.Tests.{eq-eqb, ne_eqb, not-false, not-true}
 use mathlib.Core.Bool.{and-false}
 use native.Mathlib.Omega.{arith}
 
-returns : tie.Need-returns
-returns c = rw (no c.before.share-ok.ensures c.if1.true)
+returns : tie.Need-returns-then-not-share_ok
+returns c = rw (no c.before.share_ok.ensures (not-true _ c.if-not-share_ok.true))
 
-returns-2 : tie.Need-returns-2
-returns-2 c = simp (no c.before.circles-ok.ensures c.if2.true, and-false)
+returns-2 : tie.Need-returns-then-not-circles_ok
+returns-2 c = simp (no c.before.circles_ok.ensures (not-true _ c.if-not-circles_ok.true), and-false)
 
-returns-3 : tie.Need-returns-3
+returns-3 : tie.Need-returns-then-edition-eq-LAST_EDITION
 returns-3 c =
     let o = c.before in
     let s = o.before.before in
     rw (
-      yes s.before.share-ok.ensures s.if1.false,
-      yes o.before.circles-ok.ensures o.if2.false,
+      yes s.before.share_ok.ensures (not-false _ s.if-not-share_ok.false),
+      yes o.before.circles_ok.ensures (not-false _ o.if-not-circles_ok.false),
       eq-eqb s.before.before.args.edition 2 (omega arith),
     )
 
-returns-4 : tie.Need-returns-4
+returns-4 : tie.Need-returns
 returns-4 c =
     let o = c.before in
     let s = o.before.before in
     rw (
-      yes s.before.share-ok.ensures s.if1.false,
-      yes o.before.circles-ok.ensures o.if2.false,
+      yes s.before.share_ok.ensures (not-false _ s.if-not-share_ok.false),
+      yes o.before.circles_ok.ensures (not-false _ o.if-not-circles_ok.false),
       ne_eqb s.before.before.args.edition 2 (λ z. omega arith),
     )
 
 pub new_spec : {M : Type 1} → statement M
-new_spec = tie.close (tie.spec (λ c κs. search rules) returns (λ c κs. search rules) returns-2 returns-3 returns-4)
+new_spec = tie.close (tie.spec
+    (λ c κs. search rules)
+    returns
+    (λ c κs. search rules)
+    returns-2
+    returns-3
+    returns-4)
