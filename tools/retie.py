@@ -130,17 +130,15 @@ def turn(path, fn, names, say):
     # not in paths of modules: those stand in 'use' lines
     text = "\n".join(line if line.startswith(("use ", "pub use ", "--")) else FIELD.sub(field, line) for line in text.split("\n"))
 
-    # a test of `!b` says today that `not b` is true or false
-    text = re.sub(r"\(?\b([\w'.#-]+\.if-not-[\w-]+)\.(true|false)\b(?![\w-])\)?", lambda m: m.group(0) if m.group(0).startswith("(not-") else re.sub(r"[\w'.#-]+\.if-not-[\w-]+\.(true|false)", lambda k: f"(not-{k.group(1)} _ {k.group(0)})", m.group(0)), text)
-    if "(not-true _ " in text or "(not-false _ " in text:
-        used = [n for n in ("not-false", "not-true") if f"({n} _ " in text]
-        m = re.search(r"(?m)^use borrow\.Author\.Tests\.\{([^}]*)\}", text)
-        if m:
-            have = [n.strip() for n in m.group(1).split(",")]
-            text = text[: m.start(1)] + ", ".join(sorted(set(have) | set(used))) + text[m.end(1):]
-        else:
-            m = re.search(r"(?m)^use ", text)
-            text = text[: m.start()] + f"use borrow.Author.Tests.{{{', '.join(used)}}}\n" + text[m.start():]
+    # a test of `!b` says today that b is false, and not that `not b` is true; its failing that b is true
+    def negated(m):
+        return f"(not_from_{'false' if m.group(1) == 'true' else 'true'} _ {m.group(0)})"
+
+    text = re.sub(r"(?<![\w'.#-])[\w'#-]+(?:\.[\w'#-]+)*\.if-not-[\w-]+\.(true|false)(?![\w'-])", negated, text)
+    used = [n for n in ("not_from_false", "not_from_true") if f"({n} _ " in text]
+    if used:
+        m = re.search(r"(?m)^use ", text)
+        text = text[: m.start()] + f"use Rattle.std.proofs.lemmas.Bool.{{{', '.join(used)}}}\n" + text[m.start():]
     # which name answers which goal
     answers = {}
     for m in re.finditer(r"(?m)^(?:pub )?([^\s:(){}]+) : tie\.Need-(\S+)", text):

@@ -1,5 +1,1 @@
-pub mod LentOn
-pub mod LentOut
-pub mod Opened
-pub mod Pairs
 pub mod Records

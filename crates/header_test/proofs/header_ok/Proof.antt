@@ -7,11 +7,15 @@ use borrow.Author.Rules.{rules}
 use mathlib.Core.Path.{◌∙◌}
 use native.Mathlib.Omega.{arith}
 
-returns : tie.Need-returns
+returns : tie.Need-returns-then-word-ne-LAST_EDITION
 returns c = other-edition _ (λ e. omega arith)
 
-returns-2 : tie.Need-returns-2
-returns-2 c = c.card-ok.ensures ∙ edition-two _ (omega arith)
+returns-2 : tie.Need-returns
+returns-2 c = c.card_ok.ensures ∙ edition-two _ (omega arith)
 
-pub header-ok-spec : {M : Type 1} → statement M
-header-ok-spec = tie.close (tie.spec (λ c κs. search rules) returns (λ c κs. search rules) returns-2)
+pub header_ok_spec : {M : Type 1} → statement M
+header_ok_spec = tie.close (tie.spec
+    (λ c κs. search rules)
+    returns
+    (λ c κs. search rules)
+    returns-2)

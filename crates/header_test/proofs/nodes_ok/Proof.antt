@@ -6,12 +6,17 @@ use Rattle.words.proofs.Headers.{nodes-none, nodes-some}
 use borrow.Author.Rules.{rules}
 use mathlib.Core.Path.{◌∙◌}
 
-returns : tie.Need-returns
-returns c = nodes-none _ _ c.if1.true
+returns : tie.Need-returns-then-n-eq0
+returns c = nodes-none _ _ c.if-n-eq0.true
 
-returns-2 : tie.Need-returns-2
-returns-2 c = c.is_Within.ensures ∙ nodes-some _ _ c.before.if1.false
+returns-2 : tie.Need-returns
+returns-2 c = c.is_within.ensures ∙ nodes-some _ _ c.if-n-eq0.false
 
-pub nodes-ok-spec : {M : Type 1} → statement M
-nodes-ok-spec =
-    tie.close (tie.spec returns (λ c. search rules) (λ c. search rules) (λ c κs. search rules) returns-2)
+pub nodes_ok_spec : {M : Type 1} → statement M
+nodes_ok_spec =
+    tie.close (tie.spec
+    returns
+    (λ c. search rules)
+    (λ c. search rules)
+    (λ c κs. search rules)
+    returns-2)

@@ -8,7 +8,7 @@ use native.Mathlib.Omega.{arith}
 
 returns : tie.Need-returns-then-c-ge32
 returns c =
-    let a = c.before.args in
+    let a = c.args in
     no_bit_above a.c a.circles (omega arith) (omega arith)
 
 pub circles_ok_spec : {M : Type 1} → statement M

@@ -1,5 +1,6 @@
 -- `limits::number_of` meets its contract: each return is the first part that is met, since past a part those after it decide.
 -- Assumes nothing.
+use Rattle.std.proofs.lemmas.Bool.{not_from_false, not_from_true}
 use Prim.Native.Nat.{◌<◌}
 use Rattle.laws.proofs.Tests.{no, yes}
 use Rattle.limits.proofs.Faults.{fault-first, fault-next, number_of}
@@ -10,7 +11,7 @@ use Rattle.limits.proofs.number_of.Tie as tie
 use Rattle.limits.specs.Said.{Said, fault, number_faults, said}
 use Rattle.limits.specs.declared.Asked.{Asked}
 use borrow.Author.Rules.{rules}
-use borrow.Author.Tests.{eq-eqb, le-ltb, lt-ltb, ne_eqb, not-false, not-true}
+use borrow.Author.Tests.{eq-eqb, le-ltb, lt-ltb, ne_eqb}
 use mathlib.Core.Bool.{not}
 use mathlib.Core.List.{List}
 use mathlib.Core.Path.{◌∙◌, ◌≡◌, ap, sym}
@@ -21,7 +22,7 @@ Decide parts a = said (parts a) ≡ said (number_faults a)
 
 -- what is asked, past each part
 abbrev a1 : tie.Else-not-columns_ok → Asked
-a1 c = c.before.before.args.asked
+a1 c = c.args.asked
 
 abbrev a2 : tie.Else-asked → Asked
 a2 c = a1 c.before
@@ -40,11 +41,11 @@ a6 c = a5 c.before
 
 returns : tie.Need-returns-then-not-columns_ok
 returns c =
-    let a = c.before.before.args.asked in
-    ap number_of (fault-first 1 (from2 a) (ap not (no c.before.columns_ok.ensures (not-true _ c.if-not-columns_ok.true))) ∙ ap said (from1 a))
+    let a = c.args.asked in
+    ap number_of (fault-first 1 (from2 a) (ap not (no c.columns_ok.ensures (not_from_false _ c.if-not-columns_ok.true))) ∙ ap said (from1 a))
 
 past1 : (c : tie.Else-not-columns_ok) → Decide from2 (a1 c)
-past1 c = fault-next 1 (from2 (a1 c)) (ap not (yes c.before.columns_ok.ensures (not-false _ c.if-not-columns_ok.false))) ∙ ap said (from1 (a1 c))
+past1 c = fault-next 1 (from2 (a1 c)) (ap not (yes c.columns_ok.ensures (not_from_true _ c.if-not-columns_ok.false))) ∙ ap said (from1 (a1 c))
 
 returns-2 : tie.Need-returns-then-asked
 returns-2 c = ap number_of (fault-first 2 (from3 (a1 c.before)) c.if-asked.true ∙ past1 c.before)
@@ -54,7 +55,7 @@ past2 c = fault-next 2 (from3 (a2 c)) c.if-asked.false ∙ past1 c.before
 
 -- there is a column
 some : (c : tie.Else-not-columns_ok) → 0 < (a1 c).columns
-some c = (columns_are (a1 c).columns (yes c.before.columns_ok.ensures (not-false _ c.if-not-columns_ok.false))).0
+some c = (columns_are (a1 c).columns (yes c.columns_ok.ensures (not_from_true _ c.if-not-columns_ok.false))).0
 
 rem-if3 : tie.Need-nonzero_rem-asked
 rem-if3 c = some c.before.before

@@ -6,7 +6,7 @@ use Rattle.limits.proofs.rows_in.Tie as tie
 use borrow.Author.Rules.{rules}
 
 returns : tie.Need-returns-then-c-eq0
-returns c = no_rows c.before.args.length c.if-c-eq0.true
+returns c = no_rows c.args.length c.if-c-eq0.true
 
 pub rows_in_spec : {M : Type 1} → statement M
 rows_in_spec = tie.close (tie.spec

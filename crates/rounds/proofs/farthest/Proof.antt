@@ -8,28 +8,28 @@ use borrow.Author.Rules.{rules}
 use mathlib.Core.Bool.{false, true}
 use mathlib.Core.Path.{◌∙◌, sym}
 
-abbrev invariant-loop : tie.invariant-loop
+abbrev invariant-loop : tie.invariant-loop-p
 invariant-loop part p₀ b₀ p b = Seeking part p b
 
-abbrev decreases-loop : tie.decreases-loop
+abbrev decreases-loop : tie.decreases-loop-p
 decreases-loop part p₀ b₀ p b = p
 
-loop-holds : tie.Need-loop-init invariant-loop decreases-loop
-loop-holds c = seeking_start c.before.args.part.now c.before.requires.0 c.before.requires.1
+loop-holds : tie.Need-loop-p-init invariant-loop decreases-loop
+loop-holds c = seeking_start c.args.part.now c.requires.0 c.requires.1
 
-loop-again : tie.Need-loop-preserved invariant-loop decreases-loop
+loop-again : tie.Need-loop-p-preserved-then-precedes invariant-loop decreases-loop
 loop-again c =
-    seeking_step c.before.before.before.loop.invariant (search rules) true (sym c.before.precedes.ensures ∙ c.if1.true)
+    seeking_step c.loop-p.invariant (search rules) true (sym c.precedes.ensures ∙ c.if-precedes.true)
 
-loop-again-2 : tie.Need-loop-preserved-2 invariant-loop decreases-loop
+loop-again-2 : tie.Need-loop-p-preserved invariant-loop decreases-loop
 loop-again-2 c =
-    seeking_step c.before.before.before.loop.invariant (search rules) false (sym c.before.precedes.ensures ∙ c.if1.false)
+    seeking_step c.loop-p.invariant (search rules) false (sym c.precedes.ensures ∙ c.if-precedes.false)
 
 returns : tie.Need-returns invariant-loop decreases-loop
-returns c = seeking_done c.before.loop.invariant c.loop-test.false
+returns c = seeking_done c.loop-p.invariant c.loop-p-test.false
 
-pub farthest-spec : {M : Type 1} → statement M
-farthest-spec =
+pub farthest_spec : {M : Type 1} → statement M
+farthest_spec =
     tie.close
     (tie.spec
     invariant-loop

@@ -8,15 +8,17 @@ use mathlib.Core.Bool.{Bool, cond}
 use mathlib.Core.Path.{ap, sym}
 use native.Mathlib.Omega.{arith}
 
-returns : tie.Need-returns
+returns : tie.Need-returns-then-d-x
 returns c =
-    let a = c.before.args in
-    sym (ap (λ (b : Bool). cond b a.new a.old) (lt-ltb a.d a.x (omega (arith, c.if1.true))))
+    let a = c.args in
+    sym (ap (λ (b : Bool). cond b a.new a.old) (lt-ltb a.d a.x (omega (arith, c.if-d-x.true))))
 
-returns-2 : tie.Need-returns-2
+returns-2 : tie.Need-returns-else-d-x
 returns-2 c =
-    let a = c.before.args in
-    sym (ap (λ (b : Bool). cond b a.new a.old) (le-ltb a.d a.x (omega (arith, c.if1.false))))
+    let a = c.args in
+    sym (ap (λ (b : Bool). cond b a.new a.old) (le-ltb a.d a.x (omega (arith, c.if-d-x.false))))
 
-pub kept-spec : {M : Type 1} → statement M
-kept-spec = tie.close (tie.spec returns returns-2)
+pub kept_spec : {M : Type 1} → statement M
+kept_spec = tie.close (tie.spec
+    returns
+    returns-2)

@@ -12,41 +12,41 @@ use lib.ListN.{length}
 use mathlib.Core.Path.{◌∙◌}
 use native.Mathlib.Omega.{arith}
 
-abbrev invariant-loop : tie.invariant-loop
+abbrev invariant-loop : tie.invariant-loop-p
 invariant-loop table c circles centre part₀ p₀ part p = Nearing (InTable table c) (between table c circles) centre part₀ part p
 
-abbrev decreases-loop : tie.decreases-loop
+abbrev decreases-loop : tie.decreases-loop-p
 decreases-loop table c circles centre part₀ p₀ part p = length part - p
 
-loop-holds : tie.Need-loop-init invariant-loop decreases-loop
-loop-holds c = nearing_start _ _ _ _ c.before.before.requires.2
+loop-holds : tie.Need-loop-p-init invariant-loop decreases-loop
+loop-holds c = nearing_start _ _ _ _ c.requires.2
 
-part-nearer-one-end : tie.Need-slice-bounds-nearer-one-end invariant-loop decreases-loop
+part-nearer-one-end : tie.Need-slice_bounds-nearer_one-end invariant-loop decreases-loop
 part-nearer-one-end c =
-    let s = c.before in
-    let fits = nearing-fits s.loop.invariant (search rules) in
+    let s = c in
+    let fits = nearing-fits s.loop-p.invariant (search rules) in
     search rules
 
-nearer-one-requires : tie.Need-nearer-one-requires invariant-loop decreases-loop
+nearer-one-requires : tie.Need-nearer_one-requires invariant-loop decreases-loop
 nearer-one-requires c κs =
-    let s = c.before.before in
-    let a = s.before.before.before in
-    let fits = nearing-fits s.loop.invariant (search rules) in (
+    let s = c in
+    let a = s in
+    let fits = nearing-fits s.loop-p.invariant (search rules) in (
       a.requires.0,
       a.requires.1,
-      mid_len s.loop.p (s.loop.p + 3) s.loop.part fits ∙ omega arith,
-      nearing-row s.loop.invariant (search rules),
+      mid_len s.loop-p.p (s.loop-p.p + 3) s.loop-p.part-1 fits ∙ omega arith,
+      nearing-row s.loop-p.invariant (search rules),
     )
 
-loop-again : tie.Need-loop-preserved invariant-loop decreases-loop
+loop-again : tie.Need-loop-p-preserved invariant-loop decreases-loop
 loop-again c =
-    nearing-step c.before.before.before.before.before.loop.invariant _ (search rules) c.before.before.nearer-one.ensures
+    nearing-step c.loop-p.invariant _ (search rules) c.nearer_one.ensures
 
 returns : tie.Need-returns invariant-loop decreases-loop
-returns c = nearing-done c.before.loop.invariant (search rules)
+returns c = nearing-done c.loop-p.invariant (search rules)
 
-pub nearer-spec : {M : Type 1} → statement M
-nearer-spec =
+pub nearer_spec : {M : Type 1} → statement M
+nearer_spec =
     tie.close
     (tie.spec
     invariant-loop

@@ -5,17 +5,17 @@ use Rattle.rounds.proofs.precedes.Tie as tie
 use borrow.Author.Rules.{rules}
 use borrow.Author.Tests.{le-ltb, lt-ltb}
 
-returns : tie.Need-returns
-returns c = simp (lt-ltb _ _ c.if1.true)
+returns : tie.Need-returns-then-part-b
+returns c = simp (lt-ltb _ _ c.if-part-b.true)
 
-returns-2 : tie.Need-returns-2
-returns-2 c = simp (le-ltb _ _ c.before.before.before.if1.false, lt-ltb _ _ c.if2.true)
+returns-2 : tie.Need-returns-then-part-p
+returns-2 c = simp (le-ltb _ _ c.if-part-b.false, lt-ltb _ _ c.if-part-p.true)
 
-returns-3 : tie.Need-returns-3
-returns-3 c = simp (le-ltb _ _ c.before.before.before.before.before.if1.false, le-ltb _ _ c.before.before.if2.false)
+returns-3 : tie.Need-returns
+returns-3 c = simp (le-ltb _ _ c.if-part-b.false, le-ltb _ _ c.if-part-p.false)
 
-pub precedes-spec : {M : Type 1} → statement M
-precedes-spec =
+pub precedes_spec : {M : Type 1} → statement M
+precedes_spec =
     tie.close
     (tie.spec
     (λ c. search rules)

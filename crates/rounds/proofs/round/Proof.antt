@@ -14,35 +14,35 @@ use mathlib.Core.Path.{◌≡◌, refl, sym}
 use native.Mathlib.Omega.{arith}
 
 -- the start, the search and the shift, each seen from the next
-abbrev start : tie.After-farthest → tie.Start
-start c = c.before.before.before.before
+abbrev start : tie.After-farthest-b → tie.Start
+start c = c.before.before.before
 
-abbrev found : tie.After-shift → tie.After-farthest
+abbrev found : tie.After-shift → tie.After-farthest-b
 found c = c.before.before.before
 
-abbrev moved : tie.After-put-entry → tie.After-shift
+abbrev moved : tie.After-put_entry → tie.After-shift
 moved c = c.before.before.before.before
 
 -- the words that may be chosen from are as many as `bound`
-abbrev bounded : (s : tie.Start) → length (take s.args.bound s.args.part.now) ≡ s.args.bound
-bounded s = length-take-le s.args.bound s.args.part.now s.requires.1.1
+abbrev bounded : (s : tie.Start) → length (take s.args.bound s.args.part-1.now) ≡ s.args.bound
+bounded s = length-take-le s.args.bound s.args.part-1.now s.requires.1.1
 
-slice-aggregate-farthest : tie.Need-slice-aggregate-farthest
-slice-aggregate-farthest c = sym (bounded c.before.before.before)
+slice-aggregate-farthest : tie.Need-slice_bounds-farthest-end-2
+slice-aggregate-farthest c = sym (bounded c.before.before)
 
-farthest-requires : tie.Need-farthest-requires
+farthest-requires : tie.Need-farthest-b-requires
 farthest-requires c κs =
-    let s = c.before.before.before in
+    let s = c.before.before in
     rw (bounded s) (s.requires.1.0, s.requires.1.2)
 
 -- the chosen entry stands in the part
-abbrev inside : (f : tie.After-farthest) → f.farthest.result + 3 ≤ length (start f).args.part.now
-inside f = omega (arith, f.farthest.ensures.1, bounded (start f), (start f).requires.1.1)
+abbrev inside : (f : tie.After-farthest-b) → f.farthest-b.result + 3 ≤ length (start f).args.part-1.now
+inside f = omega (arith, f.farthest-b.ensures.1, bounded (start f), (start f).requires.1.1)
 
-mul-row : tie.Need-overflow-mul-row
+mul-row : tie.Need-offset_bounds-part-b
 mul-row c = search (rules, inside c)
 
-slice-read-row : tie.Need-slice-read-row
+slice-read-row : tie.Need-bounds-part-b
 slice-read-row c = omega (arith, inside c.before)
 
 shift-requires : tie.Need-shift-requires
@@ -54,8 +54,8 @@ nearer-requires c κs =
     let f = found (moved e) in
     let s = start f in
     let r =
-    round-requires s.args.part.now f.farthest.result (omega (arith, s.pre.1)) refl (moved e).shift.ensures e.put-entry.ensures
-    (InTable s.args.table.now s.args.c) s.pre.0.1 f.farthest.ensures.2 (inside f) in
+    round-requires s.args.part-1.now f.farthest-b.result (omega (arith, s.pre.1)) refl (moved e).shift.ensures e.put_entry.ensures
+    (InTable s.args.table.now s.args.c) s.pre.0.1 f.farthest-b.ensures.2 (inside f) in
     (s.pre.0.0, r.1, r.0)
 
 returns : tie.Need-returns
@@ -63,11 +63,11 @@ returns c =
     let e = c.before.before.before.before.before.before in
     let f = found (moved e) in
     let s = start f in
-    round-done s.args.part.now f.farthest.result (omega (arith, s.pre.1)) refl (moved e).shift.ensures e.put-entry.ensures
-    (between s.args.table.now s.args.c s.args.circles) s.args.bound _ f.farthest.ensures.0 c.before.before.nearer.ensures
+    round-done s.args.part-1.now f.farthest-b.result (omega (arith, s.pre.1)) refl (moved e).shift.ensures e.put_entry.ensures
+    (between s.args.table.now s.args.c s.args.circles) s.args.bound _ f.farthest-b.ensures.0 c.nearer.ensures
 
-pub round-spec : {M : Type 1} → statement M
-round-spec =
+pub round_spec : {M : Type 1} → statement M
+round_spec =
     tie.close
     (tie.spec
     (λ c. search rules)

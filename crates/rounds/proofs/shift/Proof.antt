@@ -9,32 +9,32 @@ use lib.ListN.{length, length-set}
 use mathlib.Core.Path.{◌≡◌}
 use native.Mathlib.Omega.{arith}
 
-abbrev invariant-loop : tie.invariant-loop
+abbrev invariant-loop : tie.invariant-loop-k
 invariant-loop part₀ b k₀ part k = (k ≤ b) × (length part ≡ length part₀) × (part ≡ shifted part₀ b k)
 
-abbrev decreases-loop : tie.decreases-loop
+abbrev decreases-loop : tie.decreases-loop-k
 decreases-loop part₀ b k₀ part k = k
 
-loop-holds : tie.Need-loop-init invariant-loop decreases-loop
+loop-holds : tie.Need-loop-k-init invariant-loop decreases-loop
 loop-holds c = (search rules, search rules, shift_start c.args.part.now c.args.b)
 
-loop-again : tie.Need-loop-preserved invariant-loop decreases-loop
+loop-again : tie.Need-loop-k-preserved invariant-loop decreases-loop
 loop-again c =
-    let s = c.before.before in
-    let a = s.before.args in
-    let up : s.loop.k - 1 + 1 ≡ s.loop.k = omega arith in (
+    let s = c in
+    let a = s.args in
+    let up : s.loop-k.k - 1 + 1 ≡ s.loop-k.k = omega arith in (
       omega arith,
       simp length-set (omega arith),
-      shift_step a.part.now s.loop.part a.b (s.loop.k - 1) (omega arith) (omega arith) (rw up s.loop.invariant.2),
+      shift_step a.part.now s.loop-k.part a.b (s.loop-k.k - 1) (omega arith) (omega arith) (rw up s.loop-k.invariant.2),
     )
 
 returns : tie.Need-returns invariant-loop decreases-loop
 returns c =
-    let a = c.before.before.args in
-    shift_done a.part.now c.before.loop.part a.b c.before.loop.k c.loop-test.false c.before.loop.invariant.2
+    let a = c.args in
+    shift_done a.part.now c.loop-k.part a.b c.loop-k.k c.loop-k-test.false c.loop-k.invariant.2
 
-pub shift-spec : {M : Type 1} → statement M
-shift-spec =
+pub shift_spec : {M : Type 1} → statement M
+shift_spec =
     tie.close
     (tie.spec
     invariant-loop

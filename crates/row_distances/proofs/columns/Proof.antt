@@ -9,24 +9,24 @@ use borrow.Author.Rules.{rules}
 use mathlib.Core.Path.{◌∙◌, ◌≡◌, ap}
 use native.Mathlib.Omega.{arith}
 
-abbrev invariant-loop : tie.invariant-loop
+abbrev invariant-loop : tie.invariant-loop-i
 invariant-loop a b before from c sum₀ i₀ sum i = (i ≤ c) × (sum ≤ 65535 * i) × (sum ≡ l1 i 0 a b)
 
-abbrev decreases-loop : tie.decreases-loop
+abbrev decreases-loop : tie.decreases-loop-i
 decreases-loop a b before from c sum₀ i₀ sum i = c - i
 
-loop-again : tie.Need-loop-preserved invariant-loop decreases-loop
+loop-again : tie.Need-loop-i-preserved invariant-loop decreases-loop
 loop-again c =
-    let at-loop = c.before.before.before.before in
-    let a = at-loop.before.before.before.args in
-    (search rules, search rules, omega (arith, c.differ.ensures.0, at-loop.loop.invariant.2, l1-next-plain a.a.now a.b.now at-loop.loop.i))
+    let at-loop = c in
+    let a = at-loop.args in
+    (search rules, search rules, omega (arith, c.differ-sum.ensures.0, at-loop.loop-i.invariant.2, l1-next-plain a.a.now a.b.now at-loop.loop-i.i))
 
 returns : tie.Need-returns invariant-loop decreases-loop
 returns c =
-    let at-loop = c.before in
-    let a = at-loop.before.before.before.args in
-    let e : at-loop.loop.i ≡ a.c = omega arith in
-    (at-loop.loop.invariant.2 ∙ ap (λ k. l1 k 0 a.a.now a.b.now) e, omega arith)
+    let at-loop = c in
+    let a = at-loop.args in
+    let e : at-loop.loop-i.i ≡ a.c = omega arith in
+    (at-loop.loop-i.invariant.2 ∙ ap (λ k. l1 k 0 a.a.now a.b.now) e, omega arith)
 
 pub columns_spec : {M : Type 1} → statement M
 columns_spec =

@@ -6,8 +6,12 @@ use Rattle.row_distances.proofs.distance.Tie as tie
 use borrow.Author.Rules.{rules}
 use lib.ListN.{length}
 
-returns : tie.Need-returns
-returns c = (by-none _ _ _ _ (none_few _ (length c.before.before.before.before.args.a.now) c.before.if1.true) c.plain.ensures.0, c.plain.ensures.1)
+returns : tie.Need-returns-then-circles-a
+returns c = (by-none _ _ _ _ (none_few _ (length c.args.a.now) c.if-circles-a.true) c.plain.ensures.0, c.plain.ensures.1)
 
-pub distance-spec : {M : Type 1} → statement M
-distance-spec = tie.close (tie.spec (λ c κs. search rules) returns (λ c κs. search rules) (λ c. search rules))
+pub distance_spec : {M : Type 1} → statement M
+distance_spec = tie.close (tie.spec
+    (λ c κs. search rules)
+    returns
+    (λ c κs. search rules)
+    (λ c. search rules))

@@ -11,19 +11,23 @@ use native.Mathlib.Omega.{arith}
 
 columns-requires : tie.Need-columns-requires
 columns-requires c κs =
-    let a = c.before.before.before.args in
+    let a = c.args in
     (search rules, (search rules, search rules, sym (l1-none 0 a.a.now a.b.now)))
 
-returns : tie.Need-returns
+returns : tie.Need-returns-then-c-eq16
 returns c =
-    let a = c.before.before.before.before.args in
+    let a = c.args in
     let e : 16 ≡ length a.a.now = omega arith in
     (c.columns.ensures.0 ∙ ap (λ k. l1 k 0 a.a.now a.b.now) e, omega arith)
 
 columns-requires-2 : tie.Need-columns-requires-2
 columns-requires-2 c κs =
-    let a = c.before.before.before.args in
+    let a = c.args in
     (search rules, (search rules, search rules, sym (l1-none 0 a.a.now a.b.now)))
 
-pub many-spec : {M : Type 1} → statement M
-many-spec = tie.close (tie.spec columns-requires returns columns-requires-2 (λ c. search rules))
+pub many_spec : {M : Type 1} → statement M
+many_spec = tie.close (tie.spec
+    columns-requires
+    returns
+    columns-requires-2
+    (λ c. search rules))

@@ -9,36 +9,36 @@ use lib.ListN.{length}
 use mathlib.Core.Path.{◌∙◌, ◌≡◌, ap, sym}
 use native.Mathlib.Omega.{arith}
 
-columns-requires : tie.Need-columns-requires
+columns-requires : tie.Need-columns-four-requires
 columns-requires c κs =
-    let a = c.before.before.before.before.args in
+    let a = c.args in
     (search rules, (search rules, search rules, sym (l1-none 0 a.a.now a.b.now)))
 
-returns : tie.Need-returns
+returns : tie.Need-returns-then-c-eq4
 returns c =
-    let a = c.before.before.before.before.before.before.args in
+    let a = c.args in
     let e : 4 ≡ length a.a.now = omega arith in
-    (c.before.columns.ensures.0 ∙ ap (λ k. l1 k 0 a.a.now a.b.now) e, omega arith)
+    (c.columns-four.ensures.0 ∙ ap (λ k. l1 k 0 a.a.now a.b.now) e, omega arith)
 
-returns-2 : tie.Need-returns-2
+returns-2 : tie.Need-returns-then-c-eq5
 returns-2 c =
-    let a = c.before.before.before.before.before.before.before.before.args in
+    let a = c.args in
     let e : 5 ≡ length a.a.now = omega arith in
-    (c.before.columns2.ensures.0 ∙ ap (λ k. l1 k 0 a.a.now a.b.now) e, omega arith)
+    (c.columns-five.ensures.0 ∙ ap (λ k. l1 k 0 a.a.now a.b.now) e, omega arith)
 
-returns-3 : tie.Need-returns-3
+returns-3 : tie.Need-returns-then-c-le6
 returns-3 c =
-    let a = c.before.before.before.before.before.before.before.before.before.args in
+    let a = c.args in
     let e : 6 ≡ length a.a.now = omega arith in
-    (c.columns3.ensures.0 ∙ ap (λ k. l1 k 0 a.a.now a.b.now) e, omega arith)
+    (c.columns.ensures.0 ∙ ap (λ k. l1 k 0 a.a.now a.b.now) e, omega arith)
 
-columns-requires-4 : tie.Need-columns-requires-4
+columns-requires-4 : tie.Need-columns-requires-2
 columns-requires-4 c κs =
-    let a = c.before.before.before.args in
+    let a = c.args in
     (search rules, (search rules, search rules, sym (l1-none 0 a.a.now a.b.now)))
 
-pub plain-spec : {M : Type 1} → statement M
-plain-spec =
+pub plain_spec : {M : Type 1} → statement M
+plain_spec =
     tie.close
     (tie.spec
     columns-requires

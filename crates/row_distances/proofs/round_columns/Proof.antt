@@ -15,30 +15,30 @@ use native.Mathlib.Omega.{arith}
 narrow : (x y : ℕ) → x ≤ 65535 → y ≤ 65535 → gap x y ≤ 65535
 narrow x y hx hy = omega arith
 
-abbrev invariant-loop : tie.invariant-loop
+abbrev invariant-loop : tie.invariant-loop-i
 invariant-loop a b circles before from c sum₀ i₀ sum i = (i ≤ c) × (sum ≤ 65535 * i) × (sum ≡ l1 i circles a b)
 
-abbrev decreases-loop : tie.decreases-loop
+abbrev decreases-loop : tie.decreases-loop-i
 decreases-loop a b circles before from c sum₀ i₀ sum i = c - i
 
-loop-again : tie.Need-loop-preserved invariant-loop decreases-loop
+loop-again : tie.Need-loop-i-preserved invariant-loop decreases-loop
 loop-again c =
-    let at-loop = c.before.before.before.before.before in
-    let a = at-loop.before.before.before.args in
-    let i = at-loop.loop.i in
+    let at-loop = c in
+    let a = at-loop.args in
+    let i = at-loop.loop-i.i in
     let g : ℕ = gap (get_or a.a.now i 0) (get_or a.b.now i 0) in
-    let e = c.shorter.ensures.0 ∙ ap (λ (t : ℕ). min g (t - g)) c.before.before.before.turn.ensures in
-    (search rules, search rules, omega (arith, e, at-loop.loop.invariant.2, l1-turn a.circles a.a.now a.b.now i (narrow (get_or a.a.now i 0) (get_or a.b.now i 0) (omega (arith, c.before.before.shared-slice-known3.given i)) (omega (arith, c.before.shared-slice-known4.given i)))))
+    let e = c.shorter-sum.ensures.0 ∙ ap (λ (t : ℕ). min g (t - g)) c.turn.ensures in
+    (search rules, search rules, omega (arith, e, at-loop.loop-i.invariant.2, l1-turn a.circles a.a.now a.b.now i (narrow (get_or a.a.now i 0) (get_or a.b.now i 0) (omega (arith, c.shared_slice_known-in-loop-i-1.given i)) (omega (arith, c.shared_slice_known-in-loop-i-2-1.given i)))))
 
 returns : tie.Need-returns invariant-loop decreases-loop
 returns c =
-    let at-loop = c.before in
-    let a = at-loop.before.before.before.args in
-    let e : at-loop.loop.i ≡ a.c = omega arith in
-    (at-loop.loop.invariant.2 ∙ ap (λ k. l1 k a.circles a.a.now a.b.now) e, omega arith)
+    let at-loop = c in
+    let a = at-loop.args in
+    let e : at-loop.loop-i.i ≡ a.c = omega arith in
+    (at-loop.loop-i.invariant.2 ∙ ap (λ k. l1 k a.circles a.a.now a.b.now) e, omega arith)
 
-pub round-columns-spec : {M : Type 1} → statement M
-round-columns-spec =
+pub round_columns_spec : {M : Type 1} → statement M
+round_columns_spec =
     tie.close
     (tie.spec
     invariant-loop

@@ -4,8 +4,12 @@ use Rattle.row_distances.proofs.rounded_or_many.Statement.{statement}
 use Rattle.row_distances.proofs.rounded_or_many.Tie as tie
 use borrow.Author.Rules.{rules}
 
-returns-2 : tie.Need-returns-2
+returns-2 : tie.Need-returns
 returns-2 c = ((cc), search rules)
 
-pub rounded-or-many-spec : {M : Type 1} → statement M
-rounded-or-many-spec = tie.close (tie.spec (λ c κs. search rules) (λ c. search rules) (λ c κs. search rules) returns-2)
+pub rounded_or_many_spec : {M : Type 1} → statement M
+rounded_or_many_spec = tie.close (tie.spec
+    (λ c κs. search rules)
+    (λ c. search rules)
+    (λ c κs. search rules)
+    returns-2)

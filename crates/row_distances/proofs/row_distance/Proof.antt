@@ -6,16 +6,22 @@ use Rattle.row_distances.proofs.row_distance.Statement.{statement}
 use Rattle.row_distances.proofs.row_distance.Tie as tie
 use borrow.Author.Rules.{rules}
 
-returns : tie.Need-returns
+returns : tie.Need-returns-then-circles-c
 returns c =
-    let b = c.before.before in
-    (between-rows _ _ _ _ b.row-of2.ensures.0 _ b.before.row_of.ensures (by-none _ _ _ _ (none_few _ b.before.before.before.args.c c.before.if1.true) c.plain.ensures.0), c.plain.ensures.1)
+    let b = c in
+    (between-rows _ _ _ _ b.row_of-b.ensures.0 _ b.row_of-a.ensures (by-none _ _ _ _ (none_few _ b.args.c c.if-circles-c.true) c.plain.ensures.0), c.plain.ensures.1)
 
-returns-2 : tie.Need-returns-2
+returns-2 : tie.Need-returns
 returns-2 c =
-    let b = c.before.before in
-    (between-rows _ _ _ _ b.row-of2.ensures.0 _ b.before.row_of.ensures c.rounded-or-many.ensures.0, c.rounded-or-many.ensures.1)
+    let b = c in
+    (between-rows _ _ _ _ b.row_of-b.ensures.0 _ b.row_of-a.ensures c.rounded_or_many.ensures.0, c.rounded_or_many.ensures.1)
 
-pub row-distance-spec : {M : Type 1} → statement M
-row-distance-spec =
-    tie.close (tie.spec (λ c κs. search rules) (λ c κs. search rules) (λ c κs. search rules) returns (λ c κs. search rules) returns-2)
+pub row_distance_spec : {M : Type 1} → statement M
+row_distance_spec =
+    tie.close (tie.spec
+    (λ c κs. search rules)
+    (λ c κs. search rules)
+    (λ c κs. search rules)
+    returns
+    (λ c κs. search rules)
+    returns-2)

@@ -9,11 +9,18 @@ use mathlib.Core.Path.{◌∙◌, ap}
 
 returns : tie.Need-returns
 returns c =
-    let a = c.before.args in
+    let a = c.args in
     let p = row_part a.table.now a.c a.i in
-    (p, ap length p ∙ row-length a.table.now a.c a.i c.before.requires)
+    (p, ap length p ∙ row-length a.table.now a.c a.i c.requires)
 
-pub row-of-spec : {M : Type 1} → statement M
-row-of-spec =
+pub row_of_spec : {M : Type 1} → statement M
+row_of_spec =
     tie.close
-    (tie.spec (λ c. search rules) (λ c. search rules) (λ c. search rules) (λ c. search rules) (λ c. search rules) (λ c. search rules) returns)
+    (tie.spec
+    (λ c. search rules)
+    (λ c. search rules)
+    (λ c. search rules)
+    (λ c. search rules)
+    (λ c. search rules)
+    (λ c. search rules)
+    returns)

@@ -11,4 +11,9 @@ returns : tie.Need-returns
 returns c = turn_of_lem _ _ (omega arith) refl
 
 pub turn_spec : {M : Type 1} → statement M
-turn_spec = tie.close (tie.spec (λ c. search rules) (λ c. search rules) (λ c. search rules) (λ c. search rules) returns)
+turn_spec = tie.close (tie.spec
+    (λ c. search rules)
+    (λ c. search rules)
+    (λ c. search rules)
+    (λ c. search rules)
+    returns)

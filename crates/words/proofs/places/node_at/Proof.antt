@@ -11,16 +11,20 @@ use native.Mathlib.Omega.{arith}
 -- the product, by the edition
 product : (c : tie.After-width)
     → c.width.result * c.before.before.args.k ≡ width (edition# c.before.before.args.index.now) * c.before.before.args.k
-product c = ap (λ (z : ℕ). z * c.before.before.args.k) c.width.ensures.0
+product c = ap (λ (z : ℕ). z * c.args.k) c.width.ensures.0
 
-mul-result : tie.Need-overflow-mul-result
-mul-result c = omega (arith, product c, c.before.before.requires, c.before.before.well-formed)
+mul-result : tie.Need-overflow_mul-result
+mul-result c = omega (arith, product c, c.requires, c.well_formed)
 
-add-result : tie.Need-overflow-add-result
-add-result c = omega (arith, product c, c.before.before.requires, c.before.before.well-formed)
+add-result : tie.Need-overflow_add-result
+add-result c = omega (arith, product c, c.requires, c.well_formed)
 
 returns : tie.Need-returns
 returns c = omega (arith, product c)
 
 pub node_at_spec : {M : Type 1} → statement M
-node_at_spec = tie.close (tie.spec (λ c κs. search rules) mul-result add-result returns)
+node_at_spec = tie.close (tie.spec
+    (λ c κs. search rules)
+    mul-result
+    add-result
+    returns)

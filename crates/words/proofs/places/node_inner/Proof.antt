@@ -12,22 +12,27 @@ use native.Mathlib.Omega.{arith}
 there : (c : tie.Start) → node_at_lem c.args.index.now c.args.k + 4 < length c.args.index.now
 there c = inner-there c.args.index.now c.requires.0 c.args.k c.requires.1.0 c.requires.1.1
 
-node-at-requires : tie.Need-node-at-requires
+node-at-requires : tie.Need-node_at-at-requires
 node-at-requires c κs = omega (arith, there c.before)
 
-add_at : tie.Need-overflow-add-at
-add_at c = omega (arith, there c.before.before, c.node_at.ensures, c.before.before.well-formed)
+add_at : tie.Need-overflow_add-at
+add_at c = omega (arith, there c.before.before, c.node_at-at.ensures, c.well_formed)
 
-mul-result : tie.Need-overflow-mul-result
-mul-result c = omega (arith, there c.before.before, c.node_at.ensures, c.before.before.well-formed)
+mul-result : tie.Need-offset_bounds-index-at
+mul-result c = omega (arith, there c.before.before, c.node_at-at.ensures, c.well_formed)
 
-shared-slice-read-result : tie.Need-shared-slice-read-result
-shared-slice-read-result c = omega (arith, there c.before.before.before, c.before.node_at.ensures)
+shared-slice-read-result : tie.Need-bounds-index-at
+shared-slice-read-result c = omega (arith, there c.before.before.before, c.node_at-at.ensures)
 
 returns : tie.Need-returns
 returns c =
-    let s = c.before.before.before in
-    rw c.before.node_at.ensures (inner-some s.args.index.now s.args.k s.requires.1.1)
+    let s = c in
+    rw c.node_at-at.ensures (inner-some s.args.index.now s.args.k s.requires.1.1)
 
-pub node-inner-spec : {M : Type 1} → statement M
-node-inner-spec = tie.close (tie.spec node-at-requires add_at mul-result shared-slice-read-result returns)
+pub node_inner_spec : {M : Type 1} → statement M
+node_inner_spec = tie.close (tie.spec
+    node-at-requires
+    add_at
+    mul-result
+    shared-slice-read-result
+    returns)

@@ -8,14 +8,17 @@ use Rattle.words.specs.Words.{at}
 use mathlib.Core.Path.{◌∙◌, ap}
 use native.Mathlib.Omega.{arith}
 
-node-at-requires : tie.Need-node-at-requires
-node-at-requires c κs = omega (arith, (words_there c.before.args.index.now c.before.requires.0 c.before.args.k c.before.requires.1).1)
+node-at-requires : tie.Need-node_at-requires
+node-at-requires c κs = omega (arith, (words_there c.args.index.now c.requires.0 c.args.k c.requires.1).1)
 
 word-requires : tie.Need-word-requires
-word-requires c κs = omega (arith, c.node_at.ensures, (words_there c.before.before.args.index.now c.before.before.requires.0 c.before.before.args.k c.before.before.requires.1).1)
+word-requires c κs = omega (arith, c.node_at.ensures, (words_there c.args.index.now c.requires.0 c.args.k c.requires.1).1)
 
 returns : tie.Need-returns
-returns c = (c.word.ensures.0 ∙ ap (at c.before.before.before.args.index.now) c.before.node_at.ensures, c.word.ensures.1)
+returns c = (c.word.ensures.0 ∙ ap (at c.args.index.now) c.node_at.ensures, c.word.ensures.1)
 
-pub node-start-spec : {M : Type 1} → statement M
-node-start-spec = tie.close (tie.spec node-at-requires word-requires returns)
+pub node_start_spec : {M : Type 1} → statement M
+node_start_spec = tie.close (tie.spec
+    node-at-requires
+    word-requires
+    returns)

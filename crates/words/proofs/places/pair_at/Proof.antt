@@ -10,19 +10,24 @@ use native.Mathlib.Omega.{arith}
 
 -- where the nodes' words end
 end : (c : tie.After-nodes) → node_at_lem c.before.before.args.index.now c.nodes.result ≡ node_at_lem c.before.before.args.index.now (nodes# c.before.before.args.index.now)
-end c = ap (node_at_lem c.before.before.args.index.now) c.nodes.ensures.0
+end c = ap (node_at_lem c.args.index.now) c.nodes.ensures.0
 
 nodes-requires : tie.Need-nodes-requires
-nodes-requires c κs = omega (arith, c.before.requires)
+nodes-requires c κs = omega (arith, c.requires)
 
-node-at-requires : tie.Need-node-at-requires
-node-at-requires c κs = omega (arith, end c, c.before.before.requires)
+node-at-requires : tie.Need-node_at-requires
+node-at-requires c κs = omega (arith, end c, c.requires)
 
-add-result : tie.Need-overflow-add-result
-add-result c = omega (arith, c.node_at.ensures ∙ end c.before, c.before.before.before.requires, c.before.before.before.well-formed)
+add-result : tie.Need-overflow_add-result
+add-result c = omega (arith, c.node_at.ensures ∙ end c.before, c.requires, c.well_formed)
 
 returns : tie.Need-returns
-returns c = ap (λ (z : ℕ). z + 2 * c.before.before.before.args.p) (c.node_at.ensures ∙ end c.before)
+returns c = ap (λ (z : ℕ). z + 2 * c.args.p) (c.node_at.ensures ∙ end c.before)
 
-pub pair-at-spec : {M : Type 1} → statement M
-pair-at-spec = tie.close (tie.spec nodes-requires node-at-requires (λ c. search rules) add-result returns)
+pub pair_at_spec : {M : Type 1} → statement M
+pair_at_spec = tie.close (tie.spec
+    nodes-requires
+    node-at-requires
+    (λ c. search rules)
+    add-result
+    returns)

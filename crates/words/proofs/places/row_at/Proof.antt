@@ -8,8 +8,11 @@ use mathlib.Core.Path.{◌∙◌, ap}
 
 returns : tie.Need-returns
 returns c =
-    let w = c.before.before.before.args.index.now in
-    (c.word.ensures.0 ∙ ap (at w) c.before.pair-at.ensures, c.word.ensures.1)
+    let w = c.args.index.now in
+    (c.word.ensures.0 ∙ ap (at w) c.pair_at.ensures, c.word.ensures.1)
 
-pub row-at-spec : {M : Type 1} → statement M
-row-at-spec = tie.close (tie.spec (λ c κs. search rules) (λ c κs. search rules) returns)
+pub row_at_spec : {M : Type 1} → statement M
+row_at_spec = tie.close (tie.spec
+    (λ c κs. search rules)
+    (λ c κs. search rules)
+    returns)

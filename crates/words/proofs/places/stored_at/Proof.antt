@@ -9,8 +9,13 @@ use borrow.Author.Rules.{rules}
 -- src/places.rt:115:5
 -- src/places.rt:110:1
 returns : tie.Need-returns
-returns c = rw c.before.pair-at.ensures
+returns c = rw c.pair_at-at.ensures
 
-pub stored-at-spec : {M : Type 1} → statement M
-stored-at-spec =
-    tie.close (tie.spec (λ c κs. search rules) (λ c. search rules) (λ c. search rules) (λ c. search rules) returns)
+pub stored_at_spec : {M : Type 1} → statement M
+stored_at_spec =
+    tie.close (tie.spec
+    (λ c κs. search rules)
+    (λ c. search rules)
+    (λ c. search rules)
+    (λ c. search rules)
+    returns)

@@ -7,20 +7,20 @@ use borrow.Author.Rules.{rules}
 use lib.ListN.{length-set}
 use native.Mathlib.Omega.{arith}
 
-slice-write-part-2 : tie.Need-slice-write-part-2
+slice-write-part-2 : tie.Need-bounds-part-1
 slice-write-part-2 c = simp length-set (omega arith)
 
-slice-write-part-3 : tie.Need-slice-write-part-3
+slice-write-part-3 : tie.Need-bounds-part-2
 slice-write-part-3 c = simp length-set (omega arith)
 
-slice-write-part-4 : tie.Need-slice-write-part-4
+slice-write-part-4 : tie.Need-bounds-part-3
 slice-write-part-4 c = simp length-set (omega arith)
 
 returns : tie.Need-returns
 returns c = five_sets c.args.part.now _ _ _ _ _ c.requires
 
-pub put-node-spec : {M : Type 1} → statement M
-put-node-spec =
+pub put_node_spec : {M : Type 1} → statement M
+put_node_spec =
     tie.close
     (tie.spec
     (λ c. search rules)
