@@ -13,7 +13,7 @@ import re
 import sys
 
 KEEP = {"lifetimes"}
-NAME = r"[^\s(){}.;,@\"«»\[\]\\λ:]+"
+NAME = r"[A-Za-z_][\w'#₀₁₂-]*"
 
 
 class Table:
@@ -100,21 +100,8 @@ def turn(path, crate, fn, table, root, say):
                 if helper in gives:
                     env[t] = gives[helper]
                 continue
-            # how t is used as a whole
-            wanted = None
-            for u in re.finditer(r"(?<![\w.'#-])(" + NAME + r") \(?" + re.escape(t) + r"((?:\.before)*)(?![\w.'#-])", code[a.end():]):
-                if u.group(1) in takes:
-                    w = takes[u.group(1)]
-                    if not u.group(2) or wanted is None:
-                        wanted = w
-                    if not u.group(2):
-                        break
-            if wanted is not None and T.far(env[v], wanted) is not None:
-                d = T.far(env[v], wanted)
-                env[t] = wanted
-            else:
-                d = 0
-                env[t] = env[v]
+            d = 0
+            env[t] = env[v]
             new = f"let {t} = {v}{'.before' * d} in"
             code = code[: a.start()] + new + code[a.end():]
             pos = a.start() + len(new)
@@ -128,7 +115,10 @@ def turn(path, crate, fn, table, root, say):
                     return f"{word} {paren}{v}{'.before' * d}"
             return u.group(0)
 
-        code = re.sub(r"(?<![\w.'#-])(" + NAME + r") (\(?)(" + NAME + r")((?:\.before)*)(?![\w.'#-])", handed, code)
+        helpers = "|".join(sorted(map(re.escape, takes), key=len, reverse=True))
+        states = "|".join(sorted(map(re.escape, env), key=len, reverse=True))
+        if helpers:
+            code = re.sub(r"(?<![\w.'#-])(" + helpers + r") (\(?)(" + states + r")((?:\.before)*)(?![\w.'#-])", handed, code)
         # the whole body is a state
         if result:
             b = re.fullmatch(re.escape(name) + r" (" + NAME + r") =\s+(" + NAME + r")((?:\.before)*)(\s*)", code)

@@ -17,7 +17,7 @@ import sys
 # In a clause or a path, a field: a dot and a name with no space before it.
 FIELD = re.compile(r"(?<=[\w)'#-])\.([A-Za-z_][\w'#-]*)")
 TIE = re.compile(r"\btie\.([A-Za-z_+][\w'+#·-]*)")
-ALWAYS = {"well-formed": "well_formed", "type-inv": "type_inv", "ghost-name": "ghost_name"}
+ALWAYS = {"pre": "requires", "good": "well_formed", "well-formed": "well_formed", "type-inv": "type_inv", "ghost-name": "ghost_name"}
 
 
 def flat(name):
@@ -116,19 +116,39 @@ def turn(path, fn, names, say):
 
     text = TIE.sub(tie, text)
 
-    def field(m):
-        word = m.group(1)
+    def step(word):
         if word in ALWAYS:
-            return "." + ALWAYS[word]
-        new = names.steps.get(alike(word))
-        if not new:
-            return m.group(0)
-        if len(new) > 1 and word not in new:
+            return ALWAYS[word]
+        new = [n for n in names.steps.get(alike(word), []) if n != flat(word) + "-1" and n != word + "-1"]
+        if not new or word in new:
+            return word
+        if len(new) > 1:
             say(f"step {word} is one of {' '.join(new)}")
-        return "." + (word if word in new else new[0])
+        return new[0]
 
-    # not in paths of modules: those stand in 'use' lines
-    text = "\n".join(line if line.startswith(("use ", "pub use ", "--")) else FIELD.sub(field, line) for line in text.split("\n"))
+    # A step is the first field of a state; what comes behind it are parts of a fact or of a value.
+    def place(m, parts):
+        var, fields = m.group(1), m.group(2)[1:].split(".")
+        fields = [ALWAYS.get(f, f) for f in fields]
+        if var in parts:
+            return var + "." + ".".join(fields)
+        for i, f in enumerate(fields):
+            if f != "before":
+                fields[i] = step(f)
+                break
+        return var + "." + ".".join(fields)
+
+    def in_block(block):
+        parts = set(re.findall(r"let ([^\s:(){}.;,]+)(?: : [^=]*?)? = \(?[\w'#-]+(?:\.[\w'#-]+)*\.(?!before\b)[\w'#-]+\)? in", block))
+        parts |= set(re.findall(r"let ([^\s:(){}.;,]+)(?: : [^=]*?)? = \([^()]*\)\.args in", block))
+        lines = []
+        for line in block.split("\n"):
+            if not line.startswith(("use ", "pub use ", "--")):
+                line = re.sub(r"(?<![\w.'#-])([A-Za-z_][\w'#₀₁₂-]*|(?<=\)))((?:\.[A-Za-z_][\w'#-]*)+)", lambda m: place(m, parts) if m.group(1) != "tie" else m.group(0), line)
+            lines.append(line)
+        return "\n".join(lines)
+
+    text = "\n\n".join(in_block(b) for b in re.split(r"\n\n", text))
 
     # a test of `!b` says today that b is false, and not that `not b` is true; its failing that b is true
     def negated(m):

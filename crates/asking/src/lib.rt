@@ -56,7 +56,7 @@ const MOST_WORDS: usize = 32;
 
 // How many plain words came, and where each stands: the file, like or nearest, what is asked about, the distance or how many; the values of the
 // options, and which were given; the option whose value comes next; what is asked for and its number; what is wrong, and the word that is.
-#[derive(Drop)]
+#[derive(Clone, Copy)]
 pub struct Question {
     pub plain: usize,
     pub file: Piece,

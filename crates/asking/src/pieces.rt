@@ -3,7 +3,7 @@ ghost use Rattle.std.specs.Prelude.{◌≤◌, min, length, false, ◌≡◌};
 ghost use Rattle.asking.specs.Pieces.{Found, end_at, part_of};
 
 // Where a piece of a text stands, if it is there.
-#[derive(Drop)]
+#[derive(Clone, Copy)]
 pub struct Piece {
     pub there: bool,
     pub start: usize,

@@ -1,5 +1,5 @@
 // The calls for C hosts: each calls one of the crates below, and keeps its contract. Every number that is given back has 32 bits; include/bourascul.h
-// says what is lent. They are a crate of their own, since an archive has the exports of the crate that it is made of and no other.
+// says what is lent. The crate bourascul_c exports them from an archive.
 #![tactic(auto)]
 
 ghost use Rattle.std.specs.Prelude.{min, length, ◌≡◌};
@@ -82,8 +82,7 @@ fn block_number(x: usize) -> u32
     if x < MOST { x as u32 } else { 4_294_967_295 }
 }
 
-#[unsafe(no_mangle)]
-pub extern "C" fn bourascul_build(
+pub fn bourascul_build(
     table: &[u16],
     c: u32,
     m: u32,
@@ -114,8 +113,7 @@ pub extern "C" fn bourascul_build(
 }
 
 // The table's last row goes into the index, which has all the others.
-#[unsafe(no_mangle)]
-pub extern "C" fn bourascul_append(
+pub fn bourascul_append(
     table: &[u16],
     c: u32,
     index: &[u32],
@@ -134,8 +132,7 @@ pub extern "C" fn bourascul_append(
 }
 
 // All of the table's rows that the index has not go into it.
-#[unsafe(no_mangle)]
-pub extern "C" fn bourascul_append_rows(
+pub fn bourascul_append_rows(
     table: &[u16],
     c: u32,
     index: &[u32],
@@ -153,8 +150,7 @@ pub extern "C" fn bourascul_append_rows(
     }
 }
 
-#[unsafe(no_mangle)]
-pub extern "C" fn bourascul_check(table: &[u16], c: u32, index: &[u32], work: &mut [u32]) -> Checked
+pub fn bourascul_check(table: &[u16], c: u32, index: &[u32], work: &mut [u32]) -> Checked
     ensures { Checks table.now c index.now work.old work.new result.number result.place result.second }
 {
     let checked = audit::check(table, c as usize, index, work);
@@ -165,8 +161,7 @@ pub extern "C" fn bourascul_check(table: &[u16], c: u32, index: &[u32], work: &m
     }
 }
 
-#[unsafe(no_mangle)]
-pub extern "C" fn bourascul_radius(
+pub fn bourascul_radius(
     table: &[u16],
     c: u32,
     index: &[u32],
@@ -186,8 +181,7 @@ pub extern "C" fn bourascul_radius(
     }
 }
 
-#[unsafe(no_mangle)]
-pub extern "C" fn bourascul_nearest(
+pub fn bourascul_nearest(
     table: &[u16],
     c: u32,
     index: &[u32],
@@ -246,8 +240,7 @@ fn within(
 // The rows nearest to the query, each with its distance as a record, in a row of answers that the caller lends. The two slices of numbers that the
 // search hands out are lent too, and hold the same answers afterwards. It stands here alone: it is proved by a walk through its compiled statements,
 // and one walk is enough.
-#[unsafe(no_mangle)]
-pub extern "C" fn bourascul_nearest_answers(
+pub fn bourascul_nearest_answers(
     table: &[u16],
     c: u32,
     index: &[u32],
@@ -274,8 +267,7 @@ pub extern "C" fn bourascul_nearest_answers(
     near
 }
 
-#[unsafe(no_mangle)]
-pub extern "C" fn bourascul_write(index: &[u32], image: &mut [u8]) -> Written
+pub fn bourascul_write(index: &[u32], image: &mut [u8]) -> Written
     ensures { Writes index.now image.old image.new result.number result.blocks }
 {
     let written = image::write_image(index, image);
@@ -285,8 +277,7 @@ pub extern "C" fn bourascul_write(index: &[u32], image: &mut [u8]) -> Written
     }
 }
 
-#[unsafe(no_mangle)]
-pub extern "C" fn bourascul_read(image: &[u8], table: &[u16], c: u32, room: &mut [u32]) -> Read
+pub fn bourascul_read(image: &[u8], table: &[u16], c: u32, room: &mut [u32]) -> Read
     ensures { ReadsBlock table.now c image.now room.old room.new result.number result.place result.words }
 {
     let read = card::read_image(image, table, c as usize, room);
@@ -297,8 +288,7 @@ pub extern "C" fn bourascul_read(image: &[u8], table: &[u16], c: u32, room: &mut
     }
 }
 
-#[unsafe(no_mangle)]
-pub extern "C" fn bourascul_list(index: &[u32], node: u32) -> Part
+pub fn bourascul_list(index: &[u32], node: u32) -> Part
     ensures { Lists index.now node result.start result.length }
 {
     let part = listing::part_of(index, node as usize);
@@ -309,16 +299,14 @@ pub extern "C" fn bourascul_list(index: &[u32], node: u32) -> Part
 }
 
 // Strikes a row of n: it is withdrawn from the searches that are lent the set from now on.
-#[unsafe(no_mangle)]
-pub extern "C" fn bourascul_strike(withdrawn: &mut [u32], n: u32, row: u32) -> u32
+pub fn bourascul_strike(withdrawn: &mut [u32], n: u32, row: u32) -> u32
     ensures { Orders withdrawn.old withdrawn.new n (striking row) result }
 {
     orders::strike(withdrawn, n as usize, row as usize)
 }
 
 // Restores a row of n: it is withdrawn no longer.
-#[unsafe(no_mangle)]
-pub extern "C" fn bourascul_restore(withdrawn: &mut [u32], n: u32, row: u32) -> u32
+pub fn bourascul_restore(withdrawn: &mut [u32], n: u32, row: u32) -> u32
     ensures { Orders withdrawn.old withdrawn.new n (restoring row) result }
 {
     orders::restore(withdrawn, n as usize, row as usize)

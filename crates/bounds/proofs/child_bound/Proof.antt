@@ -8,13 +8,13 @@ use mathlib.Core.Path.{◌∙◌, ap, ap₂}
 
 returns : tie.Need-returns
 returns c =
-    c.larger3.ensures
-    ∙ ap (max c.before.before.before.before.before.before.before.args.b) (c.before.larger2.ensures
-    ∙ ap₂ max (c.before.before.before.before.larger.ensures ∙ ap₂ max c.before.before.before.before.before.before.less.ensures c.before.before.before.before.before.less2.ensures)
-    (c.before.before.half_up.ensures ∙ ap (λ (z : ℕ). (z + 1) / 2) c.before.before.before.less3.ensures))
+    c.larger-3.ensures
+    ∙ ap (max c.args.b) (c.larger-2.ensures
+    ∙ ap₂ max (c.larger.ensures ∙ ap₂ max c.less.ensures c.less-2.ensures)
+    (c.half_up.ensures ∙ ap (λ (z : ℕ). (z + 1) / 2) c.less-3.ensures))
 
-pub child-bound-spec : {M : Type 1} → statement M
-child-bound-spec =
+pub child_bound_spec : {M : Type 1} → statement M
+child_bound_spec =
     tie.close
     (tie.spec
     (λ c κs. search rules)

@@ -9,8 +9,12 @@ use mathlib.Core.Path.{◌∙◌, ap, ap₂}
 
 returns : tie.Need-returns
 returns c =
-    let a = c.before.before.before.before.args in
-    c.child-bound.ensures ∙ ap (child_bound_lem a.b a.y a.x) (ap₂ reaching c.before.before.node-radius.ensures c.before.node-inner.ensures)
+    let a = c.args in
+    c.child_bound.ensures ∙ ap (child_bound_lem a.b a.y a.x) (ap₂ reaching c.node_radius.ensures c.node_inner.ensures)
 
-pub kid-bound-spec : {M : Type 1} → statement M
-kid-bound-spec = tie.close (tie.spec (λ c κs. search rules) (λ c κs. search rules) (λ c κs. search rules) returns)
+pub kid_bound_spec : {M : Type 1} → statement M
+kid_bound_spec = tie.close (tie.spec
+    (λ c κs. search rules)
+    (λ c κs. search rules)
+    (λ c κs. search rules)
+    returns)

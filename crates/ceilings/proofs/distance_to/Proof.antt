@@ -13,36 +13,36 @@ use lib.ListN.{length}
 use native.Mathlib.Omega.{arith}
 
 -- rows of 16-bit numbers are at most 1,048,560 apart
-few : (c : tie.After-shared-slice-known2)
+few : (c : tie.After-shared_slice_known-2-1)
     → l1 (length c.before.before.args.a.now) c.before.before.args.circles c.before.before.args.a.now c.before.before.args.b.now
     ≤ max_distance
 few c =
-    let s = c.before.before in
-    l1_bounded _ _ _ _ s.requires.1 (λ (j : ℕ). omega (arith, c.before.shared-slice-known.given j))
-    (λ (j : ℕ). omega (arith, c.shared-slice-known2.given j))
+    let s = c in
+    l1_bounded _ _ _ _ s.requires.1 (λ (j : ℕ). omega (arith, c.shared_slice_known-1.given j))
+    (λ (j : ℕ). omega (arith, c.shared_slice_known-2-1.given j))
 
-returns : tie.Need-returns
-returns c = (c.rounded-to.ensures, few c.before.before)
+returns : tie.Need-returns-then-circles-ne0
+returns c = (c.rounded_to.ensures, few c.before.before)
 
-returns-2 : tie.Need-returns-2
-returns-2 c = (by_no_circle _ _ _ _ _ (omega arith) c.many-to.ensures, few c.before.before.before)
+returns-2 : tie.Need-returns-then-c-gt8
+returns-2 c = (by_no_circle _ _ _ _ _ (omega arith) c.many_to.ensures, few c.before.before.before)
 
-returns-3 : tie.Need-returns-3
+returns-3 : tie.Need-returns-then-c-gt6
 returns-3 c =
-    let o = c.before in (
-      capped_of _ _ _ _ _ o.one-over.ensures (by-none _ _ _ _ (omega arith) o.before.many.ensures.0) c.smaller.ensures,
-      few o.before.before.before.before.before,
+    let o = c in (
+      capped_of _ _ _ _ _ o.one_over.ensures (by-none _ _ _ _ (omega arith) o.many.ensures.0) c.smaller.ensures,
+      few o.before.before.before.before.before.before,
     )
 
-returns-4 : tie.Need-returns-4
+returns-4 : tie.Need-returns
 returns-4 c =
-    let o = c.before in (
-      capped_of _ _ _ _ _ o.one-over2.ensures (by-none _ _ _ _ (omega arith) o.before.plain.ensures.0) c.smaller2.ensures,
-      few o.before.before.before.before.before,
+    let o = c in (
+      capped_of _ _ _ _ _ o.one_over-2.ensures (by-none _ _ _ _ (omega arith) o.plain.ensures.0) c.smaller-2.ensures,
+      few o.before.before.before.before.before.before,
     )
 
-pub distance-to-spec : {M : Type 1} → statement M
-distance-to-spec =
+pub distance_to_spec : {M : Type 1} → statement M
+distance_to_spec =
     tie.close
     (tie.spec
     (λ c κs. search rules)

@@ -11,31 +11,31 @@ use lib.ListN.{length}
 use mathlib.Core.Path.{◌∙◌, ◌≡◌, ap, sym}
 use native.Mathlib.Omega.{arith}
 
-columns-requires : tie.Need-columns-requires
+columns-requires : tie.Need-columns-eight-requires
 columns-requires c κs =
-    let a = c.before.before.before.args in
+    let a = c.args in
     (search rules, (search rules, search rules, sym (l1-none 0 a.a.now a.b.now)))
 
-returns : tie.Need-returns
+returns : tie.Need-returns-then-over-eight
 returns c =
-    let e = c.before in
-    let a = e.before.before.before.before.args in
-    too_far 0 a.a.now a.b.now 8 (length a.a.now) _ _ _ e.before.one-over.ensures e.columns.ensures.0 (omega arith) (omega arith)
+    let e = c in
+    let a = e.args in
+    too_far 0 a.a.now a.b.now 8 (length a.a.now) _ _ _ e.one_over-over.ensures e.columns-eight.ensures.0 (omega arith) (omega arith)
 
-returns-2 : tie.Need-returns-2
+returns-2 : tie.Need-returns-then-c-eq16
 returns-2 c =
-    let o = c.before.before.before.before.before in
-    let a = o.before.before.before.args in
+    let o = c in
+    let a = o.args in
     let e : 16 ≡ length a.a.now = omega arith in
-    capped_of _ _ _ _ _ o.one-over.ensures (c.before.columns2.ensures.0 ∙ ap (λ (k : ℕ). l1 k 0 a.a.now a.b.now) e) c.smaller.ensures
+    capped_of _ _ _ _ _ o.one_over-over.ensures (c.columns.ensures.0 ∙ ap (λ (k : ℕ). l1 k 0 a.a.now a.b.now) e) c.smaller.ensures
 
-returns-3 : tie.Need-returns-3
+returns-3 : tie.Need-returns
 returns-3 c =
-    let o = c.before.before.before.before.before in
-    capped_of _ _ _ _ _ o.one-over.ensures c.before.columns3.ensures.0 c.smaller2.ensures
+    let o = c in
+    capped_of _ _ _ _ _ o.one_over-over.ensures c.columns-2.ensures.0 c.smaller-2.ensures
 
-pub many-to-spec : {M : Type 1} → statement M
-many-to-spec =
+pub many_to_spec : {M : Type 1} → statement M
+many_to_spec =
     tie.close
     (tie.spec
     (λ c κs. search rules)

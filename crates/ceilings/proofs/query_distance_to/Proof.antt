@@ -15,11 +15,11 @@ use mathlib.Core.Path.{◌≡◌}
 use native.Mathlib.Omega.{arith}
 
 -- behind the row, what is given of its distance from the query is given of the query's distance, and that is at most 1,048,560
-done : (c : tie.After-row-of) (r : ℕ)
+done : (c : tie.After-row_of-b) (r : ℕ)
     → r
     ≡ capped c.before.before.before.args.ceiling
     (l1 (length c.before.before.before.args.query.now) c.before.before.before.args.circles c.before.before.before.args.query.now
-    c.row_of.result.now)
+    c.row_of-b.result.now)
     → (r
     ≡ capped c.before.before.before.args.ceiling
     (from c.before.before.before.args.table.now c.before.before.before.args.c c.before.before.before.args.circles
@@ -28,32 +28,32 @@ done : (c : tie.After-row-of) (r : ℕ)
     c.before.before.before.args.query.now c.before.before.before.args.i
     ≤ max_distance)
 done c r h =
-    let s = c.before.before.before in (
-      capped-from _ _ _ _ _ c.row_of.ensures.0 _ s.requires.2 h,
-      from_bounded _ _ _ _ _ s.requires.0 (λ (j : ℕ). omega (arith, c.before.before.shared-slice-known.given j))
-          (λ (j : ℕ). omega (arith, c.before.shared-slice-known2.given j)),
+    let s = c in (
+      capped-from _ _ _ _ _ c.row_of-b.ensures.0 _ s.requires.2 h,
+      from_bounded _ _ _ _ _ s.requires.0 (λ (j : ℕ). omega (arith, c.shared_slice_known-1.given j))
+          (λ (j : ℕ). omega (arith, c.shared_slice_known-2-1.given j)),
     )
 
-returns : tie.Need-returns
-returns c = done c.before.before _ c.rounded-to.ensures
+returns : tie.Need-returns-then-circles-ne0
+returns c = done c.before.before _ c.rounded_to.ensures
 
-returns-2 : tie.Need-returns-2
-returns-2 c = done c.before.before.before _ (by_no_circle _ _ _ _ _ (omega arith) c.many-to.ensures)
+returns-2 : tie.Need-returns-then-c-gt8
+returns-2 c = done c.before.before.before _ (by_no_circle _ _ _ _ _ (omega arith) c.many_to.ensures)
 
-returns-3 : tie.Need-returns-3
+returns-3 : tie.Need-returns-then-c-gt6
 returns-3 c =
-    let o = c.before in
-    done o.before.before.before.before.before _
-    (capped_of _ _ _ _ _ o.one-over.ensures (by-none _ _ _ _ (omega arith) o.before.many.ensures.0) c.smaller.ensures)
+    let o = c in
+    done o.before.before.before.before.before.before _
+    (capped_of _ _ _ _ _ o.one_over.ensures (by-none _ _ _ _ (omega arith) o.many.ensures.0) c.smaller.ensures)
 
-returns-4 : tie.Need-returns-4
+returns-4 : tie.Need-returns
 returns-4 c =
-    let o = c.before in
-    done o.before.before.before.before.before _
-    (capped_of _ _ _ _ _ o.one-over2.ensures (by-none _ _ _ _ (omega arith) o.before.plain.ensures.0) c.smaller2.ensures)
+    let o = c in
+    done o.before.before.before.before.before.before _
+    (capped_of _ _ _ _ _ o.one_over-2.ensures (by-none _ _ _ _ (omega arith) o.plain.ensures.0) c.smaller-2.ensures)
 
-pub query-distance-to-spec : {M : Type 1} → statement M
-query-distance-to-spec =
+pub query_distance_to_spec : {M : Type 1} → statement M
+query_distance_to_spec =
     tie.close
     (tie.spec
     (λ c κs. search rules)

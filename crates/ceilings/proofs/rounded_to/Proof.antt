@@ -9,28 +9,28 @@ use lib.ListN.{length}
 use mathlib.Core.Path.{sym}
 use native.Mathlib.Omega.{arith}
 
-returns : tie.Need-returns
-returns c = capped_of _ _ _ _ _ c.before.before.before.one-over.ensures c.before.rounded.ensures.0 c.smaller.ensures
+returns : tie.Need-returns-then-c-le8
+returns c = capped_of _ _ _ _ _ c.one_over-over.ensures c.rounded.ensures.0 c.smaller.ensures
 
-round-columns-requires : tie.Need-round-columns-requires
+round-columns-requires : tie.Need-round_columns-eight-requires
 round-columns-requires c κs =
-    let a = c.before.before.before.before.args in
+    let a = c.args in
     (search rules, (search rules, search rules, sym (l1-none a.circles a.a.now a.b.now)))
 
-returns-2 : tie.Need-returns-2
+returns-2 : tie.Need-returns-then-over-eight
 returns-2 c =
-    let e = c.before in
-    let o = e.before.before in
-    let a = o.before.before.before.args in
-    too_far a.circles a.a.now a.b.now 8 (length a.a.now) _ _ _ o.one-over.ensures e.round-columns.ensures.0 (omega arith) (omega arith)
+    let e = c in
+    let o = e in
+    let a = o.args in
+    too_far a.circles a.a.now a.b.now 8 (length a.a.now) _ _ _ o.one_over-over.ensures e.round_columns-eight.ensures.0 (omega arith) (omega arith)
 
-returns-3 : tie.Need-returns-3
+returns-3 : tie.Need-returns
 returns-3 c =
-    let o = c.before.before.before.before.before in
-    capped_of _ _ _ _ _ o.one-over.ensures c.before.round-columns2.ensures.0 c.smaller2.ensures
+    let o = c in
+    capped_of _ _ _ _ _ o.one_over-over.ensures c.round_columns.ensures.0 c.smaller-2.ensures
 
-pub rounded-to-spec : {M : Type 1} → statement M
-rounded-to-spec =
+pub rounded_to_spec : {M : Type 1} → statement M
+rounded_to_spec =
     tie.close
     (tie.spec
     (λ c κs. search rules)

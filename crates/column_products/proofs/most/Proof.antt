@@ -10,5 +10,10 @@ use native.Mathlib.Omega.{arith}
 returns : tie.Need-returns
 returns c = most_of _ _ (omega arith) refl
 
-pub most-spec : {M : Type 1} → statement M
-most-spec = tie.close (tie.spec (λ c. search rules) (λ c. search rules) (λ c. search rules) (λ c. search rules) returns)
+pub most_spec : {M : Type 1} → statement M
+most_spec = tie.close (tie.spec
+    (λ c. search rules)
+    (λ c. search rules)
+    (λ c. search rules)
+    (λ c. search rules)
+    returns)

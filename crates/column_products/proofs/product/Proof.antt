@@ -6,11 +6,11 @@ use Rattle.column_products.proofs.product.Tie as tie
 use borrow.Author.Rules.{rules}
 use native.Mathlib.Omega.{arith}
 
-mul-result : tie.Need-overflow-mul-result
+mul-result : tie.Need-overflow_mul-result
 mul-result c = omega (arith, product_fits c.args.x c.args.factor (omega arith) (omega arith))
 
-pub product-spec : {M : Type 1} → statement M
-product-spec =
+pub product_spec : {M : Type 1} → statement M
+product_spec =
     tie.close
     (tie.spec
     mul-result

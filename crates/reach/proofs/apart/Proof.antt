@@ -8,9 +8,9 @@ use borrow.Author.Rules.{rules}
 use mathlib.Core.Path.{◌∙◌, ap₂}
 use native.Mathlib.Omega.{arith}
 
-row-distance-requires : tie.Need-row-distance-requires
+row-distance-requires : tie.Need-row_distance-requires
 row-distance-requires c κs =
-    let s = c.before.before.before in
+    let s = c in
     let a = s.args in
     let P = s.requires.0 in
     let fits = in_table P in
@@ -22,10 +22,13 @@ row-distance-requires c κs =
 
 returns : tie.Need-returns
 returns c =
-    let r = c.before in
-    let s = r.before.before.before in
+    let r = c in
+    let s = r in
     let a = s.args in
-    c.row-distance.ensures.0 ∙ ap₂ (λ o j. between a.table.now a.c o a.f j) s.requires.1.2 r.row_at.ensures.0
+    c.row_distance.ensures.0 ∙ ap₂ (λ o j. between a.table.now a.c o a.f j) s.requires.1.2 r.row_at.ensures.0
 
-pub apart-spec : {M : Type 1} → statement M
-apart-spec = tie.close (tie.spec (λ c κs. search rules) row-distance-requires returns)
+pub apart_spec : {M : Type 1} → statement M
+apart_spec = tie.close (tie.spec
+    (λ c κs. search rules)
+    row-distance-requires
+    returns)

@@ -17,7 +17,7 @@ decreases-loop table c circles m early run₀ r₀ run r = m - r
 loop-holds : tie.Need-loop-r-init invariant-loop decreases-loop
 loop-holds c =
     let s = c in
-    choosing_start _ _ _ _ s.args.run-1.now s.requires.1.0 s.requires.1.1 s.requires.1.2 s.requires.0.1
+    choosing_start _ _ _ _ s.args.run.now s.requires.1.0 s.requires.1.1 s.requires.1.2 s.requires.0.1
 
 round-requires : tie.Need-round-requires invariant-loop decreases-loop
 round-requires c κs =

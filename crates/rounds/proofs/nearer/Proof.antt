@@ -34,7 +34,7 @@ nearer-one-requires c κs =
     let fits = nearing-fits s.loop-p.invariant (search rules) in (
       a.requires.0,
       a.requires.1,
-      mid_len s.loop-p.p (s.loop-p.p + 3) s.loop-p.part-1 fits ∙ omega arith,
+      mid_len s.loop-p.p (s.loop-p.p + 3) s.loop-p.part fits ∙ omega arith,
       nearing-row s.loop-p.invariant (search rules),
     )
 

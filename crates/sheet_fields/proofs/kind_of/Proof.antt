@@ -8,35 +8,35 @@ use borrow.Author.Rules.{rules}
 use borrow.Author.Tests.{eq-eqb, ne_eqb}
 use mathlib.Core.Path.{◌∙◌, sym}
 
-sub-t4 : tie.Need-overflow-sub-t4
-sub-t4 c = (within_both _ _ _ (sym c.before.is_Within.ensures ∙ c.if1.true)).0
+sub-t4 : tie.Need-overflow_sub-result
+sub-t4 c = (within_both _ _ _ (sym c.is_within.ensures ∙ c.if-is_within.true)).0
 
-returns : tie.Need-returns
+returns : tie.Need-returns-then-is_within
 unfolding kind_of
-returns c = rw (sym c.before.is_Within.ensures ∙ c.if1.true)
+returns c = rw (sym c.is_within.ensures ∙ c.if-is_within.true)
 
-returns-2 : tie.Need-returns-2
+returns-2 : tie.Need-returns-then-b-eq-SPACE
 unfolding kind_of
-returns-2 c = rw (sym c.before.before.is_Within.ensures ∙ c.before.if1.false, eq-eqb _ _ c.if2.true)
+returns-2 c = rw (sym c.is_within.ensures ∙ c.if-is_within.false, eq-eqb _ _ c.if-b-eq-SPACE.true)
 
-returns-3 : tie.Need-returns-3
+returns-3 : tie.Need-returns-then-parts
 unfolding kind_of
-returns-3 c = rw (sym c.before.before.before.before.is_Within.ensures ∙ c.before.before.before.if1.false, ne_eqb _ _ c.before.before.if2.false, sym c.before.parts.ensures ∙ c.if3.true)
+returns-3 c = rw (sym c.is_within.ensures ∙ c.if-is_within.false, ne_eqb _ _ c.if-b-eq-SPACE.false, sym c.parts.ensures ∙ c.if-parts.true)
 
-returns-4 : tie.Need-returns-4
+returns-4 : tie.Need-returns-then-signs
 unfolding kind_of
-returns-4 c = rw (sym c.before.before.before.before.before.before.is_Within.ensures ∙ c.before.before.before.before.before.if1.false, ne_eqb _ _ c.before.before.before.before.if2.false, sym c.before.before.before.parts.ensures ∙ c.before.before.if3.false, sym c.before.signs.ensures ∙ c.if4.true)
+returns-4 c = rw (sym c.is_within.ensures ∙ c.if-is_within.false, ne_eqb _ _ c.if-b-eq-SPACE.false, sym c.parts.ensures ∙ c.if-parts.false, sym c.signs.ensures ∙ c.if-signs.true)
 
-returns-5 : tie.Need-returns-5
+returns-5 : tie.Need-returns-then-quotes
 unfolding kind_of
-returns-5 c = rw (sym c.before.before.before.before.before.before.before.before.is_Within.ensures ∙ c.before.before.before.before.before.before.before.if1.false, ne_eqb _ _ c.before.before.before.before.before.before.if2.false, sym c.before.before.before.before.before.parts.ensures ∙ c.before.before.before.before.if3.false, sym c.before.before.before.signs.ensures ∙ c.before.before.if4.false, sym c.before.quotes.ensures ∙ c.if5.true)
+returns-5 c = rw (sym c.is_within.ensures ∙ c.if-is_within.false, ne_eqb _ _ c.if-b-eq-SPACE.false, sym c.parts.ensures ∙ c.if-parts.false, sym c.signs.ensures ∙ c.if-signs.false, sym c.quotes.ensures ∙ c.if-quotes.true)
 
-returns-6 : tie.Need-returns-6
+returns-6 : tie.Need-returns
 unfolding kind_of
-returns-6 c = rw (sym c.before.before.before.before.before.before.before.before.is_Within.ensures ∙ c.before.before.before.before.before.before.before.if1.false, ne_eqb _ _ c.before.before.before.before.before.before.if2.false, sym c.before.before.before.before.before.parts.ensures ∙ c.before.before.before.before.if3.false, sym c.before.before.before.signs.ensures ∙ c.before.before.if4.false, sym c.before.quotes.ensures ∙ c.if5.false)
+returns-6 c = rw (sym c.is_within.ensures ∙ c.if-is_within.false, ne_eqb _ _ c.if-b-eq-SPACE.false, sym c.parts.ensures ∙ c.if-parts.false, sym c.signs.ensures ∙ c.if-signs.false, sym c.quotes.ensures ∙ c.if-quotes.false)
 
-pub kind-of-spec : {M : Type 1} → statement M
-kind-of-spec =
+pub kind_of_spec : {M : Type 1} → statement M
+kind_of_spec =
     tie.close
     (tie.spec
     (λ c κs. search rules)

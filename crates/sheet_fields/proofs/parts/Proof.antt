@@ -5,17 +5,20 @@ use Rattle.sheet_fields.proofs.parts.Tie as tie
 use Rattle.sheet_fields.specs.Kinds.{parting}
 use borrow.Author.Tests.{eq-eqb, ne_eqb}
 
-returns : tie.Need-returns
+returns : tie.Need-returns-then-b-eq-COMMA
 unfolding parting
-returns c = rw (eq-eqb _ _ c.if1.true)
+returns c = rw (eq-eqb _ _ c.if-b-eq-COMMA.true)
 
-returns-2 : tie.Need-returns-2
+returns-2 : tie.Need-returns-then-b-eq-SEMICOLON
 unfolding parting
-returns-2 c = rw (ne_eqb _ _ c.before.if1.false, eq-eqb _ _ c.if2.true)
+returns-2 c = rw (ne_eqb _ _ c.if-b-eq-COMMA.false, eq-eqb _ _ c.if-b-eq-SEMICOLON.true)
 
-returns-3 : tie.Need-returns-3
+returns-3 : tie.Need-returns
 unfolding parting
-returns-3 c = rw (ne_eqb _ _ c.before.if1.false, ne_eqb _ _ c.if2.false)
+returns-3 c = rw (ne_eqb _ _ c.if-b-eq-COMMA.false, ne_eqb _ _ c.if-b-eq-SEMICOLON.false)
 
-pub parts-spec : {M : Type 1} → statement M
-parts-spec = tie.close (tie.spec returns returns-2 returns-3)
+pub parts_spec : {M : Type 1} → statement M
+parts_spec = tie.close (tie.spec
+    returns
+    returns-2
+    returns-3)

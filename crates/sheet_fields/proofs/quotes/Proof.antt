@@ -9,8 +9,8 @@ returns : tie.Need-returns
 unfolding quoting
 returns c = search rules
 
-pub quotes-spec : {M : Type 1} → statement M
-quotes-spec =
+pub quotes_spec : {M : Type 1} → statement M
+quotes_spec =
     tie.close
     (tie.spec
     returns)

@@ -5,17 +5,20 @@ use Rattle.sheet_fields.proofs.signs.Tie as tie
 use Rattle.sheet_fields.specs.Kinds.{signing}
 use borrow.Author.Tests.{eq-eqb, ne_eqb}
 
-returns : tie.Need-returns
+returns : tie.Need-returns-then-b-eq-PLUS
 unfolding signing
-returns c = rw (eq-eqb _ _ c.if1.true)
+returns c = rw (eq-eqb _ _ c.if-b-eq-PLUS.true)
 
-returns-2 : tie.Need-returns-2
+returns-2 : tie.Need-returns-then-b-eq-MINUS
 unfolding signing
-returns-2 c = rw (ne_eqb _ _ c.before.if1.false, eq-eqb _ _ c.if2.true)
+returns-2 c = rw (ne_eqb _ _ c.if-b-eq-PLUS.false, eq-eqb _ _ c.if-b-eq-MINUS.true)
 
-returns-3 : tie.Need-returns-3
+returns-3 : tie.Need-returns
 unfolding signing
-returns-3 c = rw (ne_eqb _ _ c.before.if1.false, ne_eqb _ _ c.if2.false)
+returns-3 c = rw (ne_eqb _ _ c.if-b-eq-PLUS.false, ne_eqb _ _ c.if-b-eq-MINUS.false)
 
-pub signs-spec : {M : Type 1} → statement M
-signs-spec = tie.close (tie.spec returns returns-2 returns-3)
+pub signs_spec : {M : Type 1} → statement M
+signs_spec = tie.close (tie.spec
+    returns
+    returns-2
+    returns-3)

@@ -13,56 +13,56 @@ use lib.Seq.{take-length}
 use mathlib.Core.Path.{◌∙◌, ◌≡◌, ap, refl}
 use native.Mathlib.Omega.{arith}
 
-abbrev invariant-loop : tie.invariant-loop
+abbrev invariant-loop : tie.invariant-loop-i
 invariant-loop block inside₀ measured₀ i₀ in# met i =
     (i ≤ length block) × (length block ≤ 240) × (in# ≤ i) × (met ≤ i)
     × (in# ≡ inside (take i block)) × (met ≡ measured (take i block))
 
-abbrev decreases-loop : tie.decreases-loop
+abbrev decreases-loop : tie.decreases-loop-i
 decreases-loop block inside₀ measured₀ i₀ in# met i = length block - i
 
-loop-holds : tie.Need-loop-init invariant-loop decreases-loop
-loop-holds c = (omega arith, c.before.requires, omega arith, omega arith, refl, refl)
+loop-holds : tie.Need-loop-i-init invariant-loop decreases-loop
+loop-holds c = (omega arith, c.requires, omega arith, omega arith, refl, refl)
 
-add-inside : tie.Need-overflow-add-inside invariant-loop decreases-loop
+add-inside : tie.Need-overflow_add-inside invariant-loop decreases-loop
 add-inside c =
     omega (
       arith,
-      c.one_in.ensures,
-      bit_most (leb 2 (get_or c.before.before.before.before.before.args.block.now c.before.before.before.loop.i 0)),
+      c.one_in-inside.ensures,
+      bit_most (leb 2 (get_or c.args.block.now c.loop-i.i 0)),
     )
 
-add-measured : tie.Need-overflow-add-measured invariant-loop decreases-loop
+add-measured : tie.Need-overflow_add-measured invariant-loop decreases-loop
 add-measured c =
     omega (
       arith,
-      c.one-measured.ensures,
+      c.one_measured-measured.ensures,
       bit_most (is_measured
-          (get_or c.before.before.before.before.before.before.before.args.block.now c.before.before.before.before.before.loop.i 0)),
+          (get_or c.args.block.now c.loop-i.i 0)),
     )
 
-loop-again : tie.Need-loop-preserved invariant-loop decreases-loop
+loop-again : tie.Need-loop-i-preserved invariant-loop decreases-loop
 loop-again c =
-    let l = c.before.before.before.before.before.loop in
-    let block = c.before.before.before.before.before.before.before.args.block.now in (
+    let l = c.loop-i in
+    let block = c.args.block.now in (
       omega arith,
       l.invariant.1,
-      omega (arith, c.before.before.one_in.ensures, bit_most (leb 2 (get_or block l.i 0))),
-      omega (arith, c.one-measured.ensures, bit_most (is_measured (get_or block l.i 0))),
-      tally_next (leb 2) block l.i (omega arith) l.invariant.4 c.before.before.one_in.ensures,
-      tally_next is_measured block l.i (omega arith) l.invariant.5 c.one-measured.ensures,
+      omega (arith, c.one_in-inside.ensures, bit_most (leb 2 (get_or block l.i 0))),
+      omega (arith, c.one_measured-measured.ensures, bit_most (is_measured (get_or block l.i 0))),
+      tally_next (leb 2) block l.i (omega arith) l.invariant.4 c.one_in-inside.ensures,
+      tally_next is_measured block l.i (omega arith) l.invariant.5 c.one_measured-measured.ensures,
     )
 
 returns : tie.Need-returns invariant-loop decreases-loop
 returns c =
-    let l = c.before.loop in
-    let block = c.before.before.before.args.block.now in
+    let l = c.loop-i in
+    let block = c.args.block.now in
     let e : l.i ≡ length block = omega arith in
     let w : take l.i block ≡ block = rw (e, take-length) in
     (l.invariant.4 ∙ ap inside w, l.invariant.5 ∙ ap measured w)
 
-pub count-block-spec : {M : Type 1} → statement M
-count-block-spec =
+pub count_block_spec : {M : Type 1} → statement M
+count_block_spec =
     tie.close
     (tie.spec
     invariant-loop

@@ -4,11 +4,13 @@ use Rattle.tallies.proofs.Tallies.{in-no, in-yes}
 use Rattle.tallies.proofs.one_in.Statement.{statement}
 use Rattle.tallies.proofs.one_in.Tie as tie
 
-returns : tie.Need-returns
-returns c = in-yes _ c.if1.true
+returns : tie.Need-returns-then-h-ge2
+returns c = in-yes _ c.if-h-ge2.true
 
-returns-2 : tie.Need-returns-2
-returns-2 c = in-no _ c.if1.false
+returns-2 : tie.Need-returns-else-h-ge2
+returns-2 c = in-no _ c.if-h-ge2.false
 
-pub one-in-spec : {M : Type 1} → statement M
-one-in-spec = tie.close (tie.spec returns returns-2)
+pub one_in_spec : {M : Type 1} → statement M
+one_in_spec = tie.close (tie.spec
+    returns
+    returns-2)

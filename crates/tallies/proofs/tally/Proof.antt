@@ -13,57 +13,57 @@ use lib.ListN.{length, take}
 use mathlib.Core.Path.{◌≡◌, refl}
 use native.Mathlib.Omega.{arith}
 
-abbrev invariant-loop : tie.invariant-loop
+abbrev invariant-loop : tie.invariant-loop-i
 invariant-loop how n inside₀ measured₀ i₀ in# met i =
     (i ≤ n) × (n ≤ length how) × (in# ≡ inside (take i how)) × (met ≡ measured (take i how))
 
-abbrev decreases-loop : tie.decreases-loop
+abbrev decreases-loop : tie.decreases-loop-i
 decreases-loop how n inside₀ measured₀ i₀ in# met i = n - i
 
-loop-holds : tie.Need-loop-init invariant-loop decreases-loop
-loop-holds c = (omega arith, c.before.requires, refl, refl)
+loop-holds : tie.Need-loop-i-init invariant-loop decreases-loop
+loop-holds c = (omega arith, c.requires, refl, refl)
 
-add-inside : tie.Need-overflow-add-inside invariant-loop decreases-loop
+add-inside : tie.Need-overflow_add-inside invariant-loop decreases-loop
 add-inside c =
-    let l = c.before.before.before.before.before.loop in
-    let how = c.before.before.before.before.before.before.before.args.how.now in
-    let e = c.before.before.before.block-end.result in
+    let l = c.loop-i in
+    let how = c.args.how.now in
+    let e = c.block_end-end.result in
     omega (
       arith,
-      tally_part (leb 2) how l.i e (omega arith) l.invariant.2 c.before.count-block.ensures.0,
+      tally_part (leb 2) how l.i e (omega arith) l.invariant.2 c.count_block-block.ensures.0,
       tally_take (leb 2) e how,
     )
 
-add-measured : tie.Need-overflow-add-measured invariant-loop decreases-loop
+add-measured : tie.Need-overflow_add-measured invariant-loop decreases-loop
 add-measured c =
-    let l = c.before.before.before.before.before.before.loop in
-    let how = c.before.before.before.before.before.before.before.before.args.how.now in
-    let e = c.before.before.before.before.block-end.result in
+    let l = c.loop-i in
+    let how = c.args.how.now in
+    let e = c.block_end-end.result in
     omega (
       arith,
-      tally_part is_measured how l.i e (omega arith) l.invariant.3 c.before.before.count-block.ensures.1,
+      tally_part is_measured how l.i e (omega arith) l.invariant.3 c.count_block-block.ensures.1,
       tally_take is_measured e how,
     )
 
-loop-again : tie.Need-loop-preserved invariant-loop decreases-loop
+loop-again : tie.Need-loop-i-preserved invariant-loop decreases-loop
 loop-again c =
-    let l = c.before.before.before.before.before.before.loop in
-    let how = c.before.before.before.before.before.before.before.before.args.how.now in
-    let e = c.before.before.before.before.block-end.result in (
+    let l = c.loop-i in
+    let how = c.args.how.now in
+    let e = c.block_end-end.result in (
       omega arith,
       l.invariant.1,
-      tally_part (leb 2) how l.i e (omega arith) l.invariant.2 c.before.before.count-block.ensures.0,
-      tally_part is_measured how l.i e (omega arith) l.invariant.3 c.before.before.count-block.ensures.1,
+      tally_part (leb 2) how l.i e (omega arith) l.invariant.2 c.count_block-block.ensures.0,
+      tally_part is_measured how l.i e (omega arith) l.invariant.3 c.count_block-block.ensures.1,
     )
 
 returns : tie.Need-returns invariant-loop decreases-loop
 returns c =
-    let l = c.before.loop in
-    let e : l.i ≡ c.before.before.before.args.n = omega arith in
+    let l = c.loop-i in
+    let e : l.i ≡ c.args.n = omega arith in
     (rw e at l.invariant.2, rw e at l.invariant.3)
 
-pub tally-spec : {M : Type 1} → statement M
-tally-spec =
+pub tally_spec : {M : Type 1} → statement M
+tally_spec =
     tie.close
     (tie.spec
     invariant-loop

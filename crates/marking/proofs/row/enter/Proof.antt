@@ -16,35 +16,35 @@ use native.Mathlib.Omega.{arith}
 inside : (l : List ℕ) (k : ℕ) → k < (length l - 1) / 2 → 2 * k + 2 < length l
 inside l k h = omega arith
 
-returns : tie.Need-returns
+returns : tie.Need-returns-then-list-eq0
 returns c =
-    let a = c.before.args in
+    let a = c.args in
     enter-out a.d a.row a.list.now refl (omega arith)
 
-cast-k : tie.Need-overflow-cast-k
-cast-k c = omega (arith, c.slice-known.given 0)
+cast-k : tie.Need-overflow_cast-k
+cast-k c = omega (arith, c.slice_known-1.given 0)
 
-slice-write-list-2 : tie.Need-slice-write-list-2
+slice-write-list-2 : tie.Need-bounds-list-k-then-k-lt-MOST_ROWS
 slice-write-list-2 c =
-    let l = c.before.before.before.before.args.list.now in
-    simp length-set (inside l (get_or l 0 0) c.before.if2.true)
+    let l = c.args.list.now in
+    simp length-set (inside l (get_or l 0 0) c.if-k-list.true)
 
-slice-write-list-3 : tie.Need-slice-write-list-3
+slice-write-list-3 : tie.Need-bounds-list-0-then-k-lt-MOST_ROWS
 slice-write-list-3 c = simp length-set (omega arith)
 
-returns-2 : tie.Need-returns-2
+returns-2 : tie.Need-returns-then-k-lt-MOST_ROWS
 returns-2 c =
-    let a = c.before.before.before.before.args in
+    let a = c.args in
     enter-in a.d a.row a.list.now refl (omega arith) refl
 
-returns-3 : tie.Need-returns-3
+returns-3 : tie.Need-returns-else-k-lt-MOST_ROWS
 returns-3 c =
-    let a = c.before.before.before.before.args in
+    let a = c.args in
     enter-out a.d a.row a.list.now refl (omega arith)
 
-returns-4 : tie.Need-returns-4
+returns-4 : tie.Need-returns-else-k-list
 returns-4 c =
-    let a = c.before.before.before.args in
+    let a = c.args in
     enter-out a.d a.row a.list.now refl (omega arith)
 
 pub enter_spec : {M : Type 1} → statement M

@@ -10,25 +10,25 @@ use mathlib.Core.List.{[], ◌∷◌}
 use mathlib.Core.Path.{ap, sym}
 use native.Mathlib.Omega.{arith}
 
-returns : tie.Need-returns
+returns : tie.Need-returns-then-is_in
 returns c =
-    let a = c.before.before.before.before.before.before.before.before.before.before.args in
-    leaves-as _ _ (ap (λ t. (a.row, cond t 3 1) ∷ []) (sym (le-leb a.x a.r (omega (arith, c.before.before.before.before.before.before.if1.true)))))
-    (leaves-hidden _ _ a.row c.before.before.before.before.before.is-in.ensures c.before.before.before.before.if2.true c.before.before.put.ensures)
+    let a = c.args in
+    leaves-as _ _ (ap (λ t. (a.row, cond t 3 1) ∷ []) (sym (le-leb a.x a.r (omega (arith, c.if-x-r.true)))))
+    (leaves-hidden _ _ a.row c.is_in.ensures c.if-is_in.true c.put.ensures)
 
-returns-2 : tie.Need-returns-2
+returns-2 : tie.Need-returns-else-is_in
 returns-2 c =
-    let a = c.before.before.before.before.before.before.before.before.before.before.before.before.before.before.args in
-    leaves-as _ _ (ap (λ t. (a.row, cond t 3 1) ∷ []) (sym (le-leb a.x a.r (omega (arith, c.before.before.before.before.before.before.before.before.before.before.if1.true)))))
-    (leaves-near _ _ a.row c.before.before.before.before.before.before.before.before.before.is-in.ensures c.before.before.before.before.before.before.before.before.if2.false c.before.before.before.before.before.before.put2.ensures c.before.before.enter.ensures)
+    let a = c.args in
+    leaves-as _ _ (ap (λ t. (a.row, cond t 3 1) ∷ []) (sym (le-leb a.x a.r (omega (arith, c.if-x-r.true)))))
+    (leaves-near _ _ a.row c.is_in.ensures c.if-is_in.false c.put-else-is_in.ensures c.enter.ensures)
 
-returns-3 : tie.Need-returns-3
+returns-3 : tie.Need-returns-else-x-r
 returns-3 c =
-    let a = c.before.before.before.before.before.before.before.before.args in
-    leaves-as _ _ (ap (λ t. (a.row, cond t 3 1) ∷ []) (sym (lt-leb a.x a.r (omega (arith, c.before.before.before.before.if1.false))))) (leaves-far _ _ a.row c.before.before.put3.ensures)
+    let a = c.args in
+    leaves-as _ _ (ap (λ t. (a.row, cond t 3 1) ∷ []) (sym (lt-leb a.x a.r (omega (arith, c.if-x-r.false))))) (leaves-far _ _ a.row c.put-else-x-r.ensures)
 
-pub mark-measured-spec : {M : Type 1} → statement M
-mark-measured-spec =
+pub mark_measured_spec : {M : Type 1} → statement M
+mark_measured_spec =
     tie.close
     (tie.spec
     (λ c κs. search rules)

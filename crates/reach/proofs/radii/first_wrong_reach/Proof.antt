@@ -12,30 +12,30 @@ use borrow.Author.Rules.{rules}
 use mathlib.Core.Path.{◌∙◌, ◌≡◌, sym}
 use native.Mathlib.Omega.{arith}
 
-abbrev invariant-loop : tie.invariant-loop
+abbrev invariant-loop : tie.invariant-loop-k
 invariant-loop table c index total k₀ k = First (wrongReach (between table c (circles# index)) index) 0 k k × (total ≡ nodes# index) × (k ≤ total)
 
-abbrev decreases-loop : tie.decreases-loop
+abbrev decreases-loop : tie.decreases-loop-k
 decreases-loop table c index total k₀ k = total - k
 
-loop-holds : tie.Need-loop-init invariant-loop decreases-loop
-loop-holds c = (search-start _ 0, c.nodes.ensures.0, omega arith)
+loop-holds : tie.Need-loop-k-init invariant-loop decreases-loop
+loop-holds c = (search-start _ 0, c.nodes-total.ensures.0, omega arith)
 
-returns : tie.Need-returns invariant-loop decreases-loop
+returns : tie.Need-returns-then-wrong_reach invariant-loop decreases-loop
 returns c =
-    let l = c.before.before.before.loop in
-    search-stop _ 0 _ l.k l.invariant.0 (omega arith) (sym c.before.wrong-reach.ensures ∙ c.if1.true)
+    let l = c.loop-k in
+    search-stop _ 0 _ l.k l.invariant.0 (omega arith) (sym c.wrong_reach.ensures ∙ c.if-wrong_reach.true)
 
-loop-again : tie.Need-loop-preserved invariant-loop decreases-loop
+loop-again : tie.Need-loop-k-preserved invariant-loop decreases-loop
 loop-again c =
-    let l = c.before.before.before.loop in
-    (search-on _ 0 l.k l.invariant.0 (sym c.before.wrong-reach.ensures ∙ c.if1.false), l.invariant.1, omega arith)
+    let l = c.loop-k in
+    (search-on _ 0 l.k l.invariant.0 (sym c.wrong_reach.ensures ∙ c.if-wrong_reach.false), l.invariant.1, omega arith)
 
-returns-2 : tie.Need-returns-2 invariant-loop decreases-loop
-returns-2 c = search-end _ 0 _ c.before.loop.k (omega arith) c.before.loop.invariant.0
+returns-2 : tie.Need-returns invariant-loop decreases-loop
+returns-2 c = search-end _ 0 _ c.loop-k.k (omega arith) c.loop-k.invariant.0
 
-pub first-wrong-reach-spec : {M : Type 1} → statement M
-first-wrong-reach-spec =
+pub first_wrong_reach_spec : {M : Type 1} → statement M
+first_wrong_reach_spec =
     tie.close
     (tie.spec
     invariant-loop
