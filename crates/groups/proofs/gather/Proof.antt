@@ -8,36 +8,36 @@ use lib.ListN.{length-drop, length-take}
 use native.Mathlib.Omega.{arith}
 
 -- the start, seen from behind the centre's entry, and that, seen from behind those that are picked
-abbrev start : tie.After-put-entry → tie.Start
+abbrev start : tie.After-put_entry → tie.Start
 start c = c.before.before.before
 
-abbrev first : tie.After-pick → tie.After-put-entry
+abbrev first : tie.After-pick-g → tie.After-put_entry
 first c = c.before.before.before.before
 
-put-entry-requires : tie.Need-put-entry-requires
+put-entry-requires : tie.Need-put_entry-requires
 put-entry-requires c κs =
-    let fits = gather_fits c.before.before.requires in
+    let fits = gather_fits c.requires in
     simp (length-take, length-drop) (omega arith)
 
-pick-requires : tie.Need-pick-requires
+pick-requires : tie.Need-pick-g-requires
 pick-requires c κs =
-    let e = c.before.before.before in
-    gather-picking (start e).requires e.put-entry.ensures
+    let e = c in
+    gather-picking (start e.before.before.before).requires e.put_entry.ensures
 
-add-t10 : tie.Need-overflow-add-t10
+add-t10 : tie.Need-overflow_add-result
 add-t10 c =
-    let k = c.before.before.before in
-    let fits = gather_fits (start (first k)).requires in
-    let got = gather-done (start (first k)).requires (first k).put-entry.ensures k.pick.ensures in
+    let k = c in
+    let fits = gather_fits (start (first k.before.before.before)).requires in
+    let got = gather-done (start (first k.before.before.before)).requires (first k.before.before.before).put_entry.ensures k.pick-g.ensures in
     search rules
 
 returns : tie.Need-returns
 returns c =
-    let k = c.before.before.before in
-    gather-done (start (first k)).requires (first k).put-entry.ensures k.pick.ensures
+    let k = c in
+    gather-done (start (first k.before.before.before)).requires (first k.before.before.before).put_entry.ensures k.pick-g.ensures
 
-pub gather-spec : {M : Type 1} → statement M
-gather-spec =
+pub gather_spec : {M : Type 1} → statement M
+gather_spec =
     tie.close
     (tie.spec
     (λ c. search rules)

@@ -8,76 +8,76 @@ use borrow.Author.Rules.{rules}
 use lib.ListN.{length, length-drop, length-take}
 use native.Mathlib.Omega.{arith}
 
-abbrev invariant-loop : tie.invariant-loop
+abbrev invariant-loop : tie.invariant-loop-p
 invariant-loop work₀ lo hi centre to count₀ radius₀ inner₀ p₀ work count radius inner p = Picks work₀ lo hi centre to work count radius inner p
 
-abbrev decreases-loop : tie.decreases-loop
+abbrev decreases-loop : tie.decreases-loop-p
 decreases-loop work₀ lo hi centre to count₀ radius₀ inner₀ p₀ work count radius inner p = hi - p
 
 -- the turn of the loop, seen from where an entry is taken
-abbrev turn : tie.Then1 invariant-loop decreases-loop → tie.At-loop invariant-loop decreases-loop
+abbrev turn : tie.Then-work-at invariant-loop decreases-loop → tie.At-loop-p invariant-loop decreases-loop
 turn c = c.before.before.before
 
 -- there is room for it
-fits : (c : tie.Then1 invariant-loop decreases-loop) → (turn c).before.before.args.to + 3 * (turn c).loop.count + 3 ≤ length (turn c).loop.work
-fits c = picks-fits (turn c).loop.invariant (search rules) (search rules)
+fits : (c : tie.Then-work-at invariant-loop decreases-loop) → (turn c).before.before.args.to + 3 * (turn c).loop-p.count + 3 ≤ length (turn c).loop-p.work
+fits c = picks-fits (turn c).loop-p.invariant (search rules) (search rules)
 
-loop-holds : tie.Need-loop-init invariant-loop decreases-loop
-loop-holds c = picks_start c.before.requires
+loop-holds : tie.Need-loop-p-init invariant-loop decreases-loop
+loop-holds c = picks_start c.requires
 
-mul-q : tie.Need-overflow-mul-q invariant-loop decreases-loop
+mul-q : tie.Need-overflow_mul-q invariant-loop decreases-loop
 mul-q c =
     let room = fits c.before.before in
     search rules
 
-add-q : tie.Need-overflow-add-q invariant-loop decreases-loop
+add-q : tie.Need-overflow_add-q invariant-loop decreases-loop
 add-q c =
     let room = fits c.before.before in
     search rules
 
-mul-put-entry : tie.Need-overflow-mul-put-entry invariant-loop decreases-loop
+mul-put-entry : tie.Need-offset_bounds-work-q invariant-loop decreases-loop
 mul-put-entry c =
     let room = fits c.before.before in
     search rules
 
-sub-put-entry : tie.Need-overflow-sub-put-entry invariant-loop decreases-loop
+sub-put-entry : tie.Need-slice_bounds-put_entry-count invariant-loop decreases-loop
 sub-put-entry c =
     let room = fits c.before.before in
     search rules
 
-part-put-entry-start : tie.Need-slice-bounds-put-entry-start invariant-loop decreases-loop
+part-put-entry-start : tie.Need-slice_bounds-put_entry-start invariant-loop decreases-loop
 part-put-entry-start c =
     let room = fits c.before.before in
     search rules
 
-part-put-entry-end : tie.Need-slice-bounds-put-entry-end invariant-loop decreases-loop
+part-put-entry-end : tie.Need-slice_bounds-put_entry-end invariant-loop decreases-loop
 part-put-entry-end c =
     let room = fits c.before.before in
     search rules
 
-put-entry-requires : tie.Need-put-entry-requires invariant-loop decreases-loop
+put-entry-requires : tie.Need-put_entry-requires invariant-loop decreases-loop
 put-entry-requires c κs =
     let room = fits c.before.before.before in
     simp (length-take, length-drop) (omega arith)
 
-add-count : tie.Need-overflow-add-count invariant-loop decreases-loop
+add-count : tie.Need-overflow_add-count invariant-loop decreases-loop
 add-count c =
     let room = fits c.before.before.before.before.before.before in
     search rules
 
-loop-again : tie.Need-loop-preserved invariant-loop decreases-loop
+loop-again : tie.Need-loop-p-preserved-then-work-at invariant-loop decreases-loop
 loop-again c =
-    let g = c.before in
-    let e = g.before.before.before in
-    let s = turn e.before.before.before.before in
-    rw (g.larger.ensures, c.least-of.ensures) (picks-take s.loop.inv _ (search rules) (search rules) e.put-entry.ensures)
+    let g = c in
+    let e = g in
+    let s = turn e.before.before.before.before.before.before.before.before in
+    rw (g.larger-radius.ensures, c.least_of-inner.ensures) (picks-take s.loop-p.inv _ (search rules) (search rules) e.put_entry.ensures)
 
-loop-again-2 : tie.Need-loop-preserved-2 invariant-loop decreases-loop
+loop-again-2 : tie.Need-loop-p-preserved invariant-loop decreases-loop
 loop-again-2 c =
-    picks-skip c.before.before.before.loop.invariant (search rules) c.if1.false
+    picks-skip c.loop-p.invariant (search rules) c.if-work-at.false
 
 returns : tie.Need-returns invariant-loop decreases-loop
-returns c = picks_done c.before.loop.invariant (search rules)
+returns c = picks_done c.loop-p.invariant (search rules)
 
 pub pick_spec : {M : Type 1} → statement M
 pick_spec =

@@ -6,13 +6,13 @@ use Rattle.line_reading.specs.InLine.{added}
 use borrow.Author.Rules.{rules}
 use mathlib.Core.Path.{◌∙◌, sym}
 
-returns : tie.Need-returns
+returns : tie.Need-returns-then-is_label
 unfolding added
-returns c = rw (sym c.before.before.is-label.ensures ∙ c.before.if1.true) (cc)
+returns c = rw (sym c.is_label.ensures ∙ c.if-is_label.true) (cc)
 
-returns-2 : tie.Need-returns-2
+returns-2 : tie.Need-returns
 unfolding added
-returns-2 c = rw (sym c.before.before.is-label.ensures ∙ c.before.if1.false) (cc)
+returns-2 c = rw (sym c.is_label.ensures ∙ c.if-is_label.false) (cc)
 
 pub add_spec : {M : Type 1} → statement M
 add_spec =

@@ -5,14 +5,14 @@ use Rattle.row_numbers.proofs.add_field.Tie as tie
 use Rattle.row_numbers.proofs.FieldEnds.{added-behind, added-wide}
 use borrow.Author.Rules.{rules}
 
-returns : tie.Need-returns
-returns c = added-wide _ _ _ _ _ _ c.before.before.if1.true c.before.mark.ensures c.mark2.ensures
+returns : tie.Need-returns-then-count-ge-WIDEST
+returns c = added-wide _ _ _ _ _ _ c.if-count-ge-WIDEST.true c.mark.ensures c.mark-then-count-ge-WIDEST.ensures
 
-returns-2 : tie.Need-returns-2
-returns-2 c = added-behind _ _ _ _ _ _ c.before.before.if1.false c.before.mark3.ensures c.mark4.ensures
+returns-2 : tie.Need-returns
+returns-2 c = added-behind _ _ _ _ _ _ c.if-count-ge-WIDEST.false c.mark-2.ensures c.mark-3.ensures
 
-pub add-field-spec : {M : Type 1} → statement M
-add-field-spec =
+pub add_field_spec : {M : Type 1} → statement M
+add_field_spec =
     tie.close
     (tie.spec
     (λ c. search rules)

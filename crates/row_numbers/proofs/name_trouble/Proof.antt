@@ -5,13 +5,15 @@ use Rattle.row_numbers.proofs.name_trouble.Tie as tie
 use Rattle.line_reading.specs.InLine.{only_empty}
 use borrow.Author.Tests.{eq-eqb, ne_eqb}
 
-returns : tie.Need-returns
+returns : tie.Need-returns-then-kind-eq-EMPTY
 unfolding only_empty
-returns c = rw (eq-eqb _ _ c.if1.true)
+returns c = rw (eq-eqb _ _ c.if-kind-eq-EMPTY.true)
 
-returns-2 : tie.Need-returns-2
+returns-2 : tie.Need-returns
 unfolding only_empty
-returns-2 c = rw (ne_eqb _ _ c.if1.false)
+returns-2 c = rw (ne_eqb _ _ c.if-kind-eq-EMPTY.false)
 
-pub name-trouble-spec : {M : Type 1} → statement M
-name-trouble-spec = tie.close (tie.spec returns returns-2)
+pub name_trouble_spec : {M : Type 1} → statement M
+name_trouble_spec = tie.close (tie.spec
+    returns
+    returns-2)

@@ -17,23 +17,28 @@ there s = omega (arith, (words_there s.args.index.now s.requires.0 s.args.k s.re
 
 -- the third is its first child's number
 child : (c : tie.After-word) → c.word.result ≡ child# c.before.before.args.index.now c.before.before.args.k
-child c = c.word.ensures.0 ∙ ap (λ (z : ℕ). at c.before.before.args.index.now (z + 2)) c.before.before.requires.1.1
+child c = c.word.ensures.0 ∙ ap (λ (z : ℕ). at c.args.index.now (z + 2)) c.requires.1.1
 
-add-word : tie.Need-overflow-add-word
-add-word c = omega (arith, there c.before, c.before.well-formed)
+add-word : tie.Need-overflow_add-here
+add-word c = omega (arith, there c.before, c.well_formed)
 
 word-requires : tie.Need-word-requires
 word-requires c κs = omega (arith, there c.before)
 
-returns : tie.Need-returns
+returns : tie.Need-returns-then-word-eq0
 returns c =
-    let a = c.before.before.before.args in
-    brood-leaf a.index.now a.k (sym (child c.before) ∙ c.if1.true)
+    let a = c.args in
+    brood-leaf a.index.now a.k (sym (child c.before) ∙ c.if-word-eq0.true)
 
-returns-2 : tie.Need-returns-2
+returns-2 : tie.Need-returns
 returns-2 c =
-    let a = c.before.before.before.before.args in
-    c.centres.ensures.0 ∙ brood-inner a.index.now a.k (λ e. c.before.if1.false (child c.before.before ∙ e))
+    let a = c.args in
+    c.centres.ensures.0 ∙ brood-inner a.index.now a.k (λ e. c.if-word-eq0.false (child c.before.before ∙ e))
 
-pub brood-of-spec : {M : Type 1} → statement M
-brood-of-spec = tie.close (tie.spec add-word word-requires returns (λ c κs. search rules) returns-2)
+pub brood_of_spec : {M : Type 1} → statement M
+brood_of_spec = tie.close (tie.spec
+    add-word
+    word-requires
+    returns
+    (λ c κs. search rules)
+    returns-2)

@@ -11,35 +11,35 @@ use mathlib.Core.Bool.{not}
 use mathlib.Core.Path.{◌∙◌, ◌≡◌, ap, refl}
 use native.Mathlib.Omega.{arith}
 
-abbrev invariant-loop : tie.invariant-loop
+abbrev invariant-loop : tie.invariant-loop-p
 invariant-loop index n over base wrong₀ p₀ wrong p = (p ≤ n) × (wrong ≡ any (wrong_at index) (range 0 p))
 
-abbrev decreases-loop : tie.decreases-loop
+abbrev decreases-loop : tie.decreases-loop-p
 decreases-loop index n over base wrong₀ p₀ wrong p = n - p
 
-loop-holds : tie.Need-loop-init invariant-loop decreases-loop
+loop-holds : tie.Need-loop-p-init invariant-loop decreases-loop
 loop-holds c = (search rules, refl)
 
-loop-again : tie.Need-loop-preserved invariant-loop decreases-loop
+loop-again : tie.Need-loop-p-preserved invariant-loop decreases-loop
 loop-again c =
-    let at-loop = c.before.before.before in
-    let start = at-loop.before in
-    let w = start.before.before.before.args.index.now in (
+    let at-loop = c in
+    let start = at-loop in
+    let w = start.args.index.now in (
       search rules,
-      wrong-next w at-loop.loop.wrong _ start.pair-at.result at-loop.loop.p at-loop.loop.invariant.1
-          start.before.rows.ensures.0 start.pair-at.ensures,
+      wrong-next w at-loop.loop-p.wrong _ start.pair_at-base.result at-loop.loop-p.p at-loop.loop-p.invariant.1
+          start.rows-n.ensures.0 start.pair_at-base.ensures,
     )
 
 returns : tie.Need-returns invariant-loop decreases-loop
 returns c =
-    let at-loop = c.before in
-    let at_rows = at-loop.before.before in
-    let w = at_rows.before.before.args.index.now in
-    let n : at-loop.loop.p ≡ n# w = omega (arith, at_rows.rows.ensures.0) in
-    ap not (at-loop.loop.invariant.1 ∙ ap (λ (p : ℕ). any (wrong_at w) (range 0 p)) n) ∙ wrong-none w
+    let at-loop = c in
+    let at_rows = at-loop in
+    let w = at_rows.args.index.now in
+    let n : at-loop.loop-p.p ≡ n# w = omega (arith, at_rows.rows-n.ensures.0) in
+    ap not (at-loop.loop-p.invariant.1 ∙ ap (λ (p : ℕ). any (wrong_at w) (range 0 p)) n) ∙ wrong-none w
 
-pub positions-fit-spec : {M : Type 1} → statement M
-positions-fit-spec =
+pub positions_fit_spec : {M : Type 1} → statement M
+positions_fit_spec =
     tie.close
     (tie.spec
     invariant-loop

@@ -9,47 +9,47 @@ use borrow.Author.Rules.{rules}
 use mathlib.Core.Path.{◌∙◌, ◌≡◌, ap, sym}
 use native.Mathlib.Omega.{arith}
 
-abbrev invariant-loop : tie.invariant-loop
+abbrev invariant-loop : tie.invariant-loop-i
 invariant-loop index j m s e at₀ i₀ at i = (i ≤ m) × (at < 4294967296 * (i + 1)) × (tile index j m s e ≡ tile index (j + i) (m - i) at e)
 
-abbrev decreases-loop : tie.decreases-loop
+abbrev decreases-loop : tie.decreases-loop-i
 decreases-loop index j m s e at₀ i₀ at i = m - i
 
-loop-holds : tie.Need-loop-init invariant-loop decreases-loop
+loop-holds : tie.Need-loop-i-init invariant-loop decreases-loop
 loop-holds c =
-    let a = c.before.args in
+    let a = c.args in
     (search rules, search rules, tile-start a.index.now a.j a.m a.s a.e)
 
-returns : tie.Need-returns invariant-loop decreases-loop
+returns : tie.Need-returns-then-node_start-at invariant-loop decreases-loop
 returns c =
-    let at-loop = c.before.before.before in
-    let a = at-loop.before.before.args in
-    sym (at-loop.loop.invariant.2
-    ∙ sym (tile-stop a.index.now a.j at-loop.loop.i a.m at-loop.loop.at a.e c.before.before.loop-test.true
-    (λ e. c.if1.true (c.before.node-start.ensures.0 ∙ e))))
+    let at-loop = c in
+    let a = at-loop.args in
+    sym (at-loop.loop-i.invariant.2
+    ∙ sym (tile-stop a.index.now a.j at-loop.loop-i.i a.m at-loop.loop-i.at a.e c.loop-i-test.true
+    (λ e. c.if-node_start-at.true (c.node_start.ensures.0 ∙ e))))
 
-loop-again : tie.Need-loop-preserved invariant-loop decreases-loop
+loop-again : tie.Need-loop-i-preserved invariant-loop decreases-loop
 loop-again c =
-    let at1 = c.before in
-    let at-loop = at1.before.before.before in
-    let a = at-loop.before.before.args in (
+    let at1 = c in
+    let at-loop = at1 in
+    let a = at-loop.args in (
       search rules,
       search rules,
-      at-loop.loop.invariant.2
-          ∙ tile-step a.index.now a.j at-loop.loop.i a.m at-loop.loop.at a.e at1.before.before.loop-test.true
-          (sym at1.before.node-start.ensures.0 ∙ at1.if1.false)
-          ∙ ap (λ k. tile a.index.now (a.j + (at-loop.loop.i + 1)) (a.m - (at-loop.loop.i + 1)) (at-loop.loop.at + k) a.e)
-          (sym c.node-count.ensures.0),
+      at-loop.loop-i.invariant.2
+          ∙ tile-step a.index.now a.j at-loop.loop-i.i a.m at-loop.loop-i.at a.e at1.loop-i-test.true
+          (sym at1.node_start.ensures.0 ∙ at1.if-node_start-at.false)
+          ∙ ap (λ k. tile a.index.now (a.j + (at-loop.loop-i.i + 1)) (a.m - (at-loop.loop-i.i + 1)) (at-loop.loop-i.at + k) a.e)
+          (sym c.node_count-at.ensures.0),
     )
 
-returns-2 : tie.Need-returns-2 invariant-loop decreases-loop
+returns-2 : tie.Need-returns invariant-loop decreases-loop
 returns-2 c =
-    let at-loop = c.before in
-    let a = at-loop.before.before.args in
-    tile-end a.index.now a.j at-loop.loop.i a.m at-loop.loop.at a.e c.loop-test.false ∙ sym at-loop.loop.invariant.2
+    let at-loop = c in
+    let a = at-loop.args in
+    tile-end a.index.now a.j at-loop.loop-i.i a.m at-loop.loop-i.at a.e c.loop-i-test.false ∙ sym at-loop.loop-i.invariant.2
 
-pub tiles-spec : {M : Type 1} → statement M
-tiles-spec =
+pub tiles_spec : {M : Type 1} → statement M
+tiles_spec =
     tie.close
     (tie.spec
     invariant-loop
