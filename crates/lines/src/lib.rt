@@ -6,7 +6,7 @@ ghost use Rattle.std.specs.Prelude.{◌+◌, ◌≤◌, length, ◌≡◌};
 ghost use Rattle.lines.specs.Told.{Told};
 ghost use Rattle.std.proofs.Math.Seq.{paste};
 
-use libc::STDOUT_FILENO;
+use saying::STDOUT_FILENO;
 
 // How many bytes a number and the byte behind it take at most.
 pub const MOST: usize = 21;

@@ -1,6 +1,11 @@
 // Words and numbers, written to a file.
 #![tactic(auto)]
 
+// The numbers of standard output and of standard error.
+pub const STDOUT_FILENO: i32 = 1;
+
+pub const STDERR_FILENO: i32 = 2;
+
 pub fn say(file: i32, text: &[u8]) {
     io::write_all(file, text);
 }

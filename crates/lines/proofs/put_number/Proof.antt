@@ -25,7 +25,7 @@ add-result c =
 returns : tie.Need-returns
 returns c =
     let d = c.before.before.before.before.before.decimal-k.ensures in
-    told _ _ _ _ (omega arith) d.1.0 d.0.1 d.1.1 c.before.before.copy.ensures (omega arith)
+    told _ _ _ _ (omega arith) d.1.0 d.0.1 d.1.1.0 c.before.before.copy.ensures (omega arith)
 
 pub put_number_spec : {M : Type 1} → statement M
 put_number_spec =
