@@ -32,7 +32,11 @@ class Table:
         while a is not None:
             if a == b:
                 return n
-            a, n = self.parent.get(a), n + 1
+            up = self.parent.get(a)
+            # an arm that tells a variant's fields is one state with it
+            if up == f"{a}-1":
+                up = self.parent.get(up)
+            a, n = up, n + 1
         return None
 
 

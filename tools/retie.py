@@ -17,7 +17,7 @@ import sys
 # In a clause or a path, a field: a dot and a name with no space before it.
 FIELD = re.compile(r"(?<=[\w)'#-])\.([A-Za-z_][\w'#-]*)")
 TIE = re.compile(r"\btie\.([A-Za-z_+][\w'+#·-]*)")
-ALWAYS = {"pre": "requires", "good": "well_formed", "well-formed": "well_formed", "type-inv": "type_inv", "ghost-name": "ghost_name"}
+ALWAYS = {"pre": "requires", "good": "well_formed", "inv": "invariant", "well-formed": "well_formed", "type-inv": "type_inv", "ghost-name": "ghost_name"}
 
 
 def flat(name):
@@ -53,6 +53,7 @@ class Names:
             old_step, new_step = place[2]
             if old_step and new_step not in self.steps[alike(old_step)]:
                 self.steps[alike(old_step)].append(new_step)
+        self.callees = {p[3].split("::")[-1] for p in table["places"] if p[3]}
         self.loops = [it[0] for it in table["loops"]]
         self.all_new = {new for _, new in self.needs}
 
@@ -119,7 +120,8 @@ def turn(path, fn, names, say):
     def step(word):
         if word in ALWAYS:
             return ALWAYS[word]
-        new = [n for n in names.steps.get(alike(word), []) if n != flat(word) + "-1" and n != word + "-1"]
+        found = names.steps.get(alike(word)) or names.steps.get(alike(word.replace("is_Is", "is_"))) or names.steps.get(alike(re.sub("_lem$", "", word))) or []
+        new = [n for n in found if n != flat(word) + "-1" and n != word + "-1"]
         if not new or word in new:
             return word
         if len(new) > 1:
@@ -150,8 +152,11 @@ def turn(path, fn, names, say):
 
     text = "\n\n".join(in_block(b) for b in re.split(r"\n\n", text))
 
-    # a test of `!b` says today that b is false, and not that `not b` is true; its failing that b is true
+    # a test of `!f(..)` says today that what f gave is false, and not that `not` of it is true; its failing that it is true
     def negated(m):
+        tested = re.search(r"\.if-not-([\w-]+)\.(?:true|false)$", m.group(0)).group(1)
+        if tested not in names.callees and re.sub(r"-\d+$", "", tested) not in names.callees:
+            return m.group(0)
         return f"(not_from_{'false' if m.group(1) == 'true' else 'true'} _ {m.group(0)})"
 
     text = re.sub(r"(?<![\w'.#-])[\w'#-]+(?:\.[\w'#-]+)*\.if-not-[\w-]+\.(true|false)(?![\w'-])", negated, text)
@@ -190,7 +195,7 @@ def turn(path, fn, names, say):
         if new in answers:
             out.append(answers[new])
         elif same and rest[i] in inline:
-            out.append(rest[i])
+            out.append(re.sub(r"(?:\.before)+\.(?!before\b)", ".", rest[i]))
         elif re.search(r"-requires(-|$)", new):
             out.append("(λ c κs. search rules)")
         else:

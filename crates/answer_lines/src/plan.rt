@@ -4,7 +4,7 @@
 // how answers are shown; how long the text is, where the first row's line starts, and whether names stand before it; the column of labels (0: none);
 // which places of the chosen columns are circles; the chosen columns, the rows, how many numbers of the table these are; how many queries there are,
 // and how many numbers these are.
-#[derive(Drop)]
+#[derive(Clone, Copy)]
 pub struct Plan {
     pub ready: bool,
     pub status: u32,

@@ -16,14 +16,14 @@ use telling::faults::{say_fault, status_of};
 use telling::say_columns_wrong;
 
 // The status, 0 where the rows were read, and what was read.
-#[derive(Drop)]
+#[derive(Clone, Copy)]
 pub struct Rows {
     pub status: u32,
     pub sheet: Sheet,
 }
 
 // The status, 0 where the columns are chosen; the circles among them, and the columns.
-#[derive(Drop)]
+#[derive(Clone, Copy)]
 pub struct Chosen {
     pub status: u32,
     pub circles: u32,

@@ -7,7 +7,7 @@ use sheet_reading::Reader;
 use text_lines::{first_line, next_line, text_start};
 
 // A text that was read: the reader at its end, whether its first line is names, and where its first row's line starts.
-#[derive(Drop)]
+#[derive(Clone, Copy)]
 pub struct Sheet {
     pub reader: Reader,
     pub names: bool,

@@ -12,7 +12,7 @@ use column_names::{MOST_COLUMNS, TOO_MANY, column_said};
 const MOST_ITEMS: usize = 16;
 
 // The set of circles; or what is wrong with an item, and where that stands in the list.
-#[derive(Drop)]
+#[derive(Clone, Copy)]
 pub struct Circles {
     pub wrong: u32,
     pub start: usize,

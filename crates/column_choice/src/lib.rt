@@ -16,7 +16,7 @@ pub const NO_FACTOR: u32 = 13;
 pub const LABEL_COUNTS: u32 = 15;
 
 // How many columns are chosen, which (from 0), and their factors; or what is wrong, and where that stands in the list.
-#[derive(Drop)]
+#[derive(Clone, Copy)]
 pub struct Choice {
     pub wrong: u32,
     pub start: usize,

@@ -1,6 +1,5 @@
 -- What is known of a node by the fate that it was told. Assumes nothing.
 use Prim.Native.Nat.{◌+◌, ℕ}
-use Rattle.fates.specs.contracts.Fate as fate-type
 use Rattle.fates.specs.Settling.{Settled, fate_of_lem}
 use Rattle.fates.specs.declared.Fate.TheVariants.{Closed, Opened, Swept}
 use Rattle.fates.specs.declared.Fate.{Fate}
@@ -8,30 +7,25 @@ use Rattle.marking.specs.Listed.{Leaves, span}
 use Rattle.marking.specs.Marks.{swept_at}
 use Rattle.words.specs.Words.{count#, start#}
 use borrow.Author.Tests.{le-ltb}
-use denote.Enum.Declared.{tag_of}
 use lib.Dec.{leb, ltb}
 use mathlib.Core.Bool.{Bool, cond, false, true}
-use mathlib.Core.List.{List, [], ◌∷◌}
-use mathlib.Core.Logic.{⊎_elim}
-use mathlib.Core.Path.{◌≡◌, ap, refl, subst, sym}
+use mathlib.Core.List.{List}
+use mathlib.Core.Path.{◌≡◌, refl, subst, sym}
 use native.Mathlib.Omega.{arith}
-use types.Run.{OneOf}
 
--- where the code's `let` failed: by its tag it is not `Swept`, and nothing was stored
-pub unswept : (gone : ℕ → Bool) (w : List ℕ) (k : ℕ) (h l : List ℕ) (v : Fate) → OneOf (1 ∷ 2 ∷ []) (tag_of fate-type.the_type v) → Settled gone w k v h h l l
-unswept gone w k h l Swept p = ⊎_elim (λ q. absurd (omega arith)) (λ q. absurd (omega arith)) p
+-- where the code's `let` failed: it is not `Swept`, and nothing was stored
+pub unswept : (gone : ℕ → Bool) (w : List ℕ) (k : ℕ) (h l : List ℕ) (v : Fate) → (v ≡ Swept → ⊥) → Settled gone w k v h h l l
+unswept gone w k h l Swept p = absurd (p refl)
 unswept gone w k h l Closed p = (refl, refl)
 unswept gone w k h l Opened p = (refl, refl)
 
--- the root has the bound 0 and is not closed: by its tag it is not swept, so it is opened
-pub root_opened : (d R r : ℕ) (v : Fate) → v ≡ fate_of_lem d R 0 r → OneOf (1 ∷ 2 ∷ []) (tag_of fate-type.the_type v) → Opened ≡ fate_of_lem d R 0 r
+-- the root has the bound 0 and is not closed: it is not swept, so it is opened
+pub root_opened : (d R r : ℕ) (v : Fate) → v ≡ fate_of_lem d R 0 r → (v ≡ Swept → ⊥) → Opened ≡ fate_of_lem d R 0 r
 unfolding fate_of_lem
 root_opened d R r v e p = go (leb (d + R) r) e
   where
     go : (b : Bool) → v ≡ cond b Swept (cond (ltb r 0) Closed Opened) → Opened ≡ cond b Swept (cond (ltb r 0) Closed Opened)
-    go true q =
-        let tag : tag_of fate-type.the_type v ≡ 0 = ap (tag_of fate-type.the_type) q in
-        ⊎_elim (λ q. absurd (omega arith)) (λ q. absurd (omega arith)) p
+    go true q = absurd (p q)
     go false q = rw (le-ltb r 0 (omega arith)) refl
 
 -- a node that was swept
@@ -45,13 +39,4 @@ still-opened gone w k {h} {h'} {l} {l'} v e s = subst (λ (v : Fate). Settled go
 
 -- a node that was swept was not opened
 pub not-opened-swept : (v : Fate) → v ≡ Swept → v ≡ Opened → ⊥
-not-opened-swept v e o =
-    let swept : tag_of fate-type.the_type v ≡ 0 = ap (tag_of fate-type.the_type) e in
-    let opened : tag_of fate-type.the_type v ≡ 2 = ap (tag_of fate-type.the_type) o in
-    omega arith
-
--- where the code's `if let` failed: by its tag it is not `Opened`
-pub not_opened : (v : Fate) → OneOf (0 ∷ 1 ∷ []) (tag_of fate-type.the_type v) → v ≡ Opened → ⊥
-not_opened v p e =
-    let tag : tag_of fate-type.the_type v ≡ 2 = ap (tag_of fate-type.the_type) e in
-    ⊎_elim (λ q. absurd (omega arith)) (λ q. absurd (omega arith)) p
+not-opened-swept v e o = cc

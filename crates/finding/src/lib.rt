@@ -19,7 +19,7 @@ const SET_WORDS: usize = 32_768;
 const MOST_ROWS: usize = 1_048_576;
 
 // The number of the refusal, 0 where there is none; how many rows are given, and how many were measured.
-#[derive(Drop)]
+#[derive(Clone, Copy)]
 pub struct Outcome {
     pub number: u32,
     pub given: usize,

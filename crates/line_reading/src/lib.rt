@@ -3,7 +3,7 @@
 
 // In a field in which nothing stands yet, in a number, in one that is too great, in a field that is no number, behind a field, or in one in which
 // only quotes stand yet.
-#[derive(Drop)]
+#[derive(Clone, Copy)]
 pub enum Place {
     Open,
     Inside(u16),
@@ -14,7 +14,7 @@ pub enum Place {
 }
 
 // What is wrong (0: nothing), and in which column.
-#[derive(Drop)]
+#[derive(Clone, Copy)]
 pub struct Trouble {
     pub kind: u32,
     pub column: usize,
@@ -22,7 +22,7 @@ pub struct Trouble {
 
 // The place, whether a field began with a digit, a sign or a point, how many fields have ended (17 for more than 16), their numbers, and the first
 // thing that is wrong with them as numbers and as names. The label's column (from 1; 0: there is none) may hold anything but nothing.
-#[derive(Drop)]
+#[derive(Clone, Copy)]
 pub struct Line {
     pub place: Place,
     pub figure: bool,

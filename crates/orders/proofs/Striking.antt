@@ -64,13 +64,13 @@ same_set {n} {s} {t} S Q h =
 -- they leave a set of n rows
 after-set : {n : ℕ} {s : List ℕ} (os : List Order) → SetOf n s → Below n os → SetOf n (after s os)
 after-set [] S h = S
-after-set (o ∷ os) S h = after-set os (ordered-set o S h.0) h.1
+after-set {n = n} {s = s} (o ∷ os) S h = after-set {n = n} {s = ordered s o} os (ordered-set o S h.0) h.1
 
 -- of each row the last one that names it decides
 pub in_after : {n : ℕ} {s : List ℕ} (os : List Order) → SetOf n s → Below n os → (i : ℕ) → is_in_lem (after s os) i ≡ standing i os (is_in_lem s i)
 in_after [] S h i = refl
-in_after {n} {s} (o ∷ os) S h i =
-    in_after os (ordered-set o S h.0) h.1 i ∙ ap (standing i os) (in_ordered s o i (right-has s n S.right (row_of o) h.0))
+in_after {n = n} {s = s} (o ∷ os) S h i =
+    in_after {n = n} {s = ordered s o} os (ordered-set o S h.0) h.1 i ∙ ap (standing i os) (in_ordered s o i (right-has s n S.right (row_of o) h.0))
 
 module _ {n : ℕ} {s : List ℕ} (S : SetOf n s) where
   -- ORDERS THAT DECIDE THE SAME OF EVERY ROW GIVE THE SAME SET

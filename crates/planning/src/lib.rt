@@ -89,7 +89,7 @@ fn with_table(plan: Plan, circles: u32, k: usize, used: usize, count: usize) -> 
 }
 
 // The status, 0 where the table is made; the text as it was read, and the columns that were chosen.
-#[derive(Drop)]
+#[derive(Clone, Copy)]
 pub struct Made {
     pub status: u32,
     pub sheet: Sheet,

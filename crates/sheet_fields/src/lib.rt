@@ -8,7 +8,7 @@ use limits::is_within;
 
 // A digit with its value, a blank, a byte that parts two fields, a sign or a point, any other, or a quote. A newline ends the line, and a carriage return
 // before it is passed over.
-#[derive(Drop)]
+#[derive(Clone, Copy)]
 pub enum Kind {
     Digit(u8),
     Blank,

@@ -6,7 +6,7 @@ use line_reading::Line;
 // Where the reading stands: how much of the mark EF BB BF has come (3 behind it), whether a carriage return is held back, the number of the line
 // that is being read or has the fault, the first of the blank lines right above it (0 for none), the columns (0 before the first line), how many rows
 // were put and how many numbers these are, the fault (0 for none) and its column, and what is known of the line.
-#[derive(Drop)]
+#[derive(Clone, Copy)]
 pub struct Reader {
     pub mark: u32,
     pub held: bool,

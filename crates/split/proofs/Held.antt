@@ -40,6 +40,10 @@ ahead_other x i k h = ne_eqb k i (λ z. false≢true (sym h ∙ same z))
     same : k ≡ i → ahead i (x i) k (x k) ≡ true
     same z = rw (z, le-ltb (x i) (x i) (omega arith), le-leb i i (omega arith))
 
+-- a number that is not the first is taken out behind it
+without_other : (k i : ℕ) (l : List ℕ) → eqb k i ≡ false → without k (i ∷ l) ≡ i ∷ without k l
+without_other k i l e = rw e refl
+
 module _ (d : ℕ → ℕ → ℕ) where
   -- the entry at word b is that of the farthest of the rows is; the others are the entries of the other rows
   record FarHeld (cs is es : List ℕ) (b : ℕ) : Type 0 where
@@ -67,10 +71,12 @@ module _ (d : ℕ → ℕ → ℕ) where
           let three : 3 + b ≡ suc (suc (suc b)) = omega arith in
           let four : suc (suc (suc b)) + 1 ≡ suc (suc (suc (b + 1))) = omega arith in
           let six : suc (suc (suc b)) + 3 ≡ suc (suc (suc (b + 3))) = omega arith in
+          let whole : all_but (3 + b) (held d cs i ++ es) ≡ held d cs i ++ each (held d cs) (without k (j ∷ is)) =
+          rw (three, six) (ap (λ (l : List ℕ). held d cs i ++ l) behind.left) in
           record {
             row = rw (f, three) behind.row;
             dist = rw (f, three, four) behind.dist;
-            left = rw (f, three, six, ahead_other (nearness d cs) i k e) (ap (λ (l : List ℕ). held d cs i ++ l) behind.left);
+            left = whole ∙ sym (ap (each (held d cs)) (ap (λ (x : ℕ). without x (i ∷ j ∷ is)) f ∙ without_other k i (j ∷ is) (ahead_other (nearness d cs) i k e)));
           }
 
       pick : (s : Bool) → ahead i (nearness d cs i) k (nearness d cs k) ≡ s

@@ -17,7 +17,7 @@ pub const BLANK: u32 = 3;
 pub const NO_SET: u32 = 20;
 
 // What is wrong, and with which line, from 1 on; zeros where nothing is.
-#[derive(Drop)]
+#[derive(Clone, Copy)]
 pub struct Withdrawal {
     pub wrong: u32,
     pub line: usize,

@@ -5,26 +5,26 @@ use Rattle.asking.proofs.ask.Tie as tie
 use borrow.Author.Rules.{rules}
 use native.Mathlib.Omega.{arith}
 
-returns : tie.Need-returns
-returns c = λ e. absurd (c.if1.true e)
+returns : tie.Need-returns-then-q-ne0
+returns c = λ e. absurd (c.if-q-ne0.true e)
 
-returns-2 : tie.Need-returns-2
-returns-2 c = λ e. absurd (omega (arith, e, c.wrong-at.ensures))
+returns-2 : tie.Need-returns-then-beyond
+returns-2 c = λ e. absurd (omega (arith, e, c.wrong_at.ensures))
 
-returns-3 : tie.Need-returns-3
-returns-3 c = λ e. absurd (omega (arith, e, c.wrong-at2.ensures))
+returns-3 : tie.Need-returns-then-q-ne0-2
+returns-3 c = λ e. absurd (omega (arith, e, c.wrong_at-then-q-ne0-2.ensures))
 
-returns-4 : tie.Need-returns-4
-returns-4 c = λ e. absurd (omega (arith, e, c.wrong-at3.ensures))
+returns-4 : tie.Need-returns-then-q-eq0
+returns-4 c = λ e. absurd (omega (arith, e, c.wrong_at-then-q-eq0.ensures))
 
-returns-5 : tie.Need-returns-5
-returns-5 c = λ e. absurd (omega (arith, e, c.wrong-at4.ensures))
+returns-5 : tie.Need-returns-then-q-lt4
+returns-5 c = λ e. absurd (omega (arith, e, c.wrong_at-then-q-lt4.ensures))
 
-with-amount-requires : tie.Need-with-amount-requires
-with-amount-requires c κs = (c.if6.false, c.before.before.before.before.if4.false)
+with-amount-requires : tie.Need-with_amount-requires
+with-amount-requires c κs = (c.if-q-lt4.false, c.if-q-ne0-2.false)
 
-pub ask-spec : {M : Type 1} → statement M
-ask-spec =
+pub ask_spec : {M : Type 1} → statement M
+ask_spec =
     tie.close
     (tie.spec
     (λ c κs. search rules)
@@ -39,4 +39,4 @@ ask-spec =
     (λ c κs. search rules)
     returns-5
     with-amount-requires
-    (λ c. c.with-amount.ensures))
+    (λ c. c.with_amount.ensures))

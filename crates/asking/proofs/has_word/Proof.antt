@@ -9,23 +9,23 @@ use borrow.Author.Rules.{rules}
 use mathlib.Core.Path.{◌≡◌}
 use native.Mathlib.Omega.{arith}
 
-abbrev invariant-loop : tie.invariant-loop
+abbrev invariant-loop : tie.invariant-loop-i
 invariant-loop words word found₀ i₀ found i = (found ≡ has_word_lem words word i) × (i ≤ 32)
 
-abbrev decreases-loop : tie.decreases-loop
+abbrev decreases-loop : tie.decreases-loop-i
 decreases-loop words word found₀ i₀ found i = 32 - i
 
-loop-holds : tie.Need-loop-init invariant-loop decreases-loop
+loop-holds : tie.Need-loop-i-init invariant-loop decreases-loop
 loop-holds c = (has-none _ _, omega arith)
 
-loop-again : tie.Need-loop-preserved invariant-loop decreases-loop
-loop-again c = (has-next _ _ _ _ _ c.is_IsWord.ensures c.before.before.loop.invariant.0, omega arith)
+loop-again : tie.Need-loop-i-preserved invariant-loop decreases-loop
+loop-again c = (has-next _ _ _ _ _ c.is_word-found.ensures c.loop-i.invariant.0, omega arith)
 
 returns : tie.Need-returns invariant-loop decreases-loop
-returns c = has_all _ _ _ _ c.before.loop.invariant.0 c.before.loop.invariant.1 c.loop-test.false
+returns c = has_all _ _ _ _ c.loop-i.invariant.0 c.loop-i.invariant.1 c.loop-i-test.false
 
-pub has-word-spec : {M : Type 1} → statement M
-has-word-spec =
+pub has_word_spec : {M : Type 1} → statement M
+has_word_spec =
     tie.close
     (tie.spec
     invariant-loop

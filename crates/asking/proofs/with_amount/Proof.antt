@@ -10,32 +10,32 @@ use mathlib.Core.List.{List}
 use mathlib.Core.Path.{◌∙◌, ap}
 use native.Mathlib.Omega.{arith}
 
-returns : tie.Need-returns
-returns c = λ e. absurd (omega (arith, e, c.wrong-at.ensures))
+returns : tie.Need-returns-then-asks-eq0
+returns c = λ e. absurd (omega (arith, e, c.wrong_at.ensures))
 
-returns-2 : tie.Need-returns-2
-returns-2 c = λ e. absurd (omega (arith, e, c.wrong-at2.ensures))
+returns-2 : tie.Need-returns-then-number-ge-NO_NUMBER
+returns-2 c = λ e. absurd (omega (arith, e, c.wrong_at-then-number-ge-NO_NUMBER.ensures))
 
-returns-3 : tie.Need-returns-3
-returns-3 c = λ e. absurd (omega (arith, e, c.wrong-at3.ensures))
+returns-3 : tie.Need-returns-then-number-least_amount
+returns-3 c = λ e. absurd (omega (arith, e, c.wrong_at-then-number-least_amount.ensures))
 
-returns-4 : tie.Need-returns-4
+returns-4 : tie.Need-returns
 returns-4 c = λ e.
-    let least = c.before in
-    let said = c.before.before.before in
-    let way = said.before.before.before.before in
+    let least = c in
+    let said = c in
+    let way = said in
     record {
-      four = way.before.before.before.requires.0;
-      valued = way.before.before.before.requires.1;
-      way = way.Way-of.ensures ∙ ap way_of way.before.bytes_of.ensures;
-      some = said.before.before.before.if1.false;
-      amount = said.number.ensures.0 ∙ ap (λ (w : List ℕ). worth w) said.before.bytes-of2.ensures;
-      below = c.before.before.if2.false;
-      wanted = λ a z. omega (arith, least.least-amount.ensures a, c.if3.false, z);
+      four = way.requires.0;
+      valued = way.requires.1;
+      way = way.way_of-asks.ensures ∙ ap way_of way.bytes_of.ensures;
+      some = said.if-asks-eq0.false;
+      amount = said.number-number.ensures.0 ∙ ap (λ (w : List ℕ). worth w) said.bytes_of-2.ensures;
+      below = c.if-number-ge-NO_NUMBER.false;
+      wanted = λ a z. omega (arith, least.least_amount.ensures a, c.if-number-least_amount.false, z);
     }
 
-pub with-amount-spec : {M : Type 1} → statement M
-with-amount-spec =
+pub with_amount_spec : {M : Type 1} → statement M
+with_amount_spec =
     tie.close
     (tie.spec
     (λ c κs. search rules)

@@ -7,14 +7,17 @@ use lib.Dec.{T}
 use mathlib.Core.Path.{subst, sym}
 use native.Mathlib.Omega.{arith}
 
-returns : tie.Need-returns
+returns : tie.Need-returns-then-how-eq0
 returns c e = absurd (subst T (sym e) tt)
 
-returns-2 : tie.Need-returns-2
+returns-2 : tie.Need-returns-then-withdrawn-ne0
 returns-2 c e = absurd (subst T (sym e) tt)
 
-returns-3 : tie.Need-returns-3
+returns-3 : tie.Need-returns
 returns-3 c e = (omega arith, omega arith, eqb-true _ _ e)
 
-pub is-bare-spec : {M : Type 1} → statement M
-is-bare-spec = tie.close (tie.spec returns returns-2 returns-3)
+pub is_bare_spec : {M : Type 1} → statement M
+is_bare_spec = tie.close (tie.spec
+    returns
+    returns-2
+    returns-3)

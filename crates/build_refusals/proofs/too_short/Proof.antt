@@ -10,15 +10,19 @@ use mathlib.Core.Bool.{◌||◌}
 use mathlib.Core.Path.{◌∙◌, ap₂}
 use native.Mathlib.Omega.{arith}
 
-returns : tie.Need-returns
+returns : tie.Need-returns-then-room-lt-HEADER
 returns c =
-    let a = c.before.args in
+    let a = c.args in
     simp (lt-ltb a.room (room_of a.n) (omega arith))
 
-returns-2 : tie.Need-returns-2
+returns-2 : tie.Need-returns
 returns-2 c =
-    let a = c.before.before.before.args in
-    ap₂ (λ p q. p || q) (c.before.is-short.ensures ∙ behind_header a.n a.room (omega arith)) c.is-short2.ensures
+    let a = c.args in
+    ap₂ (λ p q. p || q) (c.is_short.ensures ∙ behind_header a.n a.room (omega arith)) c.is_short-2.ensures
 
-pub too-short-spec : {M : Type 1} → statement M
-too-short-spec = tie.close (tie.spec returns (λ c. search rules) (λ c κs. search rules) returns-2)
+pub too_short_spec : {M : Type 1} → statement M
+too_short_spec = tie.close (tie.spec
+    returns
+    (λ c κs. search rules)
+    (λ c κs. search rules)
+    returns-2)

@@ -7,8 +7,12 @@ use borrow.Author.Rules.{rules}
 
 returns : tie.Need-returns
 returns c =
-    let a = c.before.before.before.args in
-    writer_says a.length a.c a.room a.work a.unfit c.before.before.rows_in.ensures c.before.too_short.ensures c.number_of_lem.ensures
+    let a = c.args in
+    writer_says a.length a.c a.room a.work a.unfit c.rows_in-n.ensures c.too_short.ensures c.number_of.ensures
 
-pub writer-number-spec : {M : Type 1} → statement M
-writer-number-spec = tie.close (tie.spec (λ c κs. search rules) (λ c κs. search rules) (λ c κs. search rules) returns)
+pub writer_number_spec : {M : Type 1} → statement M
+writer_number_spec = tie.close (tie.spec
+    (λ c κs. search rules)
+    (λ c κs. search rules)
+    (λ c κs. search rules)
+    returns)

@@ -6,11 +6,15 @@ use Rattle.circle_columns.proofs.with_bit.Tie as tie
 use borrow.Author.Rules.{rules}
 use native.Mathlib.Omega.{arith}
 
-returns : tie.Need-returns
-returns c = let a = c.before.args in bit_on a.set a.j c.if1.true (omega arith)
+returns : tie.Need-returns-then-on
+returns c = let a = c.args in bit_on a.set a.j c.if-on.true (omega arith)
 
-returns-2 : tie.Need-returns-2
-returns-2 c = bit_off _ _ c.if1.false
+returns-2 : tie.Need-returns
+returns-2 c = bit_off _ _ c.if-on.false
 
-pub with-bit-spec : {M : Type 1} → statement M
-with-bit-spec = tie.close (tie.spec (λ c. search rules) (λ c. search rules) returns returns-2)
+pub with_bit_spec : {M : Type 1} → statement M
+with_bit_spec = tie.close (tie.spec
+    (λ c. search rules)
+    (λ c. search rules)
+    returns
+    returns-2)

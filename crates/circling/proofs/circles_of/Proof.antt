@@ -6,15 +6,15 @@ use Rattle.circling.proofs.circles_of.Tie as tie
 use borrow.Author.Rules.{rules}
 use native.Mathlib.Omega.{arith}
 
-returns : tie.Need-returns
-returns c = circled-right _ _ _ _ _ c.before.before.wrong-item.ensures (omega arith) c.set-of.ensures
+returns : tie.Need-returns-then-first-gt-MOST_ITEMS
+returns c = circled-right _ _ _ _ _ c.wrong_item-first.ensures (omega arith) c.set_of.ensures
 
-returns-2 : tie.Need-returns-2
+returns-2 : tie.Need-returns
 returns-2 c =
-    circled-wrong _ _ _ _ _ c.before.before.before.wrong-item.ensures (omega arith) c.before.piece-at.ensures c.item-trouble.ensures
+    circled-wrong _ _ _ _ _ c.wrong_item-first.ensures (omega arith) c.piece_at-item.ensures c.item_trouble.ensures
 
-pub circles-of-spec : {M : Type 1} → statement M
-circles-of-spec =
+pub circles_of_spec : {M : Type 1} → statement M
+circles_of_spec =
     tie.close
     (tie.spec
     (λ c κs. search rules)

@@ -7,23 +7,23 @@ use borrow.Author.Rules.{rules}
 use borrow.Author.Tests.{not-false, not-true}
 use native.Mathlib.Omega.{arith}
 
-returns : tie.Need-returns
-returns c = says_none _ _ _ _ _ _ _ c.before.before.piece-at.ensures _ (not-true _ c.if1.true)
+returns : tie.Need-returns-then-not-item
+returns c = says_none _ _ _ _ _ _ _ c.piece_at-item.ensures _ (not-true _ c.if-not-item.true)
 
-returns-2 : tie.Need-returns-2
+returns-2 : tie.Need-returns-then-column-eq0
 returns-2 c =
-    let f = c.before.before.before.before.before.piece-at.ensures in
-    let t = not-false _ c.before.before.before.if1.false in
-    says-zero _ _ _ _ _ _ _ f _ t (item-said _ _ _ _ _ _ _ f _ _ c.before.before.bytes_of.ensures t c.before.column-said.ensures.0) (omega arith)
+    let f = c.piece_at-item.ensures in
+    let t = not-false _ c.if-not-item.false in
+    says-zero _ _ _ _ _ _ _ f _ t (item-said _ _ _ _ _ _ _ f _ _ c.bytes_of.ensures t c.column_said-column.ensures.0) (omega arith)
 
-returns-3 : tie.Need-returns-3
+returns-3 : tie.Need-returns
 returns-3 c =
-    let f = c.before.before.before.before.before.piece-at.ensures in
-    let t = not-false _ c.before.before.before.if1.false in
-    says-one _ _ _ _ _ _ _ f _ t (item-said _ _ _ _ _ _ _ f _ _ c.before.before.bytes_of.ensures t c.before.column-said.ensures.0) (omega arith)
+    let f = c.piece_at-item.ensures in
+    let t = not-false _ c.if-not-item.false in
+    says-one _ _ _ _ _ _ _ f _ t (item-said _ _ _ _ _ _ _ f _ _ c.bytes_of.ensures t c.column_said-column.ensures.0) (omega arith)
 
-pub item-says-spec : {M : Type 1} → statement M
-item-says-spec =
+pub item_says_spec : {M : Type 1} → statement M
+item_says_spec =
     tie.close
     (tie.spec
     (λ c κs. search rules)

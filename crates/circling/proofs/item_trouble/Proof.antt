@@ -7,21 +7,21 @@ use borrow.Author.Rules.{rules}
 use borrow.Author.Tests.{not-false, not-true}
 use native.Mathlib.Omega.{arith}
 
-returns : tie.Need-returns
-returns c = trouble-none _ _ _ _ _ _ _ c.before.before.piece-at.ensures _ _ (not-true _ c.if1.true)
+returns : tie.Need-returns-then-not-item
+returns c = trouble-none _ _ _ _ _ _ _ c.piece_at-item.ensures _ _ (not-true _ c.if-not-item.true)
 
-returns-2 : tie.Need-returns-2
-returns-2 c = trouble-many _ _ _ _ _ _ _ c.before.before.before.piece-at.ensures _ _ (not-false _ c.before.if1.false) (omega arith)
+returns-2 : tie.Need-returns-then-i-ge-MOST_ITEMS
+returns-2 c = trouble-many _ _ _ _ _ _ _ c.piece_at-item.ensures _ _ (not-false _ c.if-not-item.false) (omega arith)
 
-returns-3 : tie.Need-returns-3
+returns-3 : tie.Need-returns
 returns-3 c =
-    let f = c.before.before.before.before.before.before.piece-at.ensures in
-    let t = not-false _ c.before.before.before.before.if1.false in
-    trouble-column _ _ _ _ _ _ _ f _ _ t (omega arith) (item-said _ _ _ _ _ _ _ f _ _ c.before.before.bytes_of.ensures t c.before.column-said.ensures.0)
-    c.column-trouble.ensures
+    let f = c.piece_at-item.ensures in
+    let t = not-false _ c.if-not-item.false in
+    trouble-column _ _ _ _ _ _ _ f _ _ t (omega arith) (item-said _ _ _ _ _ _ _ f _ _ c.bytes_of.ensures t c.column_said.ensures.0)
+    c.column_trouble.ensures
 
-pub item-trouble-spec : {M : Type 1} → statement M
-item-trouble-spec =
+pub item_trouble_spec : {M : Type 1} → statement M
+item_trouble_spec =
     tie.close
     (tie.spec
     (λ c κs. search rules)

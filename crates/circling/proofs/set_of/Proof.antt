@@ -8,25 +8,25 @@ use Rattle.circle_columns.specs.Circles.{Bits}
 use borrow.Author.Rules.{rules}
 use native.Mathlib.Omega.{arith}
 
-abbrev invariant-loop : tie.invariant-loop
+abbrev invariant-loop : tie.invariant-loop-j
 invariant-loop names c list k chosen set₀ j₀ set j = (j ≤ k) × (k ≤ 16) × Bits names c list chosen j set
 
-abbrev decreases-loop : tie.decreases-loop
+abbrev decreases-loop : tie.decreases-loop-j
 decreases-loop names c list k chosen set₀ j₀ set j = k - j
 
-loop-holds : tie.Need-loop-init invariant-loop decreases-loop
-loop-holds c = (omega arith, c.before.before.requires, set-none _ _ _ _)
+loop-holds : tie.Need-loop-j-init invariant-loop decreases-loop
+loop-holds c = (omega arith, c.requires, set-none _ _ _ _)
 
-loop-again : tie.Need-loop-preserved invariant-loop decreases-loop
+loop-again : tie.Need-loop-j-preserved invariant-loop decreases-loop
 loop-again c =
-    let l = c.before.before.before.loop in
-    (omega arith, l.invariant.1, set_next _ _ _ _ l.invariant.2 c.before.is_said.ensures c.with-bit.ensures)
+    let l = c.loop-j in
+    (omega arith, l.invariant.1, set_next _ _ _ _ l.invariant.2 c.is_said.ensures c.with_bit-set.ensures)
 
 returns : tie.Need-returns invariant-loop decreases-loop
-returns c = let l = c.before.loop in set_all _ _ _ _ l.invariant.2 l.invariant.0 (omega arith)
+returns c = let l = c.loop-j in set_all _ _ _ _ l.invariant.2 l.invariant.0 (omega arith)
 
-pub set-of-spec : {M : Type 1} → statement M
-set-of-spec =
+pub set_of_spec : {M : Type 1} → statement M
+set_of_spec =
     tie.close
     (tie.spec
     invariant-loop

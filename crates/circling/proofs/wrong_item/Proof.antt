@@ -7,30 +7,30 @@ use Rattle.circling.proofs.wrong_item.Tie as tie
 use borrow.Author.Rules.{rules}
 use native.Mathlib.Omega.{arith}
 
-abbrev invariant-loop : tie.invariant-loop
+abbrev invariant-loop : tie.invariant-loop-i
 invariant-loop names c list chosen k i₀ i = (i ≤ 17) × (k ≤ 16) × Right names c list chosen k i
 
-abbrev decreases-loop : tie.decreases-loop
+abbrev decreases-loop : tie.decreases-loop-i
 decreases-loop names c list chosen k i₀ i = 17 - i
 
-loop-holds : tie.Need-loop-init invariant-loop decreases-loop
-loop-holds c = (omega arith, c.before.before.requires, right-none _ _ _ _ _)
+loop-holds : tie.Need-loop-i-init invariant-loop decreases-loop
+loop-holds c = (omega arith, c.requires, right-none _ _ _ _ _)
 
-returns : tie.Need-returns invariant-loop decreases-loop
+returns : tie.Need-returns-then-item_trouble-ne0 invariant-loop decreases-loop
 returns c =
-    let l = c.before.before.before.loop in
-    right-not _ _ _ _ _ l.invariant.2 c.before.item-trouble.ensures c.if1.true (omega arith)
+    let l = c.loop-i in
+    right-not _ _ _ _ _ l.invariant.2 c.item_trouble.ensures c.if-item_trouble-ne0.true (omega arith)
 
-loop-again : tie.Need-loop-preserved invariant-loop decreases-loop
+loop-again : tie.Need-loop-i-preserved invariant-loop decreases-loop
 loop-again c =
-    let l = c.before.before.before.loop in
-    (omega arith, l.invariant.1, right-next _ _ _ _ _ l.invariant.2 c.before.item-trouble.ensures (omega arith))
+    let l = c.loop-i in
+    (omega arith, l.invariant.1, right-next _ _ _ _ _ l.invariant.2 c.item_trouble.ensures (omega arith))
 
-returns-2 : tie.Need-returns-2 invariant-loop decreases-loop
-returns-2 c = let l = c.before.loop in right_all _ _ _ _ _ l.invariant.2 (omega (arith, l.invariant.0))
+returns-2 : tie.Need-returns invariant-loop decreases-loop
+returns-2 c = let l = c.loop-i in right_all _ _ _ _ _ l.invariant.2 (omega (arith, l.invariant.0))
 
-pub wrong-item-spec : {M : Type 1} → statement M
-wrong-item-spec =
+pub wrong_item_spec : {M : Type 1} → statement M
+wrong_item_spec =
     tie.close
     (tie.spec
     invariant-loop

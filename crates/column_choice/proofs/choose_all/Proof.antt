@@ -5,14 +5,14 @@ use Rattle.column_choice.proofs.choose_all.Statement.{statement}
 use Rattle.column_choice.proofs.choose_all.Tie as tie
 use borrow.Author.Rules.{rules}
 
-abbrev invariant-loop : tie.invariant-loop
+abbrev invariant-loop : tie.invariant-loop-i
 invariant-loop c label choice₀ i₀ choice i = (choice.k ≤ 16) × (i ≤ c)
 
-abbrev decreases-loop : tie.decreases-loop
+abbrev decreases-loop : tie.decreases-loop-i
 decreases-loop c label choice₀ i₀ choice i = c - i
 
-pub choose-all-spec : {M : Type 1} → statement M
-choose-all-spec =
+pub choose_all_spec : {M : Type 1} → statement M
+choose_all_spec =
     tie.close
     (tie.spec
     invariant-loop

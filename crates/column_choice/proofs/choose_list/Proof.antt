@@ -5,17 +5,17 @@ use Rattle.column_choice.proofs.choose_list.Statement.{statement}
 use Rattle.column_choice.proofs.choose_list.Tie as tie
 use borrow.Author.Rules.{rules}
 
-abbrev invariant-loop : tie.invariant-loop
+abbrev invariant-loop : tie.invariant-loop-i
 invariant-loop names list c label choice₀ i₀ choice i = (choice.k ≤ 16) × (i ≤ 17)
 
-abbrev decreases-loop : tie.decreases-loop
+abbrev decreases-loop : tie.decreases-loop-i
 decreases-loop names list c label choice₀ i₀ choice i = 17 - i
 
-with-piece-requires : tie.Need-with-piece-requires invariant-loop decreases-loop
-with-piece-requires c κs = (c.before.before.loop.invariant.0, c.piece-at.ensures.inside.0, c.piece-at.ensures.inside.1)
+with-piece-requires : tie.Need-with_piece-choice-requires invariant-loop decreases-loop
+with-piece-requires c κs = (c.loop-i.invariant.0, c.piece_at-item.ensures.inside.0, c.piece_at-item.ensures.inside.1)
 
-pub choose-list-spec : {M : Type 1} → statement M
-choose-list-spec =
+pub choose_list_spec : {M : Type 1} → statement M
+choose_list_spec =
     tie.close
     (tie.spec
     invariant-loop

@@ -1,5 +1,6 @@
 -- `columns::choose` meets its contract: no choice, a product too great, and the table of the chosen columns.
 -- Assumes nothing.
+use Rattle.std.proofs.lemmas.Bool.{not_from_false, not_from_true}
 use Rattle.column_products.proofs.Choosing.{all_passed, choice_of, chose-done, chose_none, chose-over, fit_of, rows_small}
 use Rattle.columns.proofs.choose.Statement.{statement}
 use Rattle.columns.proofs.choose.Tie as tie
@@ -8,41 +9,41 @@ use Rattle.measure.proofs.Rows.{row_ends}
 use borrow.Author.Rules.{rules}
 use native.Mathlib.Omega.{arith}
 
-returns : tie.Need-returns
-returns c = chose_none (no c.before.fits2.ensures c.if1.true)
+returns : tie.Need-returns-then-not-fits
+returns c = chose_none (no c.fits.ensures (not_from_false _ c.if-not-fits.true))
 
-first-row-over-requires : tie.Need-first-row-over-requires
+first-row-over-requires : tie.Need-first_row_over-row-requires
 first-row-over-requires c κs =
-    let f = fit_of _ _ _ _ _ (yes c.before.before.fits2.ensures c.before.if1.false) in
+    let f = fit_of _ _ _ _ _ (yes c.fits.ensures (not_from_true _ c.if-not-fits.false)) in
     (f.choice, f.room)
 
-row-of-requires : tie.Need-row-of-requires
+row-of-requires : tie.Need-row_of-requires
 row-of-requires c κs =
-    let args = c.before.before.before.before.before.before.before.args in
-    let f = fit_of _ _ _ _ _ (yes c.before.before.before.before.before.fits2.ensures c.before.before.before.before.if1.false) in
-    omega (arith, f.room, row_ends args.c args.n c.before.before.first-row-over.result (omega arith))
+    let args = c.args in
+    let f = fit_of _ _ _ _ _ (yes c.fits.ensures (not_from_true _ c.if-not-fits.false)) in
+    omega (arith, f.room, row_ends args.c args.n c.first_row_over-row.result (omega arith))
 
-first-over-requires : tie.Need-first-over-requires
+first-over-requires : tie.Need-first_over-requires
 first-over-requires c κs =
     choice_of c.row_of.result.now
-    (fit_of _ _ _ _ _ (yes c.before.before.before.before.before.before.fits2.ensures c.before.before.before.before.before.if1.false)).choice
+    (fit_of _ _ _ _ _ (yes c.fits.ensures (not_from_true _ c.if-not-fits.false))).choice
     c.row_of.ensures.1
 
-returns-2 : tie.Need-returns-2
+returns-2 : tie.Need-returns-then-row-n
 returns-2 c =
-    chose-over (yes c.before.before.before.before.before.before.before.fits2.ensures c.before.before.before.before.before.before.if1.false)
-    c.before.before.before.before.first-row-over.ensures (omega arith) c.before.row_of.ensures.0 c.first-over.ensures
+    chose-over (yes c.fits.ensures (not_from_true _ c.if-not-fits.false))
+    c.first_row_over-row.ensures (omega arith) c.row_of.ensures.0 c.first_over.ensures
 
-choose-rows-requires : tie.Need-choose-rows-requires
+choose-rows-requires : tie.Need-choose_rows-requires
 choose-rows-requires c κs =
-    let f = fit_of _ _ _ _ _ (yes c.before.before.before.before.before.fits2.ensures c.before.before.before.before.if1.false) in
-    let v = c.before.before.first-row-over in
+    let f = fit_of _ _ _ _ _ (yes c.fits.ensures (not_from_true _ c.if-not-fits.false)) in
+    let v = c.first_row_over-row in
     (f.choice, f.narrow, f.room, rows_small _ _ _ _ _ _ _ (all_passed v.ensures (omega arith)))
 
-returns-3 : tie.Need-returns-3
+returns-3 : tie.Need-returns
 returns-3 c =
-    chose-done (yes c.before.before.before.before.before.before.before.before.fits2.ensures c.before.before.before.before.before.before.before.if1.false)
-    c.before.before.before.before.before.first-row-over.ensures (omega arith) c.before.before.choose-rows.ensures
+    chose-done (yes c.fits.ensures (not_from_true _ c.if-not-fits.false))
+    c.first_row_over-row.ensures (omega arith) c.choose_rows.ensures
 
 pub choose_spec : {M : Type 1} → statement M
 choose_spec =

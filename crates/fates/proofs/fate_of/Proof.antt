@@ -8,28 +8,32 @@ use borrow.Author.Rules.{rules}
 use borrow.Author.Tests.{le-leb, le-ltb, lt-leb, lt-ltb}
 use native.Mathlib.Omega.{arith}
 
-returns : tie.Need-returns
+returns : tie.Need-returns-then-x-radius
 unfolding fate_of_lem
 returns c =
-    let a = c.before.args in
+    let a = c.args in
     let h : a.x + a.radius ≤ a.r = omega arith in
     simp (le-leb _ _ h)
 
-returns-2 : tie.Need-returns-2
+returns-2 : tie.Need-returns-then-r-bound
 unfolding fate_of_lem
 returns-2 c =
-    let a = c.before.before.args in
+    let a = c.args in
     let h : a.r < a.x + a.radius = omega arith in
     let k : a.r < a.bound = omega arith in
     simp (lt-leb _ _ h, lt-ltb _ _ k)
 
-returns-3 : tie.Need-returns-3
+returns-3 : tie.Need-returns-else-r-bound
 unfolding fate_of_lem
 returns-3 c =
-    let a = c.before.before.args in
+    let a = c.args in
     let h : a.r < a.x + a.radius = omega arith in
     let k : a.bound ≤ a.r = omega arith in
     simp (lt-leb _ _ h, le-ltb _ _ k)
 
-pub fate-of-spec : {M : Type 1} → statement M
-fate-of-spec = tie.close (tie.spec (λ c. search rules) returns returns-2 returns-3)
+pub fate_of_spec : {M : Type 1} → statement M
+fate_of_spec = tie.close (tie.spec
+    (λ c. search rules)
+    returns
+    returns-2
+    returns-3)

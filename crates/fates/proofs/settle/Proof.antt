@@ -12,38 +12,38 @@ use mathlib.Core.Path.{◌∙◌, ◌≡◌, ap}
 use native.Mathlib.Omega.{arith}
 
 -- the start, seen from the reading of the radius
-abbrev start : tie.After-node-radius → tie.Start
+abbrev start : tie.After-node_radius → tie.Start
 start c = c.before.before.before.before.before
 
 -- the fate is the definition's
-fate : (c : tie.After-fate-of)
-    → c.fate-of.result ≡ fate_of_lem (start c.before).args.x (radius# (start c.before).args.index.now (start c.before).args.k) (start c.before).args.bound (start c.before).args.r
+fate : (c : tie.After-fate_of-fate)
+    → c.fate_of-fate.result ≡ fate_of_lem (start c.before).args.x (radius# (start c.before).args.index.now (start c.before).args.k) (start c.before).args.bound (start c.before).args.r
 fate c =
     let s = start c.before in
-    c.fate-of.ensures ∙ ap (λ (R : ℕ). fate_of_lem s.args.x R s.args.bound s.args.r) c.before.node-radius.ensures
+    c.fate_of-fate.ensures ∙ ap (λ (R : ℕ). fate_of_lem s.args.x R s.args.bound s.args.r) c.node_radius.ensures
 
-fate-of-requires : tie.Need-fate-of-requires
+fate-of-requires : tie.Need-fate_of-fate-requires
 fate-of-requires c κs =
     let s = start c in
-    (s.pre.1.2, omega (arith, (s.pre.0.node s.args.k s.pre.1.0).near, c.node-radius.ensures))
+    (s.requires.1.2, omega (arith, (s.requires.0.node s.args.k s.requires.1.0).near, c.node_radius.ensures))
 
-returns : tie.Need-returns
+returns : tie.Need-returns-in_default
 returns c =
     let s = start c.before.before in (
       fate c.before,
-      unswept (is_in_lem s.args.withdrawn.now) s.args.index.now s.args.k s.args.how.now s.args.list.now c.before.fate-of.result c.match.keys2,
+      unswept (is_in_lem s.args.withdrawn.now) s.args.index.now s.args.k s.args.how.now s.args.list.now c.fate_of-fate.result c.in_default.not-Swept,
     )
 
-returns-2 : tie.Need-returns-2
+returns-2 : tie.Need-returns
 returns-2 c =
-    let f = c.before.before.before.before.before.before.before.before.before in
-    let s = start f.before in (
-      fate f,
-      swept_did (is_in_lem s.args.withdrawn.now) s.args.index.now s.args.k f.fate-of.result c.before.before.before.before.before.before.before.enum_told.given.1 c.before.before.before.before.sweep.ensures,
+    let f = c in
+    let s = start f.before.before.before.before.before.before.before.before.before in (
+      fate f.before.before.before.before.before.before.before.before,
+      swept_did (is_in_lem s.args.withdrawn.now) s.args.index.now s.args.k f.fate_of-fate.result c.in-Swept.is c.sweep.ensures,
     )
 
-pub settle-spec : {M : Type 1} → statement M
-settle-spec =
+pub settle_spec : {M : Type 1} → statement M
+settle_spec =
     tie.close
     (tie.spec
     (λ c κs. search rules)

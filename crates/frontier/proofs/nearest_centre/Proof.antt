@@ -11,10 +11,10 @@ use lib.ListN.{length}
 use mathlib.Core.Path.{refl}
 use native.Mathlib.Omega.{arith}
 
-abbrev invariant-loop : tie.invariant-loop
+abbrev invariant-loop : tie.invariant-loop-j
 invariant-loop index work n a e f y₀ j₀ y j = LeastTo index work a e j y
 
-abbrev decreases-loop : tie.decreases-loop
+abbrev decreases-loop : tie.decreases-loop-j
 decreases-loop index work n a e f y₀ j₀ y j = e - j
 
 -- the distance kept for a row stands in the workspace, and its place is a number that the code can hold
@@ -22,65 +22,65 @@ kept_there : (s : tie.Start invariant-loop decreases-loop) (r : ℕ) → r < n# 
     → (r < s.args.n) × (s.args.n ≤ max_rows) × (6 * s.args.n ≤ length s.args.work.now)
 kept_there s r h = (omega (arith, s.requires.1), omega (arith, s.requires.1, s.requires.0.whole.rows), s.requires.4)
 
-node-first-requires : tie.Need-node-first-requires invariant-loop decreases-loop
-node-first-requires c κs = (c.before.before.requires.0, omega (arith, c.before.before.requires.2, c.before.before.requires.3))
+node-first-requires : tie.Need-node_first-f-requires invariant-loop decreases-loop
+node-first-requires c κs = (c.requires.0, omega (arith, c.requires.2, c.requires.3))
 
-mul-y : tie.Need-overflow-mul-y invariant-loop decreases-loop
-mul-y c = omega (arith, kept_there c.before.before.before _ c.node-first.ensures.1)
+mul-y : tie.Need-overflow_mul-y invariant-loop decreases-loop
+mul-y c = omega (arith, kept_there c.before.before.before _ c.node_first-f.ensures.1)
 
-add-y : tie.Need-overflow-add-y invariant-loop decreases-loop
-add-y c = omega (arith, kept_there c.before.before.before _ c.node-first.ensures.1)
+add-y : tie.Need-overflow_add-y invariant-loop decreases-loop
+add-y c = omega (arith, kept_there c.before.before.before _ c.node_first-f.ensures.1)
 
-mul-y-2 : tie.Need-overflow-mul-y-2 invariant-loop decreases-loop
-mul-y-2 c = omega (arith, kept_there c.before.before.before _ c.node-first.ensures.1)
+mul-y-2 : tie.Need-offset_bounds-work-n invariant-loop decreases-loop
+mul-y-2 c = omega (arith, kept_there c.before.before.before _ c.node_first-f.ensures.1)
 
-shared-slice-read-y : tie.Need-shared-slice-read-y invariant-loop decreases-loop
-shared-slice-read-y c = omega (arith, kept_there c.before.before.before.before _ c.before.node-first.ensures.1)
+shared-slice-read-y : tie.Need-bounds-work-n invariant-loop decreases-loop
+shared-slice-read-y c = omega (arith, kept_there c.before.before.before.before _ c.node_first-f.ensures.1)
 
-add-j : tie.Need-overflow-add-j invariant-loop decreases-loop
-add-j c = omega (arith, c.before.before.before.before.requires.2)
+add-j : tie.Need-overflow_add-j invariant-loop decreases-loop
+add-j c = omega (arith, c.requires.2)
 
-loop-holds : tie.Need-loop-init invariant-loop decreases-loop
+loop-holds : tie.Need-loop-j-init invariant-loop decreases-loop
 loop-holds c =
-    let pre = c.before.before.before.before.requires in
-    let node-first = c.before.node-first in
+    let pre = c.requires in
+    let node-first = c.node_first-f in
     least_start _ _ _ _ _ pre.1 _ _ pre.2 node-first.ensures.0 refl
 
-node-first-requires-2 : tie.Need-node-first-requires-2 invariant-loop decreases-loop
+node-first-requires-2 : tie.Need-node_first-r-requires invariant-loop decreases-loop
 node-first-requires-2 c κs =
-    let pre = c.before.before.before.before.before.before.requires in
+    let pre = c.requires in
     (pre.0, omega (arith, pre.3))
 
-mul-smaller : tie.Need-overflow-mul-smaller invariant-loop decreases-loop
-mul-smaller c = omega (arith, kept_there c.before.before.before.before.before.before.before _ c.node-first2.ensures.1)
+mul-smaller : tie.Need-overflow_mul-n invariant-loop decreases-loop
+mul-smaller c = omega (arith, kept_there c.before.before.before.before.before.before.before _ c.node_first-r.ensures.1)
 
-add-smaller : tie.Need-overflow-add-smaller invariant-loop decreases-loop
-add-smaller c = omega (arith, kept_there c.before.before.before.before.before.before.before _ c.node-first2.ensures.1)
+add-smaller : tie.Need-overflow_add-n invariant-loop decreases-loop
+add-smaller c = omega (arith, kept_there c.before.before.before.before.before.before.before _ c.node_first-r.ensures.1)
 
-mul-smaller-2 : tie.Need-overflow-mul-smaller-2 invariant-loop decreases-loop
-mul-smaller-2 c = omega (arith, kept_there c.before.before.before.before.before.before.before _ c.node-first2.ensures.1)
+mul-smaller-2 : tie.Need-offset_bounds-work-n-in-loop-j invariant-loop decreases-loop
+mul-smaller-2 c = omega (arith, kept_there c.before.before.before.before.before.before.before _ c.node_first-r.ensures.1)
 
-shared-slice-read-smaller : tie.Need-shared-slice-read-smaller invariant-loop decreases-loop
+shared-slice-read-smaller : tie.Need-bounds-work-n-in-loop-j invariant-loop decreases-loop
 shared-slice-read-smaller c =
-    let r = c.before in
-    omega (arith, kept_there r.before.before.before.before.before.before.before _ r.node-first2.ensures.1)
+    let r = c in
+    omega (arith, kept_there r.before.before.before.before.before.before.before.before _ r.node_first-r.ensures.1)
 
-loop-again : tie.Need-loop-preserved invariant-loop decreases-loop
+loop-again : tie.Need-loop-j-preserved invariant-loop decreases-loop
 loop-again c =
-    let pre = c.before.before.before.before.before.before.before.before.before.requires in
-    let loop = c.before.before.before.before.loop in
-    let node-first2 = c.before.before.node-first2 in
-    let smaller = c.smaller in
+    let pre = c.requires in
+    let loop = c.loop-j in
+    let node-first2 = c.node_first-r in
+    let smaller = c.smaller-y in
     least_step _ _ _ _ _ pre.1 _ _ _ _ loop.invariant (omega arith) node-first2.ensures.0 smaller.ensures
 
 returns : tie.Need-returns invariant-loop decreases-loop
 returns c =
-    let pre = c.before.before.before.before.before.before.requires in
-    let loop = c.before.loop in
+    let pre = c.requires in
+    let loop = c.loop-j in
     least-done _ _ _ _ _ pre.1 _ _ (omega arith) loop.invariant
 
-pub nearest-centre-spec : {M : Type 1} → statement M
-nearest-centre-spec =
+pub nearest_centre_spec : {M : Type 1} → statement M
+nearest_centre_spec =
     tie.close
     (tie.spec
     invariant-loop

@@ -5,57 +5,57 @@ use Rattle.frontier.proofs.open_leaf.Statement.{statement}
 use Rattle.frontier.proofs.open_leaf.Tie as tie
 use native.Mathlib.Omega.{arith}
 
-node-first-requires : tie.Need-node-first-requires
-node-first-requires c κs = (c.before.before.requires.0.shape, c.before.before.requires.1)
+node-first-requires : tie.Need-node_first-f-requires
+node-first-requires c κs = (c.requires.0.shape, c.requires.1)
 
-mul-x : tie.Need-overflow-mul-x
-mul-x c = omega (arith, kept_there _ _ _ _ _ _ c.before.before.before.requires.0 c.node-first.ensures.1)
+mul-x : tie.Need-overflow_mul-x
+mul-x c = omega (arith, kept_there _ _ _ _ _ _ c.requires.0 c.node_first-f.ensures.1)
 
-add-x : tie.Need-overflow-add-x
-add-x c = omega (arith, kept_there _ _ _ _ _ _ c.before.before.before.requires.0 c.node-first.ensures.1)
+add-x : tie.Need-overflow_add-x
+add-x c = omega (arith, kept_there _ _ _ _ _ _ c.requires.0 c.node_first-f.ensures.1)
 
-mul-x-2 : tie.Need-overflow-mul-x-2
-mul-x-2 c = omega (arith, kept_there _ _ _ _ _ _ c.before.before.before.requires.0 c.node-first.ensures.1)
+mul-x-2 : tie.Need-offset_bounds-work-n
+mul-x-2 c = omega (arith, kept_there _ _ _ _ _ _ c.requires.0 c.node_first-f.ensures.1)
 
-slice-read-x : tie.Need-slice-read-x
-slice-read-x c = omega (arith, kept_there _ _ _ _ _ _ c.before.before.before.before.requires.0 c.before.node-first.ensures.1)
+slice-read-x : tie.Need-bounds-work-n
+slice-read-x c = omega (arith, kept_there _ _ _ _ _ _ c.requires.0 c.node_first-f.ensures.1)
 
-node-start-requires : tie.Need-node-start-requires
+node-start-requires : tie.Need-node_start-s-requires
 node-start-requires c κs =
-    let pre = c.before.before.before.before.requires in
+    let pre = c.requires in
     node_words_lem _ _ pre.0.shape pre.1
 
-node-count-requires : tie.Need-node-count-requires
+node-count-requires : tie.Need-node_count-requires
 node-count-requires c κs =
-    let pre = c.before.before.before.before.before.before.requires in
+    let pre = c.requires in
     node_words_lem _ _ pre.0.shape pre.1
 
-add-queue-rows : tie.Need-overflow-add-queue-rows
-add-queue-rows c = omega (arith, c.before.before.node-start.ensures.1, c.node-count.ensures.1)
+add-queue-rows : tie.Need-overflow_add-s
+add-queue-rows c = omega (arith, c.node_start-s.ensures.1, c.node_count.ensures.1)
 
-queue-rows-requires : tie.Need-queue-rows-requires
+queue-rows-requires : tie.Need-queue_rows-requires
 queue-rows-requires c κs =
-    let pre = c.before.before.before.before.before.before.before.requires in
-    let node-first = c.before.before.before.before.node-first in
-    let node-start = c.before.before.node-start in
-    let node-count = c.node-count in
+    let pre = c.requires in
+    let node-first = c.node_first-f in
+    let node-start = c.node_start-s in
+    let node-count = c.node_count in
     leaf_room _ _ _ _ _ _ _ _ pre.0 pre.1 node-start.ensures.0 node-count.ensures.0 node-first.ensures.0
 
-same_length : tie.Need-same-length
-same_length c = c.before.before.queue-rows.ensures.outside.same
+same_length : tie.Need-shape_of-work
+same_length c = c.queue_rows.ensures.outside.same
 
 returns : tie.Need-returns
 returns c =
-    let pre = c.before.before.before.before.before.before.before.before.before.before.requires in
-    let node-first = c.before.before.before.before.before.before.before.node-first in
-    let node-start = c.before.before.before.before.before.node-start in
-    let node-count = c.before.before.before.node-count in
-    let queue-rows = c.before.before.queue-rows in
+    let pre = c.requires in
+    let node-first = c.node_first-f in
+    let node-start = c.node_start-s in
+    let node-count = c.node_count in
+    let queue-rows = c.queue_rows in
     leaf-more _ _ _ _ _ _ _ _ pre.0 pre.1 node-start.ensures.0 node-count.ensures.0 node-first.ensures.0 _ _ _ _
     queue-rows.ensures
 
-pub open-leaf-spec : {M : Type 1} → statement M
-open-leaf-spec =
+pub open_leaf_spec : {M : Type 1} → statement M
+open_leaf_spec =
     tie.close
     (tie.spec
     node-first-requires

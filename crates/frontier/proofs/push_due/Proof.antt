@@ -6,22 +6,22 @@ use Rattle.frontier.proofs.push_due.Tie as tie
 use borrow.Author.Rules.{rules}
 use native.Mathlib.Omega.{arith}
 
-returns : tie.Need-returns
-returns c = more-above _ _ _ _ _ (omega arith) (omega arith) (omega arith) c.before.before.requires.0
+returns : tie.Need-returns-then-last-key
+returns c = more-above _ _ _ _ _ (omega arith) (omega arith) (omega arith) c.requires.0
 
 push-requires : tie.Need-push-requires
 push-requires c κs =
-    let pre = c.before.before.before.before.requires in
+    let pre = c.requires in
     (pre.0, omega (arith, pre.1))
 
-returns-2 : tie.Need-returns-2
+returns-2 : tie.Need-returns
 returns-2 c =
-    let pack = c.before.before.before.pack in
-    let push = c.before.before.push in
+    let pack = c.pack in
+    let push = c.push in
     more-pushed _ _ _ _ _ (omega arith) (omega arith) _ _ (omega arith) pack.ensures push.ensures
 
-pub push-due-spec : {M : Type 1} → statement M
-push-due-spec =
+pub push_due_spec : {M : Type 1} → statement M
+push_due_spec =
     tie.close
     (tie.spec
     returns

@@ -9,73 +9,73 @@ use borrow.Author.Rules.{rules}
 use mathlib.Core.Path.{refl}
 use native.Mathlib.Omega.{arith}
 
-abbrev invariant-loop : tie.invariant-loop
+abbrev invariant-loop : tie.invariant-loop-j
 invariant-loop index work₀ n len a e b y last size₀ j₀ work size j = QueuedTo work₀ work len a e (λ (i : ℕ). noded index work₀ b y (a + i)) last j size
 
-abbrev decreases-loop : tie.decreases-loop
+abbrev decreases-loop : tie.decreases-loop-j
 decreases-loop index work₀ n len a e b y last size₀ j₀ work size j = e - j
 
-loop-holds : tie.Need-loop-init invariant-loop decreases-loop
-loop-holds c = queued_start _ _ _ _ _ _ c.before.before.requires.1.0 c.before.before.requires.0.queue
+loop-holds : tie.Need-loop-j-init invariant-loop decreases-loop
+loop-holds c = queued_start _ _ _ _ _ _ c.requires.1.0 c.requires.0.queue
 
-node-first-requires : tie.Need-node-first-requires invariant-loop decreases-loop
+node-first-requires : tie.Need-node_first-r-requires invariant-loop decreases-loop
 node-first-requires c κs =
-    let pre = c.before.before.before.before.requires in
+    let pre = c.requires in
     (pre.0.shape, omega (arith, pre.1.1))
 
-mul-x : tie.Need-overflow-mul-x invariant-loop decreases-loop
-mul-x c = omega (arith, kept_there _ _ _ _ _ _ c.before.before.before.before.before.requires.0 c.node-first.ensures.1)
+mul-x : tie.Need-overflow_mul-x invariant-loop decreases-loop
+mul-x c = omega (arith, kept_there _ _ _ _ _ _ c.requires.0 c.node_first-r.ensures.1)
 
-add-x : tie.Need-overflow-add-x invariant-loop decreases-loop
-add-x c = omega (arith, kept_there _ _ _ _ _ _ c.before.before.before.before.before.requires.0 c.node-first.ensures.1)
+add-x : tie.Need-overflow_add-x invariant-loop decreases-loop
+add-x c = omega (arith, kept_there _ _ _ _ _ _ c.requires.0 c.node_first-r.ensures.1)
 
-mul-x-2 : tie.Need-overflow-mul-x-2 invariant-loop decreases-loop
-mul-x-2 c = omega (arith, kept_there _ _ _ _ _ _ c.before.before.before.before.before.requires.0 c.node-first.ensures.1)
+mul-x-2 : tie.Need-offset_bounds-work-n invariant-loop decreases-loop
+mul-x-2 c = omega (arith, kept_there _ _ _ _ _ _ c.requires.0 c.node_first-r.ensures.1)
 
-slice-read-x : tie.Need-slice-read-x invariant-loop decreases-loop
+slice-read-x : tie.Need-bounds-work-n invariant-loop decreases-loop
 slice-read-x c =
-    let l = c.before.before.before in
-    omega (arith, kept_there _ _ _ _ _ _ l.before.before.before.requires.0 c.before.node-first.ensures.1, l.loop.invariant.more.outside.same)
+    let l = c in
+    omega (arith, kept_there _ _ _ _ _ _ l.requires.0 c.node_first-r.ensures.1, l.loop-j.invariant.more.outside.same)
 
-kid-bound-requires : tie.Need-kid-bound-requires invariant-loop decreases-loop
+kid-bound-requires : tie.Need-kid_bound-key-requires invariant-loop decreases-loop
 kid-bound-requires c κs =
-    let pre = c.before.before.before.before.before.before.requires in
+    let pre = c.requires in
     (pre.0.shape.whole, (omega (arith, pre.1.1), pre.0.edition))
 
-cast-push-due : tie.Need-overflow-cast-push-due invariant-loop decreases-loop
+cast-push-due : tie.Need-overflow_cast-j invariant-loop decreases-loop
 cast-push-due c =
-    let pre = c.before.before.before.before.before.before.before.before.requires in
+    let pre = c.requires in
     omega (arith, pre.1.1, pre.0.shape.whole.nodes, pre.0.shape.whole.rows)
 
-push-due-requires : tie.Need-push-due-requires invariant-loop decreases-loop
+push-due-requires : tie.Need-push_due-size-requires invariant-loop decreases-loop
 push-due-requires c κs =
-    let pre = c.before.before.before.before.before.before.before.before.requires in
-    let loop = c.before.before.before.before.before.loop in
+    let pre = c.requires in
+    let loop = c.loop-j in
     (loop.invariant.more.queue, queued-room _ _ _ _ _ _ _ _ _ loop.invariant _ _ pre.0 (omega arith))
 
-loop-less : tie.Need-loop-smaller invariant-loop decreases-loop
-loop-less c = omega (arith, c.before.before.before.before.before.before.before.loop-test.true)
+loop-less : tie.Need-loop-j-smaller invariant-loop decreases-loop
+loop-less c = omega (arith, c.loop-j-test.true)
 
-loop-again : tie.Need-loop-preserved invariant-loop decreases-loop
+loop-again : tie.Need-loop-j-preserved invariant-loop decreases-loop
 loop-again c =
-    let pre = c.before.before.before.before.before.before.before.before.before.before.before.requires in
-    let loop = c.before.before.before.before.before.before.before.before.loop in
-    let node-first = c.before.before.before.before.before.before.node-first in
-    let kid-bound = c.before.before.before.before.kid-bound in
-    let push-due = c.before.before.push-due in
+    let pre = c.requires in
+    let loop = c.loop-j in
+    let node-first = c.node_first-r in
+    let kid-bound = c.kid_bound-key in
+    let push-due = c.push_due-size in
     queued-step _ _ _ _ _ _ _ _ _ loop.invariant _ _ _ (omega arith)
     (node_entry _ _ _ _ _ _ _ _ _ _ _ _ _ _ _ pre.0 loop.invariant node-first.ensures.0 refl kid-bound.ensures)
     push-due.ensures
 
-same_length : tie.Need-same-length invariant-loop decreases-loop
-same_length c = c.before.loop.invariant.more.outside.same
+same_length : tie.Need-shape_of-work invariant-loop decreases-loop
+same_length c = c.loop-j.invariant.more.outside.same
 
 returns : tie.Need-returns invariant-loop decreases-loop
 returns c =
-    queued-done _ _ _ _ _ _ _ _ _ c.before.loop.invariant (omega arith)
+    queued-done _ _ _ _ _ _ _ _ _ c.loop-j.invariant (omega arith)
 
-pub queue-children-spec : {M : Type 1} → statement M
-queue-children-spec =
+pub queue_children_spec : {M : Type 1} → statement M
+queue_children_spec =
     tie.close
     (tie.spec
     invariant-loop

@@ -11,93 +11,93 @@ use borrow.Author.Rules.{rules}
 use lib.ListN.{length}
 use native.Mathlib.Omega.{arith}
 
-abbrev invariant-loop : tie.invariant-loop
+abbrev invariant-loop : tie.invariant-loop-p
 invariant-loop index work₀ n len s e b x last base size₀ p₀ work size p =
     QueuedTo work₀ work len (s + 1) e (λ (i : ℕ). placed index b x (s + suc i)) last p size
 
-abbrev decreases-loop : tie.decreases-loop
+abbrev decreases-loop : tie.decreases-loop-p
 decreases-loop index work₀ n len s e b x last base size₀ p₀ work size p = e - p
 
 -- seen from where the positions begin: the start; and from the loop: that place
-abbrev start : tie.After-pair-at invariant-loop decreases-loop → tie.Start invariant-loop decreases-loop
+abbrev start : tie.After-pair_at-base invariant-loop decreases-loop → tie.Start invariant-loop decreases-loop
 start b = b.before.before.before
 
-abbrev begun : tie.At-loop invariant-loop decreases-loop → tie.After-pair-at invariant-loop decreases-loop
+abbrev begun : tie.At-loop-p invariant-loop decreases-loop → tie.After-pair_at-base invariant-loop decreases-loop
 begun l = l.before
 
 -- position p can be read
-there : (t : tie.In-loop invariant-loop decreases-loop)
-    → pair_at (start (begun t.before)).args.index.now t.before.loop.p + 1 < length (start (begun t.before)).args.index.now
+there : (t : tie.In-loop-p invariant-loop decreases-loop)
+    → pair_at (start (begun t.before)).args.index.now t.before.loop-p.p + 1 < length (start (begun t.before)).args.index.now
 there t =
-    let pre = (start (begun t.before)).pre in
-    place_words _ _ pre.0.shape (omega (arith, pre.1.1, pre.0.rows, t.loop-test.true))
+    let pre = (start (begun t.before)).requires in
+    place_words _ _ pre.0.shape (omega (arith, pre.1.1, pre.0.rows, t.loop-p-test.true))
 
-pair-at-requires : tie.Need-pair-at-requires invariant-loop decreases-loop
-pair-at-requires c κs = omega (arith, c.before.before.requires.0.shape.whole.words)
+pair-at-requires : tie.Need-pair_at-base-requires invariant-loop decreases-loop
+pair-at-requires c κs = omega (arith, c.requires.0.shape.whole.words)
 
-add-p : tie.Need-overflow-add-p invariant-loop decreases-loop
+add-p : tie.Need-overflow_add-p invariant-loop decreases-loop
 add-p c = omega (arith, (start c).requires.1.0)
 
-loop-holds : tie.Need-loop-init invariant-loop decreases-loop
+loop-holds : tie.Need-loop-p-init invariant-loop decreases-loop
 loop-holds c = queued_start _ _ _ _ _ _ (omega (arith, (start c).requires.1.0)) (start c).requires.0.queue
 
-mul-stored : tie.Need-overflow-mul-stored invariant-loop decreases-loop
-mul-stored c = omega (arith, there c, (begun c.before).pair-at.ensures, (start (begun c.before)).good)
+mul-stored : tie.Need-overflow_mul-stored invariant-loop decreases-loop
+mul-stored c = omega (arith, there c, (begun c.before).pair_at-base.ensures, (start (begun c.before)).well_formed)
 
-add-stored : tie.Need-overflow-add-stored invariant-loop decreases-loop
-add-stored c = omega (arith, there c, (begun c.before).pair-at.ensures, (start (begun c.before)).good)
+add-stored : tie.Need-overflow_add-stored invariant-loop decreases-loop
+add-stored c = omega (arith, there c, (begun c.before).pair_at-base.ensures, (start (begun c.before)).well_formed)
 
-add-stored-2 : tie.Need-overflow-add-stored-2 invariant-loop decreases-loop
-add-stored-2 c = omega (arith, there c, (begun c.before).pair-at.ensures, (start (begun c.before)).good)
+add-stored-2 : tie.Need-overflow_add-stored-in-loop-p invariant-loop decreases-loop
+add-stored-2 c = omega (arith, there c, (begun c.before).pair_at-base.ensures, (start (begun c.before)).well_formed)
 
-mul-stored-2 : tie.Need-overflow-mul-stored-2 invariant-loop decreases-loop
-mul-stored-2 c = omega (arith, there c, (begun c.before).pair-at.ensures, (start (begun c.before)).good)
+mul-stored-2 : tie.Need-offset_bounds-index-base invariant-loop decreases-loop
+mul-stored-2 c = omega (arith, there c, (begun c.before).pair_at-base.ensures, (start (begun c.before)).well_formed)
 
-shared-slice-read-stored : tie.Need-shared-slice-read-stored invariant-loop decreases-loop
-shared-slice-read-stored c = omega (arith, there c.before, (begun c.before.before).pair-at.ensures)
+shared-slice-read-stored : tie.Need-bounds-index-base invariant-loop decreases-loop
+shared-slice-read-stored c = omega (arith, there c.before, (begun c.before.before).pair_at-base.ensures)
 
-mul-push-due : tie.Need-overflow-mul-push-due invariant-loop decreases-loop
+mul-push-due : tie.Need-overflow_mul-n invariant-loop decreases-loop
 mul-push-due c =
-    let pre = (start (begun c.before.before.before.before)).pre in
+    let pre = (start (begun c.before.before.before.before)).requires in
     omega (arith, pre.1.1, pre.0.rows, pre.0.shape.whole.rows)
 
-add-push-due : tie.Need-overflow-add-push-due invariant-loop decreases-loop
+add-push-due : tie.Need-overflow_add-n invariant-loop decreases-loop
 add-push-due c =
-    let pre = (start (begun c.before.before.before.before)).pre in
+    let pre = (start (begun c.before.before.before.before)).requires in
     omega (arith, pre.1.1, pre.0.rows, pre.0.shape.whole.rows)
 
-cast-push-due : tie.Need-overflow-cast-push-due invariant-loop decreases-loop
+cast-push-due : tie.Need-overflow_cast-n invariant-loop decreases-loop
 cast-push-due c =
-    let pre = (start (begun c.before.before.before.before)).pre in
+    let pre = (start (begun c.before.before.before.before)).requires in
     omega (arith, pre.1.1, pre.0.rows, pre.0.shape.whole.rows)
 
-push-due-requires : tie.Need-push-due-requires invariant-loop decreases-loop
+push-due-requires : tie.Need-push_due-size-requires invariant-loop decreases-loop
 push-due-requires c κs =
-    let l = c.before.before.before.before in
-    (l.loop.invariant.more.queue, queued-room _ _ _ _ _ _ _ _ _ l.loop.invariant _ _ (start (begun l)).pre.0 (omega arith))
+    let l = c in
+    (l.loop-p.invariant.more.queue, queued-room _ _ _ _ _ _ _ _ _ l.loop-p.invariant _ _ (start (begun l.before.before.before.before)).requires.0 (omega arith))
 
-loop-less : tie.Need-loop-smaller invariant-loop decreases-loop
-loop-less c = omega (arith, c.before.before.before.before.before.before.loop-test.true)
+loop-less : tie.Need-loop-p-smaller invariant-loop decreases-loop
+loop-less c = omega (arith, c.loop-p-test.true)
 
-loop-again : tie.Need-loop-preserved invariant-loop decreases-loop
+loop-again : tie.Need-loop-p-preserved invariant-loop decreases-loop
 loop-again c =
-    let l = c.before.before.before.before.before.before.before in
-    let s = start (begun l) in
-    let place-bound = c.before.before.before.before.place-bound in
-    let push-due = c.before.before.push-due in
-    queued-step _ _ _ _ _ _ _ _ _ l.loop.invariant _ _ _ (omega (arith, c.before.before.before.before.before.before.loop-test.true))
-    (place_entry _ _ _ _ _ _ _ _ _ _ _ s.pre.0 l.loop.invariant.low
-    (dist-word s.args.index.now _ _ (begun l).pair-at.ensures) place-bound.ensures) push-due.ensures
+    let l = c in
+    let s = start (begun l.before.before.before.before.before.before.before) in
+    let place-bound = c.place_bound-key in
+    let push-due = c.push_due-size in
+    queued-step _ _ _ _ _ _ _ _ _ l.loop-p.invariant _ _ _ (omega (arith, c.loop-p-test.true))
+    (place_entry _ _ _ _ _ _ _ _ _ _ _ s.requires.0 l.loop-p.invariant.low
+    (dist-word s.args.index.now _ _ (begun l.before.before.before.before.before.before.before).pair_at-base.ensures) place-bound.ensures) push-due.ensures
 
-same_length : tie.Need-same-length invariant-loop decreases-loop
-same_length c = c.before.loop.invariant.more.outside.same
+same_length : tie.Need-shape_of-work invariant-loop decreases-loop
+same_length c = c.loop-p.invariant.more.outside.same
 
 returns : tie.Need-returns invariant-loop decreases-loop
 returns c =
-    queued-done _ _ _ _ _ _ _ _ _ c.before.loop.invariant (omega arith)
+    queued-done _ _ _ _ _ _ _ _ _ c.loop-p.invariant (omega arith)
 
-pub queue-rows-spec : {M : Type 1} → statement M
-queue-rows-spec =
+pub queue_rows_spec : {M : Type 1} → statement M
+queue_rows_spec =
     tie.close
     (tie.spec
     invariant-loop

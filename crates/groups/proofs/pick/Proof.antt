@@ -70,7 +70,7 @@ loop-again c =
     let g = c in
     let e = g in
     let s = turn e.before.before.before.before.before.before.before.before in
-    rw (g.larger-radius.ensures, c.least_of-inner.ensures) (picks-take s.loop-p.inv _ (search rules) (search rules) e.put_entry.ensures)
+    rw (g.larger-radius.ensures, c.least_of-inner.ensures) (picks-take s.loop-p.invariant _ (search rules) (search rules) e.put_entry.ensures)
 
 loop-again-2 : tie.Need-loop-p-preserved invariant-loop decreases-loop
 loop-again-2 c =

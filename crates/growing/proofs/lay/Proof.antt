@@ -10,41 +10,41 @@ use Rattle.measure.specs.Table.{between}
 use borrow.Author.Rules.{rules}
 use native.Mathlib.Omega.{arith}
 
-abbrev invariant-loop : tie.invariant-loop
+abbrev invariant-loop : tie.invariant-loop-i
 invariant-loop table c circles n work₀ radius₀ inner₀ i₀ work radius inner i = Laying (between table c circles) n work₀ work radius inner i
 
-abbrev decreases-loop : tie.decreases-loop
+abbrev decreases-loop : tie.decreases-loop-i
 decreases-loop table c circles n work₀ radius₀ inner₀ i₀ work radius inner i = n - i
 
-loop-holds : tie.Need-loop-init invariant-loop decreases-loop
+loop-holds : tie.Need-loop-i-init invariant-loop decreases-loop
 loop-holds c =
-    let a = c.before.before.args in
+    let a = c.args in
     laying_start (between a.table.now a.c a.circles) a.n a.work.now
 
-row-distance-requires : tie.Need-row-distance-requires invariant-loop decreases-loop
+row-distance-requires : tie.Need-row_distance-d-requires invariant-loop decreases-loop
 row-distance-requires c κs =
-    let s = c.before.before.before.before in
-    let i = c.before.loop.i in
+    let s = c in
+    let i = c.loop-i.i in
     let first = row_ends s.args.c s.args.n 0 (omega arith) in
     let this = row_ends s.args.c s.args.n i (omega arith) in
     (s.requires.0, omega arith, omega arith)
 
-loop-again : tie.Need-loop-preserved invariant-loop decreases-loop
+loop-again : tie.Need-loop-i-preserved invariant-loop decreases-loop
 loop-again c =
-    let e = c.before.before in
-    let b = e.before.before in
-    let g = b.before in
-    let s = g.before.before.before in
-    let a = s.before.before.before.args in
-    laying-step s.loop.invariant (row_self a.table.now a.c a.circles 0) (search rules) (search rules) g.before.row-distance.ensures.0
-    g.larger.ensures b.least-of.ensures
-    e.put-entry.ensures (search rules)
+    let e = c in
+    let b = e in
+    let g = b in
+    let s = g in
+    let a = s.args in
+    laying-step s.loop-i.invariant (row_self a.table.now a.c a.circles 0) (search rules) (search rules) g.row_distance-d.ensures.0
+    g.larger-radius.ensures b.least_of-inner.ensures
+    e.put_entry.ensures (search rules)
 
 returns : tie.Need-returns invariant-loop decreases-loop
-returns c = laying-done c.before.loop.invariant (search rules)
+returns c = laying-done c.loop-i.invariant (search rules)
 
-pub lay-spec : {M : Type 1} → statement M
-lay-spec =
+pub lay_spec : {M : Type 1} → statement M
+lay_spec =
     tie.close
     (tie.spec
     invariant-loop

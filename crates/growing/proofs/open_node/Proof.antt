@@ -11,35 +11,35 @@ use mathlib.Core.Path.{◌∙◌, ◌≡◌, refl}
 use native.Mathlib.Omega.{arith}
 
 -- the start, seen from where the node is read
-abbrev start : tie.After-word2 → tie.Start
-start c = c.before.before.before.before.before.before.before
+abbrev start : tie.After-word-count → tie.Start
+start c = c.before.before.before.before.before
 
-returns : tie.Need-returns
+returns : tie.Need-returns-then-count-l
 returns c =
-    let size = c.before.word2.ensures.0 in
+    let size = c.word-count.ensures.0 in
     record { stays = λ h. (refl, refl, refl); splits = λ h. absurd (omega arith) }
 
-split-run-requires : tie.Need-split-run-requires
+split-run-requires : tie.Need-split_run-requires
 split-run-requires c κs =
-    let k = c.before.before.before in
-    let r = open-ready (start k).requires k.before.before.word.ensures.0 k.word2.ensures.0 (search rules) in
+    let k = c in
+    let r = open-ready (start k.before.before.before).requires k.word-s.ensures.0 k.word-count.ensures.0 (search rules) in
     (r, (r.centred, omega arith))
 
-same-length-2 : tie.Need-same-length-2
+same-length-2 : tie.Need-shape_of-room
 same-length-2 c =
-    let r = c.before.before.before.before in
-    let a = (start r.before.before.before.before).args in
-    let l : length r.split-run.new.1.1.1.1.1.1.0 ≡ length (set a.room.now (node_at_lem a.k + 2) a.made) = search rules in
+    let r = c in
+    let a = (start r.before.before.before.before.before.before.before.before).args in
+    let l : length r.split_run.new.1.1.1.1.1.1.0 ≡ length (set a.room.now (node_at_lem a.k + 2) a.made) = search rules in
     l ∙ length-set a.room.now (node_at_lem a.k + 2) a.made
 
-returns-2 : tie.Need-returns-2
+returns-2 : tie.Need-returns
 returns-2 c =
-    let r = c.before.before.before.before in
-    let k = r.before.before.before.before in
-    open_done (start k).requires k.before.before.word.ensures.0 k.word2.ensures.0 (search rules) r.split-run.ensures
+    let r = c in
+    let k = r in
+    open_done (start k.before.before.before.before.before.before.before.before).requires k.word-s.ensures.0 k.word-count.ensures.0 (search rules) r.split_run.ensures
 
-pub open-node-spec : {M : Type 1} → statement M
-open-node-spec =
+pub open_node_spec : {M : Type 1} → statement M
+open_node_spec =
     tie.close
     (tie.spec
     (λ c. search rules)

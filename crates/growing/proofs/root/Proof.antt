@@ -7,12 +7,12 @@ use borrow.Author.Rules.{rules}
 
 returns : tie.Need-returns
 returns c =
-    let l = c.before.before.before.before.before.before in
-    let s = l.before.before.before.before.before in
-    root_stands s.args.circles s.requires.0 s.requires.1 (search rules) l.lay.ensures c.before.before.put-node.ensures
+    let l = c in
+    let s = l in
+    root_stands s.args.circles s.requires.0 s.requires.1 (search rules) l.lay-reach.ensures c.put_node.ensures
 
-pub root-spec : {M : Type 1} → statement M
-root-spec =
+pub root_spec : {M : Type 1} → statement M
+root_spec =
     tie.close
     (tie.spec
     (λ c κs. search rules)

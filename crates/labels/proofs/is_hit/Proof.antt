@@ -6,10 +6,10 @@ use Rattle.labels.proofs.is_hit.Tie as tie
 use borrow.Author.Rules.{rules}
 
 returns : tie.Need-returns
-returns c = labelled-told _ _ _ _ _ _ _ _ c.before.before.line-from.ensures c.before.label-in.ensures c.same.ensures
+returns c = labelled-told _ _ _ _ _ _ _ _ c.line_from.ensures c.label_in.ensures c.same.ensures
 
-pub is-hit-spec : {M : Type 1} → statement M
-is-hit-spec =
+pub is_hit_spec : {M : Type 1} → statement M
+is_hit_spec =
     tie.close
     (tie.spec
     (λ c. search rules)

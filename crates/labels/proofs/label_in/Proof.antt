@@ -9,8 +9,8 @@ returns : tie.Need-returns
 unfolding field_in
 returns c = cc
 
-pub label-in-spec : {M : Type 1} → statement M
-label-in-spec =
+pub label_in_spec : {M : Type 1} → statement M
+label_in_spec =
     tie.close
     (tie.spec
     (λ c κs. search rules)

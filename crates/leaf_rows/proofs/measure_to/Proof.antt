@@ -8,9 +8,14 @@ use borrow.Author.Rules.{rules}
 
 returns : tie.Need-returns
 returns c =
-    let a = c.before.before.before.before.before.before.before.before.before.before.before.before.before.args in
-    let q = c.before.before.before.before.before.before.before.query-distance-to.ensures in
-    leaves_to _ (from a.table.now a.c a.circles a.query.now) a.r a.row q.0 q.1 c.before.before.before.before.mark-measured.ensures
+    let a = c.args in
+    let q = c.query_distance_to-x.ensures in
+    leaves_to _ (from a.table.now a.c a.circles a.query.now) a.r a.row q.0 q.1 c.mark_measured.ensures
 
-pub measure-to-spec : {M : Type 1} → statement M
-measure-to-spec = tie.close (tie.spec (λ c κs. search rules) (λ c κs. search rules) (λ c. search rules) (λ c. search rules) returns)
+pub measure_to_spec : {M : Type 1} → statement M
+measure_to_spec = tie.close (tie.spec
+    (λ c κs. search rules)
+    (λ c κs. search rules)
+    (λ c. search rules)
+    (λ c. search rules)
+    returns)

@@ -10,24 +10,24 @@ use lib.ListN.{length}
 use mathlib.Core.Path.{◌≡◌}
 use native.Mathlib.Omega.{arith}
 
-abbrev invariant-loop : tie.invariant-loop
+abbrev invariant-loop : tie.invariant-loop-k
 invariant-loop line column start₀ end₀ k₀ start end k =
     ((start ≡ (span_of line (k - 1)).0) × (end ≡ (span_of line (k - 1)).1)) × (start ≤ end) × (end ≤ length line) × (1 ≤ k) × (k ≤ max column 1)
 
-abbrev decreases-loop : tie.decreases-loop
+abbrev decreases-loop : tie.decreases-loop-k
 decreases-loop line column start₀ end₀ k₀ start end k = column - k
 
-loop-holds : tie.Need-loop-init invariant-loop decreases-loop
-loop-holds c = (span-first _ _ _ c.before.pass.ensures.0 c.pass2.ensures.0, c.pass2.ensures.1, c.pass2.ensures.2, omega arith, omega arith)
+loop-holds : tie.Need-loop-k-init invariant-loop decreases-loop
+loop-holds c = (span-first _ _ _ c.pass-start.ensures.0 c.pass-end.ensures.0, c.pass-end.ensures.1, c.pass-end.ensures.2, omega arith, omega arith)
 
-loop-again : tie.Need-loop-preserved invariant-loop decreases-loop
-loop-again c = (span-step _ _ _ _ _ c.before.before.before.loop.invariant.0.1 c.before.pass3.ensures.0 c.pass4.ensures.0 c.before.before.before.loop.invariant.3, c.pass4.ensures.1, c.pass4.ensures.2, omega arith, omega (arith, c.before.before.loop-test.true))
+loop-again : tie.Need-loop-k-preserved invariant-loop decreases-loop
+loop-again c = (span-step _ _ _ _ _ c.loop-k.invariant.0.1 c.pass-start-in-loop-k.ensures.0 c.pass-end-in-loop-k.ensures.0 c.loop-k.invariant.3, c.pass-end-in-loop-k.ensures.1, c.pass-end-in-loop-k.ensures.2, omega arith, omega (arith, c.loop-k-test.true))
 
 returns : tie.Need-returns invariant-loop decreases-loop
-returns c = ((span-all _ _ _ _ _ c.before.loop.invariant.0 c.before.loop.invariant.3 c.before.loop.invariant.4 c.loop-test.false).0, (span-all _ _ _ _ _ c.before.loop.invariant.0 c.before.loop.invariant.3 c.before.loop.invariant.4 c.loop-test.false).1, c.before.loop.invariant.1, c.before.loop.invariant.2)
+returns c = ((span-all _ _ _ _ _ c.loop-k.invariant.0 c.loop-k.invariant.3 c.loop-k.invariant.4 c.loop-k-test.false).0, (span-all _ _ _ _ _ c.loop-k.invariant.0 c.loop-k.invariant.3 c.loop-k.invariant.4 c.loop-k-test.false).1, c.loop-k.invariant.1, c.loop-k.invariant.2)
 
-pub field-of-spec : {M : Type 1} → statement M
-field-of-spec =
+pub field_of_spec : {M : Type 1} → statement M
+field_of_spec =
     tie.close
     (tie.spec
     invariant-loop

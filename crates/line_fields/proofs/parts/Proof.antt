@@ -9,8 +9,8 @@ returns : tie.Need-returns
 unfolding between
 returns c = search rules
 
-pub parts-spec : {M : Type 1} → statement M
-parts-spec =
+pub parts_spec : {M : Type 1} → statement M
+parts_spec =
     tie.close
     (tie.spec
     returns)

@@ -10,23 +10,23 @@ use lib.ListN.{length}
 use mathlib.Core.Path.{◌∙◌, sym}
 use native.Mathlib.Omega.{arith}
 
-abbrev invariant-loop : tie.invariant-loop
+abbrev invariant-loop : tie.invariant-loop-i
 invariant-loop line at parting i₀ i = Looking (stopping parting) line at i
 
-abbrev decreases-loop : tie.decreases-loop
+abbrev decreases-loop : tie.decreases-loop-i
 decreases-loop line at parting i₀ i = length line - i
 
-loop-holds : tie.Need-loop-init invariant-loop decreases-loop
-loop-holds c = looking_start _ _ _ c.before.requires
+loop-holds : tie.Need-loop-i-init invariant-loop decreases-loop
+loop-holds c = looking_start _ _ _ c.requires
 
-returns : tie.Need-returns invariant-loop decreases-loop
-returns c = (looking_found _ _ _ _ c.before.before.before.before.loop.invariant c.before.before.before.loop-test.true (sym c.before.stops.ensures ∙ c.if1.true), c.before.before.before.before.loop.invariant.low, c.before.before.before.before.loop.invariant.high)
+returns : tie.Need-returns-then-stops invariant-loop decreases-loop
+returns c = (looking_found _ _ _ _ c.loop-i.invariant c.loop-i-test.true (sym c.stops.ensures ∙ c.if-stops.true), c.loop-i.invariant.low, c.loop-i.invariant.high)
 
-loop-again : tie.Need-loop-preserved invariant-loop decreases-loop
-loop-again c = looking_next _ _ _ _ c.before.before.before.before.loop.invariant c.before.before.before.loop-test.true (sym c.before.stops.ensures ∙ c.if1.false)
+loop-again : tie.Need-loop-i-preserved invariant-loop decreases-loop
+loop-again c = looking_next _ _ _ _ c.loop-i.invariant c.loop-i-test.true (sym c.stops.ensures ∙ c.if-stops.false)
 
-returns-2 : tie.Need-returns-2 invariant-loop decreases-loop
-returns-2 c = (looking_end _ _ _ _ c.before.loop.invariant c.loop-test.false, c.before.loop.invariant.low, c.before.loop.invariant.high)
+returns-2 : tie.Need-returns invariant-loop decreases-loop
+returns-2 c = (looking_end _ _ _ _ c.loop-i.invariant c.loop-i-test.false, c.loop-i.invariant.low, c.loop-i.invariant.high)
 
 pub pass_spec : {M : Type 1} → statement M
 pass_spec =

@@ -7,16 +7,16 @@ use borrow.Author.Rules.{rules}
 use mathlib.Core.Bool.{not}
 use mathlib.Core.Path.{ap}
 
-returns : tie.Need-returns
+returns : tie.Need-returns-then-parting
 unfolding stopping
-returns c = rw c.before.if1.true c.parts.ensures
+returns c = rw c.if-parting.true c.parts.ensures
 
-returns-2 : tie.Need-returns-2
+returns-2 : tie.Need-returns
 unfolding stopping
-returns-2 c = rw c.before.if1.false (ap not c.parts2.ensures)
+returns-2 c = rw c.if-parting.false (ap not c.parts-2.ensures)
 
-pub stops-spec : {M : Type 1} → statement M
-stops-spec =
+pub stops_spec : {M : Type 1} → statement M
+stops_spec =
     tie.close
     (tie.spec
     (λ c κs. search rules)

@@ -5,11 +5,14 @@ use Rattle.moved_runs.proofs.child_of.Statement.{statement}
 use Rattle.moved_runs.proofs.child_of.Tie as tie
 use borrow.Author.Rules.{rules}
 
-returns : tie.Need-returns
-returns c = (child-none _ _ _ c.if1.true, search rules)
+returns : tie.Need-returns-then-k-v
+returns c = (child-none _ _ _ c.if-k-v.true, search rules)
 
-returns-2 : tie.Need-returns-2
-returns-2 c = (child-old _ _ _ c.before.if1.false c.node-child.ensures.0, search rules)
+returns-2 : tie.Need-returns
+returns-2 c = (child-old _ _ _ c.if-k-v.false c.node_child.ensures.0, search rules)
 
-pub child-of-spec : {M : Type 1} → statement M
-child-of-spec = tie.close (tie.spec returns (λ c κs. search rules) returns-2)
+pub child_of_spec : {M : Type 1} → statement M
+child_of_spec = tie.close (tie.spec
+    returns
+    (λ c κs. search rules)
+    returns-2)

@@ -6,20 +6,25 @@ use Rattle.moved_runs.proofs.count_of.Tie as tie
 use borrow.Author.Rules.{rules}
 use native.Mathlib.Omega.{arith}
 
-returns : tie.Need-returns
+returns : tie.Need-returns-then-holds_run
 returns c =
-    let s = c.before.before.before.before in
+    let s = c in
     let k = s.requires.0.node s.args.k s.requires.1.1 in
-    let e = c.before.before.node-count.ensures.0 in
-    (count-more _ _ _ _ e c.before.holds-run.ensures c.if1.true, omega (arith, k.run, e))
+    let e = c.node_count-count.ensures.0 in
+    (count-more _ _ _ _ e c.holds_run.ensures c.if-holds_run.true, omega (arith, k.run, e))
 
-returns-2 : tie.Need-returns-2
+returns-2 : tie.Need-returns
 returns-2 c =
-    let s = c.before.before.before.before in
+    let s = c in
     let k = s.requires.0.node s.args.k s.requires.1.1 in
-    let e = c.before.before.node-count.ensures.0 in
-    (count-stays _ _ _ _ e c.before.holds-run.ensures c.if1.false, omega (arith, k.run, e))
+    let e = c.node_count-count.ensures.0 in
+    (count-stays _ _ _ _ e c.holds_run.ensures c.if-holds_run.false, omega (arith, k.run, e))
 
-pub count-of-spec : {M : Type 1} → statement M
-count-of-spec =
-    tie.close (tie.spec (λ c κs. search rules) (λ c κs. search rules) (λ c. search rules) returns returns-2)
+pub count_of_spec : {M : Type 1} → statement M
+count_of_spec =
+    tie.close (tie.spec
+    (λ c κs. search rules)
+    (λ c κs. search rules)
+    (λ c. search rules)
+    returns
+    returns-2)

@@ -6,20 +6,25 @@ use Rattle.moved_runs.proofs.start_of.Tie as tie
 use borrow.Author.Rules.{rules}
 use native.Mathlib.Omega.{arith}
 
-returns : tie.Need-returns
+returns : tie.Need-returns-then-node_end-s
 returns c =
-    let s = c.before.before.before.before in
+    let s = c in
     let k = s.requires.0.node s.args.k s.requires.1.1 in
-    let e = c.before.before.node-start.ensures.0 in
-    (start-moved _ _ _ _ e c.before.node-end.ensures (omega arith), omega (arith, k.run, e))
+    let e = c.node_start-s.ensures.0 in
+    (start-moved _ _ _ _ e c.node_end.ensures (omega arith), omega (arith, k.run, e))
 
-returns-2 : tie.Need-returns-2
+returns-2 : tie.Need-returns
 returns-2 c =
-    let s = c.before.before.before.before in
+    let s = c in
     let k = s.requires.0.node s.args.k s.requires.1.1 in
-    let e = c.before.before.node-start.ensures.0 in
-    (start-stays _ _ _ _ e c.before.node-end.ensures (omega arith), omega (arith, k.run, e))
+    let e = c.node_start-s.ensures.0 in
+    (start-stays _ _ _ _ e c.node_end.ensures (omega arith), omega (arith, k.run, e))
 
-pub start-of-spec : {M : Type 1} → statement M
-start-of-spec =
-    tie.close (tie.spec (λ c κs. search rules) (λ c κs. search rules) (λ c. search rules) returns returns-2)
+pub start_of_spec : {M : Type 1} → statement M
+start_of_spec =
+    tie.close (tie.spec
+    (λ c κs. search rules)
+    (λ c κs. search rules)
+    (λ c. search rules)
+    returns
+    returns-2)

@@ -9,20 +9,26 @@ use mathlib.Core.Path.{◌∙◌, sym}
 use native.Mathlib.Omega.{arith}
 
 -- the words have 32 bits
-narrow : (c : tie.After-slice-known) → Narrow c.before.args.set.now
-narrow c i = omega (arith, c.slice-known.given i)
+narrow : (c : tie.After-slice_known-1) → Narrow c.before.args.set.now
+narrow c i = omega (arith, c.slice_known-1.given i)
 
-returns : tie.Need-returns
-returns c = refused_order (restoring _) (narrow c.before.before.before) c.before.order-number.ensures c.if1.true
+returns : tie.Need-returns-then-number-ne0
+returns c = refused_order (restoring _) (narrow c.before.before) c.order_number-number.ensures c.if-number-ne0.true
 
-row-requires : tie.Need-restore-row-requires
-row-requires c κs = clear-has _ _ _ (sym c.before.before.order-number.ensures ∙ c.before.if1.false)
+row-requires : tie.Need-restore_row-requires
+row-requires c κs = clear-has _ _ _ (sym c.order_number-number.ensures ∙ c.if-number-ne0.false)
 
-returns-2 : tie.Need-returns-2
+returns-2 : tie.Need-returns
 returns-2 c =
-    let o = c.before.before.before.before.before in
-    done_order (restoring _) (narrow o.before.before) o.order-number.ensures c.before.before.before.before.if1.false (omega arith)
-    c.before.before.restore-row.ensures
+    let o = c in
+    done_order (restoring _) (narrow o.before.before.before.before.before.before) o.order_number-number.ensures c.if-number-ne0.false (omega arith)
+    c.restore_row.ensures
 
-pub restore-spec : {M : Type 1} → statement M
-restore-spec = tie.close (tie.spec (λ c κs. search rules) (λ c. search rules) returns row-requires (λ c. search rules) returns-2)
+pub restore_spec : {M : Type 1} → statement M
+restore_spec = tie.close (tie.spec
+    (λ c κs. search rules)
+    (λ c. search rules)
+    returns
+    row-requires
+    (λ c. search rules)
+    returns-2)

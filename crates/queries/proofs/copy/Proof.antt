@@ -8,26 +8,26 @@ use borrow.Author.Rules.{rules}
 use lib.ListN.{length}
 use native.Mathlib.Omega.{arith}
 
-abbrev invariant-loop : tie.invariant-loop
+abbrev invariant-loop : tie.invariant-loop-i
 invariant-loop from queries₀ at i₀ queries i = Copied from queries₀ at (length from) queries i
 
-abbrev decreases-loop : tie.decreases-loop
+abbrev decreases-loop : tie.decreases-loop-i
 decreases-loop from queries₀ at i₀ queries i = length from - i
 
-loop-holds : tie.Need-loop-init invariant-loop decreases-loop
+loop-holds : tie.Need-loop-i-init invariant-loop decreases-loop
 loop-holds c = copied_start _ _ _ _ c.requires (omega arith)
 
-slice-write-queries : tie.Need-slice-write-queries invariant-loop decreases-loop
-slice-write-queries c = omega (arith, copied-long _ _ _ _ _ _ c.before.before.loop.invariant)
+slice-write-queries : tie.Need-bounds-queries-at invariant-loop decreases-loop
+slice-write-queries c = omega (arith, copied-long _ _ _ _ _ _ c.loop-i.invariant)
 
-loop-again : tie.Need-loop-preserved invariant-loop decreases-loop
-loop-again c = copied_next _ _ _ _ _ _ c.before.before.loop.invariant c.before.loop-test.true
+loop-again : tie.Need-loop-i-preserved invariant-loop decreases-loop
+loop-again c = copied_next _ _ _ _ _ _ c.loop-i.invariant c.loop-i-test.true
 
-same_length : tie.Need-same-length invariant-loop decreases-loop
-same_length c = copied-long _ _ _ _ _ _ c.before.loop.invariant
+same_length : tie.Need-shape_of-queries invariant-loop decreases-loop
+same_length c = copied-long _ _ _ _ _ _ c.loop-i.invariant
 
 returns : tie.Need-returns invariant-loop decreases-loop
-returns c = copied_all _ _ _ _ _ _ c.before.loop.invariant c.loop-test.false
+returns c = copied_all _ _ _ _ _ _ c.loop-i.invariant c.loop-i-test.false
 
 pub copy_spec : {M : Type 1} → statement M
 copy_spec =

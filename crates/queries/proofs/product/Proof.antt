@@ -6,11 +6,13 @@ use mathlib.Core.Path.{refl}
 use native.Mathlib.Nat.{mul-le-mul_left}
 use native.Mathlib.Omega.{arith}
 
-mul-result : tie.Need-overflow-mul-result
+mul-result : tie.Need-overflow_mul-result
 mul-result c = omega (arith, c.requires, mul-le-mul_left c.args.k c.requires.1)
 
 returns : tie.Need-returns
 returns c = (refl, omega (arith, c.requires, mul-le-mul_left c.args.k c.requires.1))
 
-pub product-spec : {M : Type 1} → statement M
-product-spec = tie.close (tie.spec mul-result returns)
+pub product_spec : {M : Type 1} → statement M
+product_spec = tie.close (tie.spec
+    mul-result
+    returns)

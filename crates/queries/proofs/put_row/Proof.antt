@@ -7,26 +7,26 @@ use Rattle.queries.proofs.put_row.Tie as tie
 use borrow.Author.Rules.{rules}
 use native.Mathlib.Omega.{arith}
 
-row-of-requires : tie.Need-row-of-requires
+row-of-requires : tie.Need-row_of-from-requires
 row-of-requires c κs =
-    let s = c.before.before in
+    let s = c in
     omega (arith, s.requires.1, row_ends s.args.c s.args.n s.args.row s.requires.0)
 
-mul-copy : tie.Need-overflow-mul-copy
+mul-copy : tie.Need-overflow_mul-c
 mul-copy c =
-    let s = c.before.before.before.before in
+    let s = c in
     omega (arith, query_ends s.args.c s.args.i s.requires.2 s.requires.3)
 
 copy-requires : tie.Need-copy-requires
 copy-requires c κs =
-    let s = c.before.before.before.before in
-    omega (arith, query_ends s.args.c s.args.i s.requires.2 s.requires.3, s.requires.4, c.before.row_of.ensures.1)
+    let s = c in
+    omega (arith, query_ends s.args.c s.args.i s.requires.2 s.requires.3, s.requires.4, c.row_of-from.ensures.1)
 
 returns : tie.Need-returns
 returns c = cc
 
-pub put-row-spec : {M : Type 1} → statement M
-put-row-spec =
+pub put_row_spec : {M : Type 1} → statement M
+put_row_spec =
     tie.close
     (tie.spec
     row-of-requires

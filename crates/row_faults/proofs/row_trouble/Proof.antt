@@ -7,28 +7,28 @@ use borrow.Author.Rules.{rules}
 use borrow.Author.Tests.{le-leb, le-ltb, lt-leb, lt-ltb}
 use mathlib.Core.Path.{◌∙◌, sym}
 
-returns : tie.Need-returns
+returns : tie.Need-returns-then-count-gt-WIDEST
 unfolding row_trouble_lem
-returns c = rw (lt-ltb _ _ c.if1.true)
+returns c = rw (lt-ltb _ _ c.if-count-gt-WIDEST.true)
 
-returns-2 : tie.Need-returns-2
+returns-2 : tie.Need-returns-then-uneven
 unfolding row_trouble_lem
-returns-2 c = rw (le-ltb _ _ c.before.before.before.if1.false, sym c.before.before.uneven.ensures ∙ c.before.if2.true) (cc)
+returns-2 c = rw (le-ltb _ _ c.if-count-gt-WIDEST.false, sym c.uneven.ensures ∙ c.if-uneven.true) (cc)
 
-returns-3 : tie.Need-returns-3
+returns-3 : tie.Need-returns-then-rows-ge-MOST_ROWS
 unfolding row_trouble_lem
-returns-3 c = rw (le-ltb _ _ c.before.before.before.if1.false, sym c.before.before.uneven.ensures ∙ c.before.if2.false, le-leb _ _ c.if3.true)
+returns-3 c = rw (le-ltb _ _ c.if-count-gt-WIDEST.false, sym c.uneven.ensures ∙ c.if-uneven.false, le-leb _ _ c.if-rows-ge-MOST_ROWS.true)
 
-returns-4 : tie.Need-returns-4
+returns-4 : tie.Need-returns-then-lacks
 unfolding row_trouble_lem
-returns-4 c = rw (le-ltb _ _ c.before.before.before.before.before.if1.false, sym c.before.before.before.before.uneven.ensures ∙ c.before.before.before.if2.false, lt-leb _ _ c.before.before.if3.false, sym c.before.lacks.ensures ∙ c.if4.true)
+returns-4 c = rw (le-ltb _ _ c.if-count-gt-WIDEST.false, sym c.uneven.ensures ∙ c.if-uneven.false, lt-leb _ _ c.if-rows-ge-MOST_ROWS.false, sym c.lacks.ensures ∙ c.if-lacks.true)
 
-returns-5 : tie.Need-returns-5
+returns-5 : tie.Need-returns
 unfolding row_trouble_lem
-returns-5 c = rw (le-ltb _ _ c.before.before.before.before.before.before.if1.false, sym c.before.before.before.before.before.uneven.ensures ∙ c.before.before.before.before.if2.false, lt-leb _ _ c.before.before.before.if3.false, sym c.before.before.lacks.ensures ∙ c.before.if4.false) c.no-trouble.ensures
+returns-5 c = rw (le-ltb _ _ c.if-count-gt-WIDEST.false, sym c.uneven.ensures ∙ c.if-uneven.false, lt-leb _ _ c.if-rows-ge-MOST_ROWS.false, sym c.lacks.ensures ∙ c.if-lacks.false) c.no_trouble.ensures
 
-pub row-trouble-spec : {M : Type 1} → statement M
-row-trouble-spec =
+pub row_trouble_spec : {M : Type 1} → statement M
+row_trouble_spec =
     tie.close
     (tie.spec
     (λ c. search rules)

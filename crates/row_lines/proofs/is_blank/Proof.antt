@@ -6,7 +6,9 @@ use Rattle.row_lines.proofs.is_blank.Tie as tie
 use borrow.Author.Rules.{rules}
 
 returns : tie.Need-returns
-returns c = blank_told _ _ c.past-blanks.ensures.0
+returns c = blank_told _ _ c.past_blanks.ensures.0
 
-pub is-blank-spec : {M : Type 1} → statement M
-is-blank-spec = tie.close (tie.spec (λ c κs. search rules) returns)
+pub is_blank_spec : {M : Type 1} → statement M
+is_blank_spec = tie.close (tie.spec
+    (λ c κs. search rules)
+    returns)

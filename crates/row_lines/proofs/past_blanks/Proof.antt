@@ -12,34 +12,34 @@ use lib.ListN.{length}
 use mathlib.Core.Bool.{not}
 use mathlib.Core.Path.{ap}
 
-abbrev invariant-loop : tie.invariant-loop
+abbrev invariant-loop : tie.invariant-loop-i
 invariant-loop line at i₀ i = Looking (λ (x : ℕ). not (eqb x 32)) line at i
 
-abbrev decreases-loop : tie.decreases-loop
+abbrev decreases-loop : tie.decreases-loop-i
 decreases-loop line at i₀ i = length line - i
 
-loop-holds : tie.Need-loop-init invariant-loop decreases-loop
+loop-holds : tie.Need-loop-i-init invariant-loop decreases-loop
 loop-holds c = looking_start _ _ _ c.requires
 
-returns : tie.Need-returns invariant-loop decreases-loop
+returns : tie.Need-returns-then-line-i-ne32 invariant-loop decreases-loop
 unfolding past_blanks_lem
 returns c =
-    let turn = c.before.before.before in
-    (looking_found _ _ _ _ turn.loop.invariant c.before.before.loop-test.true (ap not (ne_eqb _ 32 c.if1.true)), turn.loop.invariant.high)
+    let turn = c in
+    (looking_found _ _ _ _ turn.loop-i.invariant c.loop-i-test.true (ap not (ne_eqb _ 32 c.if-line-i-ne32.true)), turn.loop-i.invariant.high)
 
-loop-again : tie.Need-loop-preserved invariant-loop decreases-loop
+loop-again : tie.Need-loop-i-preserved invariant-loop decreases-loop
 loop-again c =
-    let turn = c.before.before.before in
-    looking_next _ _ _ _ turn.loop.invariant c.before.before.loop-test.true (ap not (eq-eqb _ 32 c.if1.false))
+    let turn = c in
+    looking_next _ _ _ _ turn.loop-i.invariant c.loop-i-test.true (ap not (eq-eqb _ 32 c.if-line-i-ne32.false))
 
-returns-2 : tie.Need-returns-2 invariant-loop decreases-loop
+returns-2 : tie.Need-returns invariant-loop decreases-loop
 unfolding past_blanks_lem
 returns-2 c =
-    let ended = c.before.loop.invariant in
-    (looking_end _ _ _ _ ended c.loop-test.false, ended.high)
+    let ended = c.loop-i.invariant in
+    (looking_end _ _ _ _ ended c.loop-i-test.false, ended.high)
 
-pub past-blanks-spec : {M : Type 1} → statement M
-past-blanks-spec =
+pub past_blanks_spec : {M : Type 1} → statement M
+past_blanks_spec =
     tie.close
     (tie.spec
     invariant-loop

@@ -5,18 +5,18 @@ use Rattle.row_lines.proofs.said_in.Statement.{statement}
 use Rattle.row_lines.proofs.said_in.Tie as tie
 use borrow.Author.Rules.{rules}
 
-returns : tie.Need-returns
+returns : tie.Need-returns-then-past_blanks-line
 returns c =
-    says_none _ _ _ _ c.before.before.before.past-blanks.ensures.0 c.before.before.end-from.ensures.0 c.before.past-blanks2.ensures.0
-    c.if1.true
+    says_none _ _ _ _ c.past_blanks-start.ensures.0 c.end_from-end.ensures.0 c.past_blanks.ensures.0
+    c.if-past_blanks-line.true
 
-returns-2 : tie.Need-returns-2
+returns-2 : tie.Need-returns
 returns-2 c =
-    says_word _ _ _ _ c.before.before.before.before.before.past-blanks.ensures.0 c.before.before.before.before.end-from.ensures.0
-    c.before.before.before.past-blanks2.ensures.0 c.before.before.if1.false _ _ c.before.part.ensures c.number.ensures.0
+    says_word _ _ _ _ c.past_blanks-start.ensures.0 c.end_from-end.ensures.0
+    c.past_blanks.ensures.0 c.if-past_blanks-line.false _ _ c.part.ensures c.number.ensures.0
 
-pub said-in-spec : {M : Type 1} → statement M
-said-in-spec =
+pub said_in_spec : {M : Type 1} → statement M
+said_in_spec =
     tie.close
     (tie.spec
     (λ c κs. search rules)

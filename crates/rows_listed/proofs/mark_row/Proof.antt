@@ -8,41 +8,41 @@ use borrow.Author.Rules.{rules}
 use native.Mathlib.Omega.{arith}
 
 -- where it was not marked: there is room in the list
-room : (c : tie.Then1) → c.before.before.args.next < 6 * c.before.before.args.n
+room : (c : tie.Then-how-r-eq0) → c.before.before.args.next < 6 * c.before.before.args.n
 room c =
-    let pre = c.before.before.requires in
-    next-room _ _ _ _ pre.0 _ pre.1.0 c.if1.true
+    let pre = c.requires in
+    next-room _ _ _ _ pre.0 _ pre.1.0 c.if-how-r-eq0.true
 
-slice-read-if1 : tie.Need-slice-read-if1
-slice-read-if1 c = omega (arith, c.before.requires.0.listed.bytes, c.before.requires.1.0)
+slice-read-if1 : tie.Need-bounds-how-r
+slice-read-if1 c = omega (arith, c.requires.0.listed.bytes, c.requires.1.0)
 
-slice-write-how : tie.Need-slice-write-how
-slice-write-how c = omega (arith, c.before.before.requires.0.listed.bytes, c.before.before.requires.1.0)
+slice-write-how : tie.Need-bounds-how-r-then-how-r-eq0
+slice-write-how c = omega (arith, c.requires.0.listed.bytes, c.requires.1.0)
 
-cast-work : tie.Need-overflow-cast-work
-cast-work c = omega (arith, c.before.before.requires.0.listed.small, c.before.before.requires.1.0, room c)
+cast-work : tie.Need-overflow_cast-work
+cast-work c = omega (arith, c.requires.0.listed.small, c.requires.1.0, room c)
 
-mul-work : tie.Need-overflow-mul-work
-mul-work c = omega (arith, c.before.before.requires.0.listed.small, room c)
+mul-work : tie.Need-offset_bounds-work-next
+mul-work c = omega (arith, c.requires.0.listed.small, room c)
 
-slice-write-work : tie.Need-slice-write-work
-slice-write-work c = omega (arith, c.before.before.requires.0.listed.words, room c)
+slice-write-work : tie.Need-bounds-work-next
+slice-write-work c = omega (arith, c.requires.0.listed.words, room c)
 
-add-result : tie.Need-overflow-add-result
-add-result c = omega (arith, c.before.before.requires.0.listed.small, room c)
+add-result : tie.Need-overflow_add-result
+add-result c = omega (arith, c.requires.0.listed.small, room c)
 
-returns : tie.Need-returns
+returns : tie.Need-returns-then-how-r-eq0
 returns c =
-    let pre = c.before.before.requires in
-    marked-new _ _ _ _ pre.0 _ pre.1.0 c.if1.true _ _ (omega arith) (omega arith)
+    let pre = c.requires in
+    marked-new _ _ _ _ pre.0 _ pre.1.0 c.if-how-r-eq0.true _ _ (omega arith) (omega arith)
 
-returns-2 : tie.Need-returns-2
+returns-2 : tie.Need-returns
 returns-2 c =
-    let pre = c.before.before.requires in
-    marked-again _ _ _ _ pre.0 _ pre.1.0 pre.1.1 c.if1.false
+    let pre = c.requires in
+    marked-again _ _ _ _ pre.0 _ pre.1.0 pre.1.1 c.if-how-r-eq0.false
 
-pub mark-row-spec : {M : Type 1} → statement M
-mark-row-spec =
+pub mark_row_spec : {M : Type 1} → statement M
+mark_row_spec =
     tie.close
     (tie.spec
     slice-read-if1

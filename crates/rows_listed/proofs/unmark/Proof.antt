@@ -8,55 +8,55 @@ use borrow.Author.Rules.{rules}
 use mathlib.Core.Path.{refl}
 use native.Mathlib.Omega.{arith}
 
-abbrev invariant-loop : tie.invariant-loop
+abbrev invariant-loop : tie.invariant-loop-i
 invariant-loop how₀ work n met first i₀ how i = UnmarkedTo n how₀ how work met i
 
-abbrev decreases-loop : tie.decreases-loop
+abbrev decreases-loop : tie.decreases-loop-i
 decreases-loop how₀ work n met first i₀ how i = met - i
 
 -- no more are listed than there are rows
 most : (s : tie.Start invariant-loop decreases-loop) → s.args.met ≤ s.args.n
 most s = listed-most _ _ _ _ s.requires
 
-mul-first : tie.Need-overflow-mul-first invariant-loop decreases-loop
+mul-first : tie.Need-overflow_mul-first invariant-loop decreases-loop
 mul-first c = omega (arith, c.requires.small)
 
-loop-holds : tie.Need-loop-init invariant-loop decreases-loop
+loop-holds : tie.Need-loop-i-init invariant-loop decreases-loop
 loop-holds c = unmark_start _ _ _ _ c.requires _ (omega arith)
 
-add_r : tie.Need-overflow-add-r invariant-loop decreases-loop
-add_r c = omega (arith, c.before.before.requires.small, most c.before.before)
+add_r : tie.Need-overflow_add-r invariant-loop decreases-loop
+add_r c = omega (arith, c.requires.small, most c.before.before)
 
-mul-r : tie.Need-overflow-mul-r invariant-loop decreases-loop
-mul-r c = omega (arith, c.before.before.requires.small, most c.before.before)
+mul-r : tie.Need-offset_bounds-work-first invariant-loop decreases-loop
+mul-r c = omega (arith, c.requires.small, most c.before.before)
 
-shared-slice-read-r : tie.Need-shared-slice-read-r invariant-loop decreases-loop
+shared-slice-read-r : tie.Need-bounds-work-first invariant-loop decreases-loop
 shared-slice-read-r c =
-    let s = c.before.before.before in
-    omega (arith, s.requires.words, most s)
+    let s = c in
+    omega (arith, s.requires.words, most s.before.before.before)
 
-cast-r : tie.Need-overflow-cast-r invariant-loop decreases-loop
+cast-r : tie.Need-overflow_cast-r invariant-loop decreases-loop
 cast-r c =
-    let s = c.before.before.before in
-    omega (arith, listed-row _ _ _ _ s.requires _ c.before.loop-test.true, s.requires.small)
+    let s = c in
+    omega (arith, listed-row _ _ _ _ s.requires _ c.loop-i-test.true, s.requires.small)
 
-slice-write-how : tie.Need-slice-write-how invariant-loop decreases-loop
+slice-write-how : tie.Need-bounds-how-r invariant-loop decreases-loop
 slice-write-how c =
-    let s = c.before.before.before in
-    omega (arith, listed-row _ _ _ _ s.requires _ c.before.loop-test.true, s.requires.bytes, c.before.before.loop.invariant.bytes)
+    let s = c in
+    omega (arith, listed-row _ _ _ _ s.requires _ c.loop-i-test.true, s.requires.bytes, c.loop-i.invariant.bytes)
 
-loop-again : tie.Need-loop-preserved invariant-loop decreases-loop
+loop-again : tie.Need-loop-i-preserved invariant-loop decreases-loop
 loop-again c =
-    unmark_step _ _ _ _ c.before.before.before.requires _ _ _ c.before.before.loop.invariant c.before.loop-test.true refl
+    unmark_step _ _ _ _ c.requires _ _ _ c.loop-i.invariant c.loop-i-test.true refl
 
-same_length : tie.Need-same-length invariant-loop decreases-loop
-same_length c = c.before.loop.invariant.bytes
+same_length : tie.Need-shape_of-how invariant-loop decreases-loop
+same_length c = c.loop-i.invariant.bytes
 
 returns : tie.Need-returns invariant-loop decreases-loop
-returns c = unmark_done _ _ _ _ c.before.before.requires _ _ c.before.loop.invariant (omega arith)
+returns c = unmark_done _ _ _ _ c.requires _ _ c.loop-i.invariant (omega arith)
 
-pub unmark-spec : {M : Type 1} → statement M
-unmark-spec =
+pub unmark_spec : {M : Type 1} → statement M
+unmark_spec =
     tie.close
     (tie.spec
     invariant-loop

@@ -6,19 +6,19 @@ use Rattle.rows_measured.proofs.enter_row.Tie as tie
 use borrow.Author.Rules.{rules}
 use mathlib.Core.Path.{◌∙◌, sym}
 
-returns : tie.Need-returns
+returns : tie.Need-returns-then-is_in
 returns c x how St e near =
-    passed-by x _ _ _ how _ _ St _ c.before.before.before.before.requires.1 _ e near (sym c.before.is-in.ensures ∙ c.if1.true)
+    passed-by x _ _ _ how _ _ St _ c.requires.1 _ e near (sym c.is_in.ensures ∙ c.if-is_in.true)
 
-returns-2 : tie.Need-returns-2
+returns-2 : tie.Need-returns
 returns-2 c x how St e near =
-    let entry = c.before.before in
-    let asked = entry.before.before.before in
-    entered x _ _ _ how _ _ St _ asked.before.before.before.before.requires.1 _ e near (sym asked.before.is-in.ensures ∙ asked.if1.false) _ _ _ entry.before.turn.ensures
+    let entry = c in
+    let asked = entry in
+    entered x _ _ _ how _ _ St _ asked.requires.1 _ e near (sym asked.is_in.ensures ∙ asked.if-is_in.false) _ _ _ entry.turn.ensures
     entry.enter.ensures
 
-pub enter-row-spec : {M : Type 1} → statement M
-enter-row-spec =
+pub enter_row_spec : {M : Type 1} → statement M
+enter_row_spec =
     tie.close
     (tie.spec
     (λ c κs. search rules)

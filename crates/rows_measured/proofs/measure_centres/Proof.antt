@@ -12,64 +12,64 @@ use Rattle.words.specs.Words.{circles#}
 use borrow.Author.Rules.{rules}
 use native.Mathlib.Omega.{arith}
 
-abbrev invariant-loop : tie.invariant-loop
+abbrev invariant-loop : tie.invariant-loop-j
 invariant-loop table c query index n w withdrawn how₀ work₀ held next a e o held₀ next₀ j₀ how work now-held now-next j =
     CentresTo (from table c (circles# index) query) (is_in_lem withdrawn) index n w how₀ how work₀ work a e j held now-held × ListedTo n how work now-next
 
-abbrev decreases-loop : tie.decreases-loop
+abbrev decreases-loop : tie.decreases-loop-j
 decreases-loop table c query index n w withdrawn how₀ work₀ held next a e o held₀ next₀ j₀ how work now-held now-next j = e - j
 
 -- seen from the reading of the circles: the start
-abbrev start : tie.After-circles invariant-loop decreases-loop → tie.Start invariant-loop decreases-loop
+abbrev start : tie.After-circles-o invariant-loop decreases-loop → tie.Start invariant-loop decreases-loop
 start o = o.before.before.before.before.before.before.before
 
-circles-requires : tie.Need-circles-requires invariant-loop decreases-loop
-circles-requires c κs = omega (arith, c.before.before.before.before.before.before.requires.1.0.whole.words)
+circles-requires : tie.Need-circles-o-requires invariant-loop decreases-loop
+circles-requires c κs = omega (arith, c.requires.1.0.whole.words)
 
-loop-holds : tie.Need-loop-init invariant-loop decreases-loop
+loop-holds : tie.Need-loop-j-init invariant-loop decreases-loop
 loop-holds c =
-    let pre = c.before.before.before.before.before.before.before.requires in
+    let pre = c.requires in
     (centres_start _ _ _ _ _ _ _ _ _ _ _ (omega arith) pre.1.2 pre.0.stands, pre.1.4)
 
-node-first-requires : tie.Need-node-first-requires invariant-loop decreases-loop
+node-first-requires : tie.Need-node_first-r-requires invariant-loop decreases-loop
 node-first-requires c κs =
-    let pre = c.before.before.before.before.before.before.before.before.before.requires in
+    let pre = c.requires in
     (pre.1.0, omega (arith, pre.1.3))
 
-measure-centre-requires : tie.Need-measure-centre-requires invariant-loop decreases-loop
+measure-centre-requires : tie.Need-measure_centre-seen-requires invariant-loop decreases-loop
 measure-centre-requires c κs =
-    let o = c.before.before.before.before.before in
-    let pre = (start o).requires in
-    let loop = c.before.before.before.before.loop in
-    let node-first = c.before.before.node-first in (
-      ready_by _ _ _ (start o).args.index.now _ _ _ _ _ _ _ o.circles.ensures
+    let o = c in
+    let pre = (start o.before.before.before.before.before).requires in
+    let loop = c.loop-j in
+    let node-first = c.node_first-r in (
+      ready_by _ _ _ (start o.before.before.before.before.before).args.index.now _ _ _ _ _ _ _ o.circles-o.ensures
           (ready_on _ _ _ _ _ _ _ _ _ _ _ _ _ pre.0 loop.invariant.0.took.alone.grew.stands),
       (omega (arith, node-first.ensures.1, pre.1.1), loop.invariant.1),
     )
 
-loop-again : tie.Need-loop-preserved invariant-loop decreases-loop
+loop-again : tie.Need-loop-j-preserved invariant-loop decreases-loop
 loop-again c =
-    let loop = c.before.before.before.before.before.before.before.before.before.loop in
-    let node-first = c.before.before.before.before.before.before.before.node-first in
-    let measure-centre = c.before.before.before.before.measure-centre in
-    let o = c.before.before.before.before.before.before.before.before.before.before in (
+    let loop = c.loop-j in
+    let node-first = c.node_first-r in
+    let measure-centre = c.measure_centre-seen in
+    let o = c in (
       centres-step _ _ _ _ _ _ _ _ _ _ _ _ _ _ _ _ _ _ loop.invariant.0
-          (omega (arith, c.before.before.before.before.before.before.before.before.loop-test.true)) node-first.ensures.0
-          (centres-by _ _ _ (start o).args.index.now _ _ _ _ _ _ _ _ _ _ _ o.circles.ensures measure-centre.ensures.0),
+          (omega (arith, c.loop-j-test.true)) node-first.ensures.0
+          (centres-by _ _ _ (start o.before.before.before.before.before.before.before.before.before.before).args.index.now _ _ _ _ _ _ _ _ _ _ _ o.circles-o.ensures measure-centre.ensures.0),
       measure-centre.ensures.1,
     )
 
-same_length : tie.Need-same-length invariant-loop decreases-loop
-same_length c = c.before.loop.invariant.0.took.alone.grew.since.bytes
+same_length : tie.Need-shape_of-how invariant-loop decreases-loop
+same_length c = c.loop-j.invariant.0.took.alone.grew.since.bytes
 
-same-length-2 : tie.Need-same-length-2 invariant-loop decreases-loop
-same-length-2 c = c.before.loop.invariant.0.took.alone.grew.since.words
+same-length-2 : tie.Need-shape_of-work invariant-loop decreases-loop
+same-length-2 c = c.loop-j.invariant.0.took.alone.grew.since.words
 
 returns : tie.Need-returns invariant-loop decreases-loop
-returns c = (centres-done _ _ _ _ _ _ _ _ _ _ _ _ _ _ (omega arith) c.before.loop.invariant.0, c.before.loop.invariant.1)
+returns c = (centres-done _ _ _ _ _ _ _ _ _ _ _ _ _ _ (omega arith) c.loop-j.invariant.0, c.loop-j.invariant.1)
 
-pub measure-centres-spec : {M : Type 1} → statement M
-measure-centres-spec =
+pub measure_centres_spec : {M : Type 1} → statement M
+measure_centres_spec =
     tie.close
     (tie.spec
     invariant-loop

@@ -15,27 +15,27 @@ chosen c = c.before.before.before.before.before
 
 choose-requires : tie.Need-choose-requires
 choose-requires c κs =
-    let s = c.before.before.before.before in
+    let s = c in
     let r = choose-ready s.requires.0 s.requires.1.0 s.requires.1.1 in
     let k = s.requires.1 in
     ((s.requires.0.columns, r.1), (s.requires.0.share, omega (arith, k.0, k.1), omega (arith, r.0, k.1)))
 
 share-requires : tie.Need-share-requires
 share-requires c κs =
-    let k = c.before.before.before.before in
-    let s = start k in
-    share-ready s.pre.0 s.pre.1.0 s.pre.1.1 (search rules) k.choose.ensures
+    let k = c in
+    let s = start k.before.before.before.before in
+    share-ready s.requires.0 s.requires.1.0 s.requires.1.1 (search rules) k.choose.ensures
 
 returns : tie.Need-returns
 returns c =
-    let b = c.before.before in
-    let h = b.before.before.before.before.before.before in
-    let k = chosen h in
+    let b = c in
+    let h = b in
+    let k = chosen h.before.before.before.before.before.before.before.before in
     let s = start k in
-    split_done s.pre.0 s.pre.1.0 s.pre.1.1 (search rules) k.choose.ensures h.share.ensures b.copy-back.ensures
+    split_done s.requires.0 s.requires.1.0 s.requires.1.1 (search rules) k.choose.ensures h.share.ensures b.copy_back.ensures
 
-pub split-run-spec : {M : Type 1} → statement M
-split-run-spec =
+pub split_run_spec : {M : Type 1} → statement M
+split_run_spec =
     tie.close
     (tie.spec
     (λ c. search rules)

@@ -13,49 +13,49 @@ use mathlib.Core.Path.{◌∙◌, ◌≡◌, ap₂}
 use native.Mathlib.Omega.{arith}
 
 -- the start, seen from the reading of the run
-abbrev start : tie.After-pair-at → tie.Start
+abbrev start : tie.After-pair_at-base → tie.Start
 start c = c.before.before.before.before.before.before.before
 
 -- its run is inside the positions
-run : (c : tie.After-pair-at) → (c.before.before.node-start.result + 1 ≤ c.before.before.node-start.result + c.before.node-count.result)
-    × (c.before.before.node-start.result + c.before.node-count.result ≤ n# (start c).args.index.now)
+run : (c : tie.After-pair_at-base) → (c.before.before.node_start-start.result + 1 ≤ c.before.before.node_start-start.result + c.before.node_count.result)
+    × (c.before.before.node_start-start.result + c.before.node_count.result ≤ n# (start c).args.index.now)
 run c =
     let s = start c in
-    let nd = s.pre.0.node s.args.k s.pre.1.0 in
-    (omega (arith, nd.some, c.before.node-count.ensures), omega (arith, nd.run, c.before.before.node-start.ensures, c.before.node-count.ensures))
+    let nd = s.requires.0.node s.args.k s.requires.1.0 in
+    (omega (arith, nd.some, c.node_count.ensures), omega (arith, nd.run, c.node_start-start.ensures, c.node_count.ensures))
 
 -- and is the node's
-node-run : (c : tie.After-pair-at)
-    → span (swept_at (start c).args.index.now) (c.before.before.node-start.result + 1) (c.before.before.node-start.result + c.before.node-count.result)
+node-run : (c : tie.After-pair_at-base)
+    → span (swept_at (start c).args.index.now) (c.before.before.node_start-start.result + 1) (c.before.before.node_start-start.result + c.before.node_count.result)
     ≡ span (swept_at (start c).args.index.now) (start# (start c).args.index.now (start c).args.k + 1)
     (start# (start c).args.index.now (start c).args.k + count# (start c).args.index.now (start c).args.k)
 node-run c =
-    ap₂ (λ (s n : ℕ). span (swept_at (start c).args.index.now) (s + 1) (s + n)) c.before.before.node-start.ensures.0 c.before.node-count.ensures.0
+    ap₂ (λ (s n : ℕ). span (swept_at (start c).args.index.now) (s + 1) (s + n)) c.node_start-start.ensures.0 c.node_count.ensures.0
 
-sweep-bytes-requires : tie.Need-sweep-bytes-requires
+sweep-bytes-requires : tie.Need-sweep_bytes-requires
 sweep-bytes-requires c κs =
-    let p = c.before in
-    (((start p).requires.0, p.pair-at.ensures), ((run p).0, (run p).1, (start p).requires.1.1))
+    let p = c in
+    (((start p.before).requires.0, p.pair_at-base.ensures), ((run p.before).0, (run p.before).1, (start p.before).requires.1.1))
 
-sweep-list-requires : tie.Need-sweep-list-requires
+sweep-list-requires : tie.Need-sweep_list-requires
 sweep-list-requires c κs =
-    let p = c.before.before.before.before.before.before in
-    (((start p).requires.0, p.pair-at.ensures), ((run p).0, (run p).1))
+    let p = c in
+    (((start p.before.before.before.before.before.before).requires.0, p.pair_at-base.ensures), ((run p.before.before.before.before.before.before).0, (run p.before.before.before.before.before.before).1))
 
-returns : tie.Need-returns
+returns : tie.Need-returns-then-list-ne0
 returns c =
-    let p = c.before.before.before.before.before.before.before.before.before in
-    leaves-as (is_in_lem (start p).args.withdrawn.now) (λ (i : ℕ). 0) (node-run p)
-    (record { bytes = c.before.before.before.before.before.before.before.sweep-bytes.ensures ∙ marked-is _ _ _ _ _; rows = c.before.before.sweep-list.ensures })
+    let p = c in
+    leaves-as (is_in_lem (start p.before.before.before.before.before.before.before.before.before).args.withdrawn.now) (λ (i : ℕ). 0) (node-run p.before.before.before.before.before.before.before.before.before)
+    (record { bytes = c.sweep_bytes.ensures ∙ marked-is _ _ _ _ _; rows = c.sweep_list.ensures })
 
-returns-2 : tie.Need-returns-2
+returns-2 : tie.Need-returns-else-list-ne0
 returns-2 c =
-    let p = c.before.before.before.before.before in
-    leaves-as (is_in_lem (start p).args.withdrawn.now) (λ (i : ℕ). 0) (node-run p)
-    (record { bytes = c.before.before.before.sweep-bytes.ensures ∙ marked-is _ _ _ _ _; rows = told-bare (λ (i : ℕ). 0) _ (start p).args.list.now c.if1.false })
+    let p = c in
+    leaves-as (is_in_lem (start p.before.before.before.before.before).args.withdrawn.now) (λ (i : ℕ). 0) (node-run p.before.before.before.before.before)
+    (record { bytes = c.sweep_bytes.ensures ∙ marked-is _ _ _ _ _; rows = told-bare (λ (i : ℕ). 0) _ (start p.before.before.before.before.before).args.list.now c.if-list-ne0.false })
 
-pub sweep-spec : {M : Type 1} → statement M
-sweep-spec =
+pub sweep_spec : {M : Type 1} → statement M
+sweep_spec =
     tie.close
     (tie.spec
     (λ c κs. search rules)

@@ -11,30 +11,30 @@ use mathlib.Core.Bool.{false}
 use mathlib.Core.Path.{refl}
 use native.Mathlib.Omega.{arith}
 
-abbrev invariant-loop : tie.invariant-loop
+abbrev invariant-loop : tie.invariant-loop-p
 invariant-loop index base lo hi how₀ p₀ how p = Sweeping (λ (i : ℕ). false) index base lo hi how₀ how p
 
-abbrev decreases-loop : tie.decreases-loop
+abbrev decreases-loop : tie.decreases-loop-p
 decreases-loop index base lo hi how₀ p₀ how p = hi - p
 
-loop-holds : tie.Need-loop-init invariant-loop decreases-loop
+loop-holds : tie.Need-loop-p-init invariant-loop decreases-loop
 loop-holds c =
-    let s = c.before.before in
+    let s = c in
     sweep_start (λ (i : ℕ). false) s.requires.0.0 s.requires.0.1 s.requires.1.0 s.requires.1.1 s.requires.1.2
 
-slice-write-how : tie.Need-slice-write-how invariant-loop decreases-loop
-slice-write-how c = sweep-low c.before.before.loop.invariant c.before.loop-test.true c.word.ensures.0
+slice-write-how : tie.Need-bounds-how-row invariant-loop decreases-loop
+slice-write-how c = sweep-low c.loop-p.invariant c.loop-p-test.true c.word-row.ensures.0
 
-loop-again : tie.Need-loop-preserved invariant-loop decreases-loop
+loop-again : tie.Need-loop-p-preserved invariant-loop decreases-loop
 loop-again c =
-    let l = c.before.before.loop in
-    sweep-next l.invariant c.before.loop-test.true c.word.ensures.0 (length-set l.how c.word.result 2) (mark-in (λ (i : ℕ). false) _ _ refl refl)
+    let l = c.loop-p in
+    sweep-next l.invariant c.loop-p-test.true c.word-row.ensures.0 (length-set l.how c.word-row.result 2) (mark-in (λ (i : ℕ). false) _ _ refl refl)
 
 returns : tie.Need-returns invariant-loop decreases-loop
-returns c = sweep-done c.before.loop.invariant (omega arith)
+returns c = sweep-done c.loop-p.invariant (omega arith)
 
-pub sweep-all-spec : {M : Type 1} → statement M
-sweep-all-spec =
+pub sweep_all_spec : {M : Type 1} → statement M
+sweep_all_spec =
     tie.close
     (tie.spec
     invariant-loop

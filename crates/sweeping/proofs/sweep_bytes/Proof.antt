@@ -11,27 +11,34 @@ use mathlib.Core.Bool.{false}
 use mathlib.Core.Path.{◌∙◌, sym}
 use native.Mathlib.Omega.{arith}
 
-returns : tie.Need-returns
+returns : tie.Need-returns-then-how-eq0
 returns c =
-    let a = c.before.before.before.before.args in
-    marked-bare (is_in_lem a.withdrawn.now) _ a.lo a.hi a.how.now c.if1.true
+    let a = c.args in
+    marked-bare (is_in_lem a.withdrawn.now) _ a.lo a.hi a.how.now c.if-how-eq0.true
 
-sweep-all-requires : tie.Need-sweep-all-requires
+sweep-all-requires : tie.Need-sweep_all-requires
 sweep-all-requires c κs =
-    let s = c.before.before.before.before.before.before in
-    (s.requires.0, (s.requires.1.0, s.requires.1.1, s.requires.1.2 (omega (arith, c.before.before.if1.false))))
+    let s = c in
+    (s.requires.0, (s.requires.1.0, s.requires.1.1, s.requires.1.2 (omega (arith, c.if-how-eq0.false))))
 
-sweep-shown-requires : tie.Need-sweep-shown-requires
+sweep-shown-requires : tie.Need-sweep_shown-requires
 sweep-shown-requires c κs =
-    let s = c.before.before.before.before.before.before in
-    (s.requires.0, (s.requires.1.0, s.requires.1.1, s.requires.1.2 (omega (arith, c.before.before.if1.false))))
+    let s = c in
+    (s.requires.0, (s.requires.1.0, s.requires.1.1, s.requires.1.2 (omega (arith, c.if-how-eq0.false))))
 
-returns-2 : tie.Need-returns-2
+returns-2 : tie.Need-returns-then-withdrawn-eq0
 returns-2 c =
-    let set = c.before.before.before.before.before.before.before.before.before.args.withdrawn.now in
-    c.before.before.sweep-all.ensures
-    ∙ marked-same (λ (i : ℕ). false) (is_in_lem set) (λ i. sym (beyond set i (omega (arith, c.before.before.before.before.if2.true)))) _ _ _ _
+    let set = c.args.withdrawn.now in
+    c.sweep_all.ensures
+    ∙ marked-same (λ (i : ℕ). false) (is_in_lem set) (λ i. sym (beyond set i (omega (arith, c.if-withdrawn-eq0.true)))) _ _ _ _
 
-pub sweep-bytes-spec : {M : Type 1} → statement M
-sweep-bytes-spec =
-    tie.close (tie.spec returns sweep-all-requires sweep-shown-requires (λ c. search rules) returns-2 (λ c. search rules) (λ c. search rules))
+pub sweep_bytes_spec : {M : Type 1} → statement M
+sweep_bytes_spec =
+    tie.close (tie.spec
+    returns
+    sweep-all-requires
+    sweep-shown-requires
+    (λ c. search rules)
+    returns-2
+    (λ c. search rules)
+    (λ c. search rules))

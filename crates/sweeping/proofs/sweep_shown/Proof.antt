@@ -1,5 +1,6 @@
 -- `sweeping::sweep_shown` meets its contract: after the turn for position p the rows up to p are marked 2, save those withdrawn.
 -- Assumes nothing.
+use Rattle.std.proofs.lemmas.Bool.{not_from_false, not_from_true}
 use Prim.Native.Nat.{◌-◌}
 use Rattle.marking.proofs.Written.{mark-gone, mark-in}
 use Rattle.rowset.specs.Sets.{is_in_lem}
@@ -12,40 +13,40 @@ use lib.ListN.{length-set}
 use mathlib.Core.Path.{refl}
 use native.Mathlib.Omega.{arith}
 
-abbrev invariant-loop : tie.invariant-loop
+abbrev invariant-loop : tie.invariant-loop-p
 invariant-loop index base lo hi withdrawn how₀ p₀ how p = Sweeping (is_in_lem withdrawn) index base lo hi how₀ how p
 
-abbrev decreases-loop : tie.decreases-loop
+abbrev decreases-loop : tie.decreases-loop-p
 decreases-loop index base lo hi withdrawn how₀ p₀ how p = hi - p
 
-loop-holds : tie.Need-loop-init invariant-loop decreases-loop
+loop-holds : tie.Need-loop-p-init invariant-loop decreases-loop
 loop-holds c =
-    let s = c.before.before.before in
+    let s = c in
     sweep_start (is_in_lem s.args.withdrawn.now) s.requires.0.0 s.requires.0.1 s.requires.1.0 s.requires.1.1 s.requires.1.2
 
-slice-write-how : tie.Need-slice-write-how invariant-loop decreases-loop
+slice-write-how : tie.Need-bounds-how-row invariant-loop decreases-loop
 slice-write-how c =
-    let w = c.before.before in
-    sweep-low w.before.before.loop.invariant w.before.loop-test.true w.word.ensures.0
+    let w = c in
+    sweep-low w.loop-p.invariant w.loop-p-test.true w.word-row.ensures.0
 
-loop-again : tie.Need-loop-preserved invariant-loop decreases-loop
+loop-again : tie.Need-loop-p-preserved-then-not-is_in invariant-loop decreases-loop
 loop-again c =
-    let w = c.before.before in
-    let l = w.before.before.loop in
-    sweep-next l.invariant w.before.loop-test.true w.word.ensures.0 (length-set l.how w.word.result 2)
-    (mark-in _ _ _ c.before.is-in.ensures (not-true _ c.if1.true))
+    let w = c in
+    let l = w.loop-p in
+    sweep-next l.invariant w.loop-p-test.true w.word-row.ensures.0 (length-set l.how w.word-row.result 2)
+    (mark-in _ _ _ c.is_in.ensures (not-true _ (not_from_false _ c.if-not-is_in.true)))
 
-loop-again-2 : tie.Need-loop-preserved-2 invariant-loop decreases-loop
+loop-again-2 : tie.Need-loop-p-preserved invariant-loop decreases-loop
 loop-again-2 c =
-    let w = c.before.before in
-    sweep-next w.before.before.loop.invariant w.before.loop-test.true w.word.ensures.0 refl
-    (mark-gone _ _ _ c.before.is-in.ensures (not-false _ c.if1.false))
+    let w = c in
+    sweep-next w.loop-p.invariant w.loop-p-test.true w.word-row.ensures.0 refl
+    (mark-gone _ _ _ c.is_in.ensures (not-false _ (not_from_true _ c.if-not-is_in.false)))
 
 returns : tie.Need-returns invariant-loop decreases-loop
-returns c = sweep-done c.before.loop.invariant (omega arith)
+returns c = sweep-done c.loop-p.invariant (omega arith)
 
-pub sweep-shown-spec : {M : Type 1} → statement M
-sweep-shown-spec =
+pub sweep_shown_spec : {M : Type 1} → statement M
+sweep_shown_spec =
     tie.close
     (tie.spec
     invariant-loop

@@ -7,8 +7,8 @@ use borrow.Author.Rules.{rules}
 returns : tie.Need-returns
 returns c = cc
 
-pub first-line-spec : {M : Type 1} → statement M
-first-line-spec =
+pub first_line_spec : {M : Type 1} → statement M
+first_line_spec =
     tie.close
     (tie.spec
     (λ c κs. search rules)

@@ -9,8 +9,8 @@ returns : tie.Need-returns
 unfolding marked
 returns c = search rules
 
-pub has-mark-spec : {M : Type 1} → statement M
-has-mark-spec =
+pub has_mark_spec : {M : Type 1} → statement M
+has_mark_spec =
     tie.close
     (tie.spec
     (λ c. search rules)

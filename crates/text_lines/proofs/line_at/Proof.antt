@@ -9,8 +9,8 @@ returns : tie.Need-returns
 unfolding line_at
 returns c = cc
 
-pub line-at-spec : {M : Type 1} → statement M
-line-at-spec =
+pub line_at_spec : {M : Type 1} → statement M
+line_at_spec =
     tie.close
     (tie.spec
     (λ c κs. search rules)

@@ -7,8 +7,8 @@ use borrow.Author.Rules.{rules}
 returns : tie.Need-returns
 returns c = cc
 
-pub line-from-spec : {M : Type 1} → statement M
-line-from-spec =
+pub line_from_spec : {M : Type 1} → statement M
+line_from_spec =
     tie.close
     (tie.spec
     (λ c κs. search rules)

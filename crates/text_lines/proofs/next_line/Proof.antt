@@ -6,14 +6,14 @@ use Rattle.text_lines.proofs.next_line.Tie as tie
 use borrow.Author.Rules.{rules}
 use native.Mathlib.Omega.{arith}
 
-returns : tie.Need-returns
-returns c = (next-behind _ _ _ c.before.end-from.ensures.0 c.if1.true, omega (arith, c.before.end-from.ensures), omega (arith, c.if1.true))
+returns : tie.Need-returns-then-end-t
+returns c = (next-behind _ _ _ c.end_from-end.ensures.0 c.if-end-t.true, omega (arith, c.end_from-end.ensures), omega (arith, c.if-end-t.true))
 
-returns-2 : tie.Need-returns-2
-returns-2 c = (next-none _ _ _ c.before.end-from.ensures.0 c.if1.false, c.before.end-from.ensures.1, c.before.end-from.ensures.2)
+returns-2 : tie.Need-returns-else-end-t
+returns-2 c = (next-none _ _ _ c.end_from-end.ensures.0 c.if-end-t.false, c.end_from-end.ensures.1, c.end_from-end.ensures.2)
 
-pub next-line-spec : {M : Type 1} → statement M
-next-line-spec =
+pub next_line_spec : {M : Type 1} → statement M
+next_line_spec =
     tie.close
     (tie.spec
     (λ c κs. search rules)

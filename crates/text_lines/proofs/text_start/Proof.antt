@@ -9,17 +9,17 @@ use mathlib.Core.Bool.{Bool, cond}
 use mathlib.Core.Path.{◌∙◌, ap, sym}
 use native.Mathlib.Omega.{arith}
 
-returns : tie.Need-returns
-returns c = (start-short _ c.if1.true, omega arith)
+returns : tie.Need-returns-then-t-lt3
+returns c = (start-short _ c.if-t-lt3.true, omega arith)
 
-returns-2 : tie.Need-returns-2
-returns-2 c = (start-told _ c.before.before.if1.false _ _ c.before.has-mark.ensures c.if2.true, omega (arith, c.before.before.if1.false))
+returns-2 : tie.Need-returns-then-has_mark
+returns-2 c = (start-told _ c.if-t-lt3.false _ _ c.has_mark.ensures c.if-has_mark.true, omega (arith, c.if-t-lt3.false))
 
-returns-3 : tie.Need-returns-3
-returns-3 c = (start-told _ c.before.before.if1.false _ _ c.before.has-mark.ensures c.if2.false, omega arith)
+returns-3 : tie.Need-returns-else-has_mark
+returns-3 c = (start-told _ c.if-t-lt3.false _ _ c.has_mark.ensures c.if-has_mark.false, omega arith)
 
-pub text-start-spec : {M : Type 1} → statement M
-text-start-spec =
+pub text_start_spec : {M : Type 1} → statement M
+text_start_spec =
     tie.close
     (tie.spec
     returns

@@ -12,44 +12,44 @@ use mathlib.Core.Bool.{false, true}
 use mathlib.Core.Path.{◌∙◌, ◌≡◌, refl, sym}
 use native.Mathlib.Omega.{arith}
 
-abbrev invariant-loop : tie.invariant-loop
+abbrev invariant-loop : tie.invariant-loop-k
 invariant-loop t b i start₀ k₀ start k = (start ≡ begin_of b t k) × (start ≤ length t) × (k ≤ i)
 
-abbrev decreases-loop : tie.decreases-loop
+abbrev decreases-loop : tie.decreases-loop-k
 decreases-loop t b i start₀ k₀ start k = i - k
 
-loop-holds : tie.Need-loop-init invariant-loop decreases-loop
+loop-holds : tie.Need-loop-k-init invariant-loop decreases-loop
 loop-holds c = (sym (begin_first _ _), omega arith, omega arith)
 
-returns : tie.Need-returns invariant-loop decreases-loop
+returns : tie.Need-returns-then-end-t invariant-loop decreases-loop
 returns c =
-    let none = c.no-piece.ensures in
+    let none = c.no_piece.ensures in
     record {
       has =
           none.0
-          ∙ none_left _ _ _ _ _ _ c.before.before.before.loop-test.true c.before.before.before.before.loop.invariant.0
-          c.before.before.end-from.ensures.0 c.before.if1.true;
+          ∙ none_left _ _ _ _ _ _ c.loop-k-test.true c.loop-k.invariant.0
+          c.end_from-end.ensures.0 c.if-end-t.true;
       spot = λ e. never (sym none.0 ∙ e);
       inside = (omega (arith, none), omega (arith, none));
     }
 
-loop-again : tie.Need-loop-preserved invariant-loop decreases-loop
+loop-again : tie.Need-loop-k-preserved invariant-loop decreases-loop
 loop-again c =
-    let turn = c.before.before.before in
-    (begin_next _ _ _ _ _ turn.loop.invariant.0 c.before.end-from.ensures.0, omega (arith, c.before.end-from.ensures, c.if1.false), omega arith)
+    let turn = c in
+    (begin_next _ _ _ _ _ turn.loop-k.invariant.0 c.end_from-end.ensures.0, omega (arith, c.end_from-end.ensures, c.if-end-t.false), omega arith)
 
-returns-2 : tie.Need-returns-2 invariant-loop decreases-loop
+returns-2 : tie.Need-returns invariant-loop decreases-loop
 returns-2 c =
-    let at = c.before.before.loop.invariant in
-    let all = begin_all _ _ _ _ _ at.2 c.before.loop-test.false at.0 in
+    let at = c.loop-k.invariant in
+    let all = begin_all _ _ _ _ _ at.2 c.loop-k-test.false at.0 in
     record {
       has = has_one _ _ _ _ all at.1;
-      spot = λ e. (all, c.end-from2.ensures.0);
-      inside = (c.end-from2.ensures.1, c.end-from2.ensures.2);
+      spot = λ e. (all, c.end_from-end-2.ensures.0);
+      inside = (c.end_from-end-2.ensures.1, c.end_from-end-2.ensures.2);
     }
 
-pub piece-at-spec : {M : Type 1} → statement M
-piece-at-spec =
+pub piece_at_spec : {M : Type 1} → statement M
+piece_at_spec =
     tie.close
     (tie.spec
     invariant-loop

@@ -8,30 +8,30 @@ use borrow.Author.Rules.{rules}
 use lib.ListN.{length}
 use native.Mathlib.Omega.{arith}
 
-abbrev invariant-loop : tie.invariant-loop
+abbrev invariant-loop : tie.invariant-loop-i
 invariant-loop word value₀ i₀ value i = Counted word value i
 
-abbrev decreases-loop : tie.decreases-loop
+abbrev decreases-loop : tie.decreases-loop-i
 decreases-loop word value₀ i₀ value i = length word - i
 
-returns : tie.Need-returns invariant-loop decreases-loop
-returns c = (none-worth c.before.before.args.word.now c.if1.true, omega arith)
+returns : tie.Need-returns-then-word-eq0 invariant-loop decreases-loop
+returns c = (none-worth c.args.word.now c.if-word-eq0.true, omega arith)
 
-loop-holds : tie.Need-loop-init invariant-loop decreases-loop
+loop-holds : tie.Need-loop-i-init invariant-loop decreases-loop
 loop-holds c = counted_start _
 
-loop-again : tie.Need-loop-preserved invariant-loop decreases-loop
+loop-again : tie.Need-loop-i-preserved invariant-loop decreases-loop
 loop-again c =
-    let read = c.digit-behind.ensures in
-    counted_next _ _ _ c.before.before.before.loop.invariant _ c.before.before.loop-test.true read.0 read.1
+    let read = c.digit_behind-value.ensures in
+    counted_next _ _ _ c.loop-i.invariant _ c.loop-i-test.true read.0 read.1
 
-returns-2 : tie.Need-returns-2 invariant-loop decreases-loop
+returns-2 : tie.Need-returns invariant-loop decreases-loop
 returns-2 c =
-    let some = c.before.before in
-    (counted-end some.before.before.args.word.now _ _ c.before.loop.invariant c.loop-test.false some.if1.false, c.before.loop.invariant.few)
+    let some = c in
+    (counted-end some.args.word.now _ _ c.loop-i.invariant c.loop-i-test.false some.if-word-eq0.false, c.loop-i.invariant.few)
 
-pub number-spec : {M : Type 1} → statement M
-number-spec =
+pub number_spec : {M : Type 1} → statement M
+number_spec =
     tie.close
     (tie.spec
     invariant-loop

@@ -7,10 +7,10 @@ use Rattle.std.proofs.Common.{eqb, ap₂, rules}
 
 returns : tie.Need-returns
 unfolding block_good_lem
-returns c = ap₂ eqb c.before.block-check.ensures c.get-word.ensures
+returns c = ap₂ eqb c.block_check.ensures c.get_word.ensures
 
-pub block-good-spec : {M : Type 1} → statement M
-block-good-spec =
+pub block_good_spec : {M : Type 1} → statement M
+block_good_spec =
     tie.close
     (tie.spec
     (λ c κs. search rules)

@@ -7,5 +7,8 @@ use Rattle.std.proofs.Common.{arith, rules}
 returns : tie.Need-returns
 returns c = omega arith
 
-pub check-start-spec : {M : Type 1} → statement M
-check-start-spec = tie.close (tie.spec (λ c. search rules) (λ c. search rules) returns)
+pub check_start_spec : {M : Type 1} → statement M
+check_start_spec = tie.close (tie.spec
+    (λ c. search rules)
+    (λ c. search rules)
+    returns)

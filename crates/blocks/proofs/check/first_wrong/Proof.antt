@@ -1,5 +1,6 @@
 -- `blocks::check::first_wrong` meets its contract: no block below b is wrong. The measure is what is left of the blocks.
 -- Assumes nothing.
+use Rattle.std.proofs.lemmas.Bool.{not_from_false, not_from_true}
 use Rattle.std.proofs.Common.{◌-◌, ◌≤◌, not, sym, ap, ◌∙◌, arith, rules}
 use Rattle.blocks.proofs.Wrong.{lowest-is, wrong_at}
 use Rattle.blocks.proofs.check.first_wrong.Statement.{statement}
@@ -7,40 +8,40 @@ use Rattle.blocks.proofs.check.first_wrong.Tie as tie
 use Rattle.laws.proofs.First.{search-end, search-on, search-start, search-stop}
 use Rattle.laws.specs.First.{First}
 
-abbrev invariant-loop : tie.invariant-loop
+abbrev invariant-loop : tie.invariant-loop-b
 invariant-loop image blocks b₀ b = (b ≤ blocks) × First (wrong_at image) 0 b b
 
-abbrev decreases-loop : tie.decreases-loop
+abbrev decreases-loop : tie.decreases-loop-b
 decreases-loop image blocks b₀ b = blocks - b
 
 -- the start, seen from the loop
-abbrev start : tie.At-loop invariant-loop decreases-loop → tie.Start invariant-loop decreases-loop
+abbrev start : tie.At-loop-b invariant-loop decreases-loop → tie.Start invariant-loop decreases-loop
 start l = l.before.before
 
-loop-holds : tie.Need-loop-init invariant-loop decreases-loop
-loop-holds c = (search rules, search-start (wrong_at c.before.args.image.now) 0)
+loop-holds : tie.Need-loop-b-init invariant-loop decreases-loop
+loop-holds c = (search rules, search-start (wrong_at c.args.image.now) 0)
 
-returns : tie.Need-returns invariant-loop decreases-loop
+returns : tie.Need-returns-then-not-block_good invariant-loop decreases-loop
 returns c =
-    let l = c.before.before.before in
-    let a = (start l).args in
-    let wrong = ap not (sym c.before.block-good.ensures) ∙ c.if1.true in
-    sym (lowest-is a.image.now a.blocks _ (search-stop _ 0 _ _ l.loop.invariant.1 c.before.before.loop-test.true wrong))
+    let l = c in
+    let a = (start l.before.before.before).args in
+    let wrong = ap not (sym c.block_good.ensures) ∙ (not_from_false _ c.if-not-block_good.true) in
+    sym (lowest-is a.image.now a.blocks _ (search-stop _ 0 _ _ l.loop-b.invariant.1 c.loop-b-test.true wrong))
 
-loop-again : tie.Need-loop-preserved invariant-loop decreases-loop
+loop-again : tie.Need-loop-b-preserved invariant-loop decreases-loop
 loop-again c =
-    let l = c.before.before.before in
-    let good = ap not (sym c.before.block-good.ensures) ∙ c.if1.false in
-    (search rules, search-on _ 0 l.loop.b l.loop.invariant.1 good)
+    let l = c in
+    let good = ap not (sym c.block_good.ensures) ∙ (not_from_true _ c.if-not-block_good.false) in
+    (search rules, search-on _ 0 l.loop-b.b l.loop-b.invariant.1 good)
 
-returns-2 : tie.Need-returns-2 invariant-loop decreases-loop
+returns-2 : tie.Need-returns invariant-loop decreases-loop
 returns-2 c =
-    let l = c.before in
-    let a = (start l).args in
-    sym (lowest-is a.image.now a.blocks l.loop.b (search-end _ 0 _ l.loop.b (omega arith) l.loop.invariant.1))
+    let l = c in
+    let a = (start l.before).args in
+    sym (lowest-is a.image.now a.blocks l.loop-b.b (search-end _ 0 _ l.loop-b.b (omega arith) l.loop-b.invariant.1))
 
-pub first-wrong-spec : {M : Type 1} → statement M
-first-wrong-spec =
+pub first_wrong_spec : {M : Type 1} → statement M
+first_wrong_spec =
     tie.close
     (tie.spec
     invariant-loop

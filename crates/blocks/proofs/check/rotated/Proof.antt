@@ -9,5 +9,8 @@ returns : tie.Need-returns
 unfolding rotate
 returns c = omega arith
 
-pub rotated-spec : {M : Type 1} → statement M
-rotated-spec = tie.close (tie.spec (λ c. search rules) (λ c. search rules) returns)
+pub rotated_spec : {M : Type 1} → statement M
+rotated_spec = tie.close (tie.spec
+    (λ c. search rules)
+    (λ c. search rules)
+    returns)

@@ -9,5 +9,8 @@ returns : tie.Need-returns
 unfolding step
 returns c = search rules
 
-pub stepped-spec : {M : Type 1} → statement M
-stepped-spec = tie.close (tie.spec (λ c κs. search rules) (λ c κs. search rules) returns)
+pub stepped_spec : {M : Type 1} → statement M
+stepped_spec = tie.close (tie.spec
+    (λ c κs. search rules)
+    (λ c κs. search rules)
+    returns)

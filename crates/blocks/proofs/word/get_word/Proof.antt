@@ -9,8 +9,8 @@ returns : tie.Need-returns
 unfolding word_at
 returns c = search rules
 
-pub get-word-spec : {M : Type 1} → statement M
-get-word-spec =
+pub get_word_spec : {M : Type 1} → statement M
+get_word_spec =
     tie.close
     (tie.spec
     (λ c. search rules)

@@ -9,6 +9,11 @@ returns : tie.Need-returns
 unfolding image_word_lem
 returns c = search rules
 
-pub image-word-spec : {M : Type 1} → statement M
-image-word-spec =
-    tie.close (tie.spec (λ c. search rules) (λ c. search rules) (λ c. search rules) (λ c κs. search rules) returns)
+pub image_word_spec : {M : Type 1} → statement M
+image_word_spec =
+    tie.close (tie.spec
+    (λ c. search rules)
+    (λ c. search rules)
+    (λ c. search rules)
+    (λ c κs. search rules)
+    returns)

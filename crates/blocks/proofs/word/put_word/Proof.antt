@@ -6,18 +6,18 @@ use Rattle.blocks.specs.Blocks.{bytes}
 use Rattle.laws.proofs.Parts.{four_sets}
 use Rattle.std.proofs.Common.{arith, length-set, rules}
 
-slice-write-part-2 : tie.Need-slice-write-part-2
+slice-write-part-2 : tie.Need-bounds-part-1
 slice-write-part-2 c = simp length-set (omega arith)
 
-slice-write-part-3 : tie.Need-slice-write-part-3
+slice-write-part-3 : tie.Need-bounds-part-2
 slice-write-part-3 c = simp length-set (omega arith)
 
 returns : tie.Need-returns
 unfolding bytes
 returns c = four_sets c.args.part.now _ _ _ _ c.requires
 
-pub put-word-spec : {M : Type 1} → statement M
-put-word-spec =
+pub put_word_spec : {M : Type 1} → statement M
+put_word_spec =
     tie.close
     (tie.spec
     (λ c. search rules)

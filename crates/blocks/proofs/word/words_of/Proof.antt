@@ -10,25 +10,25 @@ use Rattle.words.specs.Words.{nodes#, edition#, width}
 product : (c : tie.After-nodes)
     → (c.before.width.result * c.nodes.result ≡ width (edition# c.before.before.before.args.header.now) * nodes# c.before.before.before.args.header.now)
     × (c.before.width.result * c.nodes.result ≤ 5 * c.nodes.result)
-product c = nodes-words c.before.before.before.args.header.now c.before.before.before.requires.1 c.before.width.ensures.0 c.nodes.ensures.0
+product c = nodes-words c.args.header.now c.requires.1 c.width.ensures.0 c.nodes.ensures.0
 
-mul-result : tie.Need-overflow-mul-result
+mul-result : tie.Need-overflow_mul-result
 mul-result c = omega (arith, (product c).1, c.nodes.ensures.1)
 
-add-result : tie.Need-overflow-add-result
+add-result : tie.Need-overflow_add-result
 add-result c = omega (arith, (product c).1, c.nodes.ensures.1)
 
-add-result-2 : tie.Need-overflow-add-result-2
-add-result-2 c = omega (arith, (product c.before).1, c.before.nodes.ensures.1, c.rows.ensures.1)
+add-result-2 : tie.Need-overflow_add-result-2
+add-result-2 c = omega (arith, (product c.before).1, c.nodes.ensures.1, c.rows.ensures.1)
 
 returns : tie.Need-returns
 returns c = (
   omega (arith, (product c.before).0, c.rows.ensures.0),
-  omega (arith, (product c.before).1, c.before.nodes.ensures.1, c.rows.ensures.1),
+  omega (arith, (product c.before).1, c.nodes.ensures.1, c.rows.ensures.1),
 )
 
-pub words-of-spec : {M : Type 1} → statement M
-words-of-spec =
+pub words_of_spec : {M : Type 1} → statement M
+words_of_spec =
     tie.close
     (tie.spec
     (λ c κs. search rules)

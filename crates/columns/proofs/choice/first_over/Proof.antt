@@ -10,39 +10,39 @@ use lib.ListN.{length}
 use mathlib.Core.Path.{◌≡◌}
 use native.Mathlib.Omega.{arith}
 
-abbrev invariant-loop : tie.invariant-loop
+abbrev invariant-loop : tie.invariant-loop-j
 invariant-loop row circles k chosen factors j₀ j = (j ≤ k) × Choice (length row) chosen k × (over_in row circles chosen factors j ≡ j)
 
-abbrev decreases-loop : tie.decreases-loop
+abbrev decreases-loop : tie.decreases-loop-j
 decreases-loop row circles k chosen factors j₀ j = k - j
 
-loop-holds : tie.Need-loop-init invariant-loop decreases-loop
-loop-holds c = (omega arith, c.before.requires, over_none _ _ _ _)
+loop-holds : tie.Need-loop-j-init invariant-loop decreases-loop
+loop-holds c = (omega arith, c.requires, over_none _ _ _ _)
 
-shared-slice-read-product : tie.Need-shared-slice-read-product invariant-loop decreases-loop
-shared-slice-read-product c = c.before.before.before.loop.invariant.1.inside _ (omega arith)
+shared-slice-read-product : tie.Need-bounds-row-chosen invariant-loop decreases-loop
+shared-slice-read-product c = c.loop-j.invariant.1.inside _ (omega arith)
 
-mul-product-2 : tie.Need-overflow-mul-product-2 invariant-loop decreases-loop
-mul-product-2 c = let l = c.before.before.loop in omega (arith, l.invariant.1.inside l.j (omega arith))
+mul-product-2 : tie.Need-offset_bounds-row-chosen invariant-loop decreases-loop
+mul-product-2 c = let l = c.loop-j in omega (arith, l.invariant.1.inside l.j (omega arith))
 
-returns : tie.Need-returns invariant-loop decreases-loop
+returns : tie.Need-returns-then-most-product invariant-loop decreases-loop
 returns c =
-    over-here _ _ _ _ _ c.before.before.before.before.before.loop.invariant.2 c.before.before.before.most.ensures
-    (omega (arith, c.before.product.ensures)) (omega arith)
+    over-here _ _ _ _ _ c.loop-j.invariant.2 c.most.ensures
+    (omega (arith, c.product.ensures)) (omega arith)
 
-loop-again : tie.Need-loop-preserved invariant-loop decreases-loop
+loop-again : tie.Need-loop-j-preserved invariant-loop decreases-loop
 loop-again c = (
   omega arith,
-  c.before.before.before.before.before.loop.invariant.1,
-  over-on _ _ _ _ c.before.before.before.before.before.loop.invariant.2 c.before.before.before.most.ensures
-      (omega (arith, c.before.product.ensures)),
+  c.loop-j.invariant.1,
+  over-on _ _ _ _ c.loop-j.invariant.2 c.most.ensures
+      (omega (arith, c.product.ensures)),
 )
 
-returns-2 : tie.Need-returns-2 invariant-loop decreases-loop
-returns-2 c = over-end _ _ _ _ _ c.before.loop.invariant.2 (omega arith) (omega arith)
+returns-2 : tie.Need-returns invariant-loop decreases-loop
+returns-2 c = over-end _ _ _ _ _ c.loop-j.invariant.2 (omega arith) (omega arith)
 
-pub first-over-spec : {M : Type 1} → statement M
-first-over-spec =
+pub first_over_spec : {M : Type 1} → statement M
+first_over_spec =
     tie.close
     (tie.spec
     invariant-loop

@@ -1,5 +1,6 @@
 -- `image::reading::check_held` meets its contract: each return is one end of the tests, in their order.
 -- Assumes nothing.
+use Rattle.std.proofs.lemmas.Bool.{not_from_false, not_from_true}
 use Prim.Native.Nat.{◌/◌, ℕ}
 use Rattle.blocks.specs.Blocks.{blocks_for_lem, image_words}
 use Rattle.image.proofs.Refusals.{none-held, seventeen, sixteen-count, sixteen-header, sound-found, sound-refused}
@@ -18,64 +19,64 @@ use mathlib.Core.Path.{◌∙◌, ◌≡◌, ap, refl, sym}
 use native.Mathlib.Omega.{arith}
 
 -- what is known past each test
-abbrev I : tie.After-header-of → List ℕ
-I c = c.before.before.args.image.now
+abbrev I : tie.After-header_of-header → List ℕ
+I c = c.args.image.now
 
-header : (c : tie.Else1) → card_ok_lem (image_words (I c.before.before.before) 8) ≡ true
-header c = yes (c.before.card-ok.ensures ∙ ap card_ok_lem c.before.before.before.header_of.ensures) c.if1.false
+header : (c : tie.Else-not-card_ok) → card_ok_lem (image_words (I c.before.before.before) 8) ≡ true
+header c = yes (c.card_ok.ensures ∙ ap card_ok_lem c.header_of-header.ensures) (not_from_true _ c.if-not-card_ok.false)
 
-abbrev W : tie.After-words-of → tie.After-header-of
+abbrev W : tie.After-words_of-words → tie.After-header_of-header
 W c = c.before.before.before.before.before
 
-total : (c : tie.After-words-of) → c.words_of.result ≡ image_total (I (W c))
+total : (c : tie.After-words_of-words) → c.words_of-words.result ≡ image_total (I (W c))
 unfolding image_total
-total c = c.words_of.ensures.0 ∙ ap words_of_lem (W c).header_of.ensures
+total c = c.words_of-words.ensures.0 ∙ ap words_of_lem (W c).header_of-header.ensures
 
-needed : (c : tie.After-blocks-for) → c.blocks-for.result ≡ blocks_for_lem (image_total (I (W c.before)))
-needed c = c.blocks-for.ensures.0 ∙ ap blocks_for_lem (total c.before)
+needed : (c : tie.After-blocks_for) → c.blocks_for.result ≡ blocks_for_lem (image_total (I (W c.before)))
+needed c = c.blocks_for.ensures.0 ∙ ap blocks_for_lem (total c.before)
 
-count : (c : tie.Else2) → length (I (W c.before.before)) / 512 ≡ blocks_for_lem (image_total (I (W c.before.before)))
-count c = sym c.if2.false ∙ needed c.before
+count : (c : tie.Else-blocks_for-image) → length (I (W c.before.before)) / 512 ≡ blocks_for_lem (image_total (I (W c.before.before)))
+count c = sym c.if-blocks_for-image.false ∙ needed c.before
 
-zeros : (c : tie.After-rest-zero) → c.rest-zero.result ≡ rest_zero_lem (I (W c.before.before.before)) (image_total (I (W c.before.before.before)))
-zeros c = c.rest-zero.ensures ∙ ap (rest_zero_lem (I (W c.before.before.before))) (total c.before.before.before)
+zeros : (c : tie.After-rest_zero) → c.rest_zero.result ≡ rest_zero_lem (I (W c.before.before.before)) (image_total (I (W c.before.before.before)))
+zeros c = c.rest_zero.ensures ∙ ap (rest_zero_lem (I (W c.before.before.before))) (total c.before.before.before)
 
-returns : tie.Need-returns
+returns : tie.Need-returns-then-not-card_ok
 returns c =
-    let ho = c.before.before in
+    let ho = c in
     let r = c.refused.ensures in
-    let e = no (ho.card-ok.ensures ∙ ap card_ok_lem ho.before.before.header_of.ensures) c.before.if1.true in
-    sound-refused _ _ _ _ _ 16 0 (λ q. omega arith) (sixteen-header (I ho.before.before) e) r.0 r.1 r.2
+    let e = no (ho.card_ok.ensures ∙ ap card_ok_lem ho.header_of-header.ensures) (not_from_false _ c.if-not-card_ok.true) in
+    sound-refused _ _ _ _ _ 16 0 (λ q. omega arith) (sixteen-header (I ho.before.before.before.before) e) r.0 r.1 r.2
 
-words-of-requires : tie.Need-words-of-requires
-words-of-requires c κs = (search rules, yes c.before.before.card-ok.ensures c.before.if1.false)
+words-of-requires : tie.Need-words_of-words-requires
+words-of-requires c κs = (search rules, yes c.card_ok.ensures (not_from_true _ c.if-not-card_ok.false))
 
-returns-2 : tie.Need-returns-2
+returns-2 : tie.Need-returns-then-blocks_for-image
 returns-2 c =
-    let bf = c.before.before in
-    let r = c.refused2.ensures in
+    let bf = c in
+    let r = c.refused-then-blocks_for-image.ensures in
     sound-refused _ _ _ _ _ 16 0 (λ q. omega arith)
-    (sixteen-count (I (W bf.before)) (λ e. c.before.if2.true (needed bf ∙ sym e))) r.0 r.1 r.2
+    (sixteen-count (I (W bf.before.before.before)) (λ e. c.if-blocks_for-image.true (needed bf.before.before ∙ sym e))) r.0 r.1 r.2
 
-returns-3 : tie.Need-returns-3
+returns-3 : tie.Need-returns-then-not-rest_zero
 returns-3 c =
-    let rz = c.before.before in
-    let e2 = rz.before in
-    let r = c.refused3.ensures in
+    let rz = c in
+    let e2 = rz in
+    let r = c.refused-then-not-rest_zero.ensures in
     sound-refused _ _ _ _ _ 17 0 (λ q. omega arith)
-    (seventeen (I (W e2.before.before)) (header e2.before.before.before.before) (count e2) (no (zeros rz) c.before.if3.true))
+    (seventeen (I (W e2.before.before.before.before.before)) (header e2.before.before.before.before.before.before.before) (count e2.before.before.before) (no (zeros rz.before.before) (not_from_false _ c.if-not-rest_zero.true)))
     r.0 r.1 r.2
 
-returns-4 : tie.Need-returns-4
+returns-4 : tie.Need-returns
 returns-4 c =
-    let rz = c.before in
-    let e2 = rz.before in
+    let rz = c in
+    let e2 = rz in
     sound-found _ _ _ _ _
-    (ap said (none-held (I (W e2.before.before)) (header e2.before.before.before.before) (count e2) (yes (zeros rz) c.if3.false)))
-    refl refl (total e2.before.before)
+    (ap said (none-held (I (W e2.before.before.before.before)) (header e2.before.before.before.before.before.before) (count e2.before.before) (yes (zeros rz.before) (not_from_true _ c.if-not-rest_zero.false))))
+    refl refl (total e2.before.before.before.before)
 
-pub check-held-spec : {M : Type 1} → statement M
-check-held-spec =
+pub check_held_spec : {M : Type 1} → statement M
+check_held_spec =
     tie.close
     (tie.spec
     (λ c κs. search rules)

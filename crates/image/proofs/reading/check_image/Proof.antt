@@ -11,37 +11,37 @@ use lib.ListN.{length}
 use mathlib.Core.Path.{subst, sym}
 use native.Mathlib.Omega.{arith}
 
-returns : tie.Need-returns
+returns : tie.Need-returns-then-image-eq0
 returns c =
     let r = c.refused.ensures in
-    sound-refused _ _ _ _ _ 14 0 (λ q. omega arith) (fourteen-empty _ c.before.if1.true) r.0 r.1 r.2
+    sound-refused _ _ _ _ _ 14 0 (λ q. omega arith) (fourteen-empty _ c.if-image-eq0.true) r.0 r.1 r.2
 
-returns-2 : tie.Need-returns-2
+returns-2 : tie.Need-returns-then-image-ne0
 returns-2 c =
-    let r = c.refused2.ensures in
-    sound-refused _ _ _ _ _ 14 0 (λ q. omega arith) (fourteen-ragged _ c.before.if2.true) r.0 r.1 r.2
+    let r = c.refused-then-image-ne0.ensures in
+    sound-refused _ _ _ _ _ 14 0 (λ q. omega arith) (fourteen-ragged _ c.if-image-ne0.true) r.0 r.1 r.2
 
-returns-3 : tie.Need-returns-3
+returns-3 : tie.Need-returns-then-wrong-blocks
 returns-3 c =
-    let fw = c.before.before in
-    let e2 = fw.before in
-    let r = c.refused3.ensures in
-    sound-refused _ _ _ _ _ 15 fw.first-wrong.result (λ q. omega arith)
-    (rw fw.first-wrong.ensures (fifteen _ e2.before.if1.false e2.if2.false (rw (← fw.first-wrong.ensures) c.before.if3.true)))
+    let fw = c in
+    let e2 = fw in
+    let r = c.refused-then-wrong-blocks.ensures in
+    sound-refused _ _ _ _ _ 15 fw.first_wrong-wrong.result (λ q. omega arith)
+    (rw fw.first_wrong-wrong.ensures (fifteen _ e2.if-image-eq0.false e2.if-image-ne0.false (rw (← fw.first_wrong-wrong.ensures) c.if-wrong-blocks.true)))
     r.0 r.1 r.2
 
-returns-4 : tie.Need-returns-4
+returns-4 : tie.Need-returns
 returns-4 c =
-    let e3 = c.before in
-    let e2 = e3.before.before in
-    let i = e2.before.before.before.args.image.now in
-    let r = c.check-held.result in
+    let e3 = c in
+    let e2 = e3 in
+    let i = e2.args.image.now in
+    let r = c.check_held.result in
     subst (λ fs. Sound i fs r.number r.place r.words)
-    (sym (by-held i e2.before.if1.false e2.if2.false (wrong-none i (length i / 512) (rw (← e3.before.first-wrong.ensures) e3.if3.false))))
-    c.check-held.ensures
+    (sym (by-held i e2.if-image-eq0.false e2.if-image-ne0.false (wrong-none i (length i / 512) (rw (← e3.first_wrong-wrong.ensures) e3.if-wrong-blocks.false))))
+    c.check_held.ensures
 
-pub check-image-spec : {M : Type 1} → statement M
-check-image-spec =
+pub check_image_spec : {M : Type 1} → statement M
+check_image_spec =
     tie.close
     (tie.spec
     (λ c κs. search rules)

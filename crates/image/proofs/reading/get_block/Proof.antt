@@ -20,19 +20,19 @@ record Filled (image : List ℕ) (b end : ℕ) (room₀ room : List ℕ) (j : �
   long : length room ≡ length room₀
   read : room ≡ image_words image j ++ drop j room₀
 
-abbrev invariant-loop : tie.invariant-loop
+abbrev invariant-loop : tie.invariant-loop-j
 invariant-loop image b end room₀ checks j₀ room j = Filled image b end room₀ room j
 
-abbrev decreases-loop : tie.decreases-loop
+abbrev decreases-loop : tie.decreases-loop-j
 decreases-loop image b end room₀ checks j₀ room j = end - j
 
 -- the start, seen from the loop
-abbrev start : tie.At-loop invariant-loop decreases-loop → tie.Start invariant-loop decreases-loop
+abbrev start : tie.At-loop-j invariant-loop decreases-loop → tie.Start invariant-loop decreases-loop
 start l = l.before.before.before
 
-loop-holds : tie.Need-loop-init invariant-loop decreases-loop
+loop-holds : tie.Need-loop-j-init invariant-loop decreases-loop
 loop-holds c =
-    let s = c.before.before in
+    let s = c in
     let room = s.args.room.now in
     let b = s.args.b in
     record {
@@ -42,38 +42,38 @@ loop-holds c =
       read = sym (take-append-drop (127 * b) room) ∙ ap (λ (x : List ℕ). x ++ drop (127 * b) room) s.requires.1;
     }
 
-get-word-requires : tie.Need-get-word-requires invariant-loop decreases-loop
+get-word-requires : tie.Need-get_word-requires invariant-loop decreases-loop
 get-word-requires c κs =
-    let l = c.before in
-    inside-block (start l).args.b l.loop.j _ (omega arith) (omega arith) (omega arith)
+    let l = c in
+    inside-block (start l.before).args.b l.loop-j.j _ (omega arith) (omega arith) (omega arith)
 
-loop-again : tie.Need-loop-preserved invariant-loop decreases-loop
+loop-again : tie.Need-loop-j-preserved invariant-loop decreases-loop
 loop-again c =
-    let l = c.before.before in
-    let a = (start l).args in
+    let l = c in
+    let a = (start l.before.before).args in
     let image = a.image.now in
     let room₀ = a.room.now in
-    let j = l.loop.j in
+    let j = l.loop-j.j in
     let more : j < length room₀ = omega arith in
-    let word : c.get-word.result ≡ image_word_lem image j = block_word_lem image a.b j (omega arith) (omega arith) c.get-word.ensures in
+    let word : c.get_word.result ≡ image_word_lem image j = block_word_lem image a.b j (omega arith) (omega arith) c.get_word.ensures in
     record {
       from = omega arith;
       bound = omega arith;
-      long = simp length-set l.loop.invariant.long;
+      long = simp length-set l.loop-j.invariant.long;
       read =
-          store_more (image_words image j) room₀ l.loop.room j c.get-word.result (image-length image j) more l.loop.invariant.read
+          store_more (image_words image j) room₀ l.loop-j.room j c.get_word.result (image-length image j) more l.loop-j.invariant.read
           ∙ rw (image_more image j, ← word);
     }
 
 returns : tie.Need-returns invariant-loop decreases-loop
 returns c =
-    let l = c.before in
-    let a = (start l).args in
-    let e : l.loop.j ≡ a.end = omega arith in
-    l.loop.invariant.read ∙ ap (λ (j : ℕ). image_words a.image.now j ++ drop j a.room.now) e
+    let l = c in
+    let a = (start l.before).args in
+    let e : l.loop-j.j ≡ a.end = omega arith in
+    l.loop-j.invariant.read ∙ ap (λ (j : ℕ). image_words a.image.now j ++ drop j a.room.now) e
 
-pub get-block-spec : {M : Type 1} → statement M
-get-block-spec =
+pub get_block_spec : {M : Type 1} → statement M
+get_block_spec =
     tie.close
     (tie.spec
     invariant-loop

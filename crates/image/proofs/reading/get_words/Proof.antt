@@ -17,52 +17,52 @@ record Filled (image : List ℕ) (t : ℕ) (room₀ room : List ℕ) (b j : ℕ)
   long : length room ≡ length room₀
   read : room ≡ image_words image j ++ drop j room₀
 
-abbrev invariant-loop : tie.invariant-loop
+abbrev invariant-loop : tie.invariant-loop-j
 invariant-loop image t room₀ b₀ j₀ room b j = Filled image t room₀ room b j
 
-abbrev decreases-loop : tie.decreases-loop
+abbrev decreases-loop : tie.decreases-loop-j
 decreases-loop image t room₀ b₀ j₀ room b j = t - j
 
 -- the start, seen from the loop
-abbrev start : tie.At-loop invariant-loop decreases-loop → tie.Start invariant-loop decreases-loop
+abbrev start : tie.At-loop-j invariant-loop decreases-loop → tie.Start invariant-loop decreases-loop
 start l = l.before.before.before
 
-loop-holds : tie.Need-loop-init invariant-loop decreases-loop
+loop-holds : tie.Need-loop-j-init invariant-loop decreases-loop
 unfolding image_words
 loop-holds c = record { bound = omega arith; long = refl; read = refl }
 
-get-block-requires : tie.Need-get-block-requires invariant-loop decreases-loop
+get-block-requires : tie.Need-get_block-requires invariant-loop decreases-loop
 get-block-requires c κs =
-    let l = c.before.before.before in
-    let a = (start l).args in
-    let i = l.loop.invariant in
-    let e : l.loop.j ≡ 127 * l.loop.b = omega arith in (
+    let l = c in
+    let a = (start l.before.before.before).args in
+    let i = l.loop-j.invariant in
+    let e : l.loop-j.j ≡ 127 * l.loop-j.b = omega arith in (
       (omega arith, omega arith, omega arith, omega (arith, i.long)),
-      subst (λ (j : ℕ). take j l.loop.room ≡ image_words a.image.now j) e (front_read a.image.now a.room.now l.loop.room l.loop.j i.read),
+      subst (λ (j : ℕ). take j l.loop-j.room ≡ image_words a.image.now j) e (front_read a.image.now a.room.now l.loop-j.room l.loop-j.j i.read),
     )
 
-loop-again : tie.Need-loop-preserved invariant-loop decreases-loop
+loop-again : tie.Need-loop-j-preserved invariant-loop decreases-loop
 loop-again c =
-    let block = c.before.before.get-block in
-    let end = c.before.before.before.before.block-end in
-    let l = c.before.before.before.before.before.before in
-    let a = (start l).args in
-    let i = l.loop.invariant in
+    let block = c.get_block in
+    let end = c.block_end-end in
+    let l = c in
+    let a = (start l.before.before.before.before.before.before).args in
+    let i = l.loop-j.invariant in
     record {
       bound = omega arith;
       long = search rules;
-      read = read-on a.image.now a.room.now l.loop.room l.loop.j i.read end.result (omega arith) block.ensures;
+      read = read-on a.image.now a.room.now l.loop-j.room l.loop-j.j i.read end.result (omega arith) block.ensures;
     }
 
 returns : tie.Need-returns invariant-loop decreases-loop
 returns c =
-    let l = c.before in
-    let a = (start l).args in
-    let e : l.loop.j ≡ a.t = omega arith in
-    l.loop.invariant.read ∙ ap (λ (j : ℕ). image_words a.image.now j ++ drop j a.room.now) e
+    let l = c in
+    let a = (start l.before).args in
+    let e : l.loop-j.j ≡ a.t = omega arith in
+    l.loop-j.invariant.read ∙ ap (λ (j : ℕ). image_words a.image.now j ++ drop j a.room.now) e
 
-pub get-words-spec : {M : Type 1} → statement M
-get-words-spec =
+pub get_words_spec : {M : Type 1} → statement M
+get_words_spec =
     tie.close
     (tie.spec
     invariant-loop

@@ -8,7 +8,10 @@ use mathlib.Core.List.{append-nil}
 use mathlib.Core.Path.{◌∙◌}
 
 returns : tie.Need-returns
-returns c = c.before.get-words.ensures ∙ append-nil (image_words c.before.before.before.before.args.image.now 8)
+returns c = c.get_words.ensures ∙ append-nil (image_words c.args.image.now 8)
 
-pub header-of-spec : {M : Type 1} → statement M
-header-of-spec = tie.close (tie.spec (λ c. search rules) (λ c κs. search rules) returns)
+pub header_of_spec : {M : Type 1} → statement M
+header_of_spec = tie.close (tie.spec
+    (λ c. search rules)
+    (λ c κs. search rules)
+    returns)

@@ -14,41 +14,41 @@ use lib.ListN.{length}
 use mathlib.Core.Bool.{Bool}
 use mathlib.Core.Path.{◌∙◌, ◌≡◌, refl, sym}
 
-abbrev invariant-loop : tie.invariant-loop
+abbrev invariant-loop : tie.invariant-loop-j
 invariant-loop image t end j₀ j = rest_zero_lem image t ≡ rest_zero_lem image j
 
-abbrev decreases-loop : tie.decreases-loop
+abbrev decreases-loop : tie.decreases-loop-j
 decreases-loop image t end j₀ j = 127 * (length image / 512) - j
 
 -- the test of index word j, seen from the loop: it is zero
-abbrev zero : tie.At-loop invariant-loop decreases-loop → ℕ → Bool
-zero l j = eqb (image_word_lem l.before.before.args.image.now j) 0
+abbrev zero : tie.At-loop-j invariant-loop decreases-loop → ℕ → Bool
+zero l j = eqb (image_word_lem l.args.image.now j) 0
 
-loop-holds : tie.Need-loop-init invariant-loop decreases-loop
+loop-holds : tie.Need-loop-j-init invariant-loop decreases-loop
 loop-holds c = refl
 
-image-word-requires : tie.Need-image-word-requires invariant-loop decreases-loop
-image-word-requires c κs = inside _ _ c.loop-test.true
+image-word-requires : tie.Need-image_word-requires invariant-loop decreases-loop
+image-word-requires c κs = inside _ _ c.loop-j-test.true
 
-returns : tie.Need-returns invariant-loop decreases-loop
+returns : tie.Need-returns-then-image_word-ne0 invariant-loop decreases-loop
 returns c =
-    let l = c.before.before.before in
-    let other = ne_eqb _ 0 (λ e. c.if1.true (c.before.image-word.ensures ∙ e)) in
-    all-stop (zero l) _ _ c.before.before.loop-test.true other ∙ sym l.loop.invariant
+    let l = c in
+    let other = ne_eqb _ 0 (λ e. c.if-image_word-ne0.true (c.image_word.ensures ∙ e)) in
+    all-stop (zero l.before.before.before) _ _ c.loop-j-test.true other ∙ sym l.loop-j.invariant
 
-loop-again : tie.Need-loop-preserved invariant-loop decreases-loop
+loop-again : tie.Need-loop-j-preserved invariant-loop decreases-loop
 loop-again c =
-    let l = c.before.before.before in
-    let same = eq-eqb _ 0 (sym c.before.image-word.ensures ∙ c.if1.false) in
-    l.loop.invariant ∙ all-step (zero l) _ _ c.before.before.loop-test.true same
+    let l = c in
+    let same = eq-eqb _ 0 (sym c.image_word.ensures ∙ c.if-image_word-ne0.false) in
+    l.loop-j.invariant ∙ all-step (zero l.before.before.before) _ _ c.loop-j-test.true same
 
-returns-2 : tie.Need-returns-2 invariant-loop decreases-loop
+returns-2 : tie.Need-returns invariant-loop decreases-loop
 returns-2 c =
-    let l = c.before in
-    all_end (zero l) _ _ c.loop-test.false ∙ sym l.loop.invariant
+    let l = c in
+    all_end (zero l.before) _ _ c.loop-j-test.false ∙ sym l.loop-j.invariant
 
-pub rest-zero-spec : {M : Type 1} → statement M
-rest-zero-spec =
+pub rest_zero_spec : {M : Type 1} → statement M
+rest_zero_spec =
     tie.close
     (tie.spec
     invariant-loop

@@ -43,58 +43,58 @@ block-done index part₀ part last b s₀ s i inv done start long e =
 four_more : (i : ℕ) → 4 * (i + 1) ≡ 4 * i + 4
 four_more i = omega arith
 
-abbrev invariant-loop : tie.invariant-loop
+abbrev invariant-loop : tie.invariant-loop-i
 invariant-loop index b part₀ first whole check₀ i₀ part check i = Filled index first check₀ part₀ part check i
 
-abbrev decreases-loop : tie.decreases-loop
+abbrev decreases-loop : tie.decreases-loop-i
 decreases-loop index b part₀ first whole check₀ i₀ part check i = 127 - i
 
 -- the start, seen from the loop
-abbrev start : tie.At-loop invariant-loop decreases-loop → tie.Start invariant-loop decreases-loop
+abbrev start : tie.At-loop-i invariant-loop decreases-loop → tie.Start invariant-loop decreases-loop
 start l = l.before.before.before.before
 
-loop-holds : tie.Need-loop-init invariant-loop decreases-loop
+loop-holds : tie.Need-loop-i-init invariant-loop decreases-loop
 unfolding check_from window
 loop-holds c = search rules
 
 -- a whole block's words are all there
-word-of-requires : tie.Need-word-of-requires invariant-loop decreases-loop
+word-of-requires : tie.Need-word_of-x-requires invariant-loop decreases-loop
 word-of-requires c κs =
     let a = (start c.before).args in
     λ whole. omega (arith, leb-true (127 * a.b + 127) (length a.index.now) whole)
 
-loop-again : tie.Need-loop-preserved invariant-loop decreases-loop
+loop-again : tie.Need-loop-i-preserved invariant-loop decreases-loop
 loop-again c =
-    let pw = c.before.before in
-    let st = pw.before.before in
-    let wo = st.before in
-    let l = wo.before.before in
-    let inv = l.loop.invariant in
-    let a = (start l).args in
+    let pw = c in
+    let st = pw in
+    let wo = st in
+    let l = wo in
+    let inv = l.loop-i.invariant in
+    let a = (start l.before.before.before.before.before.before.before).args in
     let index = a.index.now in
     let first = 127 * a.b in
-    let i = l.loop.i in
+    let i = l.loop-i.i in
     record {
       bound = search rules;
       long = search rules;
-      sum = window_check index _ _ _ _ _ _ inv.sum wo.word_of.ensures st.stepped.ensures;
+      sum = window_check index _ _ _ _ _ _ inv.sum wo.word_of-x.ensures st.stepped-check.ensures;
       wrote =
-          put_more (each bytes (window index first i)) (bytes (at index (first + i))) a.part.now l.loop.part
-          pw.put_word.new.0 (4 * i) 4 (window-bytes-length index first i) (search rules) inv.wrote
-          (rw (← wo.word_of.ensures) pw.put_word.ensures)
+          put_more (each bytes (window index first i)) (bytes (at index (first + i))) a.part.now l.loop-i.part
+          pw.put_word.new.part (4 * i) 4 (window-bytes-length index first i) (search rules) inv.wrote
+          (rw (← wo.word_of-x.ensures) pw.put_word.ensures)
           ∙ rw (window_bytes index first i, four_more i);
     }
 
 returns : tie.Need-returns invariant-loop decreases-loop
 returns c =
-    let left = c.before.before.before.before in
-    let l = left.before in
-    let a = (start l).args in
-    block-done a.index.now a.part.now l.loop.part _ a.b _ _ _ l.loop.invariant left.loop-test.false
-    l.before.check-start.ensures (start l).requires.1 c.before.before.put-word2.ensures
+    let left = c in
+    let l = left in
+    let a = (start l.before.before.before.before.before).args in
+    block-done a.index.now a.part.now l.loop-i.part _ a.b _ _ _ l.loop-i.invariant left.loop-i-test.false
+    l.check_start-check.ensures (start l.before.before.before.before.before).requires.1 c.put_word-2.ensures
 
-pub put-block-spec : {M : Type 1} → statement M
-put-block-spec =
+pub put_block_spec : {M : Type 1} → statement M
+put_block_spec =
     tie.close
     (tie.spec
     invariant-loop

@@ -27,51 +27,51 @@ block_long b = omega arith
 block_more : (b : ℕ) → 512 * (b + 1) ≡ 512 * b + 512
 block_more b = omega arith
 
-abbrev invariant-loop : tie.invariant-loop
+abbrev invariant-loop : tie.invariant-loop-b
 invariant-loop index count image₀ b₀ image b = Filled index count image₀ image b
 
-abbrev decreases-loop : tie.decreases-loop
+abbrev decreases-loop : tie.decreases-loop-b
 decreases-loop index count image₀ b₀ image b = count - b
 
 -- the start, seen from the loop
-abbrev start : tie.At-loop invariant-loop decreases-loop → tie.Start invariant-loop decreases-loop
+abbrev start : tie.At-loop-b invariant-loop decreases-loop → tie.Start invariant-loop decreases-loop
 start l = l.before.before.before
 
-loop-holds : tie.Need-loop-init invariant-loop decreases-loop
+loop-holds : tie.Need-loop-b-init invariant-loop decreases-loop
 unfolding blocks
 loop-holds c = search rules
 
-put-block-requires : tie.Need-put-block-requires invariant-loop decreases-loop
+put-block-requires : tie.Need-put_block-requires invariant-loop decreases-loop
 put-block-requires c κs =
-    let l = c.before.before.loop in
+    let l = c.loop-b in
     (omega arith, mid_len (512 * l.b) (512 * l.b + 512) l.image (omega arith) ∙ block_long l.b)
 
-loop-again : tie.Need-loop-preserved invariant-loop decreases-loop
+loop-again : tie.Need-loop-b-preserved invariant-loop decreases-loop
 loop-again c =
-    let pb = c.before.before in
-    let l = pb.before.before.before in
-    let index = (start l).args.index.now in
-    let image = l.loop.image in
-    let b = l.loop.b in
+    let pb = c in
+    let l = pb in
+    let index = (start l.before.before.before.before.before).args.index.now in
+    let image = l.loop-b.image in
+    let b = l.loop-b.b in
     record {
       bound = search rules;
       long = search rules;
       wrote =
-          ap (λ (l : List ℕ). put_mid (512 * b) (512 * b + 512 - 512 * b) image l) pb.put-block.ensures
-          ∙ put_part (blocks index b) (block index b) (start l).args.image.now image (512 * b) (512 * b + 512) (blocks-length index b)
-          (omega arith) l.loop.invariant.wrote
+          ap (λ (l : List ℕ). put_mid (512 * b) (512 * b + 512 - 512 * b) image l) pb.put_block.ensures
+          ∙ put_part (blocks index b) (block index b) (start l.before.before.before.before.before).args.image.now image (512 * b) (512 * b + 512) (blocks-length index b)
+          (omega arith) l.loop-b.invariant.wrote
           ∙ rw (blocks_more index b, block_more b);
     }
 
 returns : tie.Need-returns invariant-loop decreases-loop
 returns c =
-    let l = c.before in
-    let a = (start l).args in
-    let e : l.loop.b ≡ a.count = omega arith in
-    l.loop.invariant.wrote ∙ ap (λ (j : ℕ). blocks a.index.now j ++ drop (512 * j) a.image.now) e
+    let l = c in
+    let a = (start l.before).args in
+    let e : l.loop-b.b ≡ a.count = omega arith in
+    l.loop-b.invariant.wrote ∙ ap (λ (j : ℕ). blocks a.index.now j ++ drop (512 * j) a.image.now) e
 
-pub put-blocks-spec : {M : Type 1} → statement M
-put-blocks-spec =
+pub put_blocks_spec : {M : Type 1} → statement M
+put_blocks_spec =
     tie.close
     (tie.spec
     invariant-loop

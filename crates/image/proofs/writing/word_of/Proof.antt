@@ -3,13 +3,18 @@ use Rattle.image.proofs.writing.word_of.Statement.{statement}
 use Rattle.image.proofs.writing.word_of.Tie as tie
 use borrow.Author.Rules.{rules}
 
-mul-result : tie.Need-overflow-mul-result
-mul-result c = search (rules, c.before.before.requires c.if1.true)
+mul-result : tie.Need-offset_bounds-index-j
+mul-result c = search (rules, c.requires c.if-whole.true)
 
-shared-slice-read-result : tie.Need-shared-slice-read-result
-shared-slice-read-result c = search (rules, c.before.before.before.requires c.before.if1.true)
+shared-slice-read-result : tie.Need-bounds-index-j
+shared-slice-read-result c = search (rules, c.requires c.if-whole.true)
 
-pub word-of-spec : {M : Type 1} → statement M
-word-of-spec =
+pub word_of_spec : {M : Type 1} → statement M
+word_of_spec =
     tie.close
-    (tie.spec mul-result shared-slice-read-result (λ c κs. search rules) (λ c. search rules) (λ c. search rules))
+    (tie.spec
+    mul-result
+    shared-slice-read-result
+    (λ c κs. search rules)
+    (λ c. search rules)
+    (λ c. search rules))

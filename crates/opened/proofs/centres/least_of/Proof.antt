@@ -11,28 +11,28 @@ use mathlib.Core.Logic.{⊎_elim}
 use mathlib.Core.Path.{◌≡◌, refl}
 use native.Mathlib.Omega.{arith}
 
-abbrev invariant-loop : tie.invariant-loop
+abbrev invariant-loop : tie.invariant-loop-j
 invariant-loop m ds y₀ j₀ y j = (j ≤ m) × (m ≤ 64) × (length ds ≡ 64) × (y ≡ least (get_or ds 0 0) (take j ds))
 
-abbrev decreases-loop : tie.decreases-loop
+abbrev decreases-loop : tie.decreases-loop-j
 decreases-loop m ds y₀ j₀ y j = m - j
 
-loop-holds : tie.Need-loop-init invariant-loop decreases-loop
+loop-holds : tie.Need-loop-j-init invariant-loop decreases-loop
 loop-holds c = (omega arith, omega arith, omega arith, refl)
 
-loop-again : tie.Need-loop-preserved invariant-loop decreases-loop
+loop-again : tie.Need-loop-j-preserved invariant-loop decreases-loop
 loop-again c =
-    let l = c.before.before.loop in
-    (omega arith, omega arith, l.invariant.2, least-next _ _ l.j (omega arith) l.invariant.3 (⊎_elim (λ w. omega arith) (λ w. omega arith) c.if1.branch))
+    let l = c.loop-j in
+    (omega arith, omega arith, l.invariant.2, least-next _ _ l.j (omega arith) l.invariant.3 (⊎_elim (λ w. omega arith) (λ w. omega arith) c.if-d-y.branch))
 
 returns : tie.Need-returns invariant-loop decreases-loop
 returns c =
-    let l = c.before.loop in
-    let e : l.j ≡ c.before.before.args.m = omega arith in
+    let l = c.loop-j in
+    let e : l.j ≡ c.args.m = omega arith in
     rw e at l.invariant.3
 
-pub least-of-spec : {M : Type 1} → statement M
-least-of-spec =
+pub least_of_spec : {M : Type 1} → statement M
+least_of_spec =
     tie.close
     (tie.spec
     invariant-loop

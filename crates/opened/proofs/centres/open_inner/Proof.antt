@@ -23,7 +23,7 @@ use mathlib.Core.Path.{◌∙◌, ◌≡◌, ap, refl, sym}
 use native.Mathlib.Nat.{add-zero}
 use native.Mathlib.Omega.{arith}
 
-abbrev invariant-loop : tie.invariant-loop
+abbrev invariant-loop : tie.invariant-loop-j
 invariant-loop table c index query ch x r withdrawn how₀ list₀ m base round ds₀ j₀ how list ds j =
     Lent index table c query how × (length how ≡ length how₀) × (length list ≡ length list₀)
     × (1 ≤ j) × (j ≤ m) × (m ≡ m# index) × (ch + m# index ≤ nodes# index) × (length ds ≡ 64)
@@ -31,40 +31,40 @@ invariant-loop table c index query ch x r withdrawn how₀ list₀ m base round 
     × Leaves (is_in_lem withdrawn) (from table c (circles# index) query) (span (λ (i : ℕ). centreAt (from table c (circles# index) query) r index (ch + i)) 1 j)
     how₀ how list₀ list
 
-abbrev decreases-loop : tie.decreases-loop
+abbrev decreases-loop : tie.decreases-loop-j
 decreases-loop table c index query ch x r withdrawn how₀ list₀ m base round ds₀ j₀ how list ds j = m - j
 
 -- the start, and the node whose first is read, seen from the reading of its start
-abbrev start : tie.After-node-start invariant-loop decreases-loop → tie.Start invariant-loop decreases-loop
+abbrev start : tie.After-node_start invariant-loop decreases-loop → tie.Start invariant-loop decreases-loop
 start c = c.before.before.before.before.before.before.before.before.before.before.before.before
 
-abbrev kid : tie.After-node-start invariant-loop decreases-loop → ℕ
-kid c = (start c).args.ch + c.before.before.loop.j
+abbrev kid : tie.After-node_start invariant-loop decreases-loop → ℕ
+kid c = (start c).args.ch + c.loop-j.j
 
 -- its first stands at a position
-there : (c : tie.After-node-start invariant-loop decreases-loop) → c.node-start.result < n# (start c).args.index.now
+there : (c : tie.After-node_start invariant-loop decreases-loop) → c.node_start.result < n# (start c).args.index.now
 there c =
-    let l = c.before.before.loop in
-    let v = l.invariant.0.tested.shape.node (kid c) (omega (arith, l.invariant.5, l.invariant.6, c.before.loop-test.true)) in
-    omega (arith, v.run, v.some, c.node-start.ensures.0)
+    let l = c.loop-j in
+    let v = l.invariant.0.tested.shape.node (kid c) (omega (arith, l.invariant.5, l.invariant.6, c.loop-j-test.true)) in
+    omega (arith, v.run, v.some, c.node_start.ensures.0)
 
 -- where it is read
-first : (c : tie.After-word invariant-loop decreases-loop) → c.word.result ≡ first# (start c.before).args.index.now (kid c.before)
+first : (c : tie.After-word-row invariant-loop decreases-loop) → c.word-row.result ≡ first# (start c.before).args.index.now (kid c.before)
 first c =
     let w = (start c.before).args.index.now in
-    c.word.ensures.0 ∙ row_word w _ c.before.node-start.result c.before.before.before.before.before.pair-at.ensures
-    ∙ ap (row# w) c.before.node-start.ensures.0
+    c.word-row.ensures.0 ∙ row_word w _ c.node_start.result c.pair_at-base.ensures
+    ∙ ap (row# w) c.node_start.ensures.0
 
 -- and is one of the n
-low : (c : tie.After-word invariant-loop decreases-loop) → c.word.result < n# (start c.before).args.index.now
+low : (c : tie.After-word-row invariant-loop decreases-loop) → c.word-row.result < n# (start c.before).args.index.now
 low c =
-    let l = c.before.before.before.loop in
+    let l = c.loop-j in
     let at = start# (start c.before).args.index.now (kid c.before) in
-    omega (arith, first c, (l.invariant.0.tested.shape.place at (omega (arith, there c.before, c.before.node-start.ensures.0))).row)
+    omega (arith, first c, (l.invariant.0.tested.shape.place at (omega (arith, there c.before, c.node_start.ensures.0))).row)
 
-loop-holds : tie.Need-loop-init invariant-loop decreases-loop
+loop-holds : tie.Need-loop-j-init invariant-loop decreases-loop
 loop-holds c =
-    let s = c.before.before.before.before.before.before.before.before.before in
+    let s = c in
     let at : first_at (from s.args.table.now s.args.c (circles# s.args.index.now) s.args.query.now) s.args.index.now s.args.ch
     ≡ first_at (from s.args.table.now s.args.c (circles# s.args.index.now) s.args.query.now) s.args.index.now (s.args.ch + 0) =
     ap (first_at (from s.args.table.now s.args.c (circles# s.args.index.now) s.args.query.now) s.args.index.now) (sym (add-zero s.args.ch)) in (
@@ -73,40 +73,40 @@ loop-holds c =
       refl,
       omega arith,
       omega (arith, s.requires.0.tested.shape.whole.fan),
-      c.before.before.centres.ensures.0,
+      c.centres-m.ensures.0,
       s.requires.1.0,
       refl,
       holds-one _ _ (replicate 64 s.args.x) (s.requires.1.2 ∙ at) s.requires.1.1,
       span_none _ _ _ _ _ refl,
     )
 
-node-start-requires : tie.Need-node-start-requires invariant-loop decreases-loop
-node-start-requires c κs = (c.before.loop.invariant.0.tested.shape.whole, omega arith)
+node-start-requires : tie.Need-node_start-requires invariant-loop decreases-loop
+node-start-requires c κs = (c.loop-j.invariant.0.tested.shape.whole, omega arith)
 
-add-word : tie.Need-overflow-add-word invariant-loop decreases-loop
+add-word : tie.Need-overflow_add-base invariant-loop decreases-loop
 add-word c =
-    let W = c.before.before.loop.invariant.0.tested.shape.whole in
-    omega (arith, there c, W.words, c.before.before.before.before.pair-at.ensures, (start c).well-formed)
+    let W = c.loop-j.invariant.0.tested.shape.whole in
+    omega (arith, there c, W.words, c.pair_at-base.ensures, (start c).well_formed)
 
-word-requires : tie.Need-word-requires invariant-loop decreases-loop
+word-requires : tie.Need-word-row-requires invariant-loop decreases-loop
 word-requires c κs =
-    let W = c.before.before.loop.invariant.0.tested.shape.whole in
-    omega (arith, there c, W.words, c.before.before.before.before.pair-at.ensures)
+    let W = c.loop-j.invariant.0.tested.shape.whole in
+    omega (arith, there c, W.words, c.pair_at-base.ensures)
 
-measure-row-requires : tie.Need-measure-row-requires invariant-loop decreases-loop
-measure-row-requires c κs = measurable c.before.before.before.before.before.loop.invariant.0 _ (low c.before.before)
+measure-row-requires : tie.Need-measure_row-d-requires invariant-loop decreases-loop
+measure-row-requires c κs = measurable c.loop-j.invariant.0 _ (low c.before.before)
 
-loop-again : tie.Need-loop-preserved invariant-loop decreases-loop
+loop-again : tie.Need-loop-j-preserved invariant-loop decreases-loop
 loop-again c =
-    let read = c.before.before.before.before.before.before.before in
-    let s = start read.before in
+    let read = c in
+    let s = start read.before.before.before.before.before.before.before.before in
     let w = s.args.index.now in
     let full : ℕ → ℕ → ℕ = λ o i. from s.args.table.now s.args.c o s.args.query.now i in
     let x = full (circles# w) in
-    let l = read.before.before.before.loop in
-    let row = c.before.before.before.before.measure-row in
-    let i = read.word.result in
-    let round = read.before.before.before.before.circles.ensures in
+    let l = read.loop-j in
+    let row = c.measure_row-d in
+    let i = read.word-row.result in
+    let round = read.circles-round.ensures in
     let k = row.auto.1.1.1.1.1.1.1.0 in (
       lent_same l.invariant.0 _ k,
       k ∙ l.invariant.1,
@@ -116,19 +116,19 @@ loop-again c =
       l.invariant.5,
       l.invariant.6,
       simp length-set l.invariant.7,
-      holds_more _ max_distance l.ds l.j (omega arith) (row.ensures.0.0 ∙ ap (λ (o : ℕ). full o i) round ∙ ap x (first read)) row.ensures.0.1 l.invariant.8,
+      holds_more _ max_distance l.ds l.j (omega arith) (row.ensures.0.0 ∙ ap (λ (o : ℕ). full o i) round ∙ ap x (first read.before.before.before.before.before.before.before)) row.ensures.0.1 l.invariant.8,
       span-next _ x _ 1 l.j l.invariant.3 l.invariant.9
-          (leaves-as _ x (centre-did x s.args.r w _ (first read))
+          (leaves-as _ x (centre-did x s.args.r w _ (first read.before.before.before.before.before.before.before))
           (leaves_by (is_in_lem s.args.withdrawn.now) full (λ x. (i, byDistance x s.args.r i) ∷ []) round row.ensures.1)),
     )
 
 returns : tie.Need-returns invariant-loop decreases-loop
 returns c =
-    let l = c.before.loop in
+    let l = c.loop-j in
     (span-end _ _ _ 1 l.j (omega arith) l.invariant.9, record { at = λ i h. (l.invariant.8 i (omega arith)).0; near = λ i h. (l.invariant.8 i (omega arith)).1 })
 
-pub open-inner-spec : {M : Type 1} → statement M
-open-inner-spec =
+pub open_inner_spec : {M : Type 1} → statement M
+open_inner_spec =
     tie.close
     (tie.spec
     invariant-loop
