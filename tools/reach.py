@@ -4,7 +4,7 @@
 usage: reach.py CRATE_FOLDER NAMES     (names.json as for retie.py; run after it, and again at will)
 
 A path to a field leaves out the `.before` in front of it, since each state has the fields of the states before it. Where a state itself
-is handed on, the number of `.before` is counted anew.
+is handed on, the number of `.before` is counted anew. What a call left of an argument goes by the argument's name.
 """
 
 import json
@@ -18,12 +18,14 @@ NAME = r"[A-Za-z_][\w'#₀₁₂-]*"
 
 class Table:
     def __init__(self, table, root):
-        self.parent, self.goal_state = {}, {}
+        self.parent, self.goal_state, self.params = {}, {}, {}
         olds = [p[0] for p in table["places"]]
         news = table["places_by_name"]
         by_old = dict(zip(olds, news))
         for p, new in zip(table["places"], news):
             self.parent[new] = by_old.get(p[1]) if p[1] else None
+            if p[3] and p[3] in table["params"]:
+                self.params[p[2][1]] = table["params"][p[3]]
         for (old, new), (_, state) in zip(table["needs"], table["asked_at"]):
             self.goal_state[new] = state
 
@@ -139,6 +141,17 @@ def turn(path, crate, fn, table, root, say):
 
         code = re.sub(r"(?<![\w.'#-])(" + NAME + r")((?:\.before)+)\.(?!before\b)([A-Za-z_][\w'#-]*)", field, code)
         code = re.sub(r"\)((?:\.before)+)\.(?!before\b)([A-Za-z_][\w'#-]*)", lambda u: f").{u.group(2)}", code)
+        # what a call left of an argument goes by the argument's name, and not by its place
+        named = dict(re.findall(r"let (" + NAME + r") = [\w'.#-]+\.(" + NAME + r") in", code))
+
+        def argument(u):
+            step = named.get(u.group(1), u.group(1))
+            k = u.group(3).count(".1")
+            if step not in T.params or k >= len(T.params[step]):
+                return u.group(0)
+            return f"{u.group(1)}.{'auto' if u.group(2) == 'kept' else u.group(2)}.{T.params[step][k]}"
+
+        code = re.sub(r"(?<![\w'#-])(" + NAME + r")\.(auto|new|kept)((?:\.1)*\.0)(?![\w.])", argument, code)
         return head + code
 
     out = "\n".join(one(b) for b in blocks(text))

@@ -19,7 +19,7 @@ use words::places::{
 use words::writing::put_node;
 
 // What is grown anew: a node, how many rows come to the end of its run, and how many rows a run may have that is not split.
-#[derive(Drop)]
+#[derive(Clone, Copy)]
 pub struct Growth {
     pub node: usize,
     pub added: usize,

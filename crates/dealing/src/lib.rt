@@ -28,7 +28,7 @@ use words::writing::put_node;
 
 // What is dealt out: the old node, how many rows the table has, the words of the first half between which the node's new rows stand, and whether
 // there is no level below its children.
-#[derive(Drop)]
+#[derive(Clone, Copy)]
 pub struct Deal {
     pub node: usize,
     pub rows: usize,

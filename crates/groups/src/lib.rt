@@ -10,7 +10,7 @@ use rounds::put_entry;
 
 // A group: how many members, the greatest distance to its centre, and the least of a member other than the centre, 0 where there is none. Both are
 // at hand where a run is shared out, so that the inner reach costs no distance more.
-#[derive(Drop)]
+#[derive(Clone, Copy)]
 pub struct Group {
     pub count: usize,
     pub radius: u32,

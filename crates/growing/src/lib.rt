@@ -18,7 +18,7 @@ use words::places::{HEADER, word};
 use words::writing::put_node;
 
 // How far a run reaches: the greatest distance from its first, and the least of a member other than the first, 0 where there is none.
-#[derive(Drop)]
+#[derive(Clone, Copy)]
 pub struct Reach {
     pub radius: u32,
     pub inner: u32,

@@ -12,7 +12,7 @@ use row_distances::row_distance;
 use words::places::{centres, circles, node_child, node_first};
 
 // A leaf: its node's number, and how many levels can be below it.
-#[derive(Drop)]
+#[derive(Clone, Copy)]
 pub struct Leaf {
     pub node: usize,
     pub left: usize,

@@ -29,7 +29,7 @@ same-length-2 : tie.Need-shape_of-room
 same-length-2 c =
     let r = c in
     let a = (start r.before.before.before.before.before.before.before.before).args in
-    let l : length r.split_run.new.1.1.1.1.1.1.0 ≡ length (set a.room.now (node_at_lem a.k + 2) a.made) = search rules in
+    let l : length r.split_run.new.room ≡ length (set a.room.now (node_at_lem a.k + 2) a.made) = search rules in
     l ∙ length-set a.room.now (node_at_lem a.k + 2) a.made
 
 returns-2 : tie.Need-returns

@@ -13,94 +13,94 @@ use mathlib.Core.Path.{◌∙◌, ◌≡◌}
 use native.Mathlib.Omega.{arith}
 
 -- seen from the reading of the id: the start
-abbrev start : tie.After-id-of → tie.Start
+abbrev start : tie.After-id_of-id → tie.Start
 start i = i.before.before.before.before.before.before.before
 
 -- past the nodes' ids: the position, that it can be read, and that what is read is its row
-abbrev place : tie.After-id-of → ℕ
-place i = i.id-of.result - 2 * (start i).args.n
+abbrev place : tie.After-id_of-id → ℕ
+place i = i.id_of-id.result - 2 * (start i).args.n
 
-there : (e : tie.Else1) → pair_at (start e.before).args.index.now (place e.before) + 1 < length (start e.before).args.index.now
+there : (e : tie.Else-id-n) → pair_at (start e.before).args.index.now (place e.before) + 1 < length (start e.before).args.index.now
 there e =
-    let i = e.before in
-    let pre = (start i).requires in
-    place_words _ _ pre.0.room.shape (place_there _ _ _ _ _ _ _ _ _ _ _ _ _ pre.1.0 i.id-of.ensures pre.0 (omega arith))
+    let i = e in
+    let pre = (start i.before).requires in
+    place_words _ _ pre.0.room.shape (place_there _ _ _ _ _ _ _ _ _ _ _ _ _ pre.1.0 i.id_of-id.ensures pre.0 (omega arith))
 
-row : (c : tie.After-word) → c.word.result ≡ row# (start c.before.before).args.index.now (place c.before.before)
+row : (c : tie.After-word-r) → c.word-r.result ≡ row# (start c.before.before).args.index.now (place c.before.before)
 row c =
     let s = start c.before.before in
-    c.word.ensures.0 ∙ row_word s.args.index.now s.args.base _ s.pre.1.1
+    c.word-r.ensures.0 ∙ row_word s.args.index.now s.args.base _ s.requires.1.1
 
-mul-if1 : tie.Need-overflow-mul-if1
+mul-if1 : tie.Need-overflow_mul-n
 mul-if1 c = omega (arith, (start c).requires.1.0, (start c).requires.0.room.shape.whole.rows)
 
-open-node-requires : tie.Need-open-node-requires
+open-node-requires : tie.Need-open_node-requires
 open-node-requires c κs =
-    let i = c.before.before.before.before in
-    let pre = (start i).requires in
-    (node-takes _ _ _ _ _ _ _ _ _ _ _ _ _ pre.1.0 i.id-of.ensures pre.0 _ c.key_of.ensures (omega arith), (pre.1.0, pre.1.2))
+    let i = c in
+    let pre = (start i.before.before.before.before).requires in
+    (node-takes _ _ _ _ _ _ _ _ _ _ _ _ _ pre.1.0 i.id_of-id.ensures pre.0 _ c.key_of.ensures (omega arith), (pre.1.0, pre.1.2))
 
-same_length : tie.Need-same-length
-same_length c = c.before.before.before.before.open-node.ensures.0.grew.since.bytes
+same_length : tie.Need-shape_of-how-then-id-n
+same_length c = c.open_node.ensures.0.grew.since.bytes
 
-same-length-2 : tie.Need-same-length-2
-same-length-2 c = c.before.before.before.before.open-node.ensures.0.grew.since.words
+same-length-2 : tie.Need-shape_of-work-then-id-n
+same-length-2 c = c.open_node.ensures.0.grew.since.words
 
-returns : tie.Need-returns
+returns : tie.Need-returns-then-id-n
 returns c =
-    let o = c.before.before.before.before in
-    let i = o.before.before.before.before.before in
-    let pre = (start i).requires in (
-      node-taken _ _ _ _ _ _ _ _ _ _ _ _ _ pre.1.0 i.id-of.ensures pre.0 _ o.before.key_of.ensures (omega arith) _ _ _ _
-          o.open-node.ensures.0,
-      o.open-node.ensures.1,
+    let o = c in
+    let i = o in
+    let pre = (start i.before.before.before.before.before.before.before.before.before).requires in (
+      node-taken _ _ _ _ _ _ _ _ _ _ _ _ _ pre.1.0 i.id_of-id.ensures pre.0 _ o.key_of.ensures (omega arith) _ _ _ _
+          o.open_node.ensures.0,
+      o.open_node.ensures.1,
     )
 
-mul-word : tie.Need-overflow-mul-word
+mul-word : tie.Need-overflow_mul-n-2
 mul-word c =
     let pre = (start c.before).requires in
     omega (arith, pre.1.0, pre.0.room.shape.whole.rows)
 
-mul-word-2 : tie.Need-overflow-mul-word-2
+mul-word-2 : tie.Need-overflow_mul-id
 mul-word-2 c = omega (arith, there c)
 
-add-word : tie.Need-overflow-add-word
-add-word c = omega (arith, there c, (start c.before).requires.1.1, (start c.before).well-formed)
+add-word : tie.Need-overflow_add-base
+add-word c = omega (arith, there c, (start c.before).requires.1.1, (start c.before).well_formed)
 
-word-requires : tie.Need-word-requires
+word-requires : tie.Need-word-r-requires
 word-requires c κs = omega (arith, there c, (start c.before).requires.1.1)
 
-circles-requires : tie.Need-circles-requires
+circles-requires : tie.Need-circles-o-requires
 circles-requires c κs = omega (arith, (start c.before.before).requires.0.room.shape.whole.words)
 
-measure-row-requires : tie.Need-measure-row-requires
+measure-row-requires : tie.Need-measure_row-seen-requires
 measure-row-requires c κs =
-    let w = c.before.before.before in
-    let i = w.before.before in
-    let pre = (start i).requires in
-    let p = place-row _ _ _ _ _ _ _ _ _ _ _ _ _ pre.1.0 i.id-of.ensures pre.0 (omega arith) _ _ (row w)
-    c.before.before.circles.ensures in
+    let w = c in
+    let i = w in
+    let pre = (start i.before.before.before.before.before).requires in
+    let p = place-row _ _ _ _ _ _ _ _ _ _ _ _ _ pre.1.0 i.id_of-id.ensures pre.0 (omega arith) _ _ (row w.before.before.before)
+    c.circles-o.ensures in
     (p.0, (p.1, pre.1.2))
 
-same-length-3 : tie.Need-same-length-3
-same-length-3 c = c.before.before.before.before.measure-row.ensures.0.grew.since.bytes
+same-length-3 : tie.Need-shape_of-how
+same-length-3 c = c.measure_row-seen.ensures.0.grew.since.bytes
 
-same-length-4 : tie.Need-same-length-4
-same-length-4 c = c.before.before.before.before.measure-row.ensures.0.grew.since.words
+same-length-4 : tie.Need-shape_of-work
+same-length-4 c = c.measure_row-seen.ensures.0.grew.since.words
 
-returns-2 : tie.Need-returns-2
+returns-2 : tie.Need-returns
 returns-2 c =
-    let m = c.before.before.before.before in
-    let w = m.before.before.before.before in
-    let i = w.before.before in
-    let pre = (start i).requires in (
-      place-taken _ _ _ _ _ _ _ _ _ _ _ _ _ pre.1.0 i.id-of.ensures pre.0 (omega arith) _ _ _ _ _ (row w)
-          m.before.before.before.circles.ensures m.measure-row.ensures.0,
-      m.measure-row.ensures.1,
+    let m = c in
+    let w = m in
+    let i = w in
+    let pre = (start i.before.before.before.before.before.before.before.before.before.before).requires in (
+      place-taken _ _ _ _ _ _ _ _ _ _ _ _ _ pre.1.0 i.id_of-id.ensures pre.0 (omega arith) _ _ _ _ _ (row w.before.before.before.before.before.before.before.before)
+          m.circles-o.ensures m.measure_row-seen.ensures.0,
+      m.measure_row-seen.ensures.1,
     )
 
-pub take-item-spec : {M : Type 1} → statement M
-take-item-spec =
+pub take_item_spec : {M : Type 1} → statement M
+take_item_spec =
     tie.close
     (tie.spec
     (λ c κs. search rules)

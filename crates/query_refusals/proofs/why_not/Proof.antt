@@ -8,32 +8,32 @@ use mathlib.Core.Bool.{false, true}
 use mathlib.Core.Path.{refl}
 use native.Mathlib.Omega.{arith}
 
-returns : tie.Need-returns
+returns : tie.Need-returns-then-how-n
 returns c = few_bytes _ _ _ _ _ _ _ (omega arith)
 
-returns-2 : tie.Need-returns-2
+returns-2 : tie.Need-returns-then-marks-n
 returns-2 c = few-marks _ _ _ _ _ _ _ (omega arith)
 
-returns-3 : tie.Need-returns-3
-returns-3 c = part-query _ _ _ _ _ _ _ (omega arith) (omega arith) c.if3.true
+returns-3 : tie.Need-returns-then-asked-c-ne0
+returns-3 c = part-query _ _ _ _ _ _ _ (omega arith) (omega arith) c.if-asked-c-ne0.true
 
-returns-4 : tie.Need-returns-4
-returns-4 c = no-query _ _ _ _ _ _ _ (omega arith) (omega arith) c.if4.true
+returns-4 : tie.Need-returns-then-asked-c-eq0
+returns-4 c = no-query _ _ _ _ _ _ _ (omega arith) (omega arith) c.if-asked-c-eq0.true
 
-returns-5 : tie.Need-returns-5
+returns-5 : tie.Need-returns-then-asked-c-gt-MOST_ROWS
 returns-5 c = too_many _ _ _ _ _ _ _ (omega arith) (omega arith) (omega arith)
 
-returns-6 : tie.Need-returns-6
-returns-6 c = decided _ _ _ _ _ _ _ (omega arith) (omega arith) c.before.before.before.if3.false (omega arith) (omega arith) true _ c.if6.true refl
+returns-6 : tie.Need-returns-then-off
+returns-6 c = decided _ _ _ _ _ _ _ (omega arith) (omega arith) c.if-asked-c-ne0.false (omega arith) (omega arith) true _ c.if-off.true refl
 
-returns-7 : tie.Need-returns-7
-returns-7 c = decided _ _ _ _ _ _ _ (omega arith) (omega arith) c.before.before.before.before.if3.false (omega arith) (omega arith) false true c.before.if6.false c.if7.true
+returns-7 : tie.Need-returns-then-bad
+returns-7 c = decided _ _ _ _ _ _ _ (omega arith) (omega arith) c.if-asked-c-ne0.false (omega arith) (omega arith) false true c.if-off.false c.if-bad.true
 
-returns-8 : tie.Need-returns-8
-returns-8 c = decided _ _ _ _ _ _ _ (omega arith) (omega arith) c.before.before.before.before.if3.false (omega arith) (omega arith) false false c.before.if6.false c.if7.false
+returns-8 : tie.Need-returns
+returns-8 c = decided _ _ _ _ _ _ _ (omega arith) (omega arith) c.if-asked-c-ne0.false (omega arith) (omega arith) false false c.if-off.false c.if-bad.false
 
-pub why-not-spec : {M : Type 1} → statement M
-why-not-spec =
+pub why_not_spec : {M : Type 1} → statement M
+why_not_spec =
     tie.close
     (tie.spec
     returns

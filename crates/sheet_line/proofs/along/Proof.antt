@@ -6,26 +6,26 @@ use Rattle.sheet_line.proofs.along.Statement.{statement}
 use Rattle.sheet_line.proofs.along.Tie as tie
 use borrow.Author.Rules.{rules}
 
-returns : tie.Need-returns
-returns c = along-at _ _ (Digit _) _ c.before.before.before.kind.given.1 (cc)
+returns : tie.Need-returns-in-Digit
+returns c = along-at _ _ (Digit _) _ c.in-Digit.is (cc)
 
-returns-2 : tie.Need-returns-2
-returns-2 c = along-at _ c.before.before.before.args.kind Blank _ (search rules) c.at-blank.ensures
+returns-2 : tie.Need-returns-in-Blank
+returns-2 c = along-at _ c.args.kind Blank _ (search rules) c.at_blank.ensures
 
-returns-3 : tie.Need-returns-3
-returns-3 c = along-at _ c.before.before.before.before.args.kind Parting _ (search rules) (cc)
+returns-3 : tie.Need-returns-in-Parting
+returns-3 c = along-at _ c.args.kind Parting _ (search rules) (cc)
 
-returns-4 : tie.Need-returns-4
-returns-4 c = along-at _ c.before.before.before.args.kind Sign _ (search rules) c.go-on2.ensures
+returns-4 : tie.Need-returns-in-Sign
+returns-4 c = along-at _ c.args.kind Sign _ (search rules) c.go_on-in-Sign.ensures
 
-returns-5 : tie.Need-returns-5
-returns-5 c = along-at _ c.before.before.before.args.kind Other _ (search rules) c.go-on3.ensures
+returns-5 : tie.Need-returns-in-Other
+returns-5 c = along-at _ c.args.kind Other _ (search rules) c.go_on-in-Other.ensures
 
-returns-6 : tie.Need-returns-6
-returns-6 c = along-at _ c.before.before.before.before.args.kind Quote _ (search rules) (cc)
+returns-6 : tie.Need-returns-in-Quote
+returns-6 c = along-at _ c.args.kind Quote _ (search rules) (cc)
 
-pub along-spec : {M : Type 1} → statement M
-along-spec =
+pub along_spec : {M : Type 1} → statement M
+along_spec =
     tie.close
     (tie.spec
     (λ c. search rules)

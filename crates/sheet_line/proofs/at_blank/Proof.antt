@@ -6,26 +6,26 @@ use Rattle.sheet_line.proofs.at_blank.Tie as tie
 use Rattle.line_reading.specs.declared.Place.TheVariants.{Great, Quoted, Strange}
 use borrow.Author.Rules.{rules}
 
-returns : tie.Need-returns
+returns : tie.Need-returns-in-Open
 returns c = cc
 
-returns-2 : tie.Need-returns-2
-returns-2 c = blank-in _ _ _ c.before.before.place.given.1 c.add.ensures
+returns-2 : tie.Need-returns-in-Inside
+returns-2 c = blank-in _ _ _ c.in-Inside.is c.add.ensures
 
-returns-3 : tie.Need-returns-3
-returns-3 c = blank-in _ Great _ (search rules) c.add2.ensures
+returns-3 : tie.Need-returns-in-Great
+returns-3 c = blank-in _ Great _ (search rules) c.add-in-Great.ensures
 
-returns-4 : tie.Need-returns-4
-returns-4 c = blank-in _ Strange _ (search rules) c.add3.ensures
+returns-4 : tie.Need-returns-in-Strange
+returns-4 c = blank-in _ Strange _ (search rules) c.add-in-Strange.ensures
 
-returns-5 : tie.Need-returns-5
+returns-5 : tie.Need-returns-in-Behind
 returns-5 c = cc
 
-returns-6 : tie.Need-returns-6
-returns-6 c = blank-in _ Quoted _ (search rules) c.add4.ensures
+returns-6 : tie.Need-returns-in-Quoted
+returns-6 c = blank-in _ Quoted _ (search rules) c.add-in-Quoted.ensures
 
-pub at-blank-spec : {M : Type 1} → statement M
-at-blank-spec =
+pub at_blank_spec : {M : Type 1} → statement M
+at_blank_spec =
     tie.close
     (tie.spec
     (λ c. search rules)

@@ -9,5 +9,8 @@ returns : tie.Need-returns
 unfolding emptied
 returns c = cc
 
-pub fresh-spec : {M : Type 1} → statement M
-fresh-spec = tie.close (tie.spec (λ c κs. search rules) (λ c κs. search rules) returns)
+pub fresh_spec : {M : Type 1} → statement M
+fresh_spec = tie.close (tie.spec
+    (λ c κs. search rules)
+    (λ c κs. search rules)
+    returns)

@@ -6,10 +6,10 @@ use Rattle.sheet_line.proofs.go_on.Tie as tie
 use borrow.Author.Rules.{rules}
 
 returns : tie.Need-returns
-returns c = moved_to _ _ _ _ _ c.before.may-lead.ensures c.has-figure.ensures
+returns c = moved_to _ _ _ _ _ c.may_lead.ensures c.has_figure.ensures
 
-pub go-on-spec : {M : Type 1} → statement M
-go-on-spec =
+pub go_on_spec : {M : Type 1} → statement M
+go_on_spec =
     tie.close
     (tie.spec
     (λ c κs. search rules)

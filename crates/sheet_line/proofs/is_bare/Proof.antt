@@ -6,13 +6,16 @@ use Rattle.line_reading.specs.InLine.{bare}
 use borrow.Author.Rules.{rules}
 use borrow.Author.Tests.{eq-eqb, ne_eqb}
 
-returns : tie.Need-returns
+returns : tie.Need-returns-then-here-ne0
 unfolding bare
-returns c = rw (ne_eqb _ _ c.if1.true)
+returns c = rw (ne_eqb _ _ c.if-here-ne0.true)
 
-returns-2 : tie.Need-returns-2
+returns-2 : tie.Need-returns
 unfolding bare
-returns-2 c = rw (eq-eqb _ _ c.before.if1.false) c.may-begin.ensures
+returns-2 c = rw (eq-eqb _ _ c.if-here-ne0.false) c.may_begin.ensures
 
-pub is-bare-spec : {M : Type 1} → statement M
-is-bare-spec = tie.close (tie.spec returns (λ c κs. search rules) returns-2)
+pub is_bare_spec : {M : Type 1} → statement M
+is_bare_spec = tie.close (tie.spec
+    returns
+    (λ c κs. search rules)
+    returns-2)

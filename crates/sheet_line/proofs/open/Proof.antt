@@ -10,4 +10,5 @@ unfolding opened
 returns c = search rules
 
 pub open_spec : {M : Type 1} → statement M
-open_spec = tie.close (tie.spec returns)
+open_spec = tie.close (tie.spec
+    returns)

@@ -10,19 +10,23 @@ use mathlib.Core.Path.{◌≡◌, ap}
 use native.Mathlib.Omega.{arith}
 
 -- the product, by the edition
-product : (c : tie.After-card-width)
-    → c.card-width.result * c.before.before.args.k
+product : (c : tie.After-card_width)
+    → c.card_width.result * c.before.before.args.k
     ≡ width (edition# (card_words_lem c.before.before.args.image.now)) * c.before.before.args.k
-product c = ap (λ (z : ℕ). z * c.before.before.args.k) c.card-width.ensures
+product c = ap (λ (z : ℕ). z * c.args.k) c.card_width.ensures
 
-mul-result : tie.Need-overflow-mul-result
-mul-result c = omega (arith, product c, c.before.before.requires.1, c.before.before.requires.0.inside, c.before.before.well-formed)
+mul-result : tie.Need-overflow_mul-result
+mul-result c = omega (arith, product c, c.requires.1, c.requires.0.inside, c.well_formed)
 
-add-result : tie.Need-overflow-add-result
-add-result c = omega (arith, product c, c.before.before.requires.1, c.before.before.requires.0.inside, c.before.before.well-formed)
+add-result : tie.Need-overflow_add-result
+add-result c = omega (arith, product c, c.requires.1, c.requires.0.inside, c.well_formed)
 
 returns : tie.Need-returns
 returns c = omega (arith, product c)
 
-pub card-node-at-spec : {M : Type 1} → statement M
-card-node-at-spec = tie.close (tie.spec (λ c κs. search rules) mul-result add-result returns)
+pub card_node_at_spec : {M : Type 1} → statement M
+card_node_at_spec = tie.close (tie.spec
+    (λ c κs. search rules)
+    mul-result
+    add-result
+    returns)

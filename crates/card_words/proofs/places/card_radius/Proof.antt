@@ -14,19 +14,23 @@ use native.Mathlib.Omega.{arith}
 there : (s : tie.Start) → node_at_lem (card_words_lem s.args.image.now) s.args.k + 3 < length (card_words_lem s.args.image.now)
 there s = (words_there (card_words_lem s.args.image.now) s.requires.0.whole s.args.k s.requires.1).1
 
-card-node-at-requires : tie.Need-card-node-at-requires
-card-node-at-requires c κs = (c.before.requires.0, omega (arith, there c.before))
+card-node-at-requires : tie.Need-card_node_at-requires
+card-node-at-requires c κs = (c.requires.0, omega (arith, there c.before))
 
-add-held-word : tie.Need-overflow-add-held-word
-add-held-word c = omega (arith, c.card-node-at.ensures, there c.before.before, c.before.before.requires.0.inside, c.before.before.well-formed)
+add-held-word : tie.Need-overflow_add-card_node_at
+add-held-word c = omega (arith, c.card_node_at.ensures, there c.before.before, c.requires.0.inside, c.well_formed)
 
-held-word-requires : tie.Need-held-word-requires
-held-word-requires c κs = (c.before.before.requires.0, omega (arith, c.card-node-at.ensures, there c.before.before))
+held-word-requires : tie.Need-held_word-requires
+held-word-requires c κs = (c.requires.0, omega (arith, c.card_node_at.ensures, there c.before.before))
 
 returns : tie.Need-returns
 returns c =
-    let w = card_words_lem c.before.before.before.args.image.now in
-    c.held_word.ensures ∙ ap (λ (z : ℕ). at w (z + 3)) c.before.card-node-at.ensures
+    let w = card_words_lem c.args.image.now in
+    c.held_word.ensures ∙ ap (λ (z : ℕ). at w (z + 3)) c.card_node_at.ensures
 
-pub card-radius-spec : {M : Type 1} → statement M
-card-radius-spec = tie.close (tie.spec card-node-at-requires add-held-word held-word-requires returns)
+pub card_radius_spec : {M : Type 1} → statement M
+card_radius_spec = tie.close (tie.spec
+    card-node-at-requires
+    add-held-word
+    held-word-requires
+    returns)

@@ -9,8 +9,11 @@ use mathlib.Core.Path.{◌∙◌, ap}
 
 returns : tie.Need-returns
 returns c =
-    let w = card_words_lem c.before.before.before.args.image.now in
-    (c.card-word.ensures.0 ∙ ap (at w) c.before.card-pair-at.ensures, c.card-word.ensures.1)
+    let w = card_words_lem c.args.image.now in
+    (c.card_word.ensures.0 ∙ ap (at w) c.card_pair_at.ensures, c.card_word.ensures.1)
 
-pub card-row-spec : {M : Type 1} → statement M
-card-row-spec = tie.close (tie.spec (λ c κs. search rules) (λ c κs. search rules) returns)
+pub card_row_spec : {M : Type 1} → statement M
+card_row_spec = tie.close (tie.spec
+    (λ c κs. search rules)
+    (λ c κs. search rules)
+    returns)

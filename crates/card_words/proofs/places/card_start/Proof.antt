@@ -14,16 +14,19 @@ use native.Mathlib.Omega.{arith}
 there : (s : tie.Start) → node_at_lem (card_words_lem s.args.image.now) s.args.k + 3 < length (card_words_lem s.args.image.now)
 there s = (words_there (card_words_lem s.args.image.now) s.requires.0.whole s.args.k s.requires.1).1
 
-card-node-at-requires : tie.Need-card-node-at-requires
-card-node-at-requires c κs = (c.before.requires.0, omega (arith, there c.before))
+card-node-at-requires : tie.Need-card_node_at-requires
+card-node-at-requires c κs = (c.requires.0, omega (arith, there c.before))
 
-card-word-requires : tie.Need-card-word-requires
-card-word-requires c κs = (c.before.before.requires.0, omega (arith, c.card-node-at.ensures, there c.before.before))
+card-word-requires : tie.Need-card_word-requires
+card-word-requires c κs = (c.requires.0, omega (arith, c.card_node_at.ensures, there c.before.before))
 
 returns : tie.Need-returns
 returns c =
-    let w = card_words_lem c.before.before.before.args.image.now in
-    (c.card-word.ensures.0 ∙ ap (at w) c.before.card-node-at.ensures, c.card-word.ensures.1)
+    let w = card_words_lem c.args.image.now in
+    (c.card_word.ensures.0 ∙ ap (at w) c.card_node_at.ensures, c.card_word.ensures.1)
 
-pub card-start-spec : {M : Type 1} → statement M
-card-start-spec = tie.close (tie.spec card-node-at-requires card-word-requires returns)
+pub card_start_spec : {M : Type 1} → statement M
+card_start_spec = tie.close (tie.spec
+    card-node-at-requires
+    card-word-requires
+    returns)

@@ -10,8 +10,12 @@ use mathlib.Core.Path.{◌∙◌, ap}
 
 returns : tie.Need-returns
 returns c =
-    let w = card_words_lem c.before.before.before.args.image.now in
-    c.held_word.ensures ∙ ap (λ (z : ℕ). at w (z + 1)) c.before.card-pair-at.ensures
+    let w = card_words_lem c.args.image.now in
+    c.held_word.ensures ∙ ap (λ (z : ℕ). at w (z + 1)) c.card_pair_at.ensures
 
-pub card-stored-spec : {M : Type 1} → statement M
-card-stored-spec = tie.close (tie.spec (λ c κs. search rules) (λ c. search rules) (λ c κs. search rules) returns)
+pub card_stored_spec : {M : Type 1} → statement M
+card_stored_spec = tie.close (tie.spec
+    (λ c κs. search rules)
+    (λ c. search rules)
+    (λ c κs. search rules)
+    returns)

@@ -6,7 +6,10 @@ use borrow.Author.Rules.{rules}
 use native.Mathlib.Omega.{arith}
 
 returns : tie.Need-returns
-returns c = omega (arith, c.card-word.ensures.0)
+returns c = omega (arith, c.card_word.ensures.0)
 
-pub card-width-spec : {M : Type 1} → statement M
-card-width-spec = tie.close (tie.spec (λ c κs. search rules) (λ c. search rules) returns)
+pub card_width_spec : {M : Type 1} → statement M
+card_width_spec = tie.close (tie.spec
+    (λ c κs. search rules)
+    (λ c. search rules)
+    returns)

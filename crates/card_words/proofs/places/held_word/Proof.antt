@@ -8,15 +8,17 @@ use lib.ListN.{length}
 use mathlib.Core.Path.{◌∙◌}
 use native.Mathlib.Omega.{arith}
 
-image-word-requires : tie.Need-image-word-requires
+image-word-requires : tie.Need-image_word-requires
 image-word-requires c κs =
-    let s = c.before in
+    let s = c in
     inside s.args.j (length s.args.image.now) (omega (arith, s.requires.0.inside))
 
 returns : tie.Need-returns
 returns c =
-    let s = c.before.before in
-    c.image-word.ensures ∙ card-at s.args.image.now s.args.j s.requires.1
+    let s = c in
+    c.image_word.ensures ∙ card-at s.args.image.now s.args.j s.requires.1
 
-pub held-word-spec : {M : Type 1} → statement M
-held-word-spec = tie.close (tie.spec image-word-requires returns)
+pub held_word_spec : {M : Type 1} → statement M
+held_word_spec = tie.close (tie.spec
+    image-word-requires
+    returns)

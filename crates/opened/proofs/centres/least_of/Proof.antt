@@ -5,6 +5,7 @@ use Rattle.laws.specs.Lists.{least}
 use Rattle.opened.proofs.Distances.{least-next}
 use Rattle.opened.proofs.centres.least_of.Statement.{statement}
 use Rattle.opened.proofs.centres.least_of.Tie as tie
+use Rattle.opened.proofs.centres.least_of.Lts.{else-d-y, then-d-y}
 use borrow.Author.Rules.{rules}
 use lib.ListN.{get_or, length, take}
 use mathlib.Core.Logic.{⊎_elim}
@@ -23,7 +24,7 @@ loop-holds c = (omega arith, omega arith, omega arith, refl)
 loop-again : tie.Need-loop-j-preserved invariant-loop decreases-loop
 loop-again c =
     let l = c.loop-j in
-    (omega arith, omega arith, l.invariant.2, least-next _ _ l.j (omega arith) l.invariant.3 (⊎_elim (λ w. omega arith) (λ w. omega arith) c.if-d-y.branch))
+    (omega arith, omega arith, l.invariant.2, least-next _ _ l.j (omega arith) l.invariant.3 (elim c.if-d-y.branch [ then-d-y w ↦ omega arith | else-d-y w ↦ omega arith ]))
 
 returns : tie.Need-returns invariant-loop decreases-loop
 returns c =

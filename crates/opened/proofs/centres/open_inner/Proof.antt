@@ -107,10 +107,10 @@ loop-again c =
     let row = c.measure_row-d in
     let i = read.word-row.result in
     let round = read.circles-round.ensures in
-    let k = row.auto.1.1.1.1.1.1.1.0 in (
+    let k = row.auto.how in (
       lent_same l.invariant.0 _ k,
       k ∙ l.invariant.1,
-      row.auto.1.1.1.1.1.1.1.1.0 ∙ l.invariant.2,
+      row.auto.list ∙ l.invariant.2,
       omega arith,
       omega arith,
       l.invariant.5,

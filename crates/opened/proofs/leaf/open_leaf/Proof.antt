@@ -47,11 +47,11 @@ loop-again c =
     let w = s.args.index.now in
     let x : ℕ → ℕ → ℕ = λ o i. from s.args.table.now s.args.c o s.args.query.now i in
     let lr = c.leaf_row in
-    let k = lr.auto.1.1.1.1.1.1.1.1.1.1.0 in (
+    let k = lr.auto.how in (
       lent_same l.invariant.0 _ k,
       l.invariant.1,
       k ∙ l.invariant.2,
-      lr.auto.1.1.1.1.1.1.1.1.1.1.1.0 ∙ l.invariant.3,
+      lr.auto.list ∙ l.invariant.3,
       omega arith,
       omega arith,
       l.invariant.6,
