@@ -2,7 +2,7 @@
 // answered. Answers go to one file, all else to another; the number given back is the status that the program ends with.
 #![tactic(auto)]
 
-ghost use Rattle.std.specs.Prelude.{◌≤◌, length};
+ghost use Rattle.std.specs.Prelude.{◌≡◌, ◌≤◌, length};
 
 use answer_lines::plan::Plan;
 use answer_lines::write_given;
@@ -12,8 +12,11 @@ use asking::pieces::{least, part};
 use finding::{Outcome, find_rows};
 use lines::put_bytes;
 use planning::plan_question;
-use saying::say;
+use saying::{STDERR_FILENO, say};
 use statuses::asked_wrongly;
+use std::env::FillError;
+use std::io::Input;
+use std::rt::{Env, Files};
 use telling::refuse;
 
 // The descriptor at which the launcher listens for the status, since a program of the kit has no exit status; where nobody does, nothing is written.
@@ -55,7 +58,8 @@ fn write_found(
 
 // The whole program: the words of its arguments, each ended by a zero byte; the rooms that it works in; and where answers and all else go.
 // Gives the status.
-pub fn run(
+pub fn run<R: Files + Input>(
+    rt: &R,
     words: &[u8],
     ends: Ends,
     text: &mut [u8],
@@ -72,6 +76,7 @@ pub fn run(
     let mut queries = query_room();
     let mut struck = none_struck();
     let plan = plan_question(
+        rt,
         words,
         ends.out,
         ends.err,
@@ -97,30 +102,32 @@ pub struct Words {
     pub length: usize,
 }
 
+// Not all arguments fit.
+fn too_long() -> Words
+    ensures { result.length ≡ 0 }
+{
+    Words {
+        whole: false,
+        length: 0,
+    }
+}
+
 // Puts the arguments behind the program's name into a room, each ended by a zero byte.
-pub fn arguments(room: &mut [u8]) -> Words
+pub fn arguments<R: Env>(rt: &R, room: &mut [u8]) -> Words
     ensures { result.length ≤ length room.new }
 {
-    let count = os::arg_count();
     let mut length = 0;
-    let mut i = 1;
-    while i < count {
+    for i in 1..usize::MAX {
         let mut word = io::buffer();
-        let k = os::arg(i, &mut word);
-        if os::errno() != 0 {
-            return Words {
-                whole: false,
-                length: 0,
-            };
-        }
+        let k = match rt.arg(i, &mut word) {
+            Ok(k) => k,
+            Err(FillError::NotPresent) => break,
+            Err(FillError::TooLong) => return too_long(),
+        };
         if room.len() - length <= k {
-            return Words {
-                whole: false,
-                length: 0,
-            };
+            return too_long();
         }
-        length = put_bytes(libc::STDERR_FILENO, room, length, &word[..k], 0);
-        i += 1;
+        length = put_bytes(STDERR_FILENO, room, length, &word[..k], 0);
     }
     Words {
         whole: true,

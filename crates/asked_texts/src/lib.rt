@@ -8,6 +8,8 @@ use asking::pieces::{bytes_of, part};
 use files::{is_input, opened, read_behind, read_whole};
 use saying::{say, say_count, say_grouped, say_number, say_quoted};
 use statuses::{answered, asked_wrongly, no_room, text_faulty};
+use std::io::{Input, Read};
+use std::rt::Files;
 use withdrawing::withdraw_in;
 
 // As many words as the set of the most rows has.
@@ -36,17 +38,21 @@ fn none_read(status: u32) -> OneText
 }
 
 // Reads the text of the rows. The file is closed.
-fn read_first(words: &[u8], q: Question, err: i32, text: &mut [u8]) -> OneText
+fn read_first<R: Files + Input>(
+    rt: &R,
+    words: &[u8],
+    q: Question,
+    err: i32,
+    text: &mut [u8],
+) -> OneText
     ensures { result.status ≤ 4 }
 {
     let name = bytes_of(words, q.file);
-    let file = opened(name);
-    if file < 0 {
+    let Some(mut file) = opened(rt, name) else {
         say_quoted(err, b"can't open ", name, b"");
         return none_read(asked_wrongly());
-    }
-    let came = read_whole(file, text);
-    libc::close(file);
+    };
+    let came = read_whole(&mut file, text);
     if !came.whole {
         say_quoted(err, b"", name, b" can't be read");
         return none_read(asked_wrongly());
@@ -63,15 +69,20 @@ fn read_first(words: &[u8], q: Question, err: i32, text: &mut [u8]) -> OneText
     }
 }
 
-// Reads the second text of an open file behind the first. The file is closed.
-fn read_second(err: i32, name: &[u8], file: i32, text: &mut [u8], from: usize) -> OneText
+// Reads the second text of an open file behind the first.
+fn read_second<F: Read>(
+    err: i32,
+    name: &[u8],
+    file: &mut F,
+    text: &mut [u8],
+    from: usize,
+) -> OneText
     ensures { result.status ≤ 4 }
 {
     if text.len() < from {
         return none_read(no_room());
     }
     let came = read_behind(file, text, from);
-    libc::close(file);
     if !came.whole {
         say_quoted(err, b"", name, b" can't be read");
         return none_read(asked_wrongly());
@@ -86,8 +97,15 @@ fn read_second(err: i32, name: &[u8], file: i32, text: &mut [u8], from: usize) -
     }
 }
 
-// Reads the text of the rows that are withdrawn behind the first, if there is one.
-fn read_without(words: &[u8], q: Question, err: i32, text: &mut [u8], from: usize) -> OneText
+// Reads the text of the rows that are withdrawn behind the first, if there is one. The file is closed.
+fn read_without<R: Files + Input>(
+    rt: &R,
+    words: &[u8],
+    q: Question,
+    err: i32,
+    text: &mut [u8],
+    from: usize,
+) -> OneText
     ensures { result.status ≤ 4 }
 {
     if !q.without.there {
@@ -101,19 +119,24 @@ fn read_without(words: &[u8], q: Question, err: i32, text: &mut [u8], from: usiz
         );
         return none_read(asked_wrongly());
     }
-    let file = opened(name);
-    if file < 0 {
+    let Some(mut file) = opened(rt, name) else {
         say_quoted(err, b"can't open ", name, b"");
         return none_read(asked_wrongly());
-    }
-    read_second(err, name, file, text, from)
+    };
+    read_second(err, name, &mut file, text, from)
 }
 
 // Reads the text of the rows, and behind it that of the rows that are withdrawn, if there is one.
-pub fn read_texts(words: &[u8], q: Question, err: i32, text: &mut [u8]) -> Texts
+pub fn read_texts<R: Files + Input>(
+    rt: &R,
+    words: &[u8],
+    q: Question,
+    err: i32,
+    text: &mut [u8],
+) -> Texts
     ensures { result.status ≤ 4 }
 {
-    let first = read_first(words, q, err, text);
+    let first = read_first(rt, words, q, err, text);
     if first.status != 0 {
         return Texts {
             status: first.status,
@@ -121,7 +144,7 @@ pub fn read_texts(words: &[u8], q: Question, err: i32, text: &mut [u8]) -> Texts
             second: 0,
         };
     }
-    let without = read_without(words, q, err, text, first.length);
+    let without = read_without(rt, words, q, err, text, first.length);
     Texts {
         status: without.status,
         length: first.length,

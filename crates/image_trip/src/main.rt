@@ -6,10 +6,14 @@ ghost use Rattle.std.specs.Prelude.{◌<◌, ◌≤◌, length};
 ghost use Rattle.io.specs.Counts.{IsPrefixLen};
 
 use card::read_image;
-use libc::STDOUT_FILENO;
+use files::read_front;
 use lines::print_lines;
 use listing::list_node;
 use samples::{FIVE_ROWS, five_index};
+use saying::STDOUT_FILENO;
+use std::fs;
+use std::io::Write;
+use std::rt::Files;
 
 // Two numbers on a line.
 fn print_pair(a: u32, b: usize) {
@@ -45,28 +49,26 @@ fn print_late(image: &mut [u8], table: &[u16])
 }
 
 // The bytes to a file.
-fn save(path: &[u8], bytes: &[u8]) {
-    let made = os::open_overwrite(path);
-    if made < 0 {
-        os::fail(path);
-        return;
+fn save<R: Files + Eprint>(rt: &R, path: &str, bytes: &[u8]) {
+    match fs::create(rt, path) {
+        Ok(mut made) => {
+            let _ = made.write_all(bytes);
+        }
+        Err(error) => files::fail(rt, path, error),
     }
-    io::write_all(made, bytes);
-    libc::close(made);
 }
 
 // A file's bytes, and how many there were.
-fn load(path: &[u8], bytes: &mut [u8]) -> usize
+fn load<R: Files + Eprint>(rt: &R, path: &str, bytes: &mut [u8]) -> usize
     ensures { IsPrefixLen result bytes.new }
 {
-    let back = os::open_read(path);
-    if back < 0 {
-        os::fail(path);
-        return 0;
+    match fs::open(rt, path) {
+        Ok(mut back) => read_front(&mut back, bytes),
+        Err(error) => {
+            files::fail(rt, path, error);
+            0
+        }
     }
-    let got = io::read_full(back, bytes);
-    libc::close(back);
-    got
 }
 
 // The five nodes of an index, four words of each, and its positions.
@@ -86,13 +88,13 @@ fn print_members(index: &[u32], k: u32) {
 
 // The five-row index through a file: what writing and reading say, then its nodes and positions, the members of node 2, and those of node 5, which
 // is not there.
-fn trip(image: &mut [u8], table: &[u16]) {
+fn trip<R: Files + Eprint>(rt: &R, image: &mut [u8], table: &[u16]) {
     let index = five_index();
     let written = image::write_image(&index, image);
     print_pair(written.number, written.blocks);
-    save(b"five", image);
+    save(rt, "five", image);
     let mut back = [0u8; 512];
-    let n = load(b"five", &mut back);
+    let n = load(rt, "five", &mut back);
     let mut room = [0u32; 43];
     let read = read_image(&back[..n], table, 1, &mut room);
     print_pair(read.number, read.words);
@@ -116,10 +118,10 @@ fn write_three(image: &mut [u8]) {
     print_pair(written.number, written.blocks);
 }
 
-fn main() {
+fn main(rt: HostRuntime) {
     let mut image = [0u8; 512];
     let five = FIVE_ROWS;
-    trip(&mut image, &five);
+    trip(&rt, &mut image, &five);
     print_turned(&mut image, &five, 33);
     print_turned(&mut image, &five, 511);
     print_late(&mut image, &five);

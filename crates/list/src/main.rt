@@ -1,6 +1,6 @@
 // The listing program.
 #![tactic(auto)]
 
-fn main() {
-    lister::run();
+fn main(rt: HostRuntime) {
+    lister::run(&rt);
 }

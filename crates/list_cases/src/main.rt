@@ -2,50 +2,51 @@
 // proof, and a text more costs it nothing.
 #![tactic(auto)]
 
-use libc::STDOUT_FILENO;
+use saying::STDOUT_FILENO;
+use std::fs;
+use std::rt::Files;
 
-fn list(name: &[u8]) {
-    io::write_all(STDOUT_FILENO, name);
+fn list<R: Files + Eprint>(rt: &R, name: &str) {
+    io::write_all(STDOUT_FILENO, name.as_bytes());
     io::write_all(STDOUT_FILENO, b"\n");
-    let file = os::open_read(name);
-    if file < 0 {
-        os::fail(name);
-        return;
+    match fs::open(rt, name) {
+        Ok(mut file) => {
+            lister::run_on(&mut file);
+        }
+        Err(error) => files::fail(rt, name, error),
     }
-    lister::run_on(file);
-    libc::close(file);
 }
 
 // Texts that are listed.
-fn listed() {
-    list(b"no_rows");
-    list(b"columns_16");
-    list(b"leaf_as_centres");
-    list(b"equal_26");
-    list(b"equal_27");
-    list(b"most_rows");
+fn listed<R: Files + Eprint>(rt: &R) {
+    list(rt, "no_rows");
+    list(rt, "columns_16");
+    list(rt, "leaf_as_centres");
+    list(rt, "equal_26");
+    list(rt, "equal_27");
+    list(rt, "most_rows");
 }
 
 // Texts that are read as numbers, which the build refuses.
-fn refused() {
-    list(b"columns_17");
-    list(b"leaf_below_centres");
-    list(b"ragged");
-    list(b"longest");
+fn refused<R: Files + Eprint>(rt: &R) {
+    list(rt, "columns_17");
+    list(rt, "leaf_below_centres");
+    list(rt, "ragged");
+    list(rt, "longest");
 }
 
 // Texts that are not read, and a directory.
-fn unread() {
-    list(b"nothing");
-    list(b"leading_zero");
-    list(b"number_65536");
-    list(b"number_too_many");
-    list(b"far_too_long");
-    list(b".");
+fn unread<R: Files + Eprint>(rt: &R) {
+    list(rt, "nothing");
+    list(rt, "leading_zero");
+    list(rt, "number_65536");
+    list(rt, "number_too_many");
+    list(rt, "far_too_long");
+    list(rt, ".");
 }
 
-fn main() {
-    listed();
-    refused();
-    unread();
+fn main(rt: HostRuntime) {
+    listed(&rt);
+    refused(&rt);
+    unread(&rt);
 }

@@ -6,9 +6,10 @@ ghost use Rattle.lister.specs.Keeps.{Keeps};
 ghost use Rattle.lister.specs.Listing.{Lists, Runs};
 ghost use Rattle.words.specs.Words.{width};
 
-use libc::{STDIN_FILENO, STDOUT_FILENO};
 use limits::Params;
 use lines::print_lines;
+use saying::STDOUT_FILENO;
+use std::io::{Input, Read};
 use words::places::HEADER;
 
 // How many words a node has, and how many of them are listed: all but the inner reach.
@@ -50,23 +51,19 @@ fn keep(came: &[u8], text: &mut [u8], kept: usize) -> usize
 }
 
 // Reads a file to its end, and keeps the front of it. Gives how many bytes are kept; a text that can't be read to its end counts as too long.
-fn read_text(file: i32, text: &mut [u8]) -> usize
+fn read_text<F: Read>(file: &mut F, text: &mut [u8]) -> usize
     ensures { result ≤ length text.new }
 {
     let mut kept = 0;
-    let mut left: u64 = 0xffff_ffff_ffff_ffff;
-    while 0 < left {
+    for _ in 0..u64::MAX {
         let mut chunk = io::buffer();
-        let got = libc::read(file, &mut chunk);
-        if got < 0 {
+        let Ok(n) = file.read(&mut chunk) else {
             return text.len();
-        }
-        let n = io::count(got, &chunk);
+        };
         if n == 0 {
             return kept;
         }
         kept = keep(&chunk[..n], text, kept);
-        left -= 1;
     }
     text.len()
 }
@@ -120,8 +117,8 @@ fn list(numbers: &[u16], room: &mut [u32], work: &mut [u32]) -> u32
 }
 
 // Reads the text as numbers, and lists them. Gives the number of what refused, or 0.
-fn run_in(
-    file: i32,
+fn run_in<F: Read>(
+    file: &mut F,
     text: &mut [u8],
     numbers: &mut [u16],
     room: &mut [u32],
@@ -168,7 +165,7 @@ fn workspace() -> [u32; WORK]
 
 // The whole program on an open file. Gives the number that it printed behind `refused`, or 0 where it printed an index: of that
 // a contract can speak, and not of standard output.
-pub fn run_on(file: i32) -> u32
+pub fn run_on<F: Read>(file: &mut F) -> u32
     ensures { result ≤ 18 }
 {
     let mut text = text_buffer();
@@ -179,8 +176,8 @@ pub fn run_on(file: i32) -> u32
 }
 
 // The whole program on standard input.
-pub fn run() -> u32
+pub fn run<R: Input>(rt: &R) -> u32
     ensures { result ≤ 18 }
 {
-    run_on(STDIN_FILENO)
+    run_on(&mut rt.reader())
 }

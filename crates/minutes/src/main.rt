@@ -4,13 +4,16 @@
 mod rooms;
 
 use analyst::Ends;
+use saying::{STDERR_FILENO, STDOUT_FILENO};
+use std::io::Input;
+use std::rt::Files;
 
 // The words are at most 65,536 bytes, so that a question is answered once.
 const MOST_BYTES: usize = 65_537;
 
 // Answers in rooms of its own, once and as many times again as `again` says. A function that calls itself is never made a part of its caller: so the
 // rooms are in a frame of their own, and help and the version need little stack.
-fn answer(words: &[u8], again: usize) -> u32 {
+fn answer<R: Files + Input>(rt: &R, words: &[u8], again: usize) -> u32 {
     let mut text = rooms::text_room();
     let mut table = rooms::table_room();
     let mut room = rooms::index_room();
@@ -20,10 +23,11 @@ fn answer(words: &[u8], again: usize) -> u32 {
     let mut rows = rooms::answer_room();
     let mut distances = rooms::answer_room();
     let status = analyst::run(
+        rt,
         words,
         Ends {
-            out: libc::STDOUT_FILENO,
-            err: libc::STDERR_FILENO,
+            out: STDOUT_FILENO,
+            err: STDERR_FILENO,
         },
         &mut text,
         &mut table,
@@ -37,24 +41,24 @@ fn answer(words: &[u8], again: usize) -> u32 {
     if again == 0 {
         return status;
     }
-    answer(words, again - 1)
+    answer(rt, words, again - 1)
 }
 
 // The status of the whole. Help and the version are told without the rooms.
-fn status_of(words: &[u8], whole: bool) -> u32 {
+fn status_of<R: Files + Input>(rt: &R, words: &[u8], whole: bool) -> u32 {
     if !whole {
-        return analyst::refuse_words(libc::STDERR_FILENO);
+        return analyst::refuse_words(STDERR_FILENO);
     }
-    if telling::tells(words, libc::STDOUT_FILENO) {
+    if telling::tells(words, STDOUT_FILENO) {
         return statuses::answered();
     }
-    answer(words, words.len() / MOST_BYTES)
+    answer(rt, words, words.len() / MOST_BYTES)
 }
 
-fn main() {
+fn main(rt: HostRuntime) {
     let mut room = io::large_buffer();
-    let words = analyst::arguments(&mut room);
+    let words = analyst::arguments(&rt, &mut room);
     let length = words.length;
-    let status = status_of(&room[..length], words.whole);
+    let status = status_of(&rt, &room[..length], words.whole);
     io::print_decimal(analyst::STATUS_FILE, status as u64);
 }

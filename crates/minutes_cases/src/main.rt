@@ -4,7 +4,9 @@
 mod rooms;
 
 use analyst::Ends;
-use libc::STDOUT_FILENO;
+use saying::STDOUT_FILENO;
+use std::io::Input;
+use std::rt::Files;
 
 fn say(text: &[u8]) {
     io::write_all(STDOUT_FILENO, text);
@@ -26,7 +28,8 @@ fn say_words(words: &[u8]) {
 }
 
 // Answers in these rooms, and in rooms of its own for what is found.
-fn answer_in(
+fn answer_in<R: Files + Input>(
+    rt: &R,
     words: &[u8],
     text: &mut [u8],
     table: &mut [u16],
@@ -38,6 +41,7 @@ fn answer_in(
     let mut rows = rooms::answer_room();
     let mut distances = rooms::answer_room();
     analyst::run(
+        rt,
         words,
         Ends {
             out: STDOUT_FILENO,
@@ -55,41 +59,42 @@ fn answer_in(
 }
 
 // Answers in rooms of its own.
-fn answer(words: &[u8]) -> u32 {
+fn answer<R: Files + Input>(rt: &R, words: &[u8]) -> u32 {
     let mut text = rooms::text_room();
     let mut table = rooms::table_room();
     let mut room = rooms::index_room();
     let mut work = rooms::workspace();
-    answer_in(words, &mut text, &mut table, &mut room, &mut work)
+    answer_in(rt, words, &mut text, &mut table, &mut room, &mut work)
 }
 
 // Each word of a question is ended by a zero byte.
-fn ask(words: &[u8]) {
+fn ask<R: Files + Input>(rt: &R, words: &[u8]) {
     say(b"?");
     say_words(words);
     say(b"\n");
-    let status = answer(words);
+    let status = answer(rt, words);
     say(b"status ");
     io::print_decimal(STDOUT_FILENO, status as u64);
     say(b"\n");
 }
 
 // Asks each question of a list, in which a newline stands behind each.
-fn ask_each(list: &[u8]) {
+fn ask_each<R: Files + Input>(rt: &R, list: &[u8]) {
     let mut i = 0;
     while i < 32 {
         let question = asking::pieces::piece_at(list, b'\n', i);
         if question.end < list.len() {
             if question.there {
-                ask(asking::pieces::bytes_of(list, question));
+                ask(rt, asking::pieces::bytes_of(list, question));
             }
         }
         i += 1;
     }
 }
 
-fn the_season() {
+fn the_season<R: Files + Input>(rt: &R) {
     ask_each(
+        rt,
         b"season.csv\x00like\x001046\x0012\x00--columns\x00speed,shaft_turns,fan_pressure,tender_distance\x00\n\
           season.csv\x00like\x001046\x00300\x00\n\
           season.csv\x00nearest\x001046\x0010\x00--columns\x00speed,shaft_turns,fan_pressure,tender_distance\x00\n\
@@ -99,8 +104,9 @@ fn the_season() {
     );
 }
 
-fn more_of_the_season() {
+fn more_of_the_season<R: Files + Input>(rt: &R) {
     ask_each(
+        rt,
         b"season.csv\x00--csv\x00like\x00--columns\x00speed,fan_pressure*2\x001046\x003\x00--lines\x00\n\
           season.csv\x00nearest\x00=400,300,1500,95,900,3000\x005\x00--lines\x00\n\
           season.csv\x00like\x001046,899,1046\x00300\x00--by\x00distance\x00--csv\x00\n\
@@ -110,8 +116,9 @@ fn more_of_the_season() {
     );
 }
 
-fn by_what_stands() {
+fn by_what_stands<R: Files + Input>(rt: &R) {
     ask_each(
+        rt,
         b"clock.csv\x00like\x00clock=731\x0012\x00--columns\x00speed,shaft_turns,fan_pressure\x00\n\
           clock.csv\x00nearest\x002\x003\x00--csv\x00--lines\x00\n\
           clock.csv\x00like\x00=0,88\x009\x00--columns\x00speed,fan_pressure\x00\n\
@@ -126,8 +133,9 @@ fn by_what_stands() {
     );
 }
 
-fn labelled() {
+fn labelled<R: Files + Input>(rt: &R) {
     ask_each(
+        rt,
         b"hours.csv\x00like\x00time=2026-04-12T07:31\x0012\x00--label\x00time\x00\n\
           hours.csv\x00nearest\x002\x003\x00--label\x001\x00--csv\x00\n\
           hours.csv\x00like\x001\x0012\x00--lines\x00--label\x00time\x00--by\x00distance\x00\n\
@@ -137,8 +145,9 @@ fn labelled() {
     );
 }
 
-fn labels_wrong() {
+fn labels_wrong<R: Files + Input>(rt: &R) {
     ask_each(
+        rt,
         b"hours.csv\x00like\x000\x0012\x00\n\
           hours.csv\x00like\x000\x0012\x00--label\x00speed\x00\n\
           hours.csv\x00like\x000\x0012\x00--label\x00when\x00\n\
@@ -152,8 +161,9 @@ fn labels_wrong() {
     );
 }
 
-fn round() {
+fn round<R: Files + Input>(rt: &R) {
     ask_each(
+        rt,
         b"season.csv\x00nearest\x00916\x004\x00--columns\x00speed,shaft_turns,fan_pressure,heading\x00--circle\x00heading\x00\n\
           season.csv\x00nearest\x00916\x004\x00--columns\x00speed,shaft_turns,fan_pressure,heading\x00\n\
           season.csv\x00like\x00288,774\x00120\x00--circle\x005,heading\x00--columns\x001,2,4,5\x00--by\x00distance\x00\n\
@@ -166,8 +176,9 @@ fn round() {
     );
 }
 
-fn circles_wrong() {
+fn circles_wrong<R: Files + Input>(rt: &R) {
     ask_each(
+        rt,
         b"seam.csv\x00like\x000\x009\x00--circle\x00heading\x00\n\
           seam.csv\x00like\x000\x009\x00--columns\x00speed*900,heading\x00--circle\x001,2\x00\n\
           seam.csv\x00like\x000\x009\x00--columns\x00heading*20,speed\x00--circle\x00speed\x00\n\
@@ -188,8 +199,9 @@ fn circles_wrong() {
     );
 }
 
-fn without() {
+fn without<R: Files + Input>(rt: &R) {
     ask_each(
+        rt,
         b"season.csv\x00nearest\x00916\x004\x00--columns\x00speed,shaft_turns,fan_pressure,heading\x00--circle\x00heading\x00--without\x00struck_two\x00\n\
           season.csv\x00like\x001046\x00300\x00--without\x00struck\x00--count\x00\n\
           compass\x00like\x000\x002000\x00--without\x00struck\x00\n\
@@ -201,8 +213,9 @@ fn without() {
     );
 }
 
-fn without_wrong() {
+fn without_wrong<R: Files + Input>(rt: &R) {
     ask_each(
+        rt,
         b"compass\x00like\x000\x009\x00--without\x00struck_word\x00\n\
           compass\x00like\x000\x009\x00--without\x00struck_row\x00\n\
           compass\x00like\x000\x009\x00--without\x00struck_gap\x00\n\
@@ -217,8 +230,9 @@ fn without_wrong() {
     );
 }
 
-fn asked_wrongly() {
+fn asked_wrongly<R: Files + Input>(rt: &R) {
     ask_each(
+        rt,
         b"\n\
           season.csv\x00\n\
           season.csv\x00like\x001046\x00\n\
@@ -232,8 +246,9 @@ fn asked_wrongly() {
     );
 }
 
-fn options_wrong() {
+fn options_wrong<R: Files + Input>(rt: &R) {
     ask_each(
+        rt,
         b"season.csv\x00like\x001046\x0012\x00--columns\x00--csv\x00\n\
           season.csv\x00like\x001046\x0012\x00--columns\x00speed\x00--columns\x00heading\x00\n\
           season.csv\x00like\x001046\x0012\x00--by\x00row\x00\n\
@@ -246,8 +261,9 @@ fn options_wrong() {
     );
 }
 
-fn rows_wrong() {
+fn rows_wrong<R: Files + Input>(rt: &R) {
     ask_each(
+        rt,
         b"season.csv\x00like\x003000\x0012\x00\n\
           season.csv\x00like\x001046,\x0012\x00\n\
           season.csv\x00like\x00row\x0012\x00\n\
@@ -260,8 +276,9 @@ fn rows_wrong() {
     );
 }
 
-fn other_files() {
+fn other_files<R: Files + Input>(rt: &R) {
     ask_each(
+        rt,
         b"like_400\x00like\x0037\x0012\x00\n\
           seven\x00nearest\x000\x004\x00\n\
           three\x00nearest\x0070000\x003\x00\n\
@@ -273,8 +290,9 @@ fn other_files() {
     );
 }
 
-fn odd_1() {
+fn odd_1<R: Files + Input>(rt: &R) {
     ask_each(
+        rt,
         b"nothing\x00like\x000\x009\x00\n\
           names_alone\x00like\x000\x009\x00\n\
           blank_lines\x00like\x000\x009\x00\n\
@@ -286,8 +304,9 @@ fn odd_1() {
     );
 }
 
-fn odd_2() {
+fn odd_2<R: Files + Input>(rt: &R) {
     ask_each(
+        rt,
         b"empty_place\x00like\x000\x009\x00\n\
           empty_before\x00like\x000\x009\x00\n\
           empty_behind\x00like\x000\x009\x00\n\
@@ -299,8 +318,9 @@ fn odd_2() {
     );
 }
 
-fn odd_3() {
+fn odd_3<R: Files + Input>(rt: &R) {
     ask_each(
+        rt,
         b"decimal_comma\x00like\x000\x009\x00\n\
           quotes\x00like\x000\x009\x00\n\
           names_below\x00like\x000\x009\x00\n\
@@ -312,8 +332,9 @@ fn odd_3() {
     );
 }
 
-fn odd_4() {
+fn odd_4<R: Files + Input>(rt: &R) {
     ask_each(
+        rt,
         b"minus_4\x00like\x000\x009\x00\n\
           point_12\x00like\x000\x009\x00\n\
           number_missing\x00like\x000\x009\x00\n\
@@ -345,23 +366,23 @@ fn in_pieces() {
     say(b"\n");
 }
 
-fn main() {
-    the_season();
-    more_of_the_season();
-    by_what_stands();
-    labelled();
-    labels_wrong();
-    round();
-    circles_wrong();
-    without();
-    without_wrong();
-    asked_wrongly();
-    options_wrong();
-    rows_wrong();
-    other_files();
-    odd_1();
-    odd_2();
-    odd_3();
-    odd_4();
+fn main(rt: HostRuntime) {
+    the_season(&rt);
+    more_of_the_season(&rt);
+    by_what_stands(&rt);
+    labelled(&rt);
+    labels_wrong(&rt);
+    round(&rt);
+    circles_wrong(&rt);
+    without(&rt);
+    without_wrong(&rt);
+    asked_wrongly(&rt);
+    options_wrong(&rt);
+    rows_wrong(&rt);
+    other_files(&rt);
+    odd_1(&rt);
+    odd_2(&rt);
+    odd_3(&rt);
+    odd_4(&rt);
     in_pieces();
 }

@@ -4,7 +4,7 @@
 
 mod rooms;
 
-use libc::STDOUT_FILENO;
+use saying::STDOUT_FILENO;
 use sheet_reading::Reader;
 
 fn say(text: &[u8]) {

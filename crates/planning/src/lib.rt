@@ -12,6 +12,8 @@ use asking::Question;
 use asking::pieces::{bytes_of, part};
 use queries::{QUERY_ROOM, product};
 use statuses::{answered, asked_wrongly};
+use std::io::Input;
+use std::rt::Files;
 use telling::{refuse, say_asked_wrong, tells};
 
 // The library's limit.
@@ -207,7 +209,8 @@ fn question_of(words: &[u8], err: i32) -> Question {
 
 // The plan of a question by its words, each ended by a zero byte: answers go to one file, all else to another. The texts are read, the table is made,
 // the queries are put and the rows are struck that are withdrawn. Where the plan is not ready, all is said, and its status is the program's.
-pub fn plan_question(
+pub fn plan_question<R: Files + Input>(
+    rt: &R,
     words: &[u8],
     out: i32,
     err: i32,
@@ -226,7 +229,7 @@ pub fn plan_question(
     if q.wrong != 0 {
         return stopped(asked_wrongly());
     }
-    let texts = read_texts(words, q, err, text);
+    let texts = read_texts(rt, words, q, err, text);
     if texts.status != 0 {
         return stopped(texts.status);
     }

@@ -33,7 +33,7 @@ pub const NO_LABEL: u32 = 27;
 pub const OFF_CIRCLE: u32 = 28;
 
 // How many queries were put, or what is wrong, and a number that says more of it.
-#[derive(Drop)]
+#[derive(Clone, Copy)]
 pub struct Named {
     pub wrong: u32,
     pub more: usize,

@@ -2,7 +2,7 @@
 #![tactic(auto)]
 
 // Where a reader of the text stands: where a number must start, behind a newline, inside a number, or behind a byte that makes the text unreadable.
-#[derive(Drop)]
+#[derive(Clone, Copy)]
 pub enum Place {
     Start,
     Line,

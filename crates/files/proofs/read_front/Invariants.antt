@@ -1,0 +1,9 @@
+-- What was read stays inside the room, and each turn reads more.
+use Rattle.std.proofs.Common.{length, ◌-◌, ◌≤◌}
+use Rattle.files.proofs.read_front.Given as goal
+
+abbrev pub invariant-loop-length : goal.invariant-loop-length
+invariant-loop-length g l = l.length ≤ length l.room
+
+abbrev pub decreases-loop-length : goal.decreases-loop-length
+decreases-loop-length g l = length l.initial.room - l.length
