@@ -141,6 +141,16 @@ def turn(path, crate, fn, table, root, say):
 
         code = re.sub(r"(?<![\w.'#-])(" + NAME + r")((?:\.before)+)\.(?!before\b)([A-Za-z_][\w'#-]*)", field, code)
         code = re.sub(r"\)((?:\.before)+)\.(?!before\b)([A-Za-z_][\w'#-]*)", lambda u: f").{u.group(2)}", code)
+        # the statement of a helper speaks of the same state
+        said = re.match(r"(?s)(.*?: \((" + NAME + r") : tie\.[^)]*\)\s*→)(.*)", head) if not need else None
+        if said:
+            v = said.group(2)
+            tail = said.group(3)
+            if helpers:
+                env = {v: state}
+                tail = re.sub(r"(?<![\w.'#-])(" + helpers + r") (\(?)(" + re.escape(v) + r")((?:\.before)*)(?![\w.'#-])", handed, tail)
+            tail = re.sub(r"(?<![\w.'#-])(" + NAME + r")((?:\.before)+)\.(?!before\b)([A-Za-z_][\w'#-]*)", field, tail)
+            head = said.group(1) + tail
         # what a call left of an argument goes by the argument's name, and not by its place
         named = dict(re.findall(r"let (" + NAME + r") = [\w'.#-]+\.(" + NAME + r") in", code))
 
@@ -152,6 +162,7 @@ def turn(path, crate, fn, table, root, say):
             return f"{u.group(1)}.{'auto' if u.group(2) == 'kept' else u.group(2)}.{T.params[step][k]}"
 
         code = re.sub(r"(?<![\w'#-])(" + NAME + r")\.(auto|new|kept)((?:\.1)*\.0)(?![\w.])", argument, code)
+        head = re.sub(r"(?<![\w'#-])(" + NAME + r")\.(auto|new|kept)((?:\.1)*\.0)(?![\w.])", argument, head)
         return head + code
 
     out = "\n".join(one(b) for b in blocks(text))

@@ -211,6 +211,9 @@ def turn(path, fn, names, say):
     text = text[:begin] + whole + tail
     if "tie.close tie.spec" not in text and "tie.close (tie.spec" not in text:
         text = re.sub(r"tie\.close\s*\(\s*tie\.spec", "tie.close\n    (tie.spec", text)
+    if "search rules" in text and "borrow.Author.Rules.{rules}" not in text:
+        m = re.search(r"(?m)^use ", text)
+        text = text[: m.start()] + "use borrow.Author.Rules.{rules}\n" + text[m.start():]
     # the proof's own name
     wanted = fn + "_spec"
     m = re.search(r"(?m)^pub (\S+) : .*statement M", text)

@@ -17,103 +17,103 @@ use native.Mathlib.Omega.{arith}
 
 -- ---- the tests, one after the other
 -- the start, seen from where the parameters were taken
-abbrev begun : tie.After-p → tie.Start
+abbrev begun : tie.In-Taken-2 → tie.Start
 begun c = c.before.before.before.before.before.before
 
 -- m, l and the circles are in range, the parameters hold them, and the edition is 2
-answer : (c : tie.After-p)
+answer : (c : tie.In-Taken-2)
     → (choice_ok (begun c).args.c (begun c).args.m (begun c).args.l (begun c).args.circles (begun c).args.edition ≡ true)
     × (c.p.given.0.0.centres ≡ (begun c).args.m) × (c.p.given.0.0.leaf ≡ (begun c).args.l)
     × (c.p.given.0.0.circles ≡ (begun c).args.circles)
 answer c =
     let a = (begun c).args in
-    answer_taken a.c a.m a.l a.circles a.edition c.p.given.1 c.before.before.new.ensures
+    answer_taken a.c a.m a.l a.circles a.edition c.p.given.1 c.new.ensures
 
 -- what the call says
-abbrev says : tie.After-p → ℕ
+abbrev says : tie.In-Taken-2 → ℕ
 says c =
     let a = (begun c).args in
     (said_build a.table.now a.c a.circles a.edition a.m a.l (length a.room.now) (length a.work.now)).0
 
-returns : tie.Need-returns
+returns : tie.Need-returns-in_default
 returns c =
-    let t = c.before.before in
-    let a = t.before.before.before.before.before.before.args in
-    let share = answer_refused a.c a.m a.l a.circles a.edition t.enum_told.given.1 t.before.before.new.ensures in
+    let t = c in
+    let a = t.args in
+    let share = answer_refused a.c a.m a.l a.circles a.edition t.enum_told.given.1 t.new.ensures in
     refused_builds
     (says_is a.table.now a.c a.circles a.edition a.m a.l (length a.room.now) (length a.work.now) share
-    c.before.build-number.ensures)
-    (unfit_refused a.table.now a.c a.circles (length a.room.now) (length a.work.now) c.before.build-number.ensures)
+    c.build_number.ensures)
+    (unfit_refused a.table.now a.c a.circles (length a.room.now) (length a.work.now) c.build_number.ensures)
     c.refused.ensures
 
 -- the number that is told is what the call says
-said-is : (c : tie.After-build-number2) → c.build-number2.result ≡ says c.before.before
+said-is : (c : tie.After-build_number-number) → c.build_number-number.result ≡ says c.before.before
 said-is c =
-    let p = c.before.before in
-    let a = (begun p).args in
-    says_is a.table.now a.c a.circles a.edition a.m a.l (length a.room.now) (length a.work.now) (answer p).0
-    c.build-number2.ensures
+    let p = c in
+    let a = (begun p.before.before).args in
+    says_is a.table.now a.c a.circles a.edition a.m a.l (length a.room.now) (length a.work.now) (answer p.before.before).0
+    c.build_number-number.ensures
 
-returns-2 : tie.Need-returns-2
-returns-2 c = refused_builds (said-is c.before.before) c.before.if1.true c.refused2.ensures
+returns-2 : tie.Need-returns-then-number-ne0
+returns-2 c = refused_builds (said-is c.before.before) c.if-number-ne0.true c.refused-then-number-ne0.ensures
 
 -- ---- behind the tests
-abbrev held : tie.Else1 → tie.After-p
+abbrev held : tie.Else-number-ne0 → tie.In-Taken-2
 held c = c.before.before.before
 
-abbrev past : tie.After-fill → tie.Else1
+abbrev past : tie.After-fill-nodes → tie.Else-number-ne0
 past c = c.before.before.before
 
-passed : (c : tie.Else1)
+passed : (c : tie.Else-number-ne0)
     → Passed (begun (held c)).args.table.now (begun (held c)).args.c (begun (held c)).args.circles (begun (held c)).args.edition
     (begun (held c)).args.m (begun (held c)).args.l (begun (held c)).args.room.now (begun (held c)).args.work.now (held c).p.given.0.0
 passed c =
     let r = answer (held c) in
-    record { none = sym (said-is c.before) ∙ c.if1.false; m_is = r.1; l_is = r.2; o_is = r.3 }
+    record { none = sym (said-is c.before) ∙ c.if-number-ne0.false; m_is = r.1; l_is = r.2; o_is = r.3 }
 
 -- the table's numbers have 16 bits
-narrow : (c : tie.After-p) (i : ℕ) → get_or (begun c).args.table.now i 0 ≤ 65535
+narrow : (c : tie.In-Taken-2) (i : ℕ) → get_or (begun c).args.table.now i 0 ≤ 65535
 narrow c i =
-    let lent = c.before.before.before.before.before in
-    omega (arith, lent.shared-slice-known.given i)
+    let lent = c in
+    omega (arith, lent.shared_slice_known-1.given i)
 
 -- few rows and few nodes
-few : (c : tie.After-fill)
+few : (c : tie.After-fill-nodes)
     → (rows_of (begun (held (past c))).args.table.now (begun (held (past c))).args.c ≤ max_rows)
-    × (c.fill.result ≤ 2 * rows_of (begun (held (past c))).args.table.now (begun (held (past c))).args.c)
-few c = (rows-most (passed (past c)), c.fill.ensures.few)
+    × (c.fill-nodes.result ≤ 2 * rows_of (begun (held (past c))).args.table.now (begun (held (past c))).args.c)
+few c = (rows-most (passed (past c)), c.fill-nodes.ensures.few)
 
-div-n : tie.Need-nonzero-div-n
+div-n : tie.Need-nonzero_div-n
 div-n c =
     let some = columns_some (passed c) in
     search rules
 
-mul-used : tie.Need-overflow-mul-used
+mul-used : tie.Need-overflow_mul-used
 mul-used c =
     let rows = rows-most (passed c) in
     search rules
 
-slice-relend-prefix-fill : tie.Need-slice-relend-prefix-fill
+slice-relend-prefix-fill : tie.Need-slice_bounds-fill-end
 slice-relend-prefix-fill c =
     let long = work_long (passed c.before) in
     search rules
 
-slice-aggregate-fill : tie.Need-slice-aggregate-fill
+slice-aggregate-fill : tie.Need-slice_bounds-fill-end-2
 slice-aggregate-fill c = sym (part_long (passed c.before.before))
 
-fill-requires : tie.Need-fill-requires
+fill-requires : tie.Need-fill-nodes-requires
 fill-requires c κs = built_room (passed c.before.before)
 
 written-requires : tie.Need-written-requires
 written-requires c κs = few c.before.before.before.before
 
-returns-3 : tie.Need-returns-3
+returns-3 : tie.Need-returns
 returns-3 c =
-    let f = c.before.before.before.before.before in
-    built_builds (passed (past f)) (narrow (held (past f))) f.fill.ensures (search rules) c.written.ensures
+    let f = c in
+    built_builds (passed (past f.before.before.before.before.before)) (narrow (held (past f.before.before.before.before.before))) f.fill-nodes.ensures (search rules) c.written.ensures
 
-pub build-spec : {M : Type 1} → statement M
-build-spec =
+pub build_spec : {M : Type 1} → statement M
+build_spec =
     tie.close
     (tie.spec
     (λ c κs. search rules)

@@ -8,24 +8,27 @@ use borrow.Author.Rules.{rules}
 use mathlib.Core.Path.{◌∙◌, ap₂}
 use native.Mathlib.Omega.{arith}
 
-row-distance-requires : tie.Need-row-distance-requires
+row-distance-requires : tie.Need-row_distance-requires
 row-distance-requires c κs =
-    let s = c.before.before.before in
+    let s = c in
     let a = s.args in
     let P = s.requires.0 in
     let fits = row-there a.table.now a.c a.image.now P in
     let low = (P.over.shape.place a.p s.requires.1.1).row in (
       columns-few a.table.now a.c a.image.now P,
       fits a.f s.requires.1.0,
-      fits c.card-row.result (omega (arith, low, c.card-row.ensures.0)),
+      fits c.card_row.result (omega (arith, low, c.card_row.ensures.0)),
     )
 
 returns : tie.Need-returns
 returns c =
-    let r = c.before in
-    let s = r.before.before.before in
+    let r = c in
+    let s = r in
     let a = s.args in
-    c.row-distance.ensures.0 ∙ ap₂ (λ o j. between a.table.now a.c o a.f j) s.requires.1.2 r.card-row.ensures.0
+    c.row_distance.ensures.0 ∙ ap₂ (λ o j. between a.table.now a.c o a.f j) s.requires.1.2 r.card_row.ensures.0
 
-pub card-apart-spec : {M : Type 1} → statement M
-card-apart-spec = tie.close (tie.spec (λ c κs. search rules) row-distance-requires returns)
+pub card_apart_spec : {M : Type 1} → statement M
+card_apart_spec = tie.close (tie.spec
+    (λ c κs. search rules)
+    row-distance-requires
+    returns)

@@ -14,10 +14,10 @@ use mathlib.Core.List.{List}
 use mathlib.Core.Path.{◌∙◌, ◌≡◌, ap}
 use native.Mathlib.Omega.{arith}
 
-abbrev invariant-loop : tie.invariant-loop
+abbrev invariant-loop : tie.invariant-loop-p
 invariant-loop table c image k start end second f circles near₀ p₀ near p = NearTo (between table c (circles# (card_words_lem image))) (card_words_lem image) k p near
 
-abbrev decreases-loop : tie.decreases-loop
+abbrev decreases-loop : tie.decreases-loop-p
 decreases-loop table c image k start end second f circles near₀ p₀ near p = end - p
 
 -- the distance between the table's rows
@@ -33,88 +33,88 @@ node : (s : tie.Start invariant-loop decreases-loop) → Node (words s) s.args.k
 node s = s.requires.0.over.shape.node s.args.k s.requires.1
 
 -- the start, seen from where the run's ends are read
-abbrev start : tie.After-card-count invariant-loop decreases-loop → tie.Start invariant-loop decreases-loop
+abbrev start : tie.After-card_count invariant-loop decreases-loop → tie.Start invariant-loop decreases-loop
 start c = c.before.before.before.before
 
 -- the run's ends, seen from where the first is read, and that from the loop
-abbrev ends : tie.After-card-row invariant-loop decreases-loop → tie.After-card-count invariant-loop decreases-loop
+abbrev ends : tie.After-card_row-f invariant-loop decreases-loop → tie.After-card_count invariant-loop decreases-loop
 ends c = c.before.before
 
-abbrev past : tie.At-loop invariant-loop decreases-loop → tie.After-card-row invariant-loop decreases-loop
+abbrev past : tie.At-loop-p invariant-loop decreases-loop → tie.After-card_row-f invariant-loop decreases-loop
 past l = l.before.before.before
 
 -- the row that is read is the node's first
-first-is : (c : tie.After-card-row invariant-loop decreases-loop) → c.card-row.result ≡ first# (words (start (ends c))) (start (ends c)).args.k
-first-is c = c.card-row.ensures.0 ∙ ap (row# (words (start (ends c)))) (ends c).before.card-start.ensures.0
+first-is : (c : tie.After-card_row-f invariant-loop decreases-loop) → c.card_row-f.result ≡ first# (words (start (ends c))) (start (ends c)).args.k
+first-is c = c.card_row-f.ensures.0 ∙ ap (row# (words (start (ends c)))) (ends c).card_start-start.ensures.0
 
 -- and one of the table's
-first-low : (c : tie.After-card-row invariant-loop decreases-loop) → c.card-row.result < n# (words (start (ends c)))
+first-low : (c : tie.After-card_row-f invariant-loop decreases-loop) → c.card_row-f.result < n# (words (start (ends c)))
 first-low c =
     let e = ends c in
     let s = start e in
-    let p = e.before.card-start.result in
-    let inside : p < n# (words s) = omega (arith, (node s).run, (node s).some, e.before.card-start.ensures.0) in
-    omega (arith, (s.pre.0.over.shape.place p inside).row, c.card-row.ensures.0)
+    let p = e.card_start-start.result in
+    let inside : p < n# (words s) = omega (arith, (node s).run, (node s).some, e.card_start-start.ensures.0) in
+    omega (arith, (s.requires.0.over.shape.place p inside).row, c.card_row-f.ensures.0)
 
-returns : tie.Need-returns invariant-loop decreases-loop
+returns : tie.Need-returns-then-end-second invariant-loop decreases-loop
 returns c =
-    let e = c.before in
-    let s = start e in
+    let e = c in
+    let s = start e.before in
     near_none (dist s) (words s) s.args.k (node s).some
-    (omega (arith, c.if1.true, e.card-count.ensures.0, e.before.card-start.ensures.0))
+    (omega (arith, c.if-end-second.true, e.card_count.ensures.0, e.card_start-start.ensures.0))
 
-card-row-requires : tie.Need-card-row-requires invariant-loop decreases-loop
+card-row-requires : tie.Need-card_row-f-requires invariant-loop decreases-loop
 card-row-requires c κs =
-    let e = c.before in
-    let s = start e in
-    (s.pre.0.held, omega (arith, (node s).run, (node s).some, e.before.card-start.ensures.0))
+    let e = c in
+    let s = start e.before in
+    (s.requires.0.held, omega (arith, (node s).run, (node s).some, e.card_start-start.ensures.0))
 
-card-apart-requires : tie.Need-card-apart-requires invariant-loop decreases-loop
+card-apart-requires : tie.Need-card_apart-near-requires invariant-loop decreases-loop
 card-apart-requires c κs =
-    let r = c.before in
-    let e = ends r in
+    let r = c in
+    let e = ends r.before in
     let s = start e in
-    let low = e.before.card-start.ensures.0 in
-    (s.pre.0, (first-low r, omega (arith, (node s).run, r.before.if1.false, e.card-count.ensures.0, low), c.card-circles.ensures))
+    let low = e.card_start-start.ensures.0 in
+    (s.requires.0, (first-low r.before, omega (arith, (node s).run, r.if-end-second.false, e.card_count.ensures.0, low), c.card_circles-circles.ensures))
 
-loop-holds : tie.Need-loop-init invariant-loop decreases-loop
+loop-holds : tie.Need-loop-p-init invariant-loop decreases-loop
 loop-holds c =
-    let r = c.before.before in
-    let e = ends r in
+    let r = c in
+    let e = ends r.before.before in
     let s = start e in
-    let low = e.before.card-start.ensures.0 in
-    near-start (dist s) (words s) s.args.k (omega (arith, r.before.if1.false, e.card-count.ensures.0, low)) (omega (arith, low)) (first-is r)
-    c.card-apart.ensures
+    let low = e.card_start-start.ensures.0 in
+    near-start (dist s) (words s) s.args.k (omega (arith, r.if-end-second.false, e.card_count.ensures.0, low)) (omega (arith, low)) (first-is r.before.before)
+    c.card_apart-near.ensures
 
-card-apart-requires-2 : tie.Need-card-apart-requires-2 invariant-loop decreases-loop
+card-apart-requires-2 : tie.Need-card_apart-requires invariant-loop decreases-loop
 card-apart-requires-2 c κs =
     let r = past c.before in
     let e = ends r in
     let s = start e in
-    let low = e.before.card-start.ensures.0 in
-    let round = c.before.before.before.card-circles.ensures in
-    (s.pre.0, (first-low r, omega (arith, (node s).run, c.loop-test.true, e.card-count.ensures.0, low), round))
+    let low = e.card_start-start.ensures.0 in
+    let round = c.card_circles-circles.ensures in
+    (s.requires.0, (first-low r, omega (arith, (node s).run, c.loop-p-test.true, e.card_count.ensures.0, low), round))
 
-loop-again : tie.Need-loop-preserved invariant-loop decreases-loop
+loop-again : tie.Need-loop-p-preserved invariant-loop decreases-loop
 loop-again c =
-    let t = c.before.before in
-    let l = t.before in
-    let e = ends (past l) in
+    let t = c in
+    let l = t in
+    let e = ends (past l.before.before.before) in
     let s = start e in
-    near_next (dist s) (words s) s.args.k l.loop.p l.loop.near
-    (omega (arith, t.loop-test.true, e.card-count.ensures.0, e.before.card-start.ensures.0)) l.loop.invariant (first-is (past l))
-    c.before.card-apart2.ensures c.smaller.ensures
+    near_next (dist s) (words s) s.args.k l.loop-p.p l.loop-p.near
+    (omega (arith, t.loop-p-test.true, e.card_count.ensures.0, e.card_start-start.ensures.0)) l.loop-p.invariant (first-is (past l.before.before.before))
+    c.card_apart.ensures c.smaller-near.ensures
 
-returns-2 : tie.Need-returns-2 invariant-loop decreases-loop
+returns-2 : tie.Need-returns invariant-loop decreases-loop
 returns-2 c =
-    let l = c.before in
-    let e = ends (past l) in
+    let l = c in
+    let e = ends (past l.before) in
     let s = start e in
-    near-done (dist s) (words s) s.args.k l.loop.p l.loop.near
-    (omega (arith, c.loop-test.false, e.card-count.ensures.0, e.before.card-start.ensures.0)) l.loop.invariant
+    near-done (dist s) (words s) s.args.k l.loop-p.p l.loop-p.near
+    (omega (arith, c.loop-p-test.false, e.card_count.ensures.0, e.card_start-start.ensures.0)) l.loop-p.invariant
 
-pub card-nearest-spec : {M : Type 1} → statement M
-card-nearest-spec =
+pub card_nearest_spec : {M : Type 1} → statement M
+card_nearest_spec =
     tie.close
     (tie.spec
     invariant-loop

@@ -7,9 +7,13 @@ use borrow.Author.Rules.{rules}
 
 returns : tie.Need-returns
 returns c =
-    let g = c.before.before in
-    let s = g.before.before.before.before in
-    top_put s.args.image.now s.requires.0 s.args.room.now g.get-words.ensures
+    let g = c in
+    let s = g in
+    top_put s.args.image.now s.requires.0 s.args.room.now g.get_words.ensures
 
-pub put-top-spec : {M : Type 1} → statement M
-put-top-spec = tie.close (tie.spec (λ c κs. search rules) (λ c. search rules) (λ c. search rules) returns)
+pub put_top_spec : {M : Type 1} → statement M
+put_top_spec = tie.close (tie.spec
+    (λ c κs. search rules)
+    (λ c. search rules)
+    (λ c. search rules)
+    returns)

@@ -37,7 +37,7 @@ test s = closerThan (dist s) s.args.index.now s.args.p s.args.x
 -- the test of the i-th centre is that of its node
 tested : (c : tie.After-is_closer invariant-loop decreases-loop)
     → c.is_closer.result
-    ≡ test (start c.before.before.before) ((start c.before.before.before).args.child + c.before.before.before.loop-i.i)
+    ≡ test (start c.before.before.before.before) ((start c.before.before.before.before).args.child + c.loop-i.i)
 tested c =
     let l = c in
     let s = start l.before.before.before.before in

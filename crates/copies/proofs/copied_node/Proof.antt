@@ -7,17 +7,17 @@ use borrow.Author.Rules.{rules}
 
 returns : tie.Need-returns
 returns c =
-    let p = c.before.before in
-    let r = p.before.before in
-    let k = r.before in
-    let n = k.before in
-    let a = n.before in
-    let s = a.before.before.before.before in
-    copied_one _ _ _ _ _ _ _ s.requires.1.2 a.start_of_lem.ensures.0 n.count_of.ensures.0 k.child-of.ensures.0 r.reach_of.ensures
-    p.put-node.ensures
+    let p = c in
+    let r = p in
+    let k = r in
+    let n = k in
+    let a = n in
+    let s = a in
+    copied_one _ _ _ _ _ _ _ s.requires.1.2 a.start_of-start.ensures.0 n.count_of-count.ensures.0 k.child_of-child.ensures.0 r.reach_of-reach.ensures
+    p.put_node.ensures
 
-pub copied-node-spec : {M : Type 1} → statement M
-copied-node-spec =
+pub copied_node_spec : {M : Type 1} → statement M
+copied_node_spec =
     tie.close
     (tie.spec
     (λ c κs. search rules)

@@ -12,44 +12,44 @@ use lib.ListN.{length}
 use mathlib.Core.Path.{◌≡◌}
 use native.Mathlib.Omega.{arith}
 
-abbrev invariant-loop : tie.invariant-loop
+abbrev invariant-loop : tie.invariant-loop-i
 invariant-loop table index p room₀ child made m i₀ room i =
     (length room ≡ length room₀) × (i ≤ m)
     × (room ≡ with_copies (copied (between table (c# index) (circles# index)) index p.node p.added) child i room₀ made)
 
-abbrev decreases-loop : tie.decreases-loop
+abbrev decreases-loop : tie.decreases-loop-i
 decreases-loop table index p room₀ child made m i₀ room i = m - i
 
-loop-holds : tie.Need-loop-init invariant-loop decreases-loop
+loop-holds : tie.Need-loop-i-init invariant-loop decreases-loop
 loop-holds c =
-    let a = c.before.before.before.before.args in
+    let a = c.args in
     let copy = copied (between a.table.now (c# a.index.now) (circles# a.index.now)) a.index.now a.p.node a.p.added in (
       search rules,
       search rules,
       copies-start copy a.child a.room.now a.made,
     )
 
-loop-again : tie.Need-loop-preserved invariant-loop decreases-loop
+loop-again : tie.Need-loop-i-preserved invariant-loop decreases-loop
 loop-again c =
-    let l = c.before.before.before.before.before in
-    let a = l.before.before.before.before.before.args in
+    let l = c in
+    let a = l.args in
     let copy = copied (between a.table.now (c# a.index.now) (circles# a.index.now)) a.index.now a.p.node a.p.added in (
       search rules,
       search rules,
       copies-step copy a.child a.room.now a.made
-          l.loop.i (omega arith) l.loop.invariant.2 c.before.before.copied-node.ensures,
+          l.loop-i.i (omega arith) l.loop-i.invariant.2 c.copied_node.ensures,
     )
 
 returns : tie.Need-returns invariant-loop decreases-loop
 returns c =
-    let l = c.before in
-    let a = l.before.before.before.before.before.args in
+    let l = c in
+    let a = l.args in
     let copy = copied (between a.table.now (c# a.index.now) (circles# a.index.now)) a.index.now a.p.node a.p.added in
-    copies-done copy a.child a.room.now a.made l.loop.i
-    (m# a.index.now) (omega (arith, l.before.centres.ensures.0)) l.loop.invariant.2
+    copies-done copy a.child a.room.now a.made l.loop-i.i
+    (m# a.index.now) (omega (arith, l.centres-m.ensures.0)) l.loop-i.invariant.2
 
-pub copy-children-spec : {M : Type 1} → statement M
-copy-children-spec =
+pub copy_children_spec : {M : Type 1} → statement M
+copy_children_spec =
     tie.close
     (tie.spec
     invariant-loop

@@ -11,56 +11,56 @@ use mathlib.Core.Path.{◌≡◌}
 use native.Mathlib.Omega.{arith}
 
 -- the start, and the nodes as they grew, each seen from the next
-abbrev start : tie.After-grow → tie.Start
+abbrev start : tie.After-grow-nodes → tie.Start
 start c = c.before.before.before.before.before.before
 
-abbrev grown : tie.After-put-header → tie.After-grow
+abbrev grown : tie.After-put_header → tie.After-grow-nodes
 grown c = c.before.before.before.before.before.before
 
 -- the workspace is as long as it was
-half : (c : tie.After-grow) → length c.grow.new.1.1.1.1.1.1.1.0 ≡ 6 * (start c).args.n
+half : (c : tie.After-grow-nodes) → length c.grow-nodes.new.work ≡ 6 * (start c).args.n
 half c = search rules
 
 -- so is the room
-long : (c : tie.After-put-header) → length c.put-header.new.0 ≡ length (start (grown c)).args.room.now
+long : (c : tie.After-put_header) → length c.put_header.new.room ≡ length (start (grown c)).args.room.now
 long c = search rules
 
 -- few nodes
-few : (c : tie.After-grow) → (c.grow.result ≤ 2 * (start c).args.n) × ((start c).args.n ≤ max_rows)
-few c = (c.grow.ensures.few, (start c).requires.fit.rows)
+few : (c : tie.After-grow-nodes) → (c.grow-nodes.result ≤ 2 * (start c).args.n) × ((start c).args.n ≤ max_rows)
+few c = (c.grow-nodes.ensures.few, (start c).requires.fit.rows)
 
-mul_at : tie.Need-overflow-mul-at
+mul_at : tie.Need-overflow_mul-at
 mul_at c = omega (arith, few (grown c.before.before))
 
-add_at : tie.Need-overflow-add-at
+add_at : tie.Need-overflow_add-at
 add_at c = omega (arith, few (grown c.before.before))
 
-sub-put-positions : tie.Need-overflow-sub-put-positions
+sub-put-positions : tie.Need-slice_bounds-put_positions-count
 sub-put-positions c =
     let g = grown c.before.before in
-    let room = positions_fit (start g).pre g.grow.result g.grow.ensures.few in
+    let room = positions_fit (start g).requires g.grow-nodes.result g.grow-nodes.ensures.few in
     search rules
 
-part-put-positions-start : tie.Need-slice-bounds-put-positions-start
+part-put-positions-start : tie.Need-slice_bounds-put_positions-start
 part-put-positions-start c =
     let g = grown c.before.before in
-    let room = positions_fit (start g).pre g.grow.result g.grow.ensures.few in
+    let room = positions_fit (start g).requires g.grow-nodes.result g.grow-nodes.ensures.few in
     search rules
 
-put-positions-requires : tie.Need-put-positions-requires
+put-positions-requires : tie.Need-put_positions-requires
 put-positions-requires c κs =
-    let g = grown c.before.before.before.before in
-    let room = positions_fit (start g).pre g.grow.result g.grow.ensures.few in
+    let g = grown c.before.before.before in
+    let room = positions_fit (start g).requires g.grow-nodes.result g.grow-nodes.ensures.few in
     search rules
 
 returns : tie.Need-returns
 returns c =
-    let w = c.before.before in
-    let p = w.before.before.before.before in
-    let h = p.before.before.before.before.before in
-    let g = grown h in
-    filled (start g).pre g.grow.ensures (long h) h.put-header.ensures (omega arith) p.put-positions.ensures (half g)
-    w.clear-words.ensures
+    let w = c in
+    let p = w in
+    let h = p in
+    let g = grown h.before.before.before.before.before.before.before.before.before.before in
+    filled (start g).requires g.grow-nodes.ensures (long h.before.before.before.before.before.before.before.before.before.before) h.put_header.ensures (omega arith) p.put_positions.ensures (half g)
+    w.clear_words.ensures
 
 pub fill_spec : {M : Type 1} → statement M
 fill_spec =

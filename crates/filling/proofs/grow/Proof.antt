@@ -9,23 +9,29 @@ use borrow.Author.Rules.{rules}
 abbrev start : tie.After-root → tie.Start
 start c = c.before.before.before.before.before.before.before
 
-returns : tie.Need-returns
-returns c = grown-none c.if1.true
+returns : tie.Need-returns-then-n-eq0
+returns c = grown-none c.if-n-eq0.true
 
 root-requires : tie.Need-root-requires
-root-requires c κs = (c.before.before.before.before.before.before.requires, search rules)
+root-requires c κs = (c.requires, search rules)
 
 levels-requires : tie.Need-levels-requires
 levels-requires c κs =
-    let r = c.before.before.before.before.before.before in
-    ((start r).requires.fit, record { origin = (start r).args.room.now; rooted = r.root.ensures })
+    let r = c in
+    ((start r.before.before.before.before.before.before).requires.fit, record { origin = (start r.before.before.before.before.before.before).args.room.now; rooted = r.root.ensures })
 
-returns-2 : tie.Need-returns-2
+returns-2 : tie.Need-returns
 returns-2 c =
-    let l = c.before.before.before.before in
-    let r = l.before.before.before.before.before.before.before in
-    grown-levels (start r).requires.fit (search rules) (l.levels.ensures (record { origin = (start r).args.room.now; rooted = r.root.ensures }))
+    let l = c in
+    let r = l in
+    grown-levels (start r.before.before.before.before.before.before.before.before.before.before.before).requires.fit (search rules) (l.levels.ensures (record { origin = (start r.before.before.before.before.before.before.before.before.before.before.before).args.room.now; rooted = r.root.ensures }))
 
 pub grow_spec : {M : Type 1} → statement M
 grow_spec =
-    tie.close (tie.spec returns root-requires levels-requires (λ c. search rules) (λ c. search rules) returns-2)
+    tie.close (tie.spec
+    returns
+    root-requires
+    levels-requires
+    (λ c. search rules)
+    (λ c. search rules)
+    returns-2)

@@ -10,14 +10,14 @@ use mathlib.Core.Path.{refl}
 use native.Mathlib.Omega.{arith}
 
 -- where nothing is refused: the start
-abbrev start : tie.Else1 → tie.Start
+abbrev start : tie.Else-number-ne0 → tie.Start
 start e = e.before.before.before.before.before.before.before.before.before.before
 
 -- seen from the number of answers: that branch; and from the core's search: that number
-abbrev going : tie.After-least → tie.Else1
+abbrev going : tie.After-least → tie.Else-number-ne0
 going l = l.before.before
 
-abbrev asked : tie.After-find → tie.After-least
+abbrev asked : tie.After-find-found → tie.After-least
 asked f = f.before.before.before.before.before
 
 -- what is asked, and what is lent
@@ -31,33 +31,33 @@ lending s = lends s.args.rows.now s.args.distances.now s.args.how.now s.args.wor
 lent : (l : tie.After-least) → Searchable (but_for (asking (start (going l))) l.least.result) (lending (start (going l)))
 lent l =
     let e = going l in
-    core-asks (asking (start e)) (lending (start e)) (start e).pre e.before.nearest-number.ensures _ _ e.if1.left l.before.rows.ensures.0
+    core-asks (asking (start e)) (lending (start e)) (start e).requires e.nearest_number-number.ensures _ _ e.if-number-ne0.left l.rows-n.ensures.0
     l.least.ensures
 
-returns : tie.Need-returns
+returns : tie.Need-returns-then-number-ne0
 returns c =
-    let s = c.before.before.before.before.before.before.before.before.before.before in
-    refused_is (asking s) (lending s) s.requires c.before.nearest-number.ensures c.if1.true
+    let s = c in
+    refused_is (asking s.before.before.before.before.before.before.before.before.before.before) (lending s.before.before.before.before.before.before.before.before.before.before) s.requires c.nearest_number-number.ensures c.if-number-ne0.true
 
-rows-requires : tie.Need-rows-requires
+rows-requires : tie.Need-rows-n-requires
 rows-requires c κs =
     let s = start c in
-    let L = core-asks (asking s) (lending s) s.pre c.before.nearest-number.ensures _ _ c.if1.false refl refl in
+    let L = core-asks (asking s) (lending s) s.requires c.nearest_number-number.ensures _ _ c.if-number-ne0.false refl refl in
     omega (arith, L.tested.shape.whole.words)
 
-find-requires : tie.Need-find-requires
+find-requires : tie.Need-find-found-requires
 find-requires c κs = lent c.before.before.before.before
 
-returns-2 : tie.Need-returns-2
+returns-2 : tie.Need-returns
 returns-2 c =
-    let f = c.before.before.before.before.before.before.before.before in
-    let l = asked f in
+    let f = c in
+    let l = asked f.before.before.before.before.before.before.before.before in
     let e = going l in
-    done-is (asking (start e)) (lending (start e)) (start e).pre e.before.nearest-number.ensures _ _ _ _ _ _ _ e.if1.left
-    l.before.rows.ensures.0 l.least.ensures f.find.ensures (omega arith) (omega arith)
+    done-is (asking (start e)) (lending (start e)) (start e).requires e.nearest_number-number.ensures _ _ _ _ _ _ _ e.if-number-ne0.left
+    l.rows-n.ensures.0 l.least.ensures f.find-found.ensures (omega arith) (omega arith)
 
-pub answer-spec : {M : Type 1} → statement M
-answer-spec =
+pub answer_spec : {M : Type 1} → statement M
+answer_spec =
     tie.close
     (tie.spec
     (λ c κs. search rules)

@@ -7,11 +7,11 @@ use borrow.Author.Rules.{rules}
 
 returns : tie.Need-returns
 returns c =
-    let a = c.before.before.before.before.before.before.before.before in
-    room_is a.before.before.before.before.before.least.ensures a.answer.ensures
+    let a = c in
+    room_is a.least-room.ensures a.answer.ensures
 
-pub nearest-spec : {M : Type 1} → statement M
-nearest-spec =
+pub nearest_spec : {M : Type 1} → statement M
+nearest_spec =
     tie.close
     (tie.spec
     (λ c κs. search rules)

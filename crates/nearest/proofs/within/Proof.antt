@@ -10,19 +10,19 @@ use native.Mathlib.Omega.{arith}
 
 answer-requires : tie.Need-answer-requires
 answer-requires c κs =
-    let least = c.before.before.before.before.before.least in
-    let least2 = c.before.before.before.before.least2 in
+    let least = c.least in
+    let least2 = c.least-room in
     (omega (arith, least.ensures, least2.ensures), omega (arith, least.ensures, least2.ensures))
 
 returns : tie.Need-returns
 returns c =
-    let a = c.before.before.before.before.before.before.before.before in
-    let r = a.before.before.before.before.before in
-    let s = r.before.before.before.before.before.before.before.before.before.before in
-    room_is (r.least2.ensures ∙ ap (λ (z : ℕ). min s.args.own z) r.before.least.ensures) a.answer.ensures
+    let a = c in
+    let r = a in
+    let s = r in
+    room_is (r.least-room.ensures ∙ ap (λ (z : ℕ). min s.args.own z) r.least.ensures) a.answer.ensures
 
-pub within-spec : {M : Type 1} → statement M
-within-spec =
+pub within_spec : {M : Type 1} → statement M
+within_spec =
     tie.close
     (tie.spec
     (λ c κs. search rules)

@@ -8,50 +8,50 @@ use borrow.Author.Rules.{rules}
 use native.Mathlib.Omega.{arith}
 
 -- seen from the wiping of the how-bytes: the start, and the number of rows as it is read
-abbrev start : tie.After-clear-bytes → tie.Start
+abbrev start : tie.After-clear_bytes → tie.Start
 start b = b.before.before.before.before.before.before.before.before.before.before.before
 
-abbrev counted : tie.After-clear-bytes → tie.After-rows
+abbrev counted : tie.After-clear_bytes → tie.After-rows-n
 counted b = b.before.before
 
 -- seen from the search: that wiping
-abbrev wiping : tie.After-find-blank → tie.After-clear-bytes
+abbrev wiping : tie.After-find_blank-counts → tie.After-clear_bytes
 wiping f = f.before.before.before.before.before.before.before
 
 -- what is asked
 abbrev asking : tie.Start → NearestAsked
 asking s = asks s.args.table.now s.args.c s.args.index.now s.args.query.now s.args.wanted s.args.withdrawn.now
 
-rows-requires : tie.Need-rows-requires
-rows-requires c κs = omega (arith, c.before.before.before.before.before.before.before.before.requires.tested.shape.whole.words)
+rows-requires : tie.Need-rows-n-requires
+rows-requires c κs = omega (arith, c.requires.tested.shape.whole.words)
 
-clear-bytes-requires : tie.Need-clear-bytes-requires
+clear-bytes-requires : tie.Need-clear_bytes-requires
 clear-bytes-requires c κs =
-    let r = c.before in
-    omega (arith, r.rows.ensures.0, r.before.before.before.before.before.before.before.before.before.requires.bytes)
+    let r = c in
+    omega (arith, r.rows-n.ensures.0, r.requires.bytes)
 
-find-blank-requires : tie.Need-find-blank-requires
+find-blank-requires : tie.Need-find_blank-counts-requires
 find-blank-requires c κs =
-    let b = c.before.before.before.before.before.before in
-    wiped-asks (asking (start b)) _ _ _ _ _ _ (counted b).rows.ensures.0 (start b).requires b.clear-bytes.ensures
+    let b = c in
+    wiped-asks (asking (start b.before.before.before.before.before.before)) _ _ _ _ _ _ (counted b.before.before.before.before.before.before).rows-n.ensures.0 (start b.before.before.before.before.before.before).requires b.clear_bytes.ensures
 
-mul-clear-words : tie.Need-overflow-mul-clear-words
+mul-clear-words : tie.Need-overflow_mul-n
 mul-clear-words c =
     let b = wiping c.before.before.before.before.before.before.before.before.before in
-    omega (arith, (counted b).rows.ensures.0, (start b).pre.tested.shape.whole.rows)
+    omega (arith, (counted b).rows-n.ensures.0, (start b).requires.tested.shape.whole.rows)
 
-clear-words-requires : tie.Need-clear-words-requires
+clear-words-requires : tie.Need-clear_words-requires
 clear-words-requires c κs =
-    let f = c.before.before.before.before.before.before.before.before.before in
-    let b = wiping f in
-    omega (arith, (counted b).rows.ensures.0, (start b).pre.words, f.find-blank.ensures.words)
+    let f = c in
+    let b = wiping f.before.before.before.before.before.before.before.before.before in
+    omega (arith, (counted b).rows-n.ensures.0, (start b).requires.words, f.find_blank-counts.ensures.words)
 
 returns : tie.Need-returns
 returns c =
-    let f = c.before.before.before.before.before.before.before.before.before.before.before.before in
-    let b = wiping f in
-    wiped-found (asking (start b)) _ _ _ _ _ _ (counted b).rows.ensures.0 (start b).pre b.clear-bytes.ensures _ _ _ _ _ _ _
-    f.find-blank.ensures c.before.before.clear-words.ensures
+    let f = c in
+    let b = wiping f.before.before.before.before.before.before.before.before.before.before.before.before in
+    wiped-found (asking (start b)) _ _ _ _ _ _ (counted b).rows-n.ensures.0 (start b).requires b.clear_bytes.ensures _ _ _ _ _ _ _
+    f.find_blank-counts.ensures c.clear_words.ensures
 
 pub find_spec : {M : Type 1} → statement M
 find_spec =

@@ -8,61 +8,61 @@ use mathlib.Core.Path.{◌∙◌, sym}
 use native.Mathlib.Omega.{arith}
 
 -- seen from the number of rows as it is read: the start; and from the search: that number
-abbrev start : tie.After-rows → tie.Start
+abbrev start : tie.After-rows-n → tie.Start
 start r = r.before.before.before.before.before.before.before.before.before
 
-abbrev counted : tie.After-search → tie.After-rows
+abbrev counted : tie.After-search-seen → tie.After-rows-n
 counted s = s.before.before.before.before
 
 -- seen from the handing out: the search
-abbrev sought : tie.After-give → tie.After-search
+abbrev sought : tie.After-give → tie.After-search-seen
 sought g = g.before.before.before.before.before.before.before.before.before
 
-rows-requires : tie.Need-rows-requires
-rows-requires c κs = omega (arith, c.before.before.before.before.before.before.before.before.requires.0.tested.shape.whole.words)
+rows-requires : tie.Need-rows-n-requires
+rows-requires c κs = omega (arith, c.requires.0.tested.shape.whole.words)
 
-returns : tie.Need-returns
+returns : tie.Need-returns-then-n-eq0
 returns c =
-    let r = c.before in
-    found_none _ _ _ _ _ _ _ _ _ _ (start r).requires.0 (start r).requires.1 (sym r.rows.ensures.0 ∙ c.if1.true)
+    let r = c in
+    found_none _ _ _ _ _ _ _ _ _ _ (start r.before).requires.0 (start r.before).requires.1 (sym r.rows-n.ensures.0 ∙ c.if-n-eq0.true)
 
-search-requires : tie.Need-search-requires
+search-requires : tie.Need-search-seen-requires
 search-requires c κs =
-    let r = c.before.before.before in
-    begin-blank _ _ _ _ _ _ _ _ _ _ (start r).requires.0 (omega (arith, r.rows.ensures.0)) (start r).requires.1
+    let r = c in
+    begin-blank _ _ _ _ _ _ _ _ _ _ (start r.before.before.before).requires.0 (omega (arith, r.rows-n.ensures.0)) (start r.before.before.before).requires.1
 
-mul-give : tie.Need-overflow-mul-give
+mul-give : tie.Need-overflow_mul-n
 mul-give c =
     let r = counted c.before.before.before.before.before.before.before.before in
-    omega (arith, r.rows.ensures.0, (start r).pre.0.tested.shape.whole.rows)
+    omega (arith, r.rows-n.ensures.0, (start r).requires.0.tested.shape.whole.rows)
 
 give-requires : tie.Need-give-requires
 give-requires c κs =
-    let s = c.before.before.before.before.before.before.before.before in
-    let r = counted s in
-    gives _ _ _ _ _ _ _ _ _ _ (start r).pre.0 (omega (arith, r.rows.ensures.0)) _ _ _ _ s.search.ensures.0 s.search.ensures.1.listed _
-    r.rows.ensures.0
+    let s = c in
+    let r = counted s.before.before.before.before.before.before.before.before in
+    gives _ _ _ _ _ _ _ _ _ _ (start r).requires.0 (omega (arith, r.rows-n.ensures.0)) _ _ _ _ s.search-seen.ensures.0 s.search-seen.ensures.1.listed _
+    r.rows-n.ensures.0
 
-mul-measured : tie.Need-overflow-mul-measured
+mul-measured : tie.Need-overflow_mul-measured
 mul-measured c =
     let r = counted (sought c.before.before.before.before.before.before.before.before) in
-    omega (arith, r.rows.ensures.0, (start r).pre.0.tested.shape.whole.rows)
+    omega (arith, r.rows-n.ensures.0, (start r).requires.0.tested.shape.whole.rows)
 
-sub-measured : tie.Need-overflow-sub-measured
+sub-measured : tie.Need-overflow_sub-measured
 sub-measured c =
     let s = sought c.before.before.before.before.before.before.before.before.before in
-    omega (arith, (counted s).rows.ensures.0, s.search.ensures.1.start)
+    omega (arith, (counted s).rows-n.ensures.0, s.search-seen.ensures.1.start)
 
-returns-2 : tie.Need-returns-2
+returns-2 : tie.Need-returns
 returns-2 c =
-    let g = c.before.before.before.before.before.before.before.before.before in
-    let s = sought g in
+    let g = c in
+    let s = sought g.before.before.before.before.before.before.before.before.before in
     let r = counted s in
-    found_at _ _ _ _ _ _ _ _ _ _ (start r).pre.0 (omega (arith, r.rows.ensures.0)) _ _ _ _ s.search.ensures.0
-    s.search.ensures.1.listed _ _ _ _ _ _ r.rows.ensures.0 (omega (arith, r.rows.ensures.0)) g.give.ensures
+    found_at _ _ _ _ _ _ _ _ _ _ (start r).requires.0 (omega (arith, r.rows-n.ensures.0)) _ _ _ _ s.search-seen.ensures.0
+    s.search-seen.ensures.1.listed _ _ _ _ _ _ r.rows-n.ensures.0 (omega (arith, r.rows-n.ensures.0)) g.give.ensures
 
-pub find-blank-spec : {M : Type 1} → statement M
-find-blank-spec =
+pub find_blank_spec : {M : Type 1} → statement M
+find_blank_spec =
     tie.close
     (tie.spec
     rows-requires

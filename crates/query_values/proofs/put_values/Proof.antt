@@ -10,71 +10,71 @@ use lib.ListN.{length}
 use mathlib.Core.Path.{◌≡◌, refl}
 use native.Mathlib.Omega.{arith}
 
-abbrev invariant-loop : tie.invariant-loop
+abbrev invariant-loop : tie.invariant-loop-i
 invariant-loop list circles k queries₀ factors i₀ queries i = (i ≤ k) × (length queries ≡ 1024) × Putting list circles factors k queries₀ queries i
 
-abbrev decreases-loop : tie.decreases-loop
+abbrev decreases-loop : tie.decreases-loop-i
 decreases-loop list circles k queries₀ factors i₀ queries i = k - i
 
-loop-holds : tie.Need-loop-init invariant-loop decreases-loop
-loop-holds c = let p = c.before.before.requires in (omega arith, p.1, putting_start p.0 p.1)
+loop-holds : tie.Need-loop-i-init invariant-loop decreases-loop
+loop-holds c = let p = c.requires in (omega arith, p.1, putting_start p.0 p.1)
 
-returns : tie.Need-returns invariant-loop decreases-loop
+returns : tie.Need-returns-then-not-item invariant-loop decreases-loop
 returns c =
-    let w = c.named-wrong.ensures in (
-      puts_none c.before.before.before.before.before.loop.invariant.2 c.before.before.before.piece-at.ensures _ _ _ c.before.before.before.before.loop-test.true
-          (not-true _ c.before.if1.true) w,
+    let w = c.named_wrong.ensures in (
+      puts_none c.loop-i.invariant.2 c.piece_at-item.ensures _ _ _ c.loop-i-test.true
+          (not-true _ c.if-not-item.true) w,
       omega (arith, w.2),
     )
 
-returns-2 : tie.Need-returns-2 invariant-loop decreases-loop
+returns-2 : tie.Need-returns-then-value-gt65535 invariant-loop decreases-loop
 returns-2 c =
-    let w = c.named-wrong2.ensures in
-    let f = c.before.before.before.before.before.before.before.piece-at.ensures in
-    let t = not-false _ c.before.before.before.before.before.if1.false in (
-      puts-wrong c.before.before.before.before.before.before.before.before.before.loop.invariant.2 f _ _ _ 24 c.before.before.before.before.before.before.before.before.loop-test.true t
-          (item-great f _ _ _ t c.before.before.before.number.ensures.0 c.before.before.times.ensures.0 _ (omega (arith, c.before.if2.true))) (omega arith) w,
+    let w = c.named_wrong-then-value-gt65535.ensures in
+    let f = c.piece_at-item.ensures in
+    let t = not-false _ c.if-not-item.false in (
+      puts-wrong c.loop-i.invariant.2 f _ _ _ 24 c.loop-i-test.true t
+          (item-great f _ _ _ t c.number.ensures.0 c.times-value.ensures.0 _ (omega (arith, c.if-value-gt65535.true))) (omega arith) w,
       omega (arith, w.2),
     )
 
-returns-3 : tie.Need-returns-3 invariant-loop decreases-loop
+returns-3 : tie.Need-returns-then-most-value invariant-loop decreases-loop
 returns-3 c =
-    let w = c.named-wrong3.ensures in
-    let f = c.before.before.before.before.before.before.before.before.before.piece-at.ensures in
-    let t = not-false _ c.before.before.before.before.before.before.before.if1.false in (
-      puts-wrong c.before.before.before.before.before.before.before.before.before.before.before.loop.invariant.2 f _ _ _ 28 c.before.before.before.before.before.before.before.before.before.before.loop-test.true t
-          (item-off f _ _ _ t c.before.before.before.before.before.number.ensures.0 c.before.before.before.before.times.ensures.0 _ _ (omega (arith, c.before.before.before.if2.false)) c.before.before.most.ensures
-          (omega (arith, c.before.if3.true))) (omega arith) w,
+    let w = c.named_wrong-then-most-value.ensures in
+    let f = c.piece_at-item.ensures in
+    let t = not-false _ c.if-not-item.false in (
+      puts-wrong c.loop-i.invariant.2 f _ _ _ 28 c.loop-i-test.true t
+          (item-off f _ _ _ t c.number.ensures.0 c.times-value.ensures.0 _ _ (omega (arith, c.if-value-gt65535.false)) c.most.ensures
+          (omega (arith, c.if-most-value.true))) (omega arith) w,
       omega (arith, w.2),
     )
 
-loop-again : tie.Need-loop-preserved invariant-loop decreases-loop
+loop-again : tie.Need-loop-i-preserved invariant-loop decreases-loop
 loop-again c =
-    let P = c.before.before.before.before.before.before.before.before.before.before.loop.invariant.2 in
-    let f = c.before.before.before.before.before.before.before.before.piece-at.ensures in
-    let t = not-false _ c.before.before.before.before.before.before.if1.false in
-    let s = c.before.before.before.before.number.ensures.0 in
-    let v = c.before.before.before.times.ensures.0 in
-    let l = c.before.before.before.before.before.before.before.before.before.loop-test.true in
+    let P = c.loop-i.invariant.2 in
+    let f = c.piece_at-item.ensures in
+    let t = not-false _ c.if-not-item.false in
+    let s = c.number.ensures.0 in
+    let v = c.times-value.ensures.0 in
+    let l = c.loop-i-test.true in
     let next = putting-next P _ l (item-value f _ _ _ t s v)
-    (item-sound f _ _ _ t s v _ _ (omega (arith, c.before.before.if2.false)) c.before.most.ensures (omega (arith, c.if3.false))) in
+    (item-sound f _ _ _ t s v _ _ (omega (arith, c.if-value-gt65535.false)) c.most.ensures (omega (arith, c.if-most-value.false))) in
     (omega (arith, l), putting-long next, next)
 
-returns-4 : tie.Need-returns-4 invariant-loop decreases-loop
+returns-4 : tie.Need-returns-then-piece_at invariant-loop decreases-loop
 returns-4 c =
-    let w = c.named-wrong4.ensures in (
-      puts-more c.before.before.before.before.loop.invariant.2 c.before.before.piece-at2.ensures _ _ _ c.before.before.before.loop-test.false c.before.if4.true w,
+    let w = c.named_wrong-then-piece_at.ensures in (
+      puts-more c.loop-i.invariant.2 c.piece_at.ensures _ _ _ c.loop-i-test.false c.if-piece_at.true w,
       omega (arith, w.2),
     )
 
-returns-5 : tie.Need-returns-5 invariant-loop decreases-loop
+returns-5 : tie.Need-returns invariant-loop decreases-loop
 returns-5 c = (
-  puts-all c.before.before.before.loop.invariant.2 c.before.piece-at2.ensures _ _ _ c.before.before.loop-test.false c.if4.false (refl, refl, refl),
+  puts-all c.loop-i.invariant.2 c.piece_at.ensures _ _ _ c.loop-i-test.false c.if-piece_at.false (refl, refl, refl),
   omega arith,
 )
 
-pub put-values-spec : {M : Type 1} → statement M
-put-values-spec =
+pub put_values_spec : {M : Type 1} → statement M
+put_values_spec =
     tie.close
     (tie.spec
     invariant-loop

@@ -9,57 +9,57 @@ use borrow.Author.Rules.{rules}
 use lib.ListN.{length, length-set, set}
 use mathlib.Core.Path.{◌∙◌, ◌≡◌}
 
-open-node-requires : tie.Need-open-node-requires
+open-node-requires : tie.Need-open_node-requires
 open-node-requires c κs =
-    let r = c.before.before.before in
-    let o = r.before in
-    let k = o.before in
-    let i = k.before in
-    let m = i.before in
-    let n = m.before in
-    let s = n.before.before.before.before.before.before in
-    splits-ready s.requires n.word.ensures.0 m.centres.ensures.0 i.if1.true k.columns.ensures.0 o.circles.ensures
+    let r = c in
+    let o = r in
+    let k = o in
+    let i = k in
+    let m = i in
+    let n = m in
+    let s = n in
+    splits-ready s.requires n.word-child.ensures.0 m.centres-m.ensures.0 i.if-child-eq0.true k.columns.ensures.0 o.circles.ensures
     r.rows.ensures.0
 
-returns : tie.Need-returns
+returns : tie.Need-returns-then-child-eq0
 returns c =
-    let g = c.before.before.before.before in
-    let r = g.before.before.before.before in
-    let o = r.before in
-    let k = o.before in
-    let i = k.before in
-    let m = i.before in
-    let n = m.before in
-    let s = n.before.before.before.before.before.before in
-    splits-done s.requires n.word.ensures.0 m.centres.ensures.0 i.if1.true k.columns.ensures.0 o.circles.ensures
+    let g = c in
+    let r = g in
+    let o = r in
+    let k = o in
+    let i = k in
+    let m = i in
+    let n = m in
+    let s = n in
+    splits-done s.requires n.word-child.ensures.0 m.centres-m.ensures.0 i.if-child-eq0.true k.columns.ensures.0 o.circles.ensures
     r.rows.ensures.0
-    g.open-node.ensures
+    g.open_node.ensures
 
-copy-children-requires : tie.Need-copy-children-requires
+copy-children-requires : tie.Need-copy_children-requires
 copy-children-requires c κs =
-    let i = c.before in
-    let m = i.before in
-    let n = m.before in
-    let s = n.before.before.before.before.before.before in
-    (s.requires.change, copies-ready s.requires n.word.ensures.0 m.centres.ensures.0 i.if1.false)
+    let i = c in
+    let m = i in
+    let n = m in
+    let s = n in
+    (s.requires.change, copies-ready s.requires n.word-child.ensures.0 m.centres-m.ensures.0 i.if-child-eq0.false)
 
-same-length-3 : tie.Need-same-length-3
+same-length-3 : tie.Need-shape_of-room
 same-length-3 c =
-    let r = c.before.before in
-    let a = r.before.before.before.before.before.before.before.before.before.before.args in
-    let l : length r.copy-children.new.1.1.1.0 ≡ length (set a.room.now (node_at_lem a.k + 2) a.made) = search rules in
+    let r = c in
+    let a = r.args in
+    let l : length r.copy_children.new.room ≡ length (set a.room.now (node_at_lem a.k + 2) a.made) = search rules in
     l ∙ length-set a.room.now (node_at_lem a.k + 2) a.made
 
-returns-2 : tie.Need-returns-2
+returns-2 : tie.Need-returns
 returns-2 c =
-    let i = c.before.before.before.before in
-    let m = i.before in
-    let n = m.before in
-    let s = n.before.before.before.before.before.before in
-    copies-left s.requires n.word.ensures.0 m.centres.ensures.0 i.if1.false c.before.before.copy-children.ensures
+    let i = c in
+    let m = i in
+    let n = m in
+    let s = n in
+    copies-left s.requires n.word-child.ensures.0 m.centres-m.ensures.0 i.if-child-eq0.false c.copy_children.ensures
 
-pub open-piece-spec : {M : Type 1} → statement M
-open-piece-spec =
+pub open_piece_spec : {M : Type 1} → statement M
+open_piece_spec =
     tie.close
     (tie.spec
     (λ c. search rules)

@@ -6,15 +6,15 @@ use Rattle.sheet.proofs.close.Tie as tie
 use borrow.Author.Rules.{rules}
 use mathlib.Core.Path.{◌∙◌, ap, sym}
 
-returns : tie.Need-returns
+returns : tie.Need-returns-then-is_bare
 returns c =
-    let e = closed-bare _ _ _ c.before.first-blank.ensures (sym c.before.before.before.is-bare.ensures ∙ c.before.before.if1.true) in
-    (c.go-onward.ensures ∙ sym (ap (λ s. s.0) e), sym (ap (λ s. s.1) e))
+    let e = closed-bare _ _ _ c.first_blank.ensures (sym c.is_bare.ensures ∙ c.if-is_bare.true) in
+    (c.go_onward.ensures ∙ sym (ap (λ s. s.0) e), sym (ap (λ s. s.1) e))
 
-returns-2 : tie.Need-returns-2
+returns-2 : tie.Need-returns
 returns-2 c =
-    let e = closed-full _ _ _ c.before.before.before.before.settle.ensures (sym c.before.before.before.before.before.before.is-bare.ensures ∙ c.before.before.before.before.before.if1.false) in
-    (c.before.before.judge.ensures.0 ∙ sym (ap (λ s. s.0) e), c.before.before.judge.ensures.1 ∙ sym (ap (λ s. s.1) e))
+    let e = closed-full _ _ _ c.settle.ensures (sym c.is_bare.ensures ∙ c.if-is_bare.false) in
+    (c.judge.ensures.0 ∙ sym (ap (λ s. s.0) e), c.judge.ensures.1 ∙ sym (ap (λ s. s.1) e))
 
 pub close_spec : {M : Type 1} → statement M
 close_spec =

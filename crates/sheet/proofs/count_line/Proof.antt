@@ -6,13 +6,16 @@ use Rattle.sheet_reading.specs.Closing.{counted}
 use borrow.Author.Rules.{rules}
 use borrow.Author.Tests.{le-ltb, lt-ltb}
 
-returns : tie.Need-returns
+returns : tie.Need-returns-then-line-lt-MOST_LINES
 unfolding counted
-returns c = rw (lt-ltb _ _ c.if1.true)
+returns c = rw (lt-ltb _ _ c.if-line-lt-MOST_LINES.true)
 
-returns-2 : tie.Need-returns-2
+returns-2 : tie.Need-returns
 unfolding counted
-returns-2 c = rw (le-ltb _ _ c.if1.false)
+returns-2 c = rw (le-ltb _ _ c.if-line-lt-MOST_LINES.false)
 
-pub count-line-spec : {M : Type 1} → statement M
-count-line-spec = tie.close (tie.spec (λ c. search rules) returns returns-2)
+pub count_line_spec : {M : Type 1} → statement M
+count_line_spec = tie.close (tie.spec
+    (λ c. search rules)
+    returns
+    returns-2)

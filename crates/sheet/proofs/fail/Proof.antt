@@ -9,5 +9,6 @@ returns : tie.Need-returns
 unfolding failed
 returns c = search rules
 
-pub fail-spec : {M : Type 1} → statement M
-fail-spec = tie.close (tie.spec returns)
+pub fail_spec : {M : Type 1} → statement M
+fail_spec = tie.close (tie.spec
+    returns)

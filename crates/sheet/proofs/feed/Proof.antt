@@ -8,29 +8,29 @@ use borrow.Author.Rules.{rules}
 use lib.ListN.{length}
 use mathlib.Core.Path.{ap}
 
-abbrev invariant-loop : tie.invariant-loop
+abbrev invariant-loop : tie.invariant-loop-i
 invariant-loop text table₀ r₀ i₀ table r i = Fed r₀ table₀ text r table i
 
-abbrev decreases-loop : tie.decreases-loop
+abbrev decreases-loop : tie.decreases-loop-i
 decreases-loop text table₀ r₀ i₀ table r i = length text - i
 
-loop-holds : tie.Need-loop-init invariant-loop decreases-loop
+loop-holds : tie.Need-loop-i-init invariant-loop decreases-loop
 loop-holds c = fed_start _ _ _
 
-loop-again : tie.Need-loop-preserved invariant-loop decreases-loop
+loop-again : tie.Need-loop-i-preserved invariant-loop decreases-loop
 loop-again c =
-    let read = c.before.before.step.ensures in
-    let turn = c.before.before.before.before.before in
-    fed-next _ _ _ _ _ _ turn.before.loop.invariant _ _ turn.loop-test.true read.0 read.1 (search rules)
+    let read = c.step-r.ensures in
+    let turn = c in
+    fed-next _ _ _ _ _ _ turn.loop-i.invariant _ _ turn.loop-i-test.true read.0 read.1 (search rules)
 
-same_length : tie.Need-same-length invariant-loop decreases-loop
-same_length c = c.before.loop.invariant.long
+same_length : tie.Need-shape_of-table invariant-loop decreases-loop
+same_length c = c.loop-i.invariant.long
 
 returns : tie.Need-returns invariant-loop decreases-loop
-returns c = let e = fed-end _ _ _ _ _ _ c.before.loop.invariant c.loop-test.false in (ap (λ s. s.0) e, ap (λ s. s.1) e)
+returns c = let e = fed-end _ _ _ _ _ _ c.loop-i.invariant c.loop-i-test.false in (ap (λ s. s.0) e, ap (λ s. s.1) e)
 
-pub feed-spec : {M : Type 1} → statement M
-feed-spec =
+pub feed_spec : {M : Type 1} → statement M
+feed_spec =
     tie.close
     (tie.spec
     invariant-loop

@@ -6,7 +6,10 @@ use Rattle.sheet_reading.proofs.Closings.{onward_with}
 use borrow.Author.Rules.{rules}
 
 returns : tie.Need-returns
-returns c = onward_with _ _ _ _ _ _ _ c.before.count-line.ensures c.fresh.ensures
+returns c = onward_with _ _ _ _ _ _ _ c.count_line.ensures c.fresh.ensures
 
-pub go-onward-spec : {M : Type 1} → statement M
-go-onward-spec = tie.close (tie.spec (λ c κs. search rules) (λ c κs. search rules) returns)
+pub go_onward_spec : {M : Type 1} → statement M
+go_onward_spec = tie.close (tie.spec
+    (λ c κs. search rules)
+    (λ c κs. search rules)
+    returns)

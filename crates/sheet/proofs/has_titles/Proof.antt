@@ -5,13 +5,15 @@ use Rattle.sheet.proofs.has_titles.Tie as tie
 use Rattle.sheet_reading.specs.Closing.{titles}
 use borrow.Author.Tests.{eq-eqb, ne_eqb}
 
-returns : tie.Need-returns
+returns : tie.Need-returns-then-r-ne1
 unfolding titles
-returns c = rw (ne_eqb _ _ c.if1.true)
+returns c = rw (ne_eqb _ _ c.if-r-ne1.true)
 
-returns-2 : tie.Need-returns-2
+returns-2 : tie.Need-returns
 unfolding titles
-returns-2 c = rw (eq-eqb _ _ c.before.if1.false)
+returns-2 c = rw (eq-eqb _ _ c.if-r-ne1.false)
 
-pub has-titles-spec : {M : Type 1} → statement M
-has-titles-spec = tie.close (tie.spec returns returns-2)
+pub has_titles_spec : {M : Type 1} → statement M
+has_titles_spec = tie.close (tie.spec
+    returns
+    returns-2)

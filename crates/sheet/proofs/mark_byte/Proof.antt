@@ -5,17 +5,20 @@ use Rattle.sheet.proofs.mark_byte.Tie as tie
 use Rattle.sheet_reading.specs.Reading.{mark_byte_lem}
 use borrow.Author.Tests.{eq-eqb, ne_eqb}
 
-returns : tie.Need-returns
+returns : tie.Need-returns-then-k-eq0
 unfolding mark_byte_lem
-returns c = rw (eq-eqb _ _ c.if1.true)
+returns c = rw (eq-eqb _ _ c.if-k-eq0.true)
 
-returns-2 : tie.Need-returns-2
+returns-2 : tie.Need-returns-then-k-eq1
 unfolding mark_byte_lem
-returns-2 c = rw (ne_eqb _ _ c.before.if1.false, eq-eqb _ _ c.if2.true)
+returns-2 c = rw (ne_eqb _ _ c.if-k-eq0.false, eq-eqb _ _ c.if-k-eq1.true)
 
-returns-3 : tie.Need-returns-3
+returns-3 : tie.Need-returns
 unfolding mark_byte_lem
-returns-3 c = rw (ne_eqb _ _ c.before.if1.false, ne_eqb _ _ c.if2.false)
+returns-3 c = rw (ne_eqb _ _ c.if-k-eq0.false, ne_eqb _ _ c.if-k-eq1.false)
 
-pub mark-byte-spec : {M : Type 1} → statement M
-mark-byte-spec = tie.close (tie.spec returns returns-2 returns-3)
+pub mark_byte_spec : {M : Type 1} → statement M
+mark_byte_spec = tie.close (tie.spec
+    returns
+    returns-2
+    returns-3)

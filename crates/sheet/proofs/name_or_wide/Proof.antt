@@ -6,17 +6,22 @@ use Rattle.sheet_reading.specs.Closing.{or_wide}
 use borrow.Author.Rules.{rules}
 use borrow.Author.Tests.{eq-eqb, le-ltb, lt-ltb, ne_eqb}
 
-returns : tie.Need-returns
+returns : tie.Need-returns-then-t-ne0
 unfolding or_wide
-returns c = rw (ne_eqb _ _ c.if1.true)
+returns c = rw (ne_eqb _ _ c.if-t-ne0.true)
 
-returns-2 : tie.Need-returns-2
+returns-2 : tie.Need-returns-then-count-gt-WIDEST
 unfolding or_wide
-returns-2 c = rw (eq-eqb _ _ c.before.if1.false, lt-ltb _ _ c.if2.true)
+returns-2 c = rw (eq-eqb _ _ c.if-t-ne0.false, lt-ltb _ _ c.if-count-gt-WIDEST.true)
 
-returns-3 : tie.Need-returns-3
+returns-3 : tie.Need-returns
 unfolding or_wide
-returns-3 c = rw (eq-eqb _ _ c.before.before.if1.false, le-ltb _ _ c.before.if2.false) c.no-trouble.ensures
+returns-3 c = rw (eq-eqb _ _ c.if-t-ne0.false, le-ltb _ _ c.if-count-gt-WIDEST.false) c.no_trouble.ensures
 
-pub name-or-wide-spec : {M : Type 1} → statement M
-name-or-wide-spec = tie.close (tie.spec returns (λ c. search rules) returns-2 (λ c κs. search rules) returns-3)
+pub name_or_wide_spec : {M : Type 1} → statement M
+name_or_wide_spec = tie.close (tie.spec
+    returns
+    (λ c. search rules)
+    returns-2
+    (λ c κs. search rules)
+    returns-3)

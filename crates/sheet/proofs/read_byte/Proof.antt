@@ -6,23 +6,23 @@ use Rattle.sheet.proofs.read_byte.Tie as tie
 use borrow.Author.Rules.{rules}
 use mathlib.Core.Path.{◌∙◌, ap, sym}
 
-returns : tie.Need-returns
+returns : tie.Need-returns-then-b-eq-NEWLINE
 returns c =
-    let e = read-newline _ _ _ c.before.before.before.before.if1.true in
-    (c.before.before.close.ensures.0 ∙ sym (ap (λ s. s.0) e), c.before.before.close.ensures.1 ∙ sym (ap (λ s. s.1) e))
+    let e = read-newline _ _ _ c.if-b-eq-NEWLINE.true in
+    (c.close.ensures.0 ∙ sym (ap (λ s. s.0) e), c.close.ensures.1 ∙ sym (ap (λ s. s.1) e))
 
-returns-2 : tie.Need-returns-2
+returns-2 : tie.Need-returns-then-b-eq-RETURN
 returns-2 c =
-    let e = read-return _ _ _ _ c.before.before.release.ensures c.before.before.before.if1.false c.before.if2.true in
+    let e = read-return _ _ _ _ c.release-here.ensures c.if-b-eq-NEWLINE.false c.if-b-eq-RETURN.true in
     (c.stay.ensures ∙ sym (ap (λ s. s.0) e), sym (ap (λ s. s.1) e))
 
-returns-3 : tie.Need-returns-3
+returns-3 : tie.Need-returns
 returns-3 c =
-    let e = read-other _ _ _ _ c.before.before.before.before.release.ensures c.before.before.before.before.before.if1.false _ _ c.before.before.kind-of.ensures c.before.along.ensures c.before.before.before.if2.false in
-    (c.stay2.ensures ∙ sym (ap (λ s. s.0) e), sym (ap (λ s. s.1) e))
+    let e = read-other _ _ _ _ c.release-here.ensures c.if-b-eq-NEWLINE.false _ _ c.kind_of.ensures c.along.ensures c.if-b-eq-RETURN.false in
+    (c.stay-2.ensures ∙ sym (ap (λ s. s.0) e), sym (ap (λ s. s.1) e))
 
-pub read-byte-spec : {M : Type 1} → statement M
-read-byte-spec =
+pub read_byte_spec : {M : Type 1} → statement M
+read_byte_spec =
     tie.close
     (tie.spec
     (λ c κs. search rules)

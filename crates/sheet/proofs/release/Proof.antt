@@ -5,13 +5,16 @@ use Rattle.sheet.proofs.release.Tie as tie
 use Rattle.sheet_reading.specs.Reading.{released}
 use borrow.Author.Rules.{rules}
 
-returns : tie.Need-returns
+returns : tie.Need-returns-then-r
 unfolding released
-returns c = rw c.before.if1.true c.along.ensures
+returns c = rw c.if-r.true c.along.ensures
 
-returns-2 : tie.Need-returns-2
+returns-2 : tie.Need-returns
 unfolding released
-returns-2 c = rw c.before.if1.false
+returns-2 c = rw c.if-r.false
 
 pub release_spec : {M : Type 1} → statement M
-release_spec = tie.close (tie.spec (λ c κs. search rules) returns returns-2)
+release_spec = tie.close (tie.spec
+    (λ c κs. search rules)
+    returns
+    returns-2)

@@ -10,4 +10,6 @@ unfolding begun
 returns c = cc
 
 pub start_spec : {M : Type 1} → statement M
-start_spec = tie.close (tie.spec (λ c κs. search rules) returns)
+start_spec = tie.close (tie.spec
+    (λ c κs. search rules)
+    returns)

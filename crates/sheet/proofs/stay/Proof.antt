@@ -9,5 +9,6 @@ returns : tie.Need-returns
 unfolding inside
 returns c = search rules
 
-pub stay-spec : {M : Type 1} → statement M
-stay-spec = tie.close (tie.spec returns)
+pub stay_spec : {M : Type 1} → statement M
+stay_spec = tie.close (tie.spec
+    returns)

@@ -14,23 +14,26 @@ use native.Mathlib.Omega.{arith}
 abbrev dist : tie.Start → ℕ → ℕ → ℕ
 dist s = between s.args.table.now s.args.c (circles# s.args.index.now)
 
-returns : tie.Need-returns
+returns : tie.Need-returns-then-f-g
 returns c =
-    let s = c.before.before.before in
-    own-safe (dist s) s.args.g s.args.f _ c.if1.true
+    let s = c in
+    own-safe (dist s.before.before.before) s.args.g s.args.f _ c.if-f-g.true
 
-row-distance-requires : tie.Need-row-distance-requires
+row-distance-requires : tie.Need-row_distance-requires
 row-distance-requires c κs =
-    let s = c.before.before.before in
+    let s = c in
     let fits = in_table s.requires.0.0 in
     (s.requires.0.0.columns, fits s.args.g s.requires.1.0, fits s.args.f s.requires.1.1)
 
-returns-2 : tie.Need-returns-2
+returns-2 : tie.Need-returns
 returns-2 c =
-    let s = c.before.before.before.before in
+    let s = c in
     let a = s.args in
-    let d = c.row-distance.ensures.0 ∙ ap (λ o. between a.table.now a.c o a.g a.f) (sym s.requires.0.2) in
-    half-safe (dist s) s.requires.0.1 a.g a.f _ (omega (arith, d))
+    let d = c.row_distance.ensures.0 ∙ ap (λ o. between a.table.now a.c o a.g a.f) (sym s.requires.0.2) in
+    half-safe (dist s.before.before.before.before) s.requires.0.1 a.g a.f _ (omega (arith, d))
 
-pub halfway-spec : {M : Type 1} → statement M
-halfway-spec = tie.close (tie.spec returns row-distance-requires returns-2)
+pub halfway_spec : {M : Type 1} → statement M
+halfway_spec = tie.close (tie.spec
+    returns
+    row-distance-requires
+    returns-2)

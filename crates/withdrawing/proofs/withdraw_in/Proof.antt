@@ -8,17 +8,17 @@ use lib.Seq.{length-take-le}
 use mathlib.Core.Path.{sym}
 use native.Mathlib.Omega.{arith}
 
-slice-aggregate-withdraw : tie.Need-slice-aggregate-withdraw
+slice-aggregate-withdraw : tie.Need-slice_bounds-withdraw-end-2
 slice-aggregate-withdraw c = sym (length-take-le _ _ (omega arith))
 
 returns : tie.Need-returns
 returns c =
-    let l = c.before.before.before.before in
-    withdrew_in l.before.before.before.before.args.room.now _ (least-words _ _ l.least.ensures.0 l.before.words-for.ensures)
-    c.before.before.withdraw.ensures (search rules)
+    let l = c in
+    withdrew_in l.args.room.now _ (least-words _ _ l.least-words.ensures.0 l.words_for.ensures)
+    c.withdraw.ensures (search rules)
 
-pub withdraw-in-spec : {M : Type 1} → statement M
-withdraw-in-spec =
+pub withdraw_in_spec : {M : Type 1} → statement M
+withdraw_in_spec =
     tie.close
     (tie.spec
     (λ c κs. search rules)
