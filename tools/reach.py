@@ -18,16 +18,25 @@ NAME = r"[A-Za-z_][\w'#₀₁₂-]*"
 
 class Table:
     def __init__(self, table, root):
-        self.parent, self.goal_state, self.params = {}, {}, {}
+        self.parent, self.goal_state, self.params, self.step = {}, {}, {}, {}
         olds = [p[0] for p in table["places"]]
         news = table["places_by_name"]
         by_old = dict(zip(olds, news))
         for p, new in zip(table["places"], news):
             self.parent[new] = by_old.get(p[1]) if p[1] else None
+            self.step[new] = p[2][1]
             if p[3] and p[3] in table["params"]:
                 self.params[p[2][1]] = table["params"][p[3]]
         for (old, new), (_, state) in zip(table["needs"], table["asked_at"]):
             self.goal_state[new] = state
+
+    def known(self, state):
+        """The fields that can be read of a state."""
+        out = {"args", "requires", "ranges", "lifetimes", "well_formed"}
+        while state is not None:
+            out.add(self.step.get(state))
+            state = self.parent.get(state)
+        return out
 
     def far(self, a, b):
         n = 0
@@ -106,8 +115,17 @@ def turn(path, crate, fn, table, root, say):
                 if helper in gives:
                     env[t] = gives[helper]
                 continue
-            d = 0
-            env[t] = env[v]
+            # where t is handed on as one state, and nothing is read of it that comes behind that state, it is that state
+            d, env[t] = 0, env[v]
+            rest = code[a.end():]
+            asked = {takes[u] for u in re.findall(r"(?<![\w.'#-])(" + "|".join(map(re.escape, takes) or ["\\b"]) + r") \(?" + re.escape(t) + r"(?:\.before)*(?![\w.'#-])", rest)} if takes else set()
+            whole = re.search(r"(?<![\w.'#-])" + re.escape(t) + r"(?:\.before)*(?![\w.'#-])", re.sub(r"(?<![\w.'#-])(?:" + "|".join(map(re.escape, takes) or ["\\b"]) + r") \(?" + re.escape(t) + r"(?:\.before)*(?![\w.'#-])", "", rest)) if takes else None
+            fields = set(re.findall(r"(?<![\w.'#-])" + re.escape(t) + r"(?:\.before)*\.(?!before\b)(" + NAME + ")", rest))
+            if len(asked) == 1 and not whole:
+                (wanted,) = asked
+                far = T.far(env[v], wanted)
+                if far is not None and fields <= T.known(wanted):
+                    d, env[t] = far, wanted
             new = f"let {t} = {v}{'.before' * d} in"
             code = code[: a.start()] + new + code[a.end():]
             pos = a.start() + len(new)

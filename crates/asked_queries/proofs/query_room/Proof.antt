@@ -9,5 +9,6 @@ use mathlib.Core.Path.{sym}
 returns : tie.Need-returns
 returns c = sym (length-replicate {A = ℕ} 1_024 0)
 
-pub query-room-spec : {M : Type 1} → statement M
-query-room-spec = tie.close (tie.spec returns)
+pub query_room_spec : {M : Type 1} → statement M
+query_room_spec = tie.close (tie.spec
+    returns)

@@ -9,5 +9,6 @@ use mathlib.Core.Path.{sym}
 returns : tie.Need-returns
 returns c = sym (length-replicate {A = ℕ} 32_768 0)
 
-pub none-struck-spec : {M : Type 1} → statement M
-none-struck-spec = tie.close (tie.spec returns)
+pub none_struck_spec : {M : Type 1} → statement M
+none_struck_spec = tie.close (tie.spec
+    returns)

@@ -7,5 +7,10 @@ use borrow.Author.Rules.{rules}
 returns : tie.Need-returns
 returns c = cc
 
-pub check-number-spec : {M : Type 1} → statement M
-check-number-spec = tie.close (tie.spec (λ c κs. search rules) (λ c κs. search rules) (λ c. search rules) (λ c κs. search rules) returns)
+pub check_number_spec : {M : Type 1} → statement M
+check_number_spec = tie.close (tie.spec
+    (λ c κs. search rules)
+    (λ c κs. search rules)
+    (λ c. search rules)
+    (λ c κs. search rules)
+    returns)

@@ -17,20 +17,20 @@ use native.Mathlib.Omega.{arith}
 
 -- ---- the tests, one after the other
 -- the start, seen from where the parameters were taken
-abbrev begun : tie.In-Taken-2 → tie.Start
-begun c = c.before.before.before.before.before.before
+abbrev begun : tie.In-Taken → tie.Start
+begun c = c.before.before.before.before.before
 
 -- m, l and the circles are in range, the parameters hold them, and the edition is 2
-answer : (c : tie.In-Taken-2)
+answer : (c : tie.In-Taken)
     → (choice_ok (begun c).args.c (begun c).args.m (begun c).args.l (begun c).args.circles (begun c).args.edition ≡ true)
-    × (c.p.given.0.0.centres ≡ (begun c).args.m) × (c.p.given.0.0.leaf ≡ (begun c).args.l)
-    × (c.p.given.0.0.circles ≡ (begun c).args.circles)
+    × (c.in-Taken.p.centres ≡ (begun c).args.m) × (c.in-Taken.p.leaf ≡ (begun c).args.l)
+    × (c.in-Taken.p.circles ≡ (begun c).args.circles)
 answer c =
     let a = (begun c).args in
-    answer_taken a.c a.m a.l a.circles a.edition c.p.given.1 c.new.ensures
+    answer_taken a.c a.m a.l a.circles a.edition c.in-Taken.is c.new.ensures
 
 -- what the call says
-abbrev says : tie.In-Taken-2 → ℕ
+abbrev says : tie.In-Taken → ℕ
 says c =
     let a = (begun c).args in
     (said_build a.table.now a.c a.circles a.edition a.m a.l (length a.room.now) (length a.work.now)).0
@@ -39,7 +39,7 @@ returns : tie.Need-returns-in_default
 returns c =
     let t = c in
     let a = t.args in
-    let share = answer_refused a.c a.m a.l a.circles a.edition t.enum_told.given.1 t.new.ensures in
+    let share = answer_refused a.c a.m a.l a.circles a.edition c.in_default.is t.new.ensures in
     refused_builds
     (says_is a.table.now a.c a.circles a.edition a.m a.l (length a.room.now) (length a.work.now) share
     c.build_number.ensures)
@@ -47,32 +47,32 @@ returns c =
     c.refused.ensures
 
 -- the number that is told is what the call says
-said-is : (c : tie.After-build_number-number) → c.build_number-number.result ≡ says c.before.before
+said-is : (c : tie.After-build_number-number) → c.build_number-number.result ≡ says c.before
 said-is c =
     let p = c in
-    let a = (begun p.before.before).args in
-    says_is a.table.now a.c a.circles a.edition a.m a.l (length a.room.now) (length a.work.now) (answer p.before.before).0
+    let a = (begun p.before).args in
+    says_is a.table.now a.c a.circles a.edition a.m a.l (length a.room.now) (length a.work.now) (answer p.before).0
     c.build_number-number.ensures
 
 returns-2 : tie.Need-returns-then-number-ne0
 returns-2 c = refused_builds (said-is c.before.before) c.if-number-ne0.true c.refused-then-number-ne0.ensures
 
 -- ---- behind the tests
-abbrev held : tie.Else-number-ne0 → tie.In-Taken-2
-held c = c.before.before.before
+abbrev held : tie.Else-number-ne0 → tie.In-Taken
+held c = c.before.before
 
 abbrev past : tie.After-fill-nodes → tie.Else-number-ne0
 past c = c.before.before.before
 
 passed : (c : tie.Else-number-ne0)
     → Passed (begun (held c)).args.table.now (begun (held c)).args.c (begun (held c)).args.circles (begun (held c)).args.edition
-    (begun (held c)).args.m (begun (held c)).args.l (begun (held c)).args.room.now (begun (held c)).args.work.now (held c).p.given.0.0
+    (begun (held c)).args.m (begun (held c)).args.l (begun (held c)).args.room.now (begun (held c)).args.work.now (held c).in-Taken.p
 passed c =
     let r = answer (held c) in
     record { none = sym (said-is c.before) ∙ c.if-number-ne0.false; m_is = r.1; l_is = r.2; o_is = r.3 }
 
 -- the table's numbers have 16 bits
-narrow : (c : tie.In-Taken-2) (i : ℕ) → get_or (begun c).args.table.now i 0 ≤ 65535
+narrow : (c : tie.In-Taken) (i : ℕ) → get_or (begun c).args.table.now i 0 ≤ 65535
 narrow c i =
     let lent = c in
     omega (arith, lent.shared_slice_known-1.given i)

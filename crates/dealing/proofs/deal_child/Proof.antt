@@ -10,206 +10,206 @@ use mathlib.Core.Path.{◌∙◌, ◌≡◌, ap}
 use native.Mathlib.Omega.{arith}
 
 -- the start, seen from behind the count, and this, seen from behind what is picked
-abbrev start : tie.After-node-count → tie.Start
+abbrev start : tie.After-node_count-own → tie.Start
 start c = c.before.before.before.before.before.before
 
-abbrev counted : tie.After-pick → tie.After-node-count
+abbrev counted : tie.After-pick-g → tie.After-node_count-own
 counted c = c.before.before.before
 
 -- the child's number
-kid : (c : tie.After-node-count) → c.before.node-child.result ≡ child# (start c).args.index.now (start c).args.p.node
-kid c = c.before.node-child.ensures.0
+kid : (c : tie.After-node_count-own) → c.node_child.result ≡ child# (start c).args.index.now (start c).args.p.node
+kid c = c.node_child.ensures.0
 
 -- its own count
-own : (c : tie.After-node-count)
-    → c.node-count.result ≡ count# (start c).args.index.now (child# (start c).args.index.now (start c).args.p.node + (start c).args.k)
-own c = c.node-count.ensures.0 ∙ ap (λ i. count# (start c).args.index.now (i + (start c).args.k)) (kid c)
+own : (c : tie.After-node_count-own)
+    → c.node_count-own.result ≡ count# (start c).args.index.now (child# (start c).args.index.now (start c).args.p.node + (start c).args.k)
+own c = c.node_count-own.ensures.0 ∙ ap (λ i. count# (start c).args.index.now (i + (start c).args.k)) (kid c)
 
-node-child-requires : tie.Need-node-child-requires
+node-child-requires : tie.Need-node_child-requires
 node-child-requires c κs =
-    let D = c.before.before.before.before.requires.deals in
+    let D = c.requires.deals in
     (D.shape.whole, D.there)
 
-add-q : tie.Need-overflow-add-q
+add-q : tie.Need-overflow_add-q
 add-q c =
-    let r = kid-there c.before.before.before.before.before.requires c.node-child.ensures.0 in
+    let r = kid-there c.requires c.node_child.ensures.0 in
     omega (arith, r)
 
-node-count-requires : tie.Need-node-count-requires
+node-count-requires : tie.Need-node_count-own-requires
 node-count-requires c κs =
-    let g = c.before.before.before.before.before.requires in
-    (g.deals.shape.whole, (kid-there g c.node-child.ensures.0).0)
+    let g = c.requires in
+    (g.deals.shape.whole, (kid-there g c.node_child.ensures.0).0)
 
-add-to : tie.Need-overflow-add-to
+add-to : tie.Need-overflow_add-to
 add-to c =
-    let g = c.before.before.before.before.before.before.before.requires in
+    let g = c.requires in
     omega (arith, g.fits, g.deals.few)
 
-mul-to : tie.Need-overflow-mul-to
+mul-to : tie.Need-overflow_mul-to
 mul-to c =
-    let g = c.before.before.before.before.before.before.before.requires in
+    let g = c.requires in
     omega (arith, g.fits, g.deals.few)
 
-cast-pick : tie.Need-overflow-cast-pick
+cast-pick : tie.Need-overflow_cast-k
 cast-pick c =
-    let n = c.before.before in
-    let g = (start n).requires in
-    omega (arith, g.fits, g.deals.few, own n, g.child, g.deals.shape.whole.fan.1)
+    let n = c in
+    let g = (start n.before.before).requires in
+    omega (arith, g.fits, g.deals.few, own n.before.before, g.child, g.deals.shape.whole.fan.1)
 
-mul-pick : tie.Need-overflow-mul-pick
+mul-pick : tie.Need-overflow_mul-own
 mul-pick c =
-    let n = c.before.before in
-    let g = (start n).requires in
-    omega (arith, g.fits, g.deals.few, own n, g.child, g.deals.shape.whole.fan.1)
+    let n = c in
+    let g = (start n.before.before).requires in
+    omega (arith, g.fits, g.deals.few, own n.before.before, g.child, g.deals.shape.whole.fan.1)
 
-add-pick : tie.Need-overflow-add-pick
+add-pick : tie.Need-overflow_add-to-2
 add-pick c =
-    let n = c.before.before in
-    let g = (start n).requires in
-    omega (arith, g.fits, g.deals.few, own n, g.child, g.deals.shape.whole.fan.1)
+    let n = c in
+    let g = (start n.before.before).requires in
+    omega (arith, g.fits, g.deals.few, own n.before.before, g.child, g.deals.shape.whole.fan.1)
 
-pick-requires : tie.Need-pick-requires
+pick-requires : tie.Need-pick-g-requires
 pick-requires c κs =
-    let n = c.before.before in
-    pick-ready (start n).requires (own n)
+    let n = c in
+    pick-ready (start n.before.before).requires (own n.before.before)
 
-add-count : tie.Need-overflow-add-count
+add-count : tie.Need-overflow_add-count
 add-count c =
-    let k = c.before.before.before in
-    let n = counted k in
-    let g = (start n).pre in
-    let r = end_fits g (own n) k.pick.ensures in
+    let k = c in
+    let n = counted k.before.before.before in
+    let g = (start n).requires in
+    let r = end_fits g (own n) k.pick-g.ensures in
     omega (arith, r, g.deals.few)
 
-mul-end : tie.Need-overflow-mul-end
+mul-end : tie.Need-overflow_mul-end
 mul-end c =
-    let k = c.before.before.before in
-    let n = counted k in
-    let g = (start n).pre in
-    let r = end_fits g (own n) k.pick.ensures in
+    let k = c in
+    let n = counted k.before.before.before in
+    let g = (start n).requires in
+    let r = end_fits g (own n) k.pick-g.ensures in
     omega (arith, r, g.deals.few)
 
-add-end : tie.Need-overflow-add-end
+add-end : tie.Need-overflow_add-end
 add-end c =
-    let k = c.before.before.before in
-    let n = counted k in
-    let g = (start n).pre in
-    let r = end_fits g (own n) k.pick.ensures in
+    let k = c in
+    let n = counted k.before.before.before in
+    let g = (start n).requires in
+    let r = end_fits g (own n) k.pick-g.ensures in
     omega (arith, r, g.deals.few)
 
-mul-settle : tie.Need-overflow-mul-settle
+mul-settle : tie.Need-offset_bounds-work-to
 mul-settle c =
-    let k = c.before.before.before in
-    let n = counted k in
-    let g = (start n).pre in
-    let r = end_fits g (own n) k.pick.ensures in
+    let k = c in
+    let n = counted k.before.before.before in
+    let g = (start n).requires in
+    let r = end_fits g (own n) k.pick-g.ensures in
     omega (arith, r, g.deals.few)
 
-sub-settle : tie.Need-overflow-sub-settle
+sub-settle : tie.Need-slice_bounds-settle-count
 sub-settle c =
-    let k = c.before.before.before in
-    let n = counted k in
-    let g = (start n).pre in
-    let r = end_fits g (own n) k.pick.ensures in
+    let k = c in
+    let n = counted k.before.before.before in
+    let g = (start n).requires in
+    let r = end_fits g (own n) k.pick-g.ensures in
     omega (arith, r, g.deals.few)
 
-part-settle-start : tie.Need-slice-bounds-settle-start
+part-settle-start : tie.Need-slice_bounds-settle-start
 part-settle-start c =
-    let k = c.before.before.before in
-    let n = counted k in
-    let g = (start n).pre in
-    let r = end_fits g (own n) k.pick.ensures in
+    let k = c in
+    let n = counted k.before.before.before in
+    let g = (start n).requires in
+    let r = end_fits g (own n) k.pick-g.ensures in
     omega (arith, r, g.deals.few)
 
-part-settle-end : tie.Need-slice-bounds-settle-end
+part-settle-end : tie.Need-slice_bounds-settle-end
 part-settle-end c =
-    let k = c.before.before.before in
-    let n = counted k in
-    let g = (start n).pre in
-    let r = end_fits g (own n) k.pick.ensures in
+    let k = c in
+    let n = counted k.before.before.before in
+    let g = (start n).requires in
+    let r = end_fits g (own n) k.pick-g.ensures in
     search rules
 
-settle-requires : tie.Need-settle-requires
+settle-requires : tie.Need-settle-mark-requires
 settle-requires c κs =
-    let k = c.before.before.before.before in
-    let n = counted k in
+    let k = c in
+    let n = counted k.before.before.before.before in
     let s = start n in
-    settle-ready s.pre (own n) k.pick.ensures (kid n)
+    settle-ready s.requires (own n) k.pick-g.ensures (kid n)
 
-reach-with-requires : tie.Need-reach-with-requires
+reach-with-requires : tie.Need-reach_with-reach-requires
 reach-with-requires c κs =
     let n = counted c.before.before.before.before.before.before.before in
-    let g = (start n).pre in
+    let g = (start n).requires in
     (g.deals.shape, ((kid-there g (kid n)).0, g.deals.edition))
 
-add-node : tie.Need-overflow-add-node
+add-node : tie.Need-overflow_add-node
 add-node c =
     let g = (start (counted c.before.before.before.before.before.before.before.before)).requires in
     omega (arith, g.nodes, g.small)
 
-mul-node : tie.Need-overflow-mul-node
+mul-node : tie.Need-overflow_mul-node
 mul-node c =
     let g = (start (counted c.before.before.before.before.before.before.before.before)).requires in
     omega (arith, g.nodes, g.small)
 
-add-node-2 : tie.Need-overflow-add-node-2
+add-node-2 : tie.Need-overflow_add-node-2
 add-node-2 c =
     let g = (start (counted c.before.before.before.before.before.before.before.before)).requires in
     omega (arith, g.nodes, g.small)
 
-mul-put-node : tie.Need-overflow-mul-put-node
+mul-put-node : tie.Need-offset_bounds-room-node
 mul-put-node c =
     let g = (start (counted c.before.before.before.before.before.before.before.before)).requires in
     omega (arith, g.nodes, g.small)
 
-sub-put-node : tie.Need-overflow-sub-put-node
+sub-put-node : tie.Need-slice_bounds-put_node-count
 sub-put-node c =
     let g = (start (counted c.before.before.before.before.before.before.before.before)).requires in
     omega (arith, g.nodes, g.small)
 
-part-put-node-start : tie.Need-slice-bounds-put-node-start
+part-put-node-start : tie.Need-slice_bounds-put_node-start
 part-put-node-start c =
     let g = (start (counted c.before.before.before.before.before.before.before.before)).requires in
     omega (arith, g.nodes, g.small)
 
-part-put-node-end : tie.Need-slice-bounds-put-node-end
+part-put-node-end : tie.Need-slice_bounds-put_node-end
 part-put-node-end c =
     let g = (start (counted c.before.before.before.before.before.before.before.before)).requires in
     omega (arith, g.nodes, g.small)
 
-cast-put-node : tie.Need-overflow-cast-put-node
+cast-put-node : tie.Need-overflow_cast-at
 cast-put-node c =
-    let k = c.before.before.before.before.before.before.before.before.before in
-    let n = counted k in
-    let g = (start n).pre in
-    let r = end_fits g (own n) k.pick.ensures in
+    let k = c in
+    let n = counted k.before.before.before.before.before.before.before.before.before in
+    let g = (start n).requires in
+    let r = end_fits g (own n) k.pick-g.ensures in
     omega (arith, r)
 
-cast-put-node-2 : tie.Need-overflow-cast-put-node-2
+cast-put-node-2 : tie.Need-overflow_cast-count
 cast-put-node-2 c =
-    let k = c.before.before.before.before.before.before.before.before.before in
-    let n = counted k in
-    let g = (start n).pre in
-    let r = end_fits g (own n) k.pick.ensures in
+    let k = c in
+    let n = counted k.before.before.before.before.before.before.before.before.before in
+    let g = (start n).requires in
+    let r = end_fits g (own n) k.pick-g.ensures in
     omega (arith, r)
 
-put-node-requires : tie.Need-put-node-requires
+put-node-requires : tie.Need-put_node-requires
 put-node-requires c κs =
     let s = start (counted c.before.before.before.before.before.before.before.before.before) in
-    omega (arith, s.pre.nodes, node_room s.args.room.now (s.args.made + s.args.k))
+    omega (arith, s.requires.nodes, node_room s.args.room.now (s.args.made + s.args.k))
 
 returns : tie.Need-returns
 returns c =
-    let u = c.before.before in
-    let h = u.before.before in
-    let e = h.before.before.before in
-    let k = e.before.before.before.before.before in
-    let n = counted k in
+    let u = c in
+    let h = u in
+    let e = h in
+    let k = e in
+    let n = counted k.before.before.before.before.before.before.before.before.before.before.before.before in
     let s = start n in
-    λ g. child-dealt g (own n) k.pick.ensures (kid n) e.settle.ensures h.reach-with.ensures u.put-node.ensures
+    λ g. child-dealt g (own n) k.pick-g.ensures (kid n) e.settle-mark.ensures h.reach_with-reach.ensures u.put_node.ensures
 
-pub deal-child-spec : {M : Type 1} → statement M
-deal-child-spec =
+pub deal_child_spec : {M : Type 1} → statement M
+deal_child_spec =
     tie.close
     (tie.spec
     node-child-requires

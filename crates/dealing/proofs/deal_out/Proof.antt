@@ -8,56 +8,56 @@ use Rattle.dealing.specs.Dealt.{KidsAsk}
 use borrow.Author.Rules.{rules}
 use native.Mathlib.Omega.{arith}
 
-abbrev invariant-loop : tie.invariant-loop
+abbrev invariant-loop : tie.invariant-loop-k
 invariant-loop table index p room₀ work₀ s made m at₀ k₀ room work at k =
     (g : KidsAsk table index p.node p.rows p.lo p.hi room₀ work₀ s made) → Turn g p.last m room work at k
 
-abbrev decreases-loop : tie.decreases-loop
+abbrev decreases-loop : tie.decreases-loop-k
 decreases-loop table index p room₀ work₀ s made m at₀ k₀ room work at k = m - k
 
-centres-requires : tie.Need-centres-requires invariant-loop decreases-loop
-centres-requires c κs = omega (arith, c.before.before.before.before.requires.deals.shape.whole.words)
+centres-requires : tie.Need-centres-m-requires invariant-loop decreases-loop
+centres-requires c κs = omega (arith, c.requires.deals.shape.whole.words)
 
-loop-holds : tie.Need-loop-init invariant-loop decreases-loop
-loop-holds c = λ g. turn-start g _ c.centres.ensures.0
+loop-holds : tie.Need-loop-k-init invariant-loop decreases-loop
+loop-holds c = λ g. turn-start g _ c.centres-m.ensures.0
 
-deal-child-requires : tie.Need-deal-child-requires invariant-loop decreases-loop
+deal-child-requires : tie.Need-deal_child-count-requires invariant-loop decreases-loop
 deal-child-requires c κs =
-    let l = c.before.before.before in
-    let g = l.before.before.before.before.before.before.requires in
-    turn-ask g _ (l.loop.invariant g) (omega arith)
+    let l = c in
+    let g = l.requires in
+    turn-ask g _ (l.loop-k.invariant g) (omega arith)
 
-add_at : tie.Need-overflow-add-at invariant-loop decreases-loop
+add_at : tie.Need-overflow_add-at invariant-loop decreases-loop
 add_at c =
-    let e = c.before.before.before.before in
-    let l = e.before.before.before.before in
-    let g = l.before.before.before.before.before.before.requires in
-    let r = turn_small g _ (l.loop.invariant g) (omega arith) e.deal-child.ensures in
+    let e = c in
+    let l = e in
+    let g = l.requires in
+    let r = turn_small g _ (l.loop-k.invariant g) (omega arith) e.deal_child-count.ensures in
     omega (arith, r)
 
-loop-again : tie.Need-loop-preserved invariant-loop decreases-loop
+loop-again : tie.Need-loop-k-preserved invariant-loop decreases-loop
 loop-again c =
-    let e = c.before.before.before.before in
-    let l = e.before.before.before.before in
-    λ g. turn_step g _ (l.loop.invariant g) (omega arith) (search rules) e.deal-child.ensures
+    let e = c in
+    let l = e in
+    λ g. turn_step g _ (l.loop-k.invariant g) (omega arith) (search rules) e.deal_child-count.ensures
 
-same_length : tie.Need-same-length invariant-loop decreases-loop
+same_length : tie.Need-shape_of-room invariant-loop decreases-loop
 same_length c =
-    let l = c.before in
-    let g = l.before.before.before.before.before.before.requires in
-    (l.loop.invariant g).wide
+    let l = c in
+    let g = l.requires in
+    (l.loop-k.invariant g).wide
 
-same-length-2 : tie.Need-same-length-2 invariant-loop decreases-loop
+same-length-2 : tie.Need-shape_of-work invariant-loop decreases-loop
 same-length-2 c =
-    let l = c.before in
-    let g = l.before.before.before.before.before.before.requires in
-    (l.loop.invariant g).long
+    let l = c in
+    let g = l.requires in
+    (l.loop-k.invariant g).long
 
 returns : tie.Need-returns invariant-loop decreases-loop
-returns c = λ g. turn-done g _ (c.before.loop.invariant g) (omega arith)
+returns c = λ g. turn-done g _ (c.loop-k.invariant g) (omega arith)
 
-pub deal-out-spec : {M : Type 1} → statement M
-deal-out-spec =
+pub deal_out_spec : {M : Type 1} → statement M
+deal_out_spec =
     tie.close
     (tie.spec
     invariant-loop

@@ -8,41 +8,41 @@ use borrow.Author.Rules.{rules}
 use mathlib.Core.Path.{refl, subst, sym}
 use native.Mathlib.Omega.{arith}
 
-node-child-requires : tie.Need-node-child-requires
-node-child-requires c κs = (c.before.before.before.requires.shape.whole, c.before.before.before.requires.there)
+node-child-requires : tie.Need-node_child-requires
+node-child-requires c κs = (c.requires.shape.whole, c.requires.there)
 
-add-result : tie.Need-overflow-add-result
+add-result : tie.Need-overflow_add-result
 add-result c =
-    let T = c.before.before.before.before.before.requires in
+    let T = c.requires in
     omega (arith, T.there, T.shape.whole.nodes, T.shape.whole.rows)
 
-cast-result : tie.Need-overflow-cast-result
+cast-result : tie.Need-overflow_cast-result
 cast-result c =
-    let T = c.before.before.before.before.before.requires in
+    let T = c.requires in
     omega (arith, T.there, T.shape.whole.nodes, T.shape.whole.rows)
 
-returns : tie.Need-returns
+returns : tie.Need-returns-then-node_child-ne0
 returns c =
-    let T = c.before.before.before.before.before.requires in
-    settle-inner T _ c.before.node-child.ensures.0 c.if1.true refl
+    let T = c.requires in
+    settle-inner T _ c.node_child.ensures.0 c.if-node_child-ne0.true refl
 
 columns-requires : tie.Need-columns-requires
-columns-requires c κs = omega (arith, c.before.before.before.before.before.requires.shape.whole.words)
+columns-requires c κs = omega (arith, c.requires.shape.whole.words)
 
 lodge-requires : tie.Need-lodge-requires
 lodge-requires c κs =
-    let s = c.before.before.before.before.before.before.before in
-    subst (λ i. Takes s.args.table.now i s.args.index.now s.args.q s.args.part.now) (sym c.before.columns.ensures.0) s.requires
+    let s = c in
+    subst (λ i. Takes s.args.table.now i s.args.index.now s.args.q s.args.part.now) (sym c.columns.ensures.0) s.requires
 
-returns-2 : tie.Need-returns-2
+returns-2 : tie.Need-returns
 returns-2 c =
-    let k = c.before.before.before.before in
-    let T = k.before.before.before.before.before.before.requires in
-    settle-leaf T _ k.before.before.node-child.ensures.0 k.before.if1.false k.columns.ensures.0 (search rules)
-    c.before.before.lodge.ensures
+    let k = c in
+    let T = k.requires in
+    settle-leaf T _ k.node_child.ensures.0 k.if-node_child-ne0.false k.columns.ensures.0 (search rules)
+    c.lodge.ensures
 
-pub settle-spec : {M : Type 1} → statement M
-settle-spec =
+pub settle_spec : {M : Type 1} → statement M
+settle_spec =
     tie.close
     (tie.spec
     node-child-requires

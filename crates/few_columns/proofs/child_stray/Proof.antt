@@ -17,120 +17,120 @@ use mathlib.Core.List.{List}
 use mathlib.Core.Path.{◌∙◌, ap, subst, sym}
 use native.Mathlib.Omega.{arith}
 
-abbrev invariant-loop : tie.invariant-loop
+abbrev invariant-loop : tie.invariant-loop-p
 invariant-loop table c index fs k a child j f end p₀ safe p = (p ≤ end) × First (kidStrays (between table c (circles# index)) index k j) (start# index j) p p
 
-abbrev decreases-loop : tie.decreases-loop
+abbrev decreases-loop : tie.decreases-loop-p
 decreases-loop table c index fs k a child j f end p₀ safe p = end - p
 
 -- the reading of the child's first, seen from the loop
-abbrev first : tie.At-loop invariant-loop decreases-loop → tie.After-node-first invariant-loop decreases-loop
+abbrev first : tie.At-loop-p invariant-loop decreases-loop → tie.After-node_first-f invariant-loop decreases-loop
 first l = l.before.before.before.before
 
 -- the start, seen from the reading of the first child's number
-abbrev start : tie.After-node-child invariant-loop decreases-loop → tie.Start invariant-loop decreases-loop
+abbrev start : tie.After-node_child-child invariant-loop decreases-loop → tie.Start invariant-loop decreases-loop
 start c = c.before.before.before
 
 -- the index words
-abbrev words : tie.After-node-child invariant-loop decreases-loop → List ℕ
+abbrev words : tie.After-node_child-child invariant-loop decreases-loop → List ℕ
 words c = (start c).args.index.now
 
 -- the distance between the table's rows
-abbrev dist : tie.After-node-child invariant-loop decreases-loop → ℕ → ℕ → ℕ
+abbrev dist : tie.After-node_child-child invariant-loop decreases-loop → ℕ → ℕ → ℕ
 dist c = between (start c).args.table.now (start c).args.c (circles# (start c).args.index.now)
 
 -- the number of child a
-abbrev own : tie.After-node-child invariant-loop decreases-loop → ℕ
-own c = c.node-child.result + (start c).args.a
+abbrev own : tie.After-node_child-child invariant-loop decreases-loop → ℕ
+own c = c.node_child-child.result + (start c).args.a
 
 -- the child is a node, and its run lies in node k's
-kid : (c : tie.After-node-child invariant-loop decreases-loop) → Kid (words c) (start c).args.k (start c).args.a c.node-child.result
+kid : (c : tie.After-node_child-child invariant-loop decreases-loop) → Kid (words c) (start c).args.k (start c).args.a c.node_child-child.result
 kid c =
     let s = start c in
-    kid_of (words c) s.pre.0.0.shape s.args.k s.args.a c.node-child.ensures.0 s.pre.1.0 s.pre.1.1 s.pre.1.2
+    kid_of (words c) s.requires.0.0.shape s.args.k s.args.a c.node_child-child.ensures.0 s.requires.1.0 s.requires.1.1 s.requires.1.2
 
 -- and among the positions
-inside : (c : tie.After-node-child invariant-loop decreases-loop) → start# (words c) (own c) + count# (words c) (own c) ≤ n# (words c)
+inside : (c : tie.After-node_child-child invariant-loop decreases-loop) → start# (words c) (own c) + count# (words c) (own c) ≤ n# (words c)
 inside c = ((start c).requires.0.0.shape.node (own c) (kid c).node).run
 
-add-j : tie.Need-overflow-add-j invariant-loop decreases-loop
+add-j : tie.Need-overflow_add-j invariant-loop decreases-loop
 add-j c = omega (arith, (kid c).node, (start c).requires.0.0.shape.whole.words)
 
-node-first-requires : tie.Need-node-first-requires invariant-loop decreases-loop
+node-first-requires : tie.Need-node_first-f-requires invariant-loop decreases-loop
 node-first-requires c κs = ((start c).requires.0.0.shape, (kid c).node)
 
-node-end-requires : tie.Need-node-end-requires invariant-loop decreases-loop
-node-end-requires c κs = omega (arith, (kid c.before).node, (start c.before).pre.0.0.shape.whole.words)
+node-end-requires : tie.Need-node_end-end-requires invariant-loop decreases-loop
+node-end-requires c κs = omega (arith, (kid c.before).node, (start c.before).requires.0.0.shape.whole.words)
 
-node-start-requires : tie.Need-node-start-requires invariant-loop decreases-loop
-node-start-requires c κs = omega (arith, (kid c.before.before).node, (start c.before.before).pre.0.0.shape.whole.words)
+node-start-requires : tie.Need-node_start-p-requires invariant-loop decreases-loop
+node-start-requires c κs = omega (arith, (kid c.before.before).node, (start c.before.before).requires.0.0.shape.whole.words)
 
-safe-within-requires : tie.Need-safe-within-requires invariant-loop decreases-loop
+safe-within-requires : tie.Need-safe_within-safe-requires invariant-loop decreases-loop
 safe-within-requires c κs =
     let s = start c.before.before.before in
-    (s.pre.0, (s.pre.1.2, s.pre.1.3.low))
+    (s.requires.0, (s.requires.1.2, s.requires.1.3.low))
 
-loop-holds : tie.Need-loop-init invariant-loop decreases-loop
-loop-holds c = (omega arith, rw c.before.node-start.ensures.0 (search-start _ _))
+loop-holds : tie.Need-loop-p-init invariant-loop decreases-loop
+loop-holds c = (omega arith, rw c.node_start-p.ensures.0 (search-start _ _))
 
 -- what is safe from the child's first
-safe : (l : tie.At-loop invariant-loop decreases-loop)
-    → SafeTo (dist (first l).before) (start (first l).before).args.fs.now (first l).node-first.result (m# (words (first l).before))
-    l.before.safe-within.result
+safe : (l : tie.At-loop-p invariant-loop decreases-loop)
+    → SafeTo (dist (first l).before) (start (first l).before).args.fs.now (first l).node_first-f.result (m# (words (first l).before))
+    l.safe_within-safe.result
 safe l =
     let f = first l in
-    let n = f.before in
-    let a = (start n).args in
-    let own = (start n).pre.1.3.at a.a (start n).pre.1.2 in
-    let kid = ap (λ (i : ℕ). first# (words n) (i + a.a)) n.node-child.ensures.0 in
-    subst (λ (g : ℕ). SafeTo (dist n) a.fs.now g (m# (words n)) l.before.safe-within.result)
-    (own ∙ sym (f.node-first.ensures.0 ∙ kid)) l.before.safe-within.ensures
+    let n = f in
+    let a = (start n.before).args in
+    let own = (start n.before).requires.1.3.at a.a (start n.before).requires.1.2 in
+    let kid = ap (λ (i : ℕ). first# (words n.before) (i + a.a)) n.node_child-child.ensures.0 in
+    subst (λ (g : ℕ). SafeTo (dist n.before) a.fs.now g (m# (words n.before)) l.safe_within-safe.result)
+    (own ∙ sym (f.node_first-f.ensures.0 ∙ kid)) l.safe_within-safe.ensures
 
-apart-requires : tie.Need-apart-requires invariant-loop decreases-loop
+apart-requires : tie.Need-apart-x-requires invariant-loop decreases-loop
 apart-requires c κs =
     let f = first c.before in
-    ((start f.before).pre.0.0, (f.node-first.ensures.1, omega (arith, inside f.before), sym (start f.before).pre.0.2))
+    ((start f.before).requires.0.0, (f.node_first-f.ensures.1, omega (arith, inside f.before), sym (start f.before).requires.0.2))
 
-closer-to-other-requires : tie.Need-closer-to-other-requires invariant-loop decreases-loop
+closer-to-other-requires : tie.Need-closer_to_other-requires invariant-loop decreases-loop
 closer-to-other-requires c κs =
-    let l = c.before.before in
-    let f = first l in
-    let n = f.before in
-    let fs = subst (λ (i : ℕ). Firsts (words n) i (start n).args.fs.now) (sym n.node-child.ensures.0) (start n).pre.1.3 in
-    (((start n).pre.0.0, (start n).pre.0.2), (fs, omega (arith, inside n), c.apart.ensures, safe l))
+    let l = c in
+    let f = first l.before.before in
+    let n = f in
+    let fs = subst (λ (i : ℕ). Firsts (words n.before) i (start n.before).args.fs.now) (sym n.node_child-child.ensures.0) (start n.before).requires.1.3 in
+    (((start n.before).requires.0.0, (start n.before).requires.0.2), (fs, omega (arith, inside n.before), c.apart-x.ensures, safe l.before.before))
 
-returns : tie.Need-returns invariant-loop decreases-loop
+returns : tie.Need-returns-then-closer_to_other invariant-loop decreases-loop
 returns c =
-    let l = c.before.before.before.before in
-    let f = first l in
-    let n = f.before in
-    let a = (start n).args in
-    let e = n.node-child.ensures.0 in
-    kid-named (dist n) (words n) a.k a.a l.loop.p e
-    (kid-stop (dist n) (words n) a.k (own n) l.loop.p l.loop.invariant.1 (omega arith) f.node-first.ensures.0
-    c.before.before.apart.ensures e c.before.closer-to-other.ensures (kid n).low (kid n).high c.if1.true)
+    let l = c in
+    let f = first l.before.before.before.before in
+    let n = f in
+    let a = (start n.before).args in
+    let e = n.node_child-child.ensures.0 in
+    kid-named (dist n.before) (words n.before) a.k a.a l.loop-p.p e
+    (kid-stop (dist n.before) (words n.before) a.k (own n.before) l.loop-p.p l.loop-p.invariant.1 (omega arith) f.node_first-f.ensures.0
+    c.apart-x.ensures e c.closer_to_other.ensures (kid n.before).low (kid n.before).high c.if-closer_to_other.true)
 
-loop-again : tie.Need-loop-preserved invariant-loop decreases-loop
+loop-again : tie.Need-loop-p-preserved invariant-loop decreases-loop
 loop-again c =
-    let l = c.before.before.before.before in
-    let f = first l in
-    let n = f.before in (
+    let l = c in
+    let f = first l.before.before.before.before in
+    let n = f in (
       omega arith,
-      kid-on (dist n) (words n) (start n).args.k (own n) l.loop.p l.loop.invariant.1 (omega arith) f.node-first.ensures.0
-          c.before.before.apart.ensures n.node-child.ensures.0 c.before.closer-to-other.ensures c.if1.false,
+      kid-on (dist n.before) (words n.before) (start n.before).args.k (own n.before) l.loop-p.p l.loop-p.invariant.1 (omega arith) f.node_first-f.ensures.0
+          c.apart-x.ensures n.node_child-child.ensures.0 c.closer_to_other.ensures c.if-closer_to_other.false,
     )
 
-returns-2 : tie.Need-returns-2 invariant-loop decreases-loop
+returns-2 : tie.Need-returns invariant-loop decreases-loop
 returns-2 c =
-    let l = c.before.before in
-    let n = (first l).before in
+    let l = c in
+    let n = (first l.before.before).before in
     let a = (start n).args in
-    rw c.node-end2.ensures
-    (kid-named (dist n) (words n) a.k a.a (start# (words n) a.k + count# (words n) a.k) n.node-child.ensures.0
-    (kid-end (dist n) (words n) a.k (own n) l.loop.p l.loop.invariant.1 (omega arith)))
+    rw c.node_end.ensures
+    (kid-named (dist n) (words n) a.k a.a (start# (words n) a.k + count# (words n) a.k) n.node_child-child.ensures.0
+    (kid-end (dist n) (words n) a.k (own n) l.loop-p.p l.loop-p.invariant.1 (omega arith)))
 
-pub child-stray-spec : {M : Type 1} → statement M
-child-stray-spec =
+pub child_stray_spec : {M : Type 1} → statement M
+child_stray_spec =
     tie.close
     (tie.spec
     invariant-loop

@@ -5,11 +5,13 @@ use mathlib.Core.Path.{sym}
 
 apart-requires : tie.Need-apart-requires
 apart-requires c κs =
-    let s = c.before.before in
+    let s = c in
     (s.requires.0.0, (s.requires.1.0, s.requires.1.1, sym s.requires.0.1))
 
 returns : tie.Need-returns
 returns c = rw c.apart.ensures
 
-pub is-closer-spec : {M : Type 1} → statement M
-is-closer-spec = tie.close (tie.spec apart-requires returns)
+pub is_closer_spec : {M : Type 1} → statement M
+is_closer_spec = tie.close (tie.spec
+    apart-requires
+    returns)

@@ -31,7 +31,7 @@ lending s = lends s.args.rows.now s.args.distances.now s.args.how.now s.args.wor
 lent : (l : tie.After-least) → Searchable (but_for (asking (start (going l))) l.least.result) (lending (start (going l)))
 lent l =
     let e = going l in
-    core-asks (asking (start e)) (lending (start e)) (start e).requires e.nearest_number-number.ensures _ _ e.if-number-ne0.left l.rows-n.ensures.0
+    core-asks (asking (start e)) (lending (start e)) (start e).requires e.nearest_number-number.ensures _ _ e.if-number-ne0.false l.rows-n.ensures.0
     l.least.ensures
 
 returns : tie.Need-returns-then-number-ne0
@@ -53,7 +53,7 @@ returns-2 c =
     let f = c in
     let l = asked f.before.before.before.before.before.before.before.before in
     let e = going l in
-    done-is (asking (start e)) (lending (start e)) (start e).requires e.nearest_number-number.ensures _ _ _ _ _ _ _ e.if-number-ne0.left
+    done-is (asking (start e)) (lending (start e)) (start e).requires e.nearest_number-number.ensures _ _ _ _ _ _ _ e.if-number-ne0.false
     l.rows-n.ensures.0 l.least.ensures f.find-found.ensures (omega arith) (omega arith)
 
 pub answer_spec : {M : Type 1} → statement M

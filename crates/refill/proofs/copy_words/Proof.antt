@@ -10,29 +10,29 @@ use mathlib.Core.List.{◌++◌}
 use mathlib.Core.Path.{◌≡◌, refl}
 use native.Mathlib.Omega.{arith}
 
-abbrev invariant-loop : tie.invariant-loop
+abbrev invariant-loop : tie.invariant-loop-i
 invariant-loop part₀ from k i₀ part i = (length part ≡ length part₀) × (i ≤ k) × (part ≡ take i from ++ drop i part₀)
 
-abbrev decreases-loop : tie.decreases-loop
+abbrev decreases-loop : tie.decreases-loop-i
 decreases-loop part₀ from k i₀ part i = k - i
 
-loop-holds : tie.Need-loop-init invariant-loop decreases-loop
+loop-holds : tie.Need-loop-i-init invariant-loop decreases-loop
 loop-holds c = (refl, search rules, refl)
 
-loop-again : tie.Need-loop-preserved invariant-loop decreases-loop
+loop-again : tie.Need-loop-i-preserved invariant-loop decreases-loop
 loop-again c =
-    let l = c.before.before in
-    let a = l.before.args in
-    (search rules, search rules, copying_step a.from.now a.part.now l.loop.i (omega arith) (omega arith) l.loop.invariant.2)
+    let l = c in
+    let a = l.args in
+    (search rules, search rules, copying_step a.from.now a.part.now l.loop-i.i (omega arith) (omega arith) l.loop-i.invariant.2)
 
 returns : tie.Need-returns invariant-loop decreases-loop
 returns c =
-    let l = c.before in
-    let a = l.before.args in
-    copying_done a.from.now a.part.now l.loop.i a.k (omega arith) l.loop.invariant.2
+    let l = c in
+    let a = l.args in
+    copying_done a.from.now a.part.now l.loop-i.i a.k (omega arith) l.loop-i.invariant.2
 
-pub copy-words-spec : {M : Type 1} → statement M
-copy-words-spec =
+pub copy_words_spec : {M : Type 1} → statement M
+copy_words_spec =
     tie.close
     (tie.spec
     invariant-loop

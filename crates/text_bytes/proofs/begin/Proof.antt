@@ -7,16 +7,21 @@ use Rattle.text_reading.specs.Reading.{begun}
 use borrow.Author.Rules.{rules}
 use mathlib.Core.Path.{◌∙◌, sym}
 
-sub-t4 : tie.Need-overflow-sub-t4
-sub-t4 c = (within_both _ _ _ (sym c.before.is_Within.ensures ∙ c.if1.true)).0
+sub-t4 : tie.Need-overflow_sub-result
+sub-t4 c = (within_both _ _ _ (sym c.is_within.ensures ∙ c.if-is_within.true)).0
 
-returns : tie.Need-returns
+returns : tie.Need-returns-then-is_within
 unfolding begun
-returns c = rw (sym c.before.is_Within.ensures ∙ c.if1.true)
+returns c = rw (sym c.is_within.ensures ∙ c.if-is_within.true)
 
-returns-2 : tie.Need-returns-2
+returns-2 : tie.Need-returns
 unfolding begun
-returns-2 c = rw (sym c.before.is_Within.ensures ∙ c.if1.false)
+returns-2 c = rw (sym c.is_within.ensures ∙ c.if-is_within.false)
 
-pub begin-spec : {M : Type 1} → statement M
-begin-spec = tie.close (tie.spec (λ c κs. search rules) sub-t4 (λ c. search rules) returns returns-2)
+pub begin_spec : {M : Type 1} → statement M
+begin_spec = tie.close (tie.spec
+    (λ c κs. search rules)
+    sub-t4
+    (λ c. search rules)
+    returns
+    returns-2)

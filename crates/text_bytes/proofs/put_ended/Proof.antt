@@ -1,5 +1,6 @@
 -- `text_bytes::put_ended` meets its contract: as `ended`, with the number stored where one ends.
 -- Assumes nothing.
+use Rattle.std.proofs.lemmas.Bool.{not_from_false, not_from_true}
 use Prim.Native.Nat.{ℕ}
 use Rattle.laws.proofs.Tests.{no, yes}
 use Rattle.text_bytes.proofs.Putting.{fits_one, none_inside, not-parted, parted, put-none, put_one}
@@ -10,32 +11,41 @@ use borrow.Author.Rules.{rules}
 use mathlib.Core.List.{[], ◌∷◌}
 use mathlib.Core.Path.{◌∙◌, ◌≡◌}
 
-returns : tie.Need-returns
-returns c = put-none _ _ _ (not-parted _ _ (no c.before.parts.ensures c.if1.true))
+returns : tie.Need-returns-then-not-parts
+returns c = put-none _ _ _ (not-parted _ _ (no c.parts.ensures (not_from_false _ c.if-not-parts.true)))
 
-returns-2 : tie.Need-returns-2
+returns-2 : tie.Need-returns-in_default
 returns-2 c =
     put-none _ _ _
-    (parted _ _ (yes c.before.before.parts.ensures c.before.if1.false)
-    ∙ none_inside c.before.before.before.before.args.place c.match.keys2)
+    (parted _ _ (yes c.parts.ensures (not_from_true _ c.if-not-parts.false))
+    ∙ none_inside c.args.place c.in-Inside.keys2)
 
 -- the start, and the number that ends here
-abbrev start : tie.After-known-told → tie.Start
+abbrev start : tie.In-Inside → tie.Start
 start c = c.before.before.before.before.before.before
 
-abbrev value : tie.After-known-told → ℕ
-value c = c.before.place.given.0.0
+abbrev value : tie.In-Inside → ℕ
+value c = c.place.given.0.0
 
-one : (c : tie.After-known-told) → ended_by (start c).args.place (start c).args.b ≡ value c ∷ []
-one c = parted _ _ (yes c.before.before.before.before.parts.ensures c.before.before.before.if1.false) ∙ cc
+one : (c : tie.In-Inside) → ended_by (start c).args.place (start c).args.b ≡ value c ∷ []
+one c = parted _ _ (yes c.parts.ensures (not_from_true _ c.if-not-parts.false)) ∙ cc
 
-slice-write-room : tie.Need-slice-write-room
+slice-write-room : tie.Need-bounds-room-at
 slice-write-room c = fits_one _ _ (value c) _ (one c) (start c).requires
 
-returns-3 : tie.Need-returns-3
+returns-3 : tie.Need-returns
 returns-3 c = put_one _ _ _ (value c) (one c) (fits_one _ _ (value c) _ (one c) (start c).requires)
 
-pub put-ended-spec : {M : Type 1} → statement M
-put-ended-spec =
+pub put_ended_spec : {M : Type 1} → statement M
+put_ended_spec =
     tie.close
-    (tie.spec (λ c κs. search rules) returns (λ c. search rules) returns-2 (λ c. search rules) slice-write-room (λ c. search rules) (λ c. search rules) returns-3)
+    (tie.spec
+    (λ c κs. search rules)
+    returns
+    (λ c. search rules)
+    returns-2
+    (λ c. search rules)
+    slice-write-room
+    (λ c. search rules)
+    (λ c. search rules)
+    returns-3)

@@ -4,13 +4,13 @@ use Rattle.text_bytes.proofs.step.Statement.{statement}
 use Rattle.text_bytes.proofs.step.Tie as tie
 use borrow.Author.Rules.{rules}
 
-returns : tie.Need-returns
+returns : tie.Need-returns-in-Start
 returns c = cc
 
-returns-2 : tie.Need-returns-2
+returns-2 : tie.Need-returns-in-Line
 returns-2 c = cc
 
-returns-3 : tie.Need-returns-3
+returns-3 : tie.Need-returns-in-Inside
 returns-3 c = cc
 
 pub step_spec : {M : Type 1} → statement M

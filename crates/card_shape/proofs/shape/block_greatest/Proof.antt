@@ -18,58 +18,58 @@ record Swept (image : List ℕ) (p end row far q : ℕ) : Type 0 where
   to : q ≤ end
   found : GreatestTo (card_words_lem image) q row far
 
-abbrev invariant-loop : tie.invariant-loop
+abbrev invariant-loop : tie.invariant-loop-q
 invariant-loop image b base p end from row₀ far₀ q₀ row far q = Swept image p end row far q
 
-abbrev decreases-loop : tie.decreases-loop
+abbrev decreases-loop : tie.decreases-loop-q
 decreases-loop image b base p end from row₀ far₀ q₀ row far q = end - q
 
 -- the start, seen from the loop
-abbrev start : tie.At-loop invariant-loop decreases-loop → tie.Start invariant-loop decreases-loop
+abbrev start : tie.At-loop-q invariant-loop decreases-loop → tie.Start invariant-loop decreases-loop
 start l = l.before.before
 
 -- the words of position q lie within the bytes
-inside : (c : tie.In-loop invariant-loop decreases-loop)
-    → 4 * (start c.before).args.base + 4 * (start c.before).args.b + 8 * c.before.loop.q + 8 ≤ length (start c.before).args.image.now
+inside : (c : tie.In-loop-q invariant-loop decreases-loop)
+    → 4 * (start c.before).args.base + 4 * (start c.before).args.b + 8 * c.loop-q.q + 8 ≤ length (start c.before).args.image.now
 inside c =
-    let l = c.before in
-    let s = start l in
-    pair_inside s.args.image.now s.pre.0 s.pre.1.0 l.loop.q l.loop.invariant.from c.loop-test.true
+    let l = c in
+    let s = start l.before in
+    pair_inside s.args.image.now s.requires.0 s.requires.1.0 l.loop-q.q l.loop-q.invariant.from c.loop-q-test.true
 
-loop-holds : tie.Need-loop-init invariant-loop decreases-loop
-loop-holds c = record { from = search rules; to = search rules; found = c.before.requires.1.1 }
+loop-holds : tie.Need-loop-q-init invariant-loop decreases-loop
+loop-holds c = record { from = search rules; to = search rules; found = c.requires.1.1 }
 
-get-word-requires : tie.Need-get-word-requires invariant-loop decreases-loop
+get-word-requires : tie.Need-get_word-requires invariant-loop decreases-loop
 get-word-requires c κs = omega (arith, inside c)
 
-get-word-requires-2 : tie.Need-get-word-requires-2 invariant-loop decreases-loop
+get-word-requires-2 : tie.Need-get_word-requires-in-loop-q invariant-loop decreases-loop
 get-word-requires-2 c κs = omega (arith, inside c.before.before)
 
-loop-again : tie.Need-loop-preserved invariant-loop decreases-loop
+loop-again : tie.Need-loop-q-preserved invariant-loop decreases-loop
 loop-again c =
-    let t = c.before.before.before.before in
-    let l = t.before in
-    let s = start l in
+    let t = c in
+    let l = t in
+    let s = start l.before.before.before.before.before in
     let i = s.args.image.now in
-    let on = t.loop-test.true in
+    let on = t.loop-q-test.true in
     record {
       from = search rules;
       to = search rules;
-      found = greatest-next (card_words_lem i) l.loop.invariant.found
-          (block_row i s.pre.0 s.pre.1.0 l.loop.q l.loop.invariant.from on c.before.before.before.get-word.ensures)
-          (block-dist i s.pre.0 s.pre.1.0 l.loop.q l.loop.invariant.from on c.before.get-word2.ensures)
-          c.before.before.larger.ensures c.larger2.ensures;
+      found = greatest-next (card_words_lem i) l.loop-q.invariant.found
+          (block_row i s.requires.0 s.requires.1.0 l.loop-q.q l.loop-q.invariant.from on c.get_word.ensures)
+          (block-dist i s.requires.0 s.requires.1.0 l.loop-q.q l.loop-q.invariant.from on c.get_word-in-loop-q.ensures)
+          c.larger-row.ensures c.larger-far.ensures;
     }
 
 returns : tie.Need-returns invariant-loop decreases-loop
 returns c =
-    let l = c.before in
-    let s = start l in
-    let e : l.loop.q ≡ s.args.end = omega arith in
-    subst (λ (q : ℕ). GreatestTo (card_words_lem s.args.image.now) q l.loop.row l.loop.far) e l.loop.invariant.found
+    let l = c in
+    let s = start l.before in
+    let e : l.loop-q.q ≡ s.args.end = omega arith in
+    subst (λ (q : ℕ). GreatestTo (card_words_lem s.args.image.now) q l.loop-q.row l.loop-q.far) e l.loop-q.invariant.found
 
-pub block-greatest-spec : {M : Type 1} → statement M
-block-greatest-spec =
+pub block_greatest_spec : {M : Type 1} → statement M
+block_greatest_spec =
     tie.close
     (tie.spec
     invariant-loop

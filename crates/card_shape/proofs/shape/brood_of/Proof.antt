@@ -7,16 +7,20 @@ use Rattle.shape_test.proofs.Fits.{brood-inner, brood-leaf}
 use borrow.Author.Rules.{rules}
 use mathlib.Core.Path.{◌∙◌, sym}
 
-returns : tie.Need-returns
+returns : tie.Need-returns-then-card_child-eq0
 returns c =
-    let a = c.before.before.before.args in
-    brood-leaf (card_words_lem a.image.now) a.k (sym c.before.card-child.ensures.0 ∙ c.if1.true)
+    let a = c.args in
+    brood-leaf (card_words_lem a.image.now) a.k (sym c.card_child.ensures.0 ∙ c.if-card_child-eq0.true)
 
-returns-2 : tie.Need-returns-2
+returns-2 : tie.Need-returns
 returns-2 c =
-    let a = c.before.before.before.before.args in
-    c.card-centres.ensures.0
-    ∙ brood-inner (card_words_lem a.image.now) a.k (λ e. c.before.if1.false (c.before.before.card-child.ensures.0 ∙ e))
+    let a = c.args in
+    c.card_centres.ensures.0
+    ∙ brood-inner (card_words_lem a.image.now) a.k (λ e. c.if-card_child-eq0.false (c.card_child.ensures.0 ∙ e))
 
-pub brood-of-spec : {M : Type 1} → statement M
-brood-of-spec = tie.close (tie.spec (λ c κs. search rules) returns (λ c κs. search rules) returns-2)
+pub brood_of_spec : {M : Type 1} → statement M
+brood_of_spec = tie.close (tie.spec
+    (λ c κs. search rules)
+    returns
+    (λ c κs. search rules)
+    returns-2)

@@ -7,19 +7,25 @@ use Rattle.shape_test.proofs.Fits.{room-inner, room-leaf}
 use borrow.Author.Rules.{rules}
 use mathlib.Core.Path.{◌∙◌, sym}
 
-returns : tie.Need-returns
+returns : tie.Need-returns-then-card_child-eq0
 returns c =
-    let a = c.before.before.before.args in
-    room-leaf (card_words_lem a.image.now) a.k a.next (sym c.before.card-child.ensures.0 ∙ c.if1.true)
+    let a = c.args in
+    room-leaf (card_words_lem a.image.now) a.k a.next (sym c.card_child.ensures.0 ∙ c.if-card_child-eq0.true)
 
-returns-2 : tie.Need-returns-2
+returns-2 : tie.Need-returns
 returns-2 c =
-    let a = c.before.before.before.before.before.args in
-    let none = c.before.before.if1.false in
-    rw (c.before.card-centres.ensures.0, c.card-nodes.ensures.0)
-    (room-inner (card_words_lem a.image.now) a.k a.next (λ e. none (c.before.before.before.card-child.ensures.0 ∙ e)))
+    let a = c.args in
+    let none = c.if-card_child-eq0.false in
+    rw (c.card_centres.ensures.0, c.card_nodes.ensures.0)
+    (room-inner (card_words_lem a.image.now) a.k a.next (λ e. none (c.card_child.ensures.0 ∙ e)))
 
-pub has-room-spec : {M : Type 1} → statement M
-has-room-spec =
+pub has_room_spec : {M : Type 1} → statement M
+has_room_spec =
     tie.close
-    (tie.spec (λ c κs. search rules) returns (λ c κs. search rules) (λ c. search rules) (λ c κs. search rules) returns-2)
+    (tie.spec
+    (λ c κs. search rules)
+    returns
+    (λ c κs. search rules)
+    (λ c. search rules)
+    (λ c κs. search rules)
+    returns-2)

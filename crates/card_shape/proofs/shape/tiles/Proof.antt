@@ -9,49 +9,49 @@ use Rattle.words.specs.Shape.{tile}
 use borrow.Author.Rules.{rules}
 use mathlib.Core.Path.{◌∙◌, ◌≡◌, ap, sym}
 
-abbrev invariant-loop : tie.invariant-loop
+abbrev invariant-loop : tie.invariant-loop-i
 invariant-loop image j m s e at₀ i₀ at i =
     (i ≤ m) × (at < 4294967296 * (i + 1)) × (tile (card_words_lem image) j m s e ≡ tile (card_words_lem image) (j + i) (m - i) at e)
 
-abbrev decreases-loop : tie.decreases-loop
+abbrev decreases-loop : tie.decreases-loop-i
 decreases-loop image j m s e at₀ i₀ at i = m - i
 
-loop-holds : tie.Need-loop-init invariant-loop decreases-loop
+loop-holds : tie.Need-loop-i-init invariant-loop decreases-loop
 loop-holds c =
-    let a = c.before.args in
+    let a = c.args in
     (search rules, search rules, tile-start (card_words_lem a.image.now) a.j a.m a.s a.e)
 
-returns : tie.Need-returns invariant-loop decreases-loop
+returns : tie.Need-returns-then-card_start-at invariant-loop decreases-loop
 returns c =
-    let at-loop = c.before.before.before in
-    let a = at-loop.before.before.args in
-    sym (at-loop.loop.invariant.2
-    ∙ sym (tile-stop (card_words_lem a.image.now) a.j at-loop.loop.i a.m at-loop.loop.at a.e c.before.before.loop-test.true
-    (λ e. c.if1.true (c.before.card-start.ensures.0 ∙ e))))
+    let at-loop = c in
+    let a = at-loop.args in
+    sym (at-loop.loop-i.invariant.2
+    ∙ sym (tile-stop (card_words_lem a.image.now) a.j at-loop.loop-i.i a.m at-loop.loop-i.at a.e c.loop-i-test.true
+    (λ e. c.if-card_start-at.true (c.card_start.ensures.0 ∙ e))))
 
-loop-again : tie.Need-loop-preserved invariant-loop decreases-loop
+loop-again : tie.Need-loop-i-preserved invariant-loop decreases-loop
 loop-again c =
-    let at1 = c.before in
-    let at-loop = at1.before.before.before in
-    let a = at-loop.before.before.args in (
+    let at1 = c in
+    let at-loop = at1 in
+    let a = at-loop.args in (
       search rules,
       search rules,
-      at-loop.loop.invariant.2
-          ∙ tile-step (card_words_lem a.image.now) a.j at-loop.loop.i a.m at-loop.loop.at a.e at1.before.before.loop-test.true
-          (sym at1.before.card-start.ensures.0 ∙ at1.if1.false)
-          ∙ ap (λ k. tile (card_words_lem a.image.now) (a.j + (at-loop.loop.i + 1)) (a.m - (at-loop.loop.i + 1)) (at-loop.loop.at + k) a.e)
-          (sym c.card-count.ensures.0),
+      at-loop.loop-i.invariant.2
+          ∙ tile-step (card_words_lem a.image.now) a.j at-loop.loop-i.i a.m at-loop.loop-i.at a.e at1.loop-i-test.true
+          (sym at1.card_start.ensures.0 ∙ at1.if-card_start-at.false)
+          ∙ ap (λ k. tile (card_words_lem a.image.now) (a.j + (at-loop.loop-i.i + 1)) (a.m - (at-loop.loop-i.i + 1)) (at-loop.loop-i.at + k) a.e)
+          (sym c.card_count-at.ensures.0),
     )
 
-returns-2 : tie.Need-returns-2 invariant-loop decreases-loop
+returns-2 : tie.Need-returns invariant-loop decreases-loop
 returns-2 c =
-    let at-loop = c.before in
-    let a = at-loop.before.before.args in
-    tile-end (card_words_lem a.image.now) a.j at-loop.loop.i a.m at-loop.loop.at a.e c.loop-test.false
-    ∙ sym at-loop.loop.invariant.2
+    let at-loop = c in
+    let a = at-loop.args in
+    tile-end (card_words_lem a.image.now) a.j at-loop.loop-i.i a.m at-loop.loop-i.at a.e c.loop-i-test.false
+    ∙ sym at-loop.loop-i.invariant.2
 
-pub tiles-spec : {M : Type 1} → statement M
-tiles-spec =
+pub tiles_spec : {M : Type 1} → statement M
+tiles_spec =
     tie.close
     (tie.spec
     invariant-loop

@@ -11,49 +11,49 @@ use borrow.Author.Rules.{rules}
 use mathlib.Core.Path.{◌≡◌}
 use native.Mathlib.Omega.{arith}
 
-abbrev invariant-loop : tie.invariant-loop
+abbrev invariant-loop : tie.invariant-loop-k
 invariant-loop table c image part₀ total k₀ part k =
     Noded (between table c (circles# (card_words_lem image))) (card_words_lem image) part₀ part k × (total ≡ nodes# (card_words_lem image)) × (k ≤ total)
 
-abbrev decreases-loop : tie.decreases-loop
+abbrev decreases-loop : tie.decreases-loop-k
 decreases-loop table c image part₀ total k₀ part k = total - k
 
 -- the start, seen from the loop
-abbrev start : tie.At-loop invariant-loop decreases-loop → tie.Start invariant-loop decreases-loop
+abbrev start : tie.At-loop-k invariant-loop decreases-loop → tie.Start invariant-loop decreases-loop
 start l = l.before.before.before.before.before
 
 -- the distance between the table's rows
 abbrev dist : tie.Start invariant-loop decreases-loop → ℕ → ℕ → ℕ
 dist s = between s.args.table.now s.args.c (circles# (card_words_lem s.args.image.now))
 
-loop-holds : tie.Need-loop-init invariant-loop decreases-loop
+loop-holds : tie.Need-loop-k-init invariant-loop decreases-loop
 loop-holds c =
-    let s = c.before.before.before.before in
-    (noded-start (dist s) (card_words_lem s.args.image.now) s.args.part.now, c.card-nodes.ensures.0, omega arith)
+    let s = c in
+    (noded-start (dist s.before.before.before.before) (card_words_lem s.args.image.now) s.args.part.now, c.card_nodes-total.ensures.0, omega arith)
 
-loop-again : tie.Need-loop-preserved invariant-loop decreases-loop
+loop-again : tie.Need-loop-k-preserved invariant-loop decreases-loop
 loop-again c =
-    let w = c.before.before in
-    let r = w.before.before in
-    let ch = r.before.before in
-    let st = ch.before.before in
-    let l = st.before.before in
-    let s = start l in (
-      noded-step (dist s) (card_words_lem s.args.image.now) l.loop.invariant.0 (omega (arith, s.pre.1)) w.put-node.ensures
-          st.card-start.ensures.0 ch.before.card-count.ensures.0 ch.card-child.ensures.0 r.before.card-radius.ensures
-          r.card-nearest.ensures (search rules),
-      l.loop.invariant.1,
+    let w = c in
+    let r = w in
+    let ch = r in
+    let st = ch in
+    let l = st in
+    let s = start l.before.before.before.before.before.before.before.before.before.before in (
+      noded-step (dist s) (card_words_lem s.args.image.now) l.loop-k.invariant.0 (omega (arith, s.requires.1)) w.put_node.ensures
+          st.card_start-start.ensures.0 ch.card_count-count.ensures.0 ch.card_child-child.ensures.0 r.card_radius-radius.ensures
+          r.card_nearest-near.ensures (search rules),
+      l.loop-k.invariant.1,
       omega arith,
     )
 
 returns : tie.Need-returns invariant-loop decreases-loop
 returns c =
-    let l = c.before in
-    let s = start l in
-    noded-done (dist s) (card_words_lem s.args.image.now) l.loop.invariant.0 (omega arith)
+    let l = c in
+    let s = start l.before in
+    noded-done (dist s) (card_words_lem s.args.image.now) l.loop-k.invariant.0 (omega arith)
 
-pub put-nodes-spec : {M : Type 1} → statement M
-put-nodes-spec =
+pub put_nodes_spec : {M : Type 1} → statement M
+put_nodes_spec =
     tie.close
     (tie.spec
     invariant-loop

@@ -10,26 +10,26 @@ use borrow.Author.Rules.{rules}
 use mathlib.Core.Path.{refl}
 use native.Mathlib.Omega.{arith}
 
-put-pairs-requires : tie.Need-put-pairs-requires
+put-pairs-requires : tie.Need-put_pairs-requires
 put-pairs-requires c κs =
-    let k = c.before in
-    let s = k.before.before.before.before.before.before.before.before.before.before.before.before in
-    (s.requires.0.held, omega (arith, k.card-nodes.ensures.0, s.requires.1))
+    let k = c in
+    let s = k in
+    (s.requires.0.held, omega (arith, k.card_nodes.ensures.0, s.requires.1))
 
 returns : tie.Need-returns
 returns c =
-    let p = c.before.before in
-    let k = p.before.before in
-    let n = k.before.before.before in
-    let t = n.before.before.before.before in
-    let s = t.before.before.before.before.before in
+    let p = c in
+    let k = p in
+    let n = k in
+    let t = n in
+    let s = t in
     let a = s.args in
     let w = card_words_lem a.image.now in
-    filled (between a.table.now a.c (circles# w)) w a.room.now _ _ s.requires.1 t.put-top.ensures refl
-    n.put-nodes.ensures refl (omega (arith, k.card-nodes.ensures.0)) p.put-pairs.ensures refl (search rules) (search rules)
+    filled (between a.table.now a.c (circles# w)) w a.room.now _ _ s.requires.1 t.put_top.ensures refl
+    n.put_nodes.ensures refl (omega (arith, k.card_nodes.ensures.0)) p.put_pairs.ensures refl (search rules) (search rules)
 
-pub widen-card-spec : {M : Type 1} → statement M
-widen-card-spec =
+pub widen_card_spec : {M : Type 1} → statement M
+widen_card_spec =
     tie.close
     (tie.spec
     (λ c κs. search rules)
