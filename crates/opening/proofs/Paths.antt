@@ -15,10 +15,11 @@ use Rattle.swelling.specs.Swell.{parts}
 use Rattle.tree.proofs.Centres.{chosen-length}
 use Rattle.tree.specs.Encode.{Node}
 use Rattle.tree.specs.Grove.{Reach}
+use Rattle.laws.specs.Lists.{keep}
 use Rattle.words.specs.Words as words
 use Rattle.words.specs.Words.{c#, circles#, l#, m#}
 use borrow.Author.Tests.{le-leb, leb-false, lt-leb}
-use lib.Dec.{leb}
+use lib.Dec.{eqb, leb}
 use lib.ListN.{length, length-map, set}
 use mathlib.Core.Bool.{Bool, cond, false, not, true}
 use mathlib.Core.List.{List, [], ◌++◌, ◌∷◌}
@@ -29,7 +30,8 @@ use native.Mathlib.Omega.{arith}
 -- as many as old nodes side by side
 pub kids_many : (d : ℕ → ℕ → ℕ) (w : List ℕ) (place : ℕ → ℕ) (zs : List ℕ) (s o k j : ℕ) → length (kidsFrom d w place zs s o k j) ≡ j
 kids_many d w place zs s o k zero = refl
-kids_many d w place zs s o k (suc j) = ap suc (kids_many d w place zs _ (suc o) (suc k) j)
+kids_many d w place zs s o k (suc j) = ap suc
+    (kids_many d w place zs (s + (words.count# w o + length (keep (λ (z : ℕ). eqb (place z) k) zs))) (suc o) (suc k) j)
 
 -- as many as runs
 grown_many : (d : ℕ → ℕ → ℕ) (s : ℕ) (gs : List (List ℕ)) → length (grown_from d s gs) ≡ length gs

@@ -1,26 +1,22 @@
 -- A number that ends here, and how it is put. Assumes nothing.
 use Prim.Native.Nat.{◌+◌, ◌<◌, ◌≤◌, ℕ}
-use Rattle.text_reading.specs.contracts.Place.{the_type}
 use Rattle.text_reading.specs.Reading.{ended, ended_by, parting}
 use Rattle.text_reading.specs.declared.Place.TheVariants.{Inside, Line, Lost, Start}
 use Rattle.text_reading.specs.declared.Place.{Place}
-use denote.Enum.Declared.{tag_of}
 use lib.ListN.{drop, length, set, take, take-append-drop}
 use lib.Seq.{set_split}
 use mathlib.Core.Bool.{false, true}
 use mathlib.Core.List.{List, [], ◌++◌, ◌∷◌, append_assoc, append-nil}
-use mathlib.Core.Logic.{⊎_elim}
 use mathlib.Core.Path.{◌≡◌, refl}
 use native.Mathlib.Nat.{add-zero}
 use native.Mathlib.Numerals.{add-one}
 use native.Mathlib.Omega.{arith}
-use types.Run.{OneOf}
 
 -- no number ends where the reader is inside none
-pub none_inside : (p : Place) → OneOf (0 ∷ 1 ∷ 3 ∷ []) (tag_of the_type p) → ended p ≡ []
+pub none_inside : (p : Place) → ((v : ℕ) → p ≡ Inside v → ⊥) → ended p ≡ []
 none_inside Start h = refl
 none_inside Line h = refl
-none_inside (Inside v) h = absurd (⊎_elim (λ e. omega (arith, e)) (λ g. ⊎_elim (λ e. omega (arith, e)) (λ e. omega (arith, e)) g) h)
+none_inside (Inside v) h = absurd (h v refl)
 none_inside Lost h = refl
 
 module _ (p : Place) (b : ℕ) where

@@ -7,8 +7,8 @@ returns : tie.Need-returns
 unfolding read_total
 returns c = search rules
 
-pub card-total-spec : {M : Type 1} → statement M
-card-total-spec =
+pub card_total_spec : {M : Type 1} → statement M
+card_total_spec =
     tie.close
     (tie.spec
     (λ c κs. search rules)

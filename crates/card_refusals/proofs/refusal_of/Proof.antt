@@ -9,60 +9,60 @@ use borrow.Author.Rules.{rules}
 use mathlib.Core.Path.{◌∙◌, sym}
 use native.Mathlib.Omega.{arith}
 
-returns : tie.Need-returns
+returns : tie.Need-returns-then-by_table-ne0
 returns c =
-    let t = c.before.before in
-    by-table _ _ _ _ t.table-number.ensures c.before.if1.true c.refused.ensures.0 c.refused.ensures.1 c.refused.ensures.2
+    let t = c in
+    by-table _ _ _ _ t.table_number-by_table.ensures c.if-by_table-ne0.true c.refused.ensures.0 c.refused.ensures.1 c.refused.ensures.2
 
-returns-2 : tie.Need-returns-2
+returns-2 : tie.Need-returns-then-found-ne0
 returns-2 c =
-    let m = c.before.before.before in
-    let t = m.before.before in
-    by-image _ _ _ _ t.table-number.ensures m.before.if1.false m.check-image.ensures c.before.if2.true c.refused2.ensures.0
-    c.refused2.ensures.1 c.refused2.ensures.2
+    let m = c in
+    let t = m in
+    by-image _ _ _ _ t.table_number-by_table.ensures m.if-by_table-ne0.false m.check_image-found.ensures c.if-found-ne0.true c.refused-then-found-ne0.ensures.0
+    c.refused-then-found-ne0.ensures.1 c.refused-then-found-ne0.ensures.2
 
-card-number-requires : tie.Need-card-number-requires
+card-number-requires : tie.Need-card_number-by_card-requires
 card-number-requires c κs =
-    let m = c.before.before in
-    let t = m.before.before in (
-      image-right _ m.check-image.ensures c.if2.false,
-      (passed _ (sym t.table-number.ensures ∙ m.before.if1.false)).table.some,
+    let m = c in
+    let t = m in (
+      image-right _ m.check_image-found.ensures c.if-found-ne0.false,
+      (passed _ (sym t.table_number-by_table.ensures ∙ m.if-by_table-ne0.false)).table.some,
     )
 
-returns-3 : tie.Need-returns-3
+returns-3 : tie.Need-returns-then-by_card-ne0
 returns-3 c =
-    let k = c.before.before in
-    let m = k.before.before.before in
-    let t = m.before.before in
-    by-card _ _ _ _ t.table-number.ensures m.before.if1.false m.check-image.ensures k.before.if2.false k.card-number.ensures
-    (λ z. omega (arith, z, c.before.if3.true)) c.refused3.ensures.0 c.refused3.ensures.1 c.refused3.ensures.2
+    let k = c in
+    let m = k in
+    let t = m in
+    by-card _ _ _ _ t.table_number-by_table.ensures m.if-by_table-ne0.false m.check_image-found.ensures k.if-found-ne0.false k.card_number-by_card.ensures
+    (λ z. omega (arith, z, c.if-by_card-ne0.true)) c.refused-then-by_card-ne0.ensures.0 c.refused-then-by_card-ne0.ensures.1 c.refused-then-by_card-ne0.ensures.2
 
-card-total-requires : tie.Need-card-total-requires
+card-total-requires : tie.Need-card_total-words-requires
 card-total-requires c κs =
-    let m = c.before.before.before.before in
-    card-held _ (image-right _ m.check-image.ensures c.before.before.if2.false)
+    let m = c in
+    card-held _ (image-right _ m.check_image-found.ensures c.if-found-ne0.false)
 
-returns-4 : tie.Need-returns-4
+returns-4 : tie.Need-returns-then-room-words
 returns-4 c =
-    let l = c.before.before in
-    let k = l.before.before in
-    let m = k.before.before.before in
-    let t = m.before.before in
-    five _ _ _ _ t.table-number.ensures m.before.if1.false m.check-image.ensures k.before.if2.false k.card-number.ensures
-    (omega (arith, l.before.if3.false)) l.card-total.ensures c.before.if4.true
-    c.refused4.ensures.0 c.refused4.ensures.1 c.refused4.ensures.2
+    let l = c in
+    let k = l in
+    let m = k in
+    let t = m in
+    five _ _ _ _ t.table_number-by_table.ensures m.if-by_table-ne0.false m.check_image-found.ensures k.if-found-ne0.false k.card_number-by_card.ensures
+    (omega (arith, l.if-by_card-ne0.false)) l.card_total-words.ensures c.if-room-words.true
+    c.refused-then-room-words.ensures.0 c.refused-then-room-words.ensures.1 c.refused-then-room-words.ensures.2
 
-returns-5 : tie.Need-returns-5
+returns-5 : tie.Need-returns
 returns-5 c =
-    let l = c.before in
-    let k = l.before.before in
-    let m = k.before.before.before in
-    let t = m.before.before in
-    none-refused _ _ _ _ t.table-number.ensures m.before.if1.false m.check-image.ensures k.before.if2.false k.card-number.ensures
-    (omega (arith, l.before.if3.false)) l.card-total.ensures c.if4.false
+    let l = c in
+    let k = l in
+    let m = k in
+    let t = m in
+    none-refused _ _ _ _ t.table_number-by_table.ensures m.if-by_table-ne0.false m.check_image-found.ensures k.if-found-ne0.false k.card_number-by_card.ensures
+    (omega (arith, l.if-by_card-ne0.false)) l.card_total-words.ensures c.if-room-words.false
 
-pub refusal-of-spec : {M : Type 1} → statement M
-refusal-of-spec =
+pub refusal_of_spec : {M : Type 1} → statement M
+refusal_of_spec =
     tie.close
     (tie.spec
     (λ c κs. search rules)

@@ -8,14 +8,19 @@ use mathlib.Core.Path.{◌∙◌, sym}
 use native.Mathlib.Omega.{arith}
 
 circles-requires : tie.Need-circles-requires
-circles-requires c κs = omega (arith, c.before.before.requires.0.0.shape.whole.words)
+circles-requires c κs = omega (arith, c.requires.0.0.shape.whole.words)
 
-few-requires : tie.Need-child-stray-requires
+few-requires : tie.Need-child_stray-requires
 few-requires c κs =
-    let r = c.before in
-    let s = r.before.before.before in
-    let none = none_few r.circles.result s.args.c c.if1.true in
+    let r = c in
+    let s = r in
+    let none = none_few r.circles.result s.args.c c.if-circles-c.true in
     ((s.requires.0.0, s.requires.0.1, sym (none ∙ r.circles.ensures)), s.requires.1)
 
-pub child-first-spec : {M : Type 1} → statement M
-child-first-spec = tie.close (tie.spec circles-requires few-requires (λ c. search rules) (λ c κs. search rules) (λ c. search rules))
+pub child_first_spec : {M : Type 1} → statement M
+child_first_spec = tie.close (tie.spec
+    circles-requires
+    few-requires
+    (λ c. search rules)
+    (λ c κs. search rules)
+    (λ c. search rules))

@@ -13,50 +13,50 @@ use borrow.Author.Rules.{rules}
 use mathlib.Core.Path.{◌∙◌, ◌≡◌, sym}
 use native.Mathlib.Omega.{arith}
 
-abbrev invariant-loop : tie.invariant-loop
+abbrev invariant-loop : tie.invariant-loop-k
 invariant-loop table c index total k₀ k =
     (total ≡ nodes# index) × (k ≤ total)
     × (said (allStrays (between table c (circles# index)) index) ≡ saidFrom (between table c (circles# index)) index k)
 
-abbrev decreases-loop : tie.decreases-loop
+abbrev decreases-loop : tie.decreases-loop-k
 decreases-loop table c index total k₀ k = total - k
 
 -- the start, seen from the loop
-abbrev start : tie.At-loop invariant-loop decreases-loop → tie.Start invariant-loop decreases-loop
+abbrev start : tie.At-loop-k invariant-loop decreases-loop → tie.Start invariant-loop decreases-loop
 start l = l.before.before.before.before
 
 -- the distance between the table's rows
 abbrev dist : tie.Start invariant-loop decreases-loop → ℕ → ℕ → ℕ
 dist s = between s.args.table.now s.args.c (circles# s.args.index.now)
 
-loop-holds : tie.Need-loop-init invariant-loop decreases-loop
+loop-holds : tie.Need-loop-k-init invariant-loop decreases-loop
 loop-holds c =
     let s = c.before.before.before in
-    (c.nodes.ensures.0, omega arith, nodes-start (dist s) s.args.index.now)
+    (c.nodes-total.ensures.0, omega arith, nodes-start (dist s) s.args.index.now)
 
-returns : tie.Need-returns invariant-loop decreases-loop
+returns : tie.Need-returns-then-p-node_end invariant-loop decreases-loop
 returns c =
     let l = c.before.before.before.before in
     let s = start l in
-    let f = c.before.before.first-stray in
-    sym (l.loop.invariant.2 ∙ nodes-stop (dist s) s.args.index.now l.loop.k (omega arith) f.result (omega arith) f.ensures)
+    let f = c.first_stray-p in
+    sym (l.loop-k.invariant.2 ∙ nodes-stop (dist s) s.args.index.now l.loop-k.k (omega arith) f.result (omega arith) f.ensures)
 
-loop-again : tie.Need-loop-preserved invariant-loop decreases-loop
+loop-again : tie.Need-loop-k-preserved invariant-loop decreases-loop
 loop-again c =
     let l = c.before.before.before.before in
     let s = start l in
-    let f = c.before.before.first-stray in
-    let on = nodes-on (dist s) s.args.index.now l.loop.k (omega arith) f.result (omega arith) f.ensures in
-    (l.loop.invariant.0, omega arith, l.loop.invariant.2 ∙ on)
+    let f = c.first_stray-p in
+    let on = nodes-on (dist s) s.args.index.now l.loop-k.k (omega arith) f.result (omega arith) f.ensures in
+    (l.loop-k.invariant.0, omega arith, l.loop-k.invariant.2 ∙ on)
 
-returns-2 : tie.Need-returns-2 invariant-loop decreases-loop
+returns-2 : tie.Need-returns invariant-loop decreases-loop
 returns-2 c =
     let l = c.before in
     let s = start l in
-    sym (l.loop.invariant.2 ∙ nodes-over (dist s) s.args.index.now l.loop.k (omega arith))
+    sym (l.loop-k.invariant.2 ∙ nodes-over (dist s) s.args.index.now l.loop-k.k (omega arith))
 
-pub closeness-spec : {M : Type 1} → statement M
-closeness-spec =
+pub closeness_spec : {M : Type 1} → statement M
+closeness_spec =
     tie.close
     (tie.spec
     invariant-loop

@@ -15,19 +15,19 @@ use mathlib.Core.Bool.{true}
 use mathlib.Core.Path.{◌≡◌, subst}
 use native.Mathlib.Omega.{arith}
 
-abbrev invariant-loop : tie.invariant-loop
+abbrev invariant-loop : tie.invariant-loop-a
 invariant-loop table c index k low₀ child m fs a₀ low a =
     (m ≡ m# index) × (a ≤ m) × FirstIn index k (straysTo (between table c (circles# index)) index k a) low
 
-abbrev decreases-loop : tie.decreases-loop
+abbrev decreases-loop : tie.decreases-loop-a
 decreases-loop table c index k low₀ child m fs a₀ low a = m - a
 
 -- the branch of an inner node, seen from the loop
-abbrev branch : tie.At-loop invariant-loop decreases-loop → tie.Else1 invariant-loop decreases-loop
+abbrev branch : tie.At-loop-a invariant-loop decreases-loop → tie.Else-child-eq0 invariant-loop decreases-loop
 branch l = l.before.before.before
 
 -- the start, seen from that branch
-abbrev start : tie.Else1 invariant-loop decreases-loop → tie.Start invariant-loop decreases-loop
+abbrev start : tie.Else-child-eq0 invariant-loop decreases-loop → tie.Start invariant-loop decreases-loop
 start e = e.before.before.before.before.before
 
 -- the distance between the table's rows
@@ -35,58 +35,58 @@ abbrev dist : tie.Start invariant-loop decreases-loop → ℕ → ℕ → ℕ
 dist s = between s.args.table.now s.args.c (circles# s.args.index.now)
 
 -- in that branch node k is inner
-is-inner : (e : tie.Else1 invariant-loop decreases-loop) → inner (start e).args.index.now (start e).args.k ≡ true
-is-inner e = inner-yes (start e).args.index.now (start e).args.k e.before.node-child.ensures.0 e.if1.false
+is-inner : (e : tie.Else-child-eq0 invariant-loop decreases-loop) → inner (start e).args.index.now (start e).args.k ≡ true
+is-inner e = inner-yes (start e).args.index.now (start e).args.k e.node_child-child.ensures.0 e.if-child-eq0.false
 
-returns : tie.Need-returns invariant-loop decreases-loop
+returns : tie.Need-returns-then-child-eq0 invariant-loop decreases-loop
 returns c =
     let s = c.before.before.before.before.before in
     let w = s.args.index.now in
     let k = s.args.k in
-    rw c.before.before.node-end.ensures
-    (near-leaf (dist s) w k (inner_no w k c.before.node-child.ensures.0 c.if1.true))
+    rw c.node_end-low.ensures
+    (near-leaf (dist s) w k (inner_no w k c.node_child-child.ensures.0 c.if-child-eq0.true))
 
-firsts-requires : tie.Need-firsts-requires invariant-loop decreases-loop
+firsts-requires : tie.Need-firsts-fs-requires invariant-loop decreases-loop
 firsts-requires c κs =
     let e = c.before in
     let s = start e in
-    (s.pre.0.0.shape, omega (arith, ((s.pre.0.0.shape.node s.args.k s.pre.1).kids (is-inner e)).inside, e.before.node-child.ensures.0))
+    (s.requires.0.0.shape, omega (arith, ((s.requires.0.0.shape.node s.args.k s.requires.1).kids (is-inner e)).inside, e.node_child-child.ensures.0))
 
-loop-holds : tie.Need-loop-init invariant-loop decreases-loop
+loop-holds : tie.Need-loop-a-init invariant-loop decreases-loop
 loop-holds c =
     let s = c.before.before.before.before.before.before.before in
     let start = near-start (dist s) s.args.index.now s.args.k in
-    (c.before.centres.ensures.0, omega arith, rw c.before.before.before.before.node-end.ensures start)
+    (c.centres-m.ensures.0, omega arith, rw c.node_end-low.ensures start)
 
-child-first-requires : tie.Need-child-first-requires invariant-loop decreases-loop
+child-first-requires : tie.Need-child_first-requires invariant-loop decreases-loop
 child-first-requires c κs =
     let l = c.before.before in
     let e = branch l in
     let s = start e in
-    let fs = l.before.firsts in
-    let kids = subst (λ (i : ℕ). Firsts s.args.index.now i fs.result) e.before.node-child.ensures.0 fs.ensures in
-    (s.pre.0, (s.pre.1, is-inner e, omega arith, kids))
+    let fs = l.firsts-fs in
+    let kids = subst (λ (i : ℕ). Firsts s.args.index.now i fs.result) e.node_child-child.ensures.0 fs.ensures in
+    (s.requires.0, (s.requires.1, is-inner e, omega arith, kids))
 
-loop-again : tie.Need-loop-preserved invariant-loop decreases-loop
+loop-again : tie.Need-loop-a-preserved invariant-loop decreases-loop
 loop-again c =
     let at-loop = c.before.before.before.before in
-    let l = at-loop.loop in
+    let l = at-loop.loop-a in
     let s = start (branch at-loop) in
     let a = s.args in
-    let child = c.before.child-first in
+    let child = c.child_first in
     let more = near-more (dist s) a.index.now a.k l.a l.low child.result l.invariant.2 child.ensures in
-    (l.invariant.0, omega arith, rw c.lesser.ensures more)
+    (l.invariant.0, omega arith, rw c.lesser-low.ensures more)
 
-returns-2 : tie.Need-returns-2 invariant-loop decreases-loop
+returns-2 : tie.Need-returns invariant-loop decreases-loop
 returns-2 c =
-    let l = c.before.loop in
+    let l = c.loop-a in
     let e = branch c.before in
     let s = start e in
     let a = s.args in
     near-done (dist s) a.index.now a.k l.a l.low (is-inner e) (omega arith) l.invariant.2
 
-pub first-stray-spec : {M : Type 1} → statement M
-first-stray-spec =
+pub first_stray_spec : {M : Type 1} → statement M
+first_stray_spec =
     tie.close
     (tie.spec
     invariant-loop

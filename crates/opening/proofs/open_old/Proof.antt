@@ -6,32 +6,32 @@ use Rattle.opening.proofs.open_old.Tie as tie
 use borrow.Author.Rules.{rules}
 use native.Mathlib.Omega.{arith}
 
-mark-rows-requires : tie.Need-mark-rows-requires
+mark-rows-requires : tie.Need-mark_rows-requires
 mark-rows-requires c κs =
-    let n = c.before.before in
-    let s = n.before.before.before.before.before in
-    old-marks s.requires n.node-count.ensures.0 c.before.columns.ensures.0
+    let n = c in
+    let s = n in
+    old-marks s.requires n.node_count-own.ensures.0 c.columns.ensures.0
 
-deal-out-requires : tie.Need-deal-out-requires
+deal-out-requires : tie.Need-deal_out-requires
 deal-out-requires c κs =
-    let m = c.before.before.before.before in
-    let k = m.before.before in
-    let n = k.before in
-    let s = n.before.before.before.before.before in
-    old-kids s.requires n.node-count.ensures.0 k.columns.ensures.0 m.mark-rows.ensures
+    let m = c in
+    let k = m in
+    let n = k in
+    let s = n in
+    old-kids s.requires n.node_count-own.ensures.0 k.columns.ensures.0 m.mark_rows.ensures
 
 returns : tie.Need-returns
 returns c =
-    let b = c.before.before in
-    let x = b.before.before.before.before.before.before in
-    let m = x.before.before.before.before.before in
-    let k = m.before.before in
-    let n = k.before in
-    λ g. old-done g n.node-count.ensures.0 k.columns.ensures.0 m.mark-rows.ensures x.deal-out.ensures (omega arith)
-    b.copy-back.ensures
+    let b = c in
+    let x = b in
+    let m = x in
+    let k = m in
+    let n = k in
+    λ g. old-done g n.node_count-own.ensures.0 k.columns.ensures.0 m.mark_rows.ensures x.deal_out.ensures (omega arith)
+    b.copy_back.ensures
 
-pub open-old-spec : {M : Type 1} → statement M
-open-old-spec =
+pub open_old_spec : {M : Type 1} → statement M
+open_old_spec =
     tie.close
     (tie.spec
     (λ c κs. search rules)

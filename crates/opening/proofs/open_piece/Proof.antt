@@ -11,114 +11,114 @@ use lib.ListN.{length, length-set, set}
 use mathlib.Core.Path.{◌∙◌, ◌≡◌}
 use native.Mathlib.Omega.{arith}
 
-word-requires : tie.Need-word-requires
+word-requires : tie.Need-word-s-requires
 word-requires c κs =
-    omega (arith, node-fits c.before.before.before.before.before.requires.there)
+    omega (arith, node-fits c.requires.there)
 
-word-requires-2 : tie.Need-word-requires-2
+word-requires-2 : tie.Need-word-count-requires
 word-requires-2 c κs =
-    omega (arith, node-fits c.before.before.before.before.before.before.before.requires.there)
+    omega (arith, node-fits c.requires.there)
 
-word-requires-3 : tie.Need-word-requires-3
+word-requires-3 : tie.Need-word-mark-requires
 word-requires-3 c κs =
-    omega (arith, node-fits c.before.before.before.before.before.before.before.before.before.requires.there)
+    omega (arith, node-fits c.requires.there)
 
-slice-write-room : tie.Need-slice-write-room
+slice-write-room : tie.Need-bounds-room-k
 slice-write-room c =
-    omega (arith, node-fits c.before.before.before.before.before.before.before.before.before.before.before.requires.there)
+    omega (arith, node-fits c.requires.there)
 
-returns : tie.Need-returns
+returns : tie.Need-returns-then-mark
 returns c =
-    let e = c.before in
-    λ g. path-marked g.q g.there e.word3.ensures.0 (omega arith) (omega arith) _
+    let e = c in
+    λ g. path-marked g.q g.there e.word-mark.ensures.0 (omega arith) (omega arith) _
 
-slice-write-room-2 : tie.Need-slice-write-room-2
+slice-write-room-2 : tie.Need-bounds-room-k-then-mark-ne0
 slice-write-room-2 c =
-    omega (arith, node-fits c.before.before.before.before.before.before.before.before.before.before.before.before.before.requires.there)
+    omega (arith, node-fits c.requires.there)
 
-open-old-requires : tie.Need-open-old-requires
+open-old-requires : tie.Need-open_old-requires
 open-old-requires c κs =
-    let i = c.before.before in
-    let j = i.before.before in
-    let e = j.before in
-    let n = e.before.before in
-    let f = n.before.before in
-    let g = f.before.before.before.before.before.before.requires in
-    path-old g.q g.there f.word.ensures.0 n.word2.ensures.0 e.word3.ensures.0 j.if1.false i.if2.true
+    let i = c in
+    let j = i in
+    let e = j in
+    let n = e in
+    let f = n in
+    let g = f.requires in
+    path-old g.q g.there f.word-s.ensures.0 n.word-count.ensures.0 e.word-mark.ensures.0 j.if-mark.false i.if-mark-ne0.true
 
-same-length-2 : tie.Need-same-length-2
+same-length-2 : tie.Need-shape_of-room-then-mark-ne0
 same-length-2 c =
-    let r = c.before.before.before.before in
-    let a = r.before.before.before.before.before.before.before.before.before.before.before.before.before.before.before.before.args in
-    let l : length r.open-old.new.1.1.1.1.0 ≡ length (set a.room.now (node_at_lem a.k + 2) a.made) = search rules in
+    let r = c in
+    let a = r.args in
+    let l : length r.open_old.new.room ≡ length (set a.room.now (node_at_lem a.k + 2) a.made) = search rules in
     l ∙ length-set a.room.now (node_at_lem a.k + 2) a.made
 
-returns-2 : tie.Need-returns-2
+returns-2 : tie.Need-returns-then-mark-ne0
 returns-2 c =
-    let x = c.before.before.before.before in
-    let i = x.before.before.before in
-    let m = i.before in
-    let j = m.before in
-    let e = j.before in
-    let n = e.before.before in
-    let f = n.before.before in
-    λ g. path-old-done g.q g.there f.word.ensures.0 n.word2.ensures.0 e.word3.ensures.0 j.if1.false i.if2.true
-    m.centres.ensures.0 x.open-old.ensures
+    let x = c in
+    let i = x in
+    let m = i in
+    let j = m in
+    let e = j in
+    let n = e in
+    let f = n in
+    λ g. path-old-done g.q g.there f.word-s.ensures.0 n.word-count.ensures.0 e.word-mark.ensures.0 j.if-mark.false i.if-mark-ne0.true
+    m.centres-m.ensures.0 x.open_old.ensures
 
-returns-3 : tie.Need-returns-3
+returns-3 : tie.Need-returns-then-count-l
 returns-3 c =
-    let l = c.before in
-    let i = l.before in
-    let e = i.before.before.before in
-    let n = e.before.before in
-    λ g. path-leaf g.q g.there n.word2.ensures.0 e.word3.ensures.0 i.if2.false l.leaf-size.ensures.0 (omega arith) _
+    let l = c in
+    let i = l in
+    let e = i in
+    let n = e in
+    λ g. path-leaf g.q g.there n.word-count.ensures.0 e.word-mark.ensures.0 i.if-mark-ne0.false l.leaf_size-l.ensures.0 (omega arith) _
 
-slice-write-room-3 : tie.Need-slice-write-room-3
+slice-write-room-3 : tie.Need-bounds-room-k-2
 slice-write-room-3 c =
-    let s = c.before.before.before.before.before.before.before.before.before.before.before.before.before.before.before in
+    let s = c in
     omega (arith, node-fits s.requires.there)
 
-split-run-requires : tie.Need-split-run-requires
+split-run-requires : tie.Need-split_run-requires
 split-run-requires c κs =
-    let o = c.before.before in
-    let k = o.before in
-    let h = k.before in
-    let l = h.before in
-    let i = l.before in
-    let m = i.before in
-    let e = m.before.before in
-    let n = e.before.before in
-    let f = n.before.before in
-    let g = f.before.before.before.before.before.before.requires in
-    path-run g.q g.there f.word.ensures.0 n.word2.ensures.0 e.word3.ensures.0 i.if2.false l.leaf-size.ensures.0
-    (omega arith) k.columns.ensures.0 o.circles.ensures m.centres.ensures.0 (omega arith)
+    let o = c in
+    let k = o in
+    let h = k in
+    let l = h in
+    let i = l in
+    let m = i in
+    let e = m in
+    let n = e in
+    let f = n in
+    let g = f.requires in
+    path-run g.q g.there f.word-s.ensures.0 n.word-count.ensures.0 e.word-mark.ensures.0 i.if-mark-ne0.false l.leaf_size-l.ensures.0
+    (omega arith) k.columns.ensures.0 o.circles.ensures m.centres-m.ensures.0 (omega arith)
 
-same-length-5 : tie.Need-same-length-5
+same-length-5 : tie.Need-shape_of-room
 same-length-5 c =
-    let r = c.before.before.before.before in
-    let o = r.before.before.before.before.before.before.before.before.before.before in
-    let a = o.before.before.before.before.before.before.before.before.before.before.args in
-    let l : length r.split-run.new.1.1.1.1.1.1.0 ≡ length (set a.room.now (node_at_lem a.k + 2) a.made) = search rules in
+    let r = c in
+    let o = r in
+    let a = o.args in
+    let l : length r.split_run.new.room ≡ length (set a.room.now (node_at_lem a.k + 2) a.made) = search rules in
     l ∙ length-set a.room.now (node_at_lem a.k + 2) a.made
 
-returns-4 : tie.Need-returns-4
+returns-4 : tie.Need-returns
 returns-4 c =
-    let x = c.before.before.before.before in
-    let o = x.before.before.before in
-    let k = o.before in
-    let h = k.before in
-    let l = h.before in
-    let i = l.before in
-    let m = i.before in
-    let e = m.before.before in
-    let n = e.before.before in
-    let f = n.before.before in
-    λ g. path-run-done g.q g.there f.word.ensures.0 n.word2.ensures.0 e.word3.ensures.0 i.if2.false
-    l.leaf-size.ensures.0
-    (omega arith) k.columns.ensures.0 o.circles.ensures m.centres.ensures.0 (omega arith) _ x.split-run.ensures
+    let x = c in
+    let o = x in
+    let k = o in
+    let h = k in
+    let l = h in
+    let i = l in
+    let m = i in
+    let e = m in
+    let n = e in
+    let f = n in
+    λ g. path-run-done g.q g.there f.word-s.ensures.0 n.word-count.ensures.0 e.word-mark.ensures.0 i.if-mark-ne0.false
+    l.leaf_size-l.ensures.0
+    (omega arith) k.columns.ensures.0 o.circles.ensures m.centres-m.ensures.0 (omega arith) _ x.split_run.ensures
 
-pub open-piece-spec : {M : Type 1} → statement M
-open-piece-spec =
+pub open_piece_spec : {M : Type 1} → statement M
+open_piece_spec =
     tie.close
     (tie.spec
     (λ c. search rules)

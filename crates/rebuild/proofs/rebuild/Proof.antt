@@ -11,13 +11,13 @@ start c = c.before.before.before.before.before
 
 returns : tie.Need-returns
 returns c =
-    let b = c.before.before.before.before in
-    let o = b.before.before.before in
-    let m = o.before.before in
-    alike (start m).args.index.now m.centres.ensures.0 o.before.leaf-size.ensures.0 o.circles.ensures b.build.ensures
+    let b = c in
+    let o = b in
+    let m = o.before.before.before.before.before.before.before.before.before in
+    alike (start m).args.index.now m.centres.ensures.0 o.leaf_size.ensures.0 o.circles.ensures b.build.ensures
 
-pub rebuild-spec : {M : Type 1} → statement M
-rebuild-spec =
+pub rebuild_spec : {M : Type 1} → statement M
+rebuild_spec =
     tie.close
     (tie.spec
     (λ c κs. search rules)

@@ -16,26 +16,26 @@ use mathlib.Core.Path.{◌∙◌, ap}
 use native.Mathlib.Omega.{arith}
 
 rows-requires : tie.Need-rows-requires
-rows-requires c κs = omega (arith, c.before.before.before.before.before.before.requires.0.tested.shape.whole.words)
+rows-requires c κs = omega (arith, c.requires.0.tested.shape.whole.words)
 
-clear-bytes-requires : tie.Need-clear-bytes-requires
-clear-bytes-requires c κs = omega (arith, c.rows.ensures.0, c.before.before.before.before.before.before.before.requires.1)
+clear-bytes-requires : tie.Need-clear_bytes-requires
+clear-bytes-requires c κs = omega (arith, c.rows.ensures.0, c.requires.1)
 
 search-requires : tie.Need-search-requires
 search-requires c κs =
-    let clear = c.before.before.before.before in
-    lent_same clear.before.before.before.before.before.before.before.before.requires.0 clear.clear-bytes.new.0 clear.clear-bytes.auto.0
+    let clear = c in
+    lent_same clear.requires.0 clear.clear_bytes.new.bytes clear.clear_bytes.auto.bytes
 
 returns : tie.Need-returns
 returns c =
-    let clear = c.before.before.before.before.before.before.before.before in
-    let a = clear.before.before.before.before.before.before.before.before.args in
+    let clear = c in
+    let a = clear.args in
     let ms = veiled (is_in_lem a.withdrawn.now) (marks (from a.table.now a.c (circles# a.index.now) a.query.now) a.r (tree_of a.index.now)) in
-    c.before.before.before.search.ensures.bytes
-    ∙ ap (write ms) (clear.clear-bytes.ensures ∙ ap (λ (n : ℕ). wiped n a.how.now) clear.before.rows.ensures.0)
+    c.search.ensures.bytes
+    ∙ ap (write ms) (clear.clear_bytes.ensures ∙ ap (λ (n : ℕ). wiped n a.how.now) clear.rows.ensures.0)
 
-pub mark-one-spec : {M : Type 1} → statement M
-mark-one-spec =
+pub mark_one_spec : {M : Type 1} → statement M
+mark_one_spec =
     tie.close
     (tie.spec
     rows-requires

@@ -6,7 +6,9 @@ use Rattle.several_queries.proofs.measured_rows.Tie as tie
 use borrow.Author.Rules.{rules}
 
 returns : tie.Need-returns
-returns c = (c.tally.ensures.1, measured_few _ _ c.before.before.args.how.now c.tally.ensures.1)
+returns c = (c.tally.ensures.1, measured_few _ _ c.args.how.now c.tally.ensures.1)
 
-pub measured-rows-spec : {M : Type 1} → statement M
-measured-rows-spec = tie.close (tie.spec (λ c κs. search rules) returns)
+pub measured_rows_spec : {M : Type 1} → statement M
+measured_rows_spec = tie.close (tie.spec
+    (λ c κs. search rules)
+    returns)

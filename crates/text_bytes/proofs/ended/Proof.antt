@@ -14,7 +14,7 @@ returns-2 : tie.Need-returns-in_default
 returns-2 c =
     rw (
       parted _ _ (yes c.parts.ensures (not_from_true _ c.if-not-parts.false)),
-      none_inside c.args.place c.in-Inside.keys2,
+      none_inside c.args.place c.in_default.not-Inside,
     )
 
 returns-3 : tie.Need-returns

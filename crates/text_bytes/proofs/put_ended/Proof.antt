@@ -18,14 +18,14 @@ returns-2 : tie.Need-returns-in_default
 returns-2 c =
     put-none _ _ _
     (parted _ _ (yes c.parts.ensures (not_from_true _ c.if-not-parts.false))
-    ∙ none_inside c.args.place c.in-Inside.keys2)
+    ∙ none_inside c.args.place c.in_default.not-Inside)
 
 -- the start, and the number that ends here
 abbrev start : tie.In-Inside → tie.Start
-start c = c.before.before.before.before.before.before
+start c = c.before.before.before.before
 
 abbrev value : tie.In-Inside → ℕ
-value c = c.place.given.0.0
+value c = c.in-Inside.v
 
 one : (c : tie.In-Inside) → ended_by (start c).args.place (start c).args.b ≡ value c ∷ []
 one c = parted _ _ (yes c.parts.ensures (not_from_true _ c.if-not-parts.false)) ∙ cc
