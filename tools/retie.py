@@ -152,6 +152,7 @@ def turn(path, fn, names, say):
 
     text = "\n\n".join(in_block(b) for b in re.split(r"\n\n", text))
 
+    text = re.sub(r"(\.if-[\w-]+)\.left(?![\w-])", r"\1.false", text)
     # a test of `!f(..)` says today that what f gave is false, and not that `not` of it is true; its failing that it is true
     def negated(m):
         tested = re.search(r"\.if-not-([\w-]+)\.(?:true|false)$", m.group(0)).group(1)

@@ -42,7 +42,7 @@ shape-decides : (h : tie.After-card_shape_ok) {b : Bool} → b ≡ shape_ok_lem 
     → (said (fault 9 (not b))).0 ≡ (said (unfit (start (rows (columns h))))).0
 shape-decides h e =
     let k = columns h in
-    by_shape true _ _ _ refl (omega (arith, k.if-card_rows-table.left, (rows k).card_rows.ensures.0))
+    by_shape true _ _ _ refl (omega (arith, k.if-card_rows-table.false, (rows k).card_rows.ensures.0))
     (omega (arith, h.if-card_columns-c.false, k.card_columns.ensures.0)) e
 
 card-rows-requires : tie.Need-card_rows-requires

@@ -10,36 +10,36 @@ use lib.ListN.{length}
 use mathlib.Core.Path.{◌≡◌, refl}
 use native.Mathlib.Omega.{arith}
 
-abbrev invariant-loop : tie.invariant-loop
+abbrev invariant-loop : tie.invariant-loop-depth
 invariant-loop table index n room₀ work₀ lo₀ hi₀ depth₀ room work lo hi depth =
     (length room ≡ length room₀) × (length work ≡ length work₀) × Goes table index n room₀ work₀ room work lo hi depth
 
-abbrev decreases-loop : tie.decreases-loop
+abbrev decreases-loop : tie.decreases-loop-depth
 decreases-loop table index n room₀ work₀ lo₀ hi₀ depth₀ room work lo hi depth = max_depth - depth
 
 -- the start, seen from the loop
-abbrev start : tie.At-loop invariant-loop decreases-loop → tie.Start invariant-loop decreases-loop
+abbrev start : tie.At-loop-depth invariant-loop decreases-loop → tie.Start invariant-loop decreases-loop
 start c = c.before.before.before.before.before
 
-loop-holds : tie.Need-loop-init invariant-loop decreases-loop
+loop-holds : tie.Need-loop-depth-init invariant-loop decreases-loop
 loop-holds c = (search rules, search rules, λ g. goes_start g)
 
-level-requires : tie.Need-level-requires invariant-loop decreases-loop
+level-requires : tie.Need-level-made-requires invariant-loop decreases-loop
 level-requires c κs =
     let s = c.before.before.before in
-    goes-level (s.loop.invariant.2 (start s).requires) (search rules) refl
+    goes-level (s.loop-depth.invariant.2 (start s).requires) (search rules) refl
 
-loop-again : tie.Need-loop-preserved invariant-loop decreases-loop
+loop-again : tie.Need-loop-depth-preserved invariant-loop decreases-loop
 loop-again c =
-    let l = c.before.before.before.before in
-    let s = l.before.before.before.before in
-    (search rules, search rules, λ g. goes_step (s.loop.invariant.2 g) (search rules) refl l.level.ensures (omega arith))
+    let l = c in
+    let s = l in
+    (search rules, search rules, λ g. goes_step (s.loop-depth.invariant.2 g) (search rules) refl l.level-made.ensures (omega arith))
 
 returns : tie.Need-returns invariant-loop decreases-loop
-returns c = λ g. goes-done (c.before.loop.invariant.2 g) (search rules)
+returns c = λ g. goes-done (c.loop-depth.invariant.2 g) (search rules)
 
-pub deepen-spec : {M : Type 1} → statement M
-deepen-spec =
+pub deepen_spec : {M : Type 1} → statement M
+deepen_spec =
     tie.close
     (tie.spec
     invariant-loop

@@ -8,33 +8,33 @@ use borrow.Author.Rules.{rules}
 use lib.ListN.{length}
 use mathlib.Core.Path.{◌≡◌}
 
-abbrev invariant-loop : tie.invariant-loop
+abbrev invariant-loop : tie.invariant-loop-k
 invariant-loop table index n last room₀ work₀ lo hi made₀ k₀ room work made k =
     (length room ≡ length room₀) × (length work ≡ length work₀) × Turn table index n last room₀ work₀ lo hi room work made k
 
-abbrev decreases-loop : tie.decreases-loop
+abbrev decreases-loop : tie.decreases-loop-k
 decreases-loop table index n last room₀ work₀ lo hi made₀ k₀ room work made k = hi - k
 
-loop-holds : tie.Need-loop-init invariant-loop decreases-loop
+loop-holds : tie.Need-loop-k-init invariant-loop decreases-loop
 loop-holds c = (search rules, search rules, λ g. levelling-start g)
 
-open-piece-requires : tie.Need-open-piece-requires invariant-loop decreases-loop
+open-piece-requires : tie.Need-open_piece-made-requires invariant-loop decreases-loop
 open-piece-requires c κs =
-    let s = c.before.before.before in
-    let g = s.before.before.before.before.before.requires in
-    levelling-open g (s.loop.invariant.2 g) (search rules)
+    let s = c in
+    let g = s.requires in
+    levelling-open g (s.loop-k.invariant.2 g) (search rules)
 
-loop-again : tie.Need-loop-preserved invariant-loop decreases-loop
+loop-again : tie.Need-loop-k-preserved invariant-loop decreases-loop
 loop-again c =
-    let n = c.before.before.before.before in
-    let s = n.before.before.before.before in
-    (search rules, search rules, λ g. levelling-step g (s.loop.invariant.2 g) (search rules) (search rules) n.open-piece.ensures)
+    let n = c in
+    let s = n in
+    (search rules, search rules, λ g. levelling-step g (s.loop-k.invariant.2 g) (search rules) (search rules) n.open_piece-made.ensures)
 
 returns : tie.Need-returns invariant-loop decreases-loop
-returns c = λ g. levelling-done g (c.before.loop.invariant.2 g) (search rules)
+returns c = λ g. levelling-done g (c.loop-k.invariant.2 g) (search rules)
 
-pub level-spec : {M : Type 1} → statement M
-level-spec =
+pub level_spec : {M : Type 1} → statement M
+level_spec =
     tie.close
     (tie.spec
     invariant-loop
