@@ -41,43 +41,43 @@ decide-requires c κs =
 
 slice-write-how : tie.Need-bounds-how-row
 slice-write-how c =
-    let w = c in
-    omega (arith, row_low w.before.before.before.before, (start w.before.before.before.before).requires.0.0.how (start w.before.before.before.before).requires.0.1)
+    let w = c.before.before.before.before in
+    omega (arith, row_low w, (start w).requires.0.0.how (start w).requires.0.1)
 
 returns : tie.Need-returns-in-In
 returns c =
-    let w = c in
-    let s = start w.before.before.before.before in
+    let w = c.before.before.before.before in
+    let s = start w in
     byte_in w.word-row.result s.args.how.now
-    ∙ leaf-byte (from s.args.table.now s.args.c s.args.circles s.args.query.now) s.args.r s.args.index.now In _ _ _ (row w.before.before.before.before) (stored s)
+    ∙ leaf-byte (from s.args.table.now s.args.c s.args.circles s.args.query.now) s.args.r s.args.index.now In _ _ _ (row w) (stored s)
     c.decide-verdict.ensures c.in-In.is
 
 returns-2 : tie.Need-returns-in_default-verdict
 returns-2 c =
-    let w = c in
-    let s = start w.before.before.before.before in
+    let w = c.before.before.before.before in
+    let s = start w in
     byte_out w.word-row.result s.args.how.now
-    ∙ leaf-byte (from s.args.table.now s.args.c s.args.circles s.args.query.now) s.args.r s.args.index.now Out _ _ _ (row w.before.before.before.before) (stored s)
+    ∙ leaf-byte (from s.args.table.now s.args.c s.args.circles s.args.query.now) s.args.r s.args.index.now Out _ _ _ (row w) (stored s)
     c.decide-verdict.ensures (out_only _ c.in_default.not-Measure c.in_default-verdict.not-In)
 
 measured-byte-requires : tie.Need-measured_byte-byte-requires
 measured-byte-requires c κs =
-    let w = c in
-    let m = measurable (start w.before.before.before).requires.0.0 _ (row_low w.before.before.before) in
+    let w = c.before.before.before in
+    let m = measurable (start w).requires.0.0 _ (row_low w) in
     (m.0, m.1, m.2)
 
 slice-write-how-2 : tie.Need-bounds-how-row-2
 slice-write-how-2 c =
-    let w = c in
-    omega (arith, row_low w.before.before.before.before, (start w.before.before.before.before).requires.0.0.how (start w.before.before.before.before).requires.0.1)
+    let w = c.before.before.before.before in
+    omega (arith, row_low w, (start w).requires.0.0.how (start w).requires.0.1)
 
 returns-3 : tie.Need-returns
 returns-3 c =
     let d = c in
-    let w = d in
-    let s = start w.before.before.before.before in
+    let w = d.before.before.before.before in
+    let s = start w in
     byte-measured (from s.args.table.now s.args.c s.args.circles s.args.query.now) s.args.r w.word-row.result s.args.how.now c.measured_byte-byte.ensures
-    ∙ leaf-byte (from s.args.table.now s.args.c s.args.circles s.args.query.now) s.args.r s.args.index.now Measure _ _ _ (row w.before.before.before.before) (stored s)
+    ∙ leaf-byte (from s.args.table.now s.args.c s.args.circles s.args.query.now) s.args.r s.args.index.now Measure _ _ _ (row w) (stored s)
     d.decide-verdict.ensures c.in-Measure.is
 
 pub bare_row_spec : {M : Type 1} → statement M

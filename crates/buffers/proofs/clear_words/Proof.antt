@@ -20,10 +20,10 @@ loop-holds : tie.Need-loop-i-init invariant-loop decreases-loop
 loop-holds c = (omega arith, c.requires, refl, fill_none _ 0)
 
 loop-again : tie.Need-loop-i-preserved invariant-loop decreases-loop
-loop-again c = let l = c.before.loop-i in (omega arith, l.invariant.1, simp length-set l.invariant.2, rw l.invariant.3 (fill_more l.i 0 _ (omega arith)))
+loop-again c = let l = c.loop-i in (omega arith, l.invariant.1, simp length-set l.invariant.2, rw l.invariant.3 (fill_more l.i 0 _ (omega arith)))
 
 returns : tie.Need-returns invariant-loop decreases-loop
-returns c = let l = c.before.loop-i in let e : l.i ≡ c.before.before.args.n = omega arith in rw e at l.invariant.3
+returns c = let l = c.loop-i in let e : l.i ≡ c.args.n = omega arith in rw e at l.invariant.3
 
 pub clear_words_spec : {M : Type 1} → statement M
 clear_words_spec =

@@ -11,20 +11,20 @@ start c = c.before.before
 
 returns : tie.Need-returns-then-number-ne0
 returns c =
-    let n = c in
-    let a = (start n.before).args in
+    let n = c.before in
+    let a = (start n).args in
     by-numbers a.table.now a.c a.circles a.unfit a.room a.work n.writer_number-number.ensures c.if-number-ne0.true
 
 circle-number-requires : tie.Need-circle_number-requires
 circle-number-requires c κs =
-    let n = c in
-    let a = (start n.before).args in
+    let n = c.before in
+    let a = (start n).args in
     few-columns a.table.now a.c a.circles a.unfit a.room a.work n.writer_number-number.ensures c.if-number-ne0.false
 
 returns-2 : tie.Need-returns
 returns-2 c =
-    let n = c in
-    let a = (start n.before.before).args in
+    let n = c.before.before in
+    let a = (start n).args in
     by-circles a.table.now a.c a.circles a.unfit a.room a.work n.writer_number-number.ensures c.if-number-ne0.false
     c.circle_number.ensures
 

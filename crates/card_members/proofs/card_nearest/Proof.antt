@@ -58,32 +58,32 @@ first-low c =
 
 returns : tie.Need-returns-then-end-second invariant-loop decreases-loop
 returns c =
-    let e = c in
-    let s = start e.before in
+    let e = c.before in
+    let s = start e in
     near_none (dist s) (words s) s.args.k (node s).some
     (omega (arith, c.if-end-second.true, e.card_count.ensures.0, e.card_start-start.ensures.0))
 
 card-row-requires : tie.Need-card_row-f-requires invariant-loop decreases-loop
 card-row-requires c κs =
-    let e = c in
-    let s = start e.before in
+    let e = c.before in
+    let s = start e in
     (s.requires.0.held, omega (arith, (node s).run, (node s).some, e.card_start-start.ensures.0))
 
 card-apart-requires : tie.Need-card_apart-near-requires invariant-loop decreases-loop
 card-apart-requires c κs =
-    let r = c in
-    let e = ends r.before in
+    let r = c.before in
+    let e = ends r in
     let s = start e in
     let low = e.card_start-start.ensures.0 in
-    (s.requires.0, (first-low r.before, omega (arith, (node s).run, r.if-end-second.false, e.card_count.ensures.0, low), c.card_circles-circles.ensures))
+    (s.requires.0, (first-low r, omega (arith, (node s).run, r.if-end-second.false, e.card_count.ensures.0, low), c.card_circles-circles.ensures))
 
 loop-holds : tie.Need-loop-p-init invariant-loop decreases-loop
 loop-holds c =
-    let r = c in
-    let e = ends r.before.before in
+    let r = c.before.before in
+    let e = ends r in
     let s = start e in
     let low = e.card_start-start.ensures.0 in
-    near-start (dist s) (words s) s.args.k (omega (arith, r.if-end-second.false, e.card_count.ensures.0, low)) (omega (arith, low)) (first-is r.before.before)
+    near-start (dist s) (words s) s.args.k (omega (arith, r.if-end-second.false, e.card_count.ensures.0, low)) (omega (arith, low)) (first-is r)
     c.card_apart-near.ensures
 
 card-apart-requires-2 : tie.Need-card_apart-requires invariant-loop decreases-loop
@@ -98,17 +98,17 @@ card-apart-requires-2 c κs =
 loop-again : tie.Need-loop-p-preserved invariant-loop decreases-loop
 loop-again c =
     let t = c in
-    let l = t in
-    let e = ends (past l.before.before.before) in
+    let l = t.before.before.before in
+    let e = ends (past l) in
     let s = start e in
     near_next (dist s) (words s) s.args.k l.loop-p.p l.loop-p.near
-    (omega (arith, t.loop-p-test.true, e.card_count.ensures.0, e.card_start-start.ensures.0)) l.loop-p.invariant (first-is (past l.before.before.before))
+    (omega (arith, t.loop-p-test.true, e.card_count.ensures.0, e.card_start-start.ensures.0)) l.loop-p.invariant (first-is (past l))
     c.card_apart.ensures c.smaller-near.ensures
 
 returns-2 : tie.Need-returns invariant-loop decreases-loop
 returns-2 c =
-    let l = c in
-    let e = ends (past l.before) in
+    let l = c.before in
+    let e = ends (past l) in
     let s = start e in
     near-done (dist s) (words s) s.args.k l.loop-p.p l.loop-p.near
     (omega (arith, c.loop-p-test.false, e.card_count.ensures.0, e.card_start-start.ensures.0)) l.loop-p.invariant

@@ -14,7 +14,7 @@ use native.Mathlib.Omega.{arith}
 
 -- rows of 16-bit numbers are at most 1,048,560 apart
 few : (c : tie.After-shared_slice_known-2-1)
-    → l1 (length c.before.before.args.a.now) c.before.before.args.circles c.before.before.args.a.now c.before.before.args.b.now
+    → l1 (length c.args.a.now) c.args.circles c.args.a.now c.args.b.now
     ≤ max_distance
 few c =
     let s = c in

@@ -52,87 +52,87 @@ mul-to c =
 
 cast-pick : tie.Need-overflow_cast-k
 cast-pick c =
-    let n = c in
-    let g = (start n.before.before).requires in
-    omega (arith, g.fits, g.deals.few, own n.before.before, g.child, g.deals.shape.whole.fan.1)
+    let n = c.before.before in
+    let g = (start n).requires in
+    omega (arith, g.fits, g.deals.few, own n, g.child, g.deals.shape.whole.fan.1)
 
 mul-pick : tie.Need-overflow_mul-own
 mul-pick c =
-    let n = c in
-    let g = (start n.before.before).requires in
-    omega (arith, g.fits, g.deals.few, own n.before.before, g.child, g.deals.shape.whole.fan.1)
+    let n = c.before.before in
+    let g = (start n).requires in
+    omega (arith, g.fits, g.deals.few, own n, g.child, g.deals.shape.whole.fan.1)
 
 add-pick : tie.Need-overflow_add-to-2
 add-pick c =
-    let n = c in
-    let g = (start n.before.before).requires in
-    omega (arith, g.fits, g.deals.few, own n.before.before, g.child, g.deals.shape.whole.fan.1)
+    let n = c.before.before in
+    let g = (start n).requires in
+    omega (arith, g.fits, g.deals.few, own n, g.child, g.deals.shape.whole.fan.1)
 
 pick-requires : tie.Need-pick-g-requires
 pick-requires c κs =
-    let n = c in
-    pick-ready (start n.before.before).requires (own n.before.before)
+    let n = c.before.before in
+    pick-ready (start n).requires (own n)
 
 add-count : tie.Need-overflow_add-count
 add-count c =
-    let k = c in
-    let n = counted k.before.before.before in
+    let k = c.before.before.before in
+    let n = counted k in
     let g = (start n).requires in
     let r = end_fits g (own n) k.pick-g.ensures in
     omega (arith, r, g.deals.few)
 
 mul-end : tie.Need-overflow_mul-end
 mul-end c =
-    let k = c in
-    let n = counted k.before.before.before in
+    let k = c.before.before.before in
+    let n = counted k in
     let g = (start n).requires in
     let r = end_fits g (own n) k.pick-g.ensures in
     omega (arith, r, g.deals.few)
 
 add-end : tie.Need-overflow_add-end
 add-end c =
-    let k = c in
-    let n = counted k.before.before.before in
+    let k = c.before.before.before in
+    let n = counted k in
     let g = (start n).requires in
     let r = end_fits g (own n) k.pick-g.ensures in
     omega (arith, r, g.deals.few)
 
 mul-settle : tie.Need-offset_bounds-work-to
 mul-settle c =
-    let k = c in
-    let n = counted k.before.before.before in
+    let k = c.before.before.before in
+    let n = counted k in
     let g = (start n).requires in
     let r = end_fits g (own n) k.pick-g.ensures in
     omega (arith, r, g.deals.few)
 
 sub-settle : tie.Need-slice_bounds-settle-count
 sub-settle c =
-    let k = c in
-    let n = counted k.before.before.before in
+    let k = c.before.before.before in
+    let n = counted k in
     let g = (start n).requires in
     let r = end_fits g (own n) k.pick-g.ensures in
     omega (arith, r, g.deals.few)
 
 part-settle-start : tie.Need-slice_bounds-settle-start
 part-settle-start c =
-    let k = c in
-    let n = counted k.before.before.before in
+    let k = c.before.before.before in
+    let n = counted k in
     let g = (start n).requires in
     let r = end_fits g (own n) k.pick-g.ensures in
     omega (arith, r, g.deals.few)
 
 part-settle-end : tie.Need-slice_bounds-settle-end
 part-settle-end c =
-    let k = c in
-    let n = counted k.before.before.before in
+    let k = c.before.before.before in
+    let n = counted k in
     let g = (start n).requires in
     let r = end_fits g (own n) k.pick-g.ensures in
     search rules
 
 settle-requires : tie.Need-settle-mark-requires
 settle-requires c κs =
-    let k = c in
-    let n = counted k.before.before.before.before in
+    let k = c.before.before.before.before in
+    let n = counted k in
     let s = start n in
     settle-ready s.requires (own n) k.pick-g.ensures (kid n)
 
@@ -179,16 +179,16 @@ part-put-node-end c =
 
 cast-put-node : tie.Need-overflow_cast-at
 cast-put-node c =
-    let k = c in
-    let n = counted k.before.before.before.before.before.before.before.before.before in
+    let k = c.before.before.before.before.before.before.before.before.before in
+    let n = counted k in
     let g = (start n).requires in
     let r = end_fits g (own n) k.pick-g.ensures in
     omega (arith, r)
 
 cast-put-node-2 : tie.Need-overflow_cast-count
 cast-put-node-2 c =
-    let k = c in
-    let n = counted k.before.before.before.before.before.before.before.before.before in
+    let k = c.before.before.before.before.before.before.before.before.before in
+    let n = counted k in
     let g = (start n).requires in
     let r = end_fits g (own n) k.pick-g.ensures in
     omega (arith, r)
@@ -203,8 +203,8 @@ returns c =
     let u = c in
     let h = u in
     let e = h in
-    let k = e in
-    let n = counted k.before.before.before.before.before.before.before.before.before.before.before.before in
+    let k = e.before.before.before.before.before.before.before.before.before.before.before.before in
+    let n = counted k in
     let s = start n in
     λ g. child-dealt g (own n) k.pick-g.ensures (kid n) e.settle-mark.ensures h.reach_with-reach.ensures u.put_node.ensures
 

@@ -79,11 +79,11 @@ safe : (l : tie.At-loop-p invariant-loop decreases-loop)
     l.safe_within-safe.result
 safe l =
     let f = first l in
-    let n = f in
-    let a = (start n.before).args in
-    let own = (start n.before).requires.1.3.at a.a (start n.before).requires.1.2 in
-    let kid = ap (λ (i : ℕ). first# (words n.before) (i + a.a)) n.node_child-child.ensures.0 in
-    subst (λ (g : ℕ). SafeTo (dist n.before) a.fs.now g (m# (words n.before)) l.safe_within-safe.result)
+    let n = f.before in
+    let a = (start n).args in
+    let own = (start n).requires.1.3.at a.a (start n).requires.1.2 in
+    let kid = ap (λ (i : ℕ). first# (words n) (i + a.a)) n.node_child-child.ensures.0 in
+    subst (λ (g : ℕ). SafeTo (dist n) a.fs.now g (m# (words n)) l.safe_within-safe.result)
     (own ∙ sym (f.node_first-f.ensures.0 ∙ kid)) l.safe_within-safe.ensures
 
 apart-requires : tie.Need-apart-x-requires invariant-loop decreases-loop
@@ -93,37 +93,37 @@ apart-requires c κs =
 
 closer-to-other-requires : tie.Need-closer_to_other-requires invariant-loop decreases-loop
 closer-to-other-requires c κs =
-    let l = c in
-    let f = first l.before.before in
-    let n = f in
-    let fs = subst (λ (i : ℕ). Firsts (words n.before) i (start n.before).args.fs.now) (sym n.node_child-child.ensures.0) (start n.before).requires.1.3 in
-    (((start n.before).requires.0.0, (start n.before).requires.0.2), (fs, omega (arith, inside n.before), c.apart-x.ensures, safe l.before.before))
+    let l = c.before.before in
+    let f = first l in
+    let n = f.before in
+    let fs = subst (λ (i : ℕ). Firsts (words n) i (start n).args.fs.now) (sym n.node_child-child.ensures.0) (start n).requires.1.3 in
+    (((start n).requires.0.0, (start n).requires.0.2), (fs, omega (arith, inside n), c.apart-x.ensures, safe l))
 
 returns : tie.Need-returns-then-closer_to_other invariant-loop decreases-loop
 returns c =
-    let l = c in
-    let f = first l.before.before.before.before in
-    let n = f in
-    let a = (start n.before).args in
+    let l = c.before.before.before.before in
+    let f = first l in
+    let n = f.before in
+    let a = (start n).args in
     let e = n.node_child-child.ensures.0 in
-    kid-named (dist n.before) (words n.before) a.k a.a l.loop-p.p e
-    (kid-stop (dist n.before) (words n.before) a.k (own n.before) l.loop-p.p l.loop-p.invariant.1 (omega arith) f.node_first-f.ensures.0
-    c.apart-x.ensures e c.closer_to_other.ensures (kid n.before).low (kid n.before).high c.if-closer_to_other.true)
+    kid-named (dist n) (words n) a.k a.a l.loop-p.p e
+    (kid-stop (dist n) (words n) a.k (own n) l.loop-p.p l.loop-p.invariant.1 (omega arith) f.node_first-f.ensures.0
+    c.apart-x.ensures e c.closer_to_other.ensures (kid n).low (kid n).high c.if-closer_to_other.true)
 
 loop-again : tie.Need-loop-p-preserved invariant-loop decreases-loop
 loop-again c =
-    let l = c in
-    let f = first l.before.before.before.before in
-    let n = f in (
+    let l = c.before.before.before.before in
+    let f = first l in
+    let n = f.before in (
       omega arith,
-      kid-on (dist n.before) (words n.before) (start n.before).args.k (own n.before) l.loop-p.p l.loop-p.invariant.1 (omega arith) f.node_first-f.ensures.0
+      kid-on (dist n) (words n) (start n).args.k (own n) l.loop-p.p l.loop-p.invariant.1 (omega arith) f.node_first-f.ensures.0
           c.apart-x.ensures n.node_child-child.ensures.0 c.closer_to_other.ensures c.if-closer_to_other.false,
     )
 
 returns-2 : tie.Need-returns invariant-loop decreases-loop
 returns-2 c =
-    let l = c in
-    let n = (first l.before.before).before in
+    let l = c.before.before in
+    let n = (first l).before in
     let a = (start n).args in
     rw c.node_end.ensures
     (kid-named (dist n) (words n) a.k a.a (start# (words n) a.k + count# (words n) a.k) n.node_child-child.ensures.0

@@ -40,17 +40,17 @@ tested : (c : tie.After-is_closer invariant-loop decreases-loop)
     → c.is_closer.result
     ≡ test (start c.before.before.before.before) ((start c.before.before.before.before).args.child + c.loop-i.i)
 tested c =
-    let l = c in
-    let s = start l.before.before.before.before in
+    let l = c.before.before.before.before in
+    let s = start l in
     let here = s.requires.1.0.at l.loop-i.i (omega (arith, l.loop-i.invariant.1, c.loop-i-test.true)) in
     c.is_closer.ensures
     ∙ closer-is (dist s) s.args.index.now s.args.p s.args.x (s.args.child + l.loop-i.i) here
 
 loop-holds : tie.Need-loop-i-init invariant-loop decreases-loop
 loop-holds c =
-    let s = c in
-    let none = search-start (test s.before.before.before.before) s.args.child in
-    (omega arith, c.centres-m.ensures.0, subst (λ (k : ℕ). First (test s.before.before.before.before) s.args.child k k) (sym (add-zero s.args.child)) none)
+    let s = c.before.before.before.before in
+    let none = search-start (test s) s.args.child in
+    (omega arith, c.centres-m.ensures.0, subst (λ (k : ℕ). First (test s) s.args.child k k) (sym (add-zero s.args.child)) none)
 
 mul-is-closer : tie.Need-offset_bounds-fs-i invariant-loop decreases-loop
 mul-is-closer c = omega (arith, c.loop-i.invariant.1, (start c.before).requires.0.0.shape.whole.fan)
@@ -60,22 +60,22 @@ element-copy-out-is-closer c = omega (arith, c.loop-i.invariant.1, (start c.befo
 
 is-closer-requires : tie.Need-is_closer-requires invariant-loop decreases-loop
 is-closer-requires c κs =
-    let l = c in
-    let s = start l.before.before.before in
+    let l = c.before.before.before in
+    let s = start l in
     (s.requires.0, (s.requires.1.0.low l.loop-i.i (omega (arith, l.loop-i.invariant.1)), s.requires.1.1))
 
 returns : tie.Need-returns-then-x-safe invariant-loop decreases-loop
 returns c =
-    let s = c in
+    let s = c.before.before.before in
     let a = s.args in
-    none-closer (dist s.before.before.before) a.index.now a.child a.p a.g a.x a.safe a.fs.now s.requires.1.0 s.requires.1.2 s.requires.1.3
+    none-closer (dist s) a.index.now a.child a.p a.g a.x a.safe a.fs.now s.requires.1.0 s.requires.1.2 s.requires.1.3
     (omega arith)
 
 returns-2 : tie.Need-returns-then-is_closer invariant-loop decreases-loop
 returns-2 c =
-    let l = c in
-    let f = test (start l.before.before.before.before.before) in
-    let a = (start l.before.before.before.before.before).args in
+    let l = c.before.before.before.before.before in
+    let f = test (start l) in
+    let a = (start l).args in
     let m = m# a.index.now in
     let here = sym (tested c.before) ∙ c.if-is_closer.true in
     let F = search-stop f a.child (a.child + m) (a.child + l.loop-i.i) l.loop-i.invariant.2 (omega arith) here in
@@ -83,18 +83,18 @@ returns-2 c =
 
 loop-again : tie.Need-loop-i-preserved invariant-loop decreases-loop
 loop-again c =
-    let l = c in
-    let f = test (start l.before.before.before.before.before) in
-    let child = (start l.before.before.before.before.before).args.child in
+    let l = c.before.before.before.before.before in
+    let f = test (start l) in
+    let child = (start l).args.child in
     let e : child + l.loop-i.i + 1 ≡ child + (l.loop-i.i + 1) = omega arith in
     let on = search-on f child (child + l.loop-i.i) l.loop-i.invariant.2 (sym (tested c.before) ∙ c.if-is_closer.false) in
     (omega arith, l.loop-i.invariant.1, subst (λ (k : ℕ). First f child k k) e on)
 
 returns-3 : tie.Need-returns invariant-loop decreases-loop
 returns-3 c =
-    let l = c in
-    let f = test (start l.before) in
-    let a = (start l.before).args in
+    let l = c.before in
+    let f = test (start l) in
+    let a = (start l).args in
     let e : a.child + l.loop-i.i ≡ a.child + m# a.index.now = omega arith in
     sym (any-lost f a.child (m# a.index.now) (subst (λ (k : ℕ). First f a.child k k) e l.loop-i.invariant.2))
 

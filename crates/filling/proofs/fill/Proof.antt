@@ -57,9 +57,9 @@ returns : tie.Need-returns
 returns c =
     let w = c in
     let p = w in
-    let h = p in
-    let g = grown h.before.before.before.before.before.before.before.before.before.before in
-    filled (start g).requires g.grow-nodes.ensures (long h.before.before.before.before.before.before.before.before.before.before) h.put_header.ensures (omega arith) p.put_positions.ensures (half g)
+    let h = p.before.before.before.before.before.before.before.before.before.before in
+    let g = grown h in
+    filled (start g).requires g.grow-nodes.ensures (long h) h.put_header.ensures (omega arith) p.put_positions.ensures (half g)
     w.clear_words.ensures
 
 pub fill_spec : {M : Type 1} → statement M

@@ -17,14 +17,14 @@ root-requires c κs = (c.requires, search rules)
 
 levels-requires : tie.Need-levels-requires
 levels-requires c κs =
-    let r = c in
-    ((start r.before.before.before.before.before.before).requires.fit, record { origin = (start r.before.before.before.before.before.before).args.room.now; rooted = r.root.ensures })
+    let r = c.before.before.before.before.before.before in
+    ((start r).requires.fit, record { origin = (start r).args.room.now; rooted = r.root.ensures })
 
 returns-2 : tie.Need-returns
 returns-2 c =
     let l = c in
-    let r = l in
-    grown-levels (start r.before.before.before.before.before.before.before.before.before.before.before).requires.fit (search rules) (l.levels.ensures (record { origin = (start r.before.before.before.before.before.before.before.before.before.before.before).args.room.now; rooted = r.root.ensures }))
+    let r = l.before.before.before.before.before.before.before.before.before.before.before in
+    grown-levels (start r).requires.fit (search rules) (l.levels.ensures (record { origin = (start r).args.room.now; rooted = r.root.ensures }))
 
 pub grow_spec : {M : Type 1} → statement M
 grow_spec =

@@ -8,23 +8,23 @@ use borrow.Author.Rules.{rules}
 use lib.Seq.{length-take-le}
 use mathlib.Core.Path.{sym}
 
-returns : tie.Need-returns
-returns c = finds-unbuilt c.before.before.before.before.before.before.build.ensures c.before.if1.true c.none-given.ensures
+returns : tie.Need-returns-then-number-ne0
+returns c = finds-unbuilt c.build-built.ensures c.if-number-ne0.true c.none_given.ensures
 
-slice-reshare-prefix-nearest : tie.Need-slice-reshare-prefix-nearest
-slice-reshare-prefix-nearest c = words_there c.before.before.before.before.before.build.ensures c.if1.false
+slice-reshare-prefix-nearest : tie.Need-slice_bounds-nearest-end
+slice-reshare-prefix-nearest c = words_there c.build-built.ensures c.if-number-ne0.false
 
-slice-aggregate-nearest : tie.Need-slice-aggregate-nearest
-slice-aggregate-nearest c = sym (length-take-le _ _ (words_there c.before.before.before.before.before.before.build.ensures c.before.if1.false))
+slice-aggregate-nearest : tie.Need-slice_bounds-nearest-end-2
+slice-aggregate-nearest c = sym (length-take-le _ _ (words_there c.build-built.ensures c.if-number-ne0.false))
 
-returns-2 : tie.Need-returns-2
+returns-2 : tie.Need-returns
 returns-2 c =
-    finds-answered c.before.before.before.before.before.before.before.before.before.before.before.before.before.before.before.before.before.before.before.build.ensures
-    c.before.before.before.before.before.before.before.before.before.before.before.before.before.before.if1.false
-    c.before.before.before.before.before.before.before.before.nearest.ensures
+    finds-answered c.build-built.ensures
+    c.if-number-ne0.false
+    c.nearest.ensures
 
-pub find-nearest-spec : {M : Type 1} → statement M
-find-nearest-spec =
+pub find_nearest_spec : {M : Type 1} → statement M
+find_nearest_spec =
     tie.close
     (tie.spec
     (λ c κs. search rules)

@@ -9,38 +9,38 @@ use borrow.Author.Rules.{rules}
 use lib.Seq.{length-take-le}
 use mathlib.Core.Path.{◌∙◌, sym}
 
-returns : tie.Need-returns
-returns c = near-unbuilt c.before.before.before.before.before.before.build.ensures c.before.if1.true c.none-marked.ensures
+returns : tie.Need-returns-then-number-ne0
+returns c = near-unbuilt c.build-built.ensures c.if-number-ne0.true c.none_marked.ensures
 
-div-n : tie.Need-nonzero-div-n
-div-n c = (built_sized c.before.before.before.before.before.build.ensures c.if1.false).some
+div-n : tie.Need-nonzero_div-n
+div-n c = (built_sized c.build-built.ensures c.if-number-ne0.false).some
 
-off-circle-requires : tie.Need-off-circle-requires
-off-circle-requires c κs = (built_sized c.before.before.before.before.before.build.ensures c.if1.false).few
+off-circle-requires : tie.Need-off_circle-off-requires
+off-circle-requires c κs = (built_sized c.build-built.ensures c.if-number-ne0.false).few
 
-why-not-requires : tie.Need-why-not-requires
-why-not-requires c κs = (built_sized c.before.before.before.before.before.before.before.build.ensures c.before.before.if1.false).some
+why-not-requires : tie.Need-why_not-why-requires
+why-not-requires c κs = (built_sized c.build-built.ensures c.if-number-ne0.false).some
 
-returns-2 : tie.Need-returns-2
-returns-2 c = near-refused c.before.before.before.before.before.before.before.before.before.before.build.ensures c.before.before.before.before.before.if1.false (told_of _ _ _ _ _ _ _ _ _ _ c.before.before.why-not.ensures c.before.before.before.before.off-circle.ensures c.before.before.before.set-bad.ensures) c.before.if2.true c.none-marked2.ensures
+returns-2 : tie.Need-returns-then-why-ne0
+returns-2 c = near-refused c.build-built.ensures c.if-number-ne0.false (told_of _ _ _ _ _ _ _ _ _ _ c.why_not-why.ensures c.off_circle-off.ensures c.set_bad-bad.ensures) c.if-why-ne0.true c.none_marked-then-why-ne0.ensures
 
-clear-bytes-requires : tie.Need-clear-bytes-requires
-clear-bytes-requires c κs = (asked_well _ _ _ _ _ _ _ (sym c.before.before.why-not.ensures ∙ c.before.if2.false)).1
+clear-bytes-requires : tie.Need-clear_bytes-requires
+clear-bytes-requires c κs = (asked_well _ _ _ _ _ _ _ (sym c.why_not-why.ensures ∙ c.if-why-ne0.false)).1
 
-slice-reshare-prefix-mark-each : tie.Need-slice-reshare-prefix-mark-each
-slice-reshare-prefix-mark-each c = words_there c.before.before.before.before.before.before.before.before.before.before.before.before.before.build.ensures c.before.before.before.before.before.before.before.before.if1.false
+slice-reshare-prefix-mark-each : tie.Need-slice_bounds-mark_each-end
+slice-reshare-prefix-mark-each c = words_there c.build-built.ensures c.if-number-ne0.false
 
-slice-aggregate-mark-each : tie.Need-slice-aggregate-mark-each
-slice-aggregate-mark-each c = sym (length-take-le _ _ (words_there c.before.before.before.before.before.before.before.before.before.before.before.before.before.before.build.ensures c.before.before.before.before.before.before.before.before.before.if1.false))
+slice-aggregate-mark-each : tie.Need-slice_bounds-mark_each-end-2
+slice-aggregate-mark-each c = sym (length-take-le _ _ (words_there c.build-built.ensures c.if-number-ne0.false))
 
-mark-each-requires : tie.Need-mark-each-requires
-mark-each-requires c κs = near_fit c.before.before.before.before.before.before.before.before.before.before.before.before.before.before.before.before.before.before.before.before.before.before.before.before.before.before.args.withdrawn.now c.before.before.before.before.before.before.before.before.before.before.before.before.before.before.before.before.before.before.before.before.before.before.before.before.before.before.args.marks.now c.before.before.before.before.before.before.before.before.before.before.before.before.before.before.before.before.build.ensures c.before.before.before.before.before.before.before.before.before.before.before.if1.false (told_of _ _ _ _ _ _ _ _ _ _ c.before.before.before.before.before.before.before.before.why-not.ensures c.before.before.before.before.before.before.before.before.before.before.off-circle.ensures c.before.before.before.before.before.before.before.before.before.set-bad.ensures) c.before.before.before.before.before.before.before.if2.false c.before.before.before.before.before.clear-bytes.ensures
+mark-each-requires : tie.Need-mark_each-requires
+mark-each-requires c κs = near_fit c.args.withdrawn.now c.args.marks.now c.build-built.ensures c.if-number-ne0.false (told_of _ _ _ _ _ _ _ _ _ _ c.why_not-why.ensures c.off_circle-off.ensures c.set_bad-bad.ensures) c.if-why-ne0.false c.clear_bytes.ensures
 
-returns-3 : tie.Need-returns-3
-returns-3 c = near-asked c.before.before.before.before.before.before.before.before.before.before.before.before.before.before.before.before.before.before.before.before.before.build.ensures c.before.before.before.before.before.before.before.before.before.before.before.before.before.before.before.before.if1.false (told_of _ _ _ _ _ _ _ _ _ _ c.before.before.before.before.before.before.before.before.before.before.before.before.before.why-not.ensures c.before.before.before.before.before.before.before.before.before.before.before.before.before.before.before.off-circle.ensures c.before.before.before.before.before.before.before.before.before.before.before.before.before.before.set-bad.ensures) c.before.before.before.before.before.before.before.before.before.before.before.before.if2.false c.before.before.before.before.before.before.before.before.before.before.clear-bytes.ensures c.before.before.before.before.mark-each.ensures
+returns-3 : tie.Need-returns
+returns-3 c = near-asked c.build-built.ensures c.if-number-ne0.false (told_of _ _ _ _ _ _ _ _ _ _ c.why_not-why.ensures c.off_circle-off.ensures c.set_bad-bad.ensures) c.if-why-ne0.false c.clear_bytes.ensures c.mark_each.ensures
 
-pub mark-near-spec : {M : Type 1} → statement M
-mark-near-spec =
+pub mark_near_spec : {M : Type 1} → statement M
+mark_near_spec =
     tie.close
     (tie.spec
     (λ c κs. search rules)

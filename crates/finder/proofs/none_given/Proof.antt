@@ -8,5 +8,6 @@ use native.Mathlib.Omega.{arith}
 returns : tie.Need-returns
 returns c = (refl, omega arith, omega arith)
 
-pub none-given-spec : {M : Type 1} → statement M
-none-given-spec = tie.close (tie.spec returns)
+pub none_given_spec : {M : Type 1} → statement M
+none_given_spec = tie.close (tie.spec
+    returns)

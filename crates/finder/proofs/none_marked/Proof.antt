@@ -8,5 +8,6 @@ use native.Mathlib.Omega.{arith}
 returns : tie.Need-returns
 returns c = (refl, omega arith, omega arith)
 
-pub none-marked-spec : {M : Type 1} → statement M
-none-marked-spec = tie.close (tie.spec returns)
+pub none_marked_spec : {M : Type 1} → statement M
+none_marked_spec = tie.close (tie.spec
+    returns)

@@ -27,7 +27,7 @@ begun l = l.before
 
 -- position p can be read
 there : (t : tie.In-loop-p invariant-loop decreases-loop)
-    → pair_at (start (begun t.before)).args.index.now t.before.loop-p.p + 1 < length (start (begun t.before)).args.index.now
+    → pair_at (start (begun t.before)).args.index.now t.loop-p.p + 1 < length (start (begun t.before)).args.index.now
 there t =
     let pre = (start (begun t.before)).requires in
     place_words _ _ pre.0.shape (omega (arith, pre.1.1, pre.0.rows, t.loop-p-test.true))
@@ -73,21 +73,21 @@ cast-push-due c =
 
 push-due-requires : tie.Need-push_due-size-requires invariant-loop decreases-loop
 push-due-requires c κs =
-    let l = c in
-    (l.loop-p.invariant.more.queue, queued-room _ _ _ _ _ _ _ _ _ l.loop-p.invariant _ _ (start (begun l.before.before.before.before)).requires.0 (omega arith))
+    let l = c.before.before.before.before in
+    (l.loop-p.invariant.more.queue, queued-room _ _ _ _ _ _ _ _ _ l.loop-p.invariant _ _ (start (begun l)).requires.0 (omega arith))
 
 loop-less : tie.Need-loop-p-smaller invariant-loop decreases-loop
 loop-less c = omega (arith, c.loop-p-test.true)
 
 loop-again : tie.Need-loop-p-preserved invariant-loop decreases-loop
 loop-again c =
-    let l = c in
-    let s = start (begun l.before.before.before.before.before.before.before) in
+    let l = c.before.before.before.before.before.before.before in
+    let s = start (begun l) in
     let place-bound = c.place_bound-key in
     let push-due = c.push_due-size in
     queued-step _ _ _ _ _ _ _ _ _ l.loop-p.invariant _ _ _ (omega (arith, c.loop-p-test.true))
     (place_entry _ _ _ _ _ _ _ _ _ _ _ s.requires.0 l.loop-p.invariant.low
-    (dist-word s.args.index.now _ _ (begun l.before.before.before.before.before.before.before).pair_at-base.ensures) place-bound.ensures) push-due.ensures
+    (dist-word s.args.index.now _ _ (begun l).pair_at-base.ensures) place-bound.ensures) push-due.ensures
 
 same_length : tie.Need-shape_of-work invariant-loop decreases-loop
 same_length c = c.loop-p.invariant.more.outside.same

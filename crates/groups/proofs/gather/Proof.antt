@@ -21,20 +21,20 @@ put-entry-requires c κs =
 
 pick-requires : tie.Need-pick-g-requires
 pick-requires c κs =
-    let e = c in
-    gather-picking (start e.before.before.before).requires e.put_entry.ensures
+    let e = c.before.before.before in
+    gather-picking (start e).requires e.put_entry.ensures
 
 add-t10 : tie.Need-overflow_add-result
 add-t10 c =
-    let k = c in
-    let fits = gather_fits (start (first k.before.before.before)).requires in
-    let got = gather-done (start (first k.before.before.before)).requires (first k.before.before.before).put_entry.ensures k.pick-g.ensures in
+    let k = c.before.before.before in
+    let fits = gather_fits (start (first k)).requires in
+    let got = gather-done (start (first k)).requires (first k).put_entry.ensures k.pick-g.ensures in
     search rules
 
 returns : tie.Need-returns
 returns c =
-    let k = c in
-    gather-done (start (first k.before.before.before)).requires (first k.before.before.before).put_entry.ensures k.pick-g.ensures
+    let k = c.before.before.before in
+    gather-done (start (first k)).requires (first k).put_entry.ensures k.pick-g.ensures
 
 pub gather_spec : {M : Type 1} → statement M
 gather_spec =

@@ -25,14 +25,14 @@ loop-holds c = (search rules, search rules, λ g. growing_start _ _ _ _ _ _ g.or
 
 level-requires : tie.Need-level-made-requires invariant-loop decreases-loop
 level-requires c κs =
-    let s = c in
-    growing-level (s.loop-depth.invariant.2 (start s.before.before.before).requires.1) (start s.before.before.before).requires.0
+    let s = c.before.before.before in
+    growing-level (s.loop-depth.invariant.2 (start s).requires.1) (start s).requires.0
 
 loop-again : tie.Need-loop-depth-preserved invariant-loop decreases-loop
 loop-again c =
     let l = c in
-    let s = l in
-    (search rules, search rules, λ g. growing-step (s.loop-depth.invariant.2 g) (start s.before.before.before.before.before.before.before.before).requires.0 (search rules) l.level-made.ensures)
+    let s = l.before.before.before.before.before.before.before.before in
+    (search rules, search rules, λ g. growing-step (s.loop-depth.invariant.2 g) (start s).requires.0 (search rules) l.level-made.ensures)
 
 returns : tie.Need-returns invariant-loop decreases-loop
 returns c = λ g. growing-done (c.loop-depth.invariant.2 g) (search rules)

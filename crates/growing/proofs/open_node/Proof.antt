@@ -21,8 +21,8 @@ returns c =
 
 split-run-requires : tie.Need-split_run-requires
 split-run-requires c κs =
-    let k = c in
-    let r = open-ready (start k.before.before.before).requires k.word-s.ensures.0 k.word-count.ensures.0 (search rules) in
+    let k = c.before.before.before in
+    let r = open-ready (start k).requires k.word-s.ensures.0 k.word-count.ensures.0 (search rules) in
     (r, (r.centred, omega arith))
 
 same-length-2 : tie.Need-shape_of-room
@@ -35,8 +35,8 @@ same-length-2 c =
 returns-2 : tie.Need-returns
 returns-2 c =
     let r = c in
-    let k = r in
-    open_done (start k.before.before.before.before.before.before.before.before).requires k.word-s.ensures.0 k.word-count.ensures.0 (search rules) r.split_run.ensures
+    let k = r.before.before.before.before.before.before.before.before in
+    open_done (start k).requires k.word-s.ensures.0 k.word-count.ensures.0 (search rules) r.split_run.ensures
 
 pub open_node_spec : {M : Type 1} → statement M
 open_node_spec =

@@ -13,7 +13,7 @@ use native.Mathlib.Omega.{arith}
 
 -- the nodes' words, by the edition
 product : (c : tie.After-nodes)
-    → (c.before.width.result * c.nodes.result ≡ width (edition# c.before.before.before.before.before.before.args.index.now) * nodes# c.before.before.before.before.before.before.args.index.now) × (c.before.width.result * c.nodes.result ≤ 5 * c.nodes.result)
+    → (c.width.result * c.nodes.result ≡ width (edition# c.args.index.now) * nodes# c.args.index.now) × (c.width.result * c.nodes.result ≤ 5 * c.nodes.result)
 product c =
     nodes-words _ (header-card _ (yes c.header_ok.ensures (not_from_true _ c.if-not-header_ok.false))).1 c.width.ensures.0 c.nodes.ensures.0
 

@@ -44,16 +44,16 @@ words-of-requires c κs = (header_there (words c) (ok c), header_possible (words
 
 returns-2 : tie.Need-returns-then-image-blocks
 returns-2 c =
-    let e1 = c in
-    let short : length (lent e1.before.before.before) < 512 * blocks_for_lem (words_of_lem (words e1.before.before.before)) = rw (← count c.before) c.if-image-blocks.true in
-    writes-five (words e1.before.before.before) (lent e1.before.before.before) (ok e1.before.before.before) short
+    let e1 = c.before.before.before in
+    let short : length (lent e1) < 512 * blocks_for_lem (words_of_lem (words e1)) = rw (← count c.before) c.if-image-blocks.true in
+    writes-five (words e1) (lent e1) (ok e1) short
 
 slice-aggregate-put-blocks : tie.Need-slice_bounds-put_blocks-end
 slice-aggregate-put-blocks c =
     let wo = c in
-    let e1 = wo in
-    let within : wo.words_of-words.result ≤ length (words e1.before.before.before) = rw wo.words_of-words.ensures.0 (whole (words e1.before.before.before) (words-whole (words e1.before.before.before) (ok e1.before.before.before)).1).words in
-    sym (length-take-le wo.words_of-words.result (words e1.before.before.before) within)
+    let e1 = wo.before.before.before in
+    let within : wo.words_of-words.result ≤ length (words e1) = rw wo.words_of-words.ensures.0 (whole (words e1) (words-whole (words e1) (ok e1)).1).words in
+    sym (length-take-le wo.words_of-words.result (words e1) within)
 
 put-blocks-requires : tie.Need-put_blocks-requires
 put-blocks-requires c κs = (c.blocks_for-blocks.ensures.1, c.if-image-blocks.false)
@@ -64,11 +64,11 @@ returns-3 c =
     let pb = c in
     let e2 = pb in
     let bf = e2 in
-    let e1 = bf in
-    let room : 512 * blocks_for_lem (words_of_lem (words e1.before.before.before.before.before.before.before)) ≤ length (lent e1.before.before.before.before.before.before.before) = rw (← count bf.before.before.before.before.before) e2.if-image-blocks.false in
-    writes-done (words e1.before.before.before.before.before.before.before) (lent e1.before.before.before.before.before.before.before) (ok e1.before.before.before.before.before.before.before) _ _ room (count bf.before.before.before.before.before)
+    let e1 = bf.before.before.before.before.before.before.before in
+    let room : 512 * blocks_for_lem (words_of_lem (words e1)) ≤ length (lent e1) = rw (← count bf.before.before.before.before.before) e2.if-image-blocks.false in
+    writes-done (words e1) (lent e1) (ok e1) _ _ room (count bf.before.before.before.before.before)
     (pb.put_blocks.ensures
-    ∙ ap₂ (λ (t b : ℕ). blocks (take t (words e1.before.before.before.before.before.before.before)) b ++ drop (512 * b) (lent e1.before.before.before.before.before.before.before)) bf.words_of-words.ensures.0 (count bf.before.before.before.before.before))
+    ∙ ap₂ (λ (t b : ℕ). blocks (take t (words e1)) b ++ drop (512 * b) (lent e1)) bf.words_of-words.ensures.0 (count bf.before.before.before.before.before))
 
 pub write_image_spec : {M : Type 1} → statement M
 write_image_spec =

@@ -30,15 +30,15 @@ add-e c = omega (arith, c.node_child-a.ensures.1, c.centres.ensures.1)
 
 measure-centres-requires : tie.Need-measure_centres-seen-requires
 measure-centres-requires c κs =
-    let e = c in
-    let pre = (start e.before.before).requires in
+    let e = c.before.before in
+    let pre = (start e).requires in
     let a = inner-asks _ _ _ _ _ _ _ _ _ _ _ _ pre.0 pre.1.1 _ _ _ pre.1.0 e.node_child-a.ensures.0 e.centres.ensures.0 in
     (a.0, (a.1.0, a.1.1, a.1.2, a.1.3, pre.1.2))
 
 nearest-centre-requires : tie.Need-nearest_centre-y-requires
 nearest-centre-requires c κs =
-    let m = c in
-    let e = read m.before.before.before.before in
+    let m = c.before.before.before.before in
+    let e = read m in
     let pre = (start e).requires in
     let child = e.node_child-a.ensures.0 in
     let a = inner-asks _ _ _ _ _ _ _ _ _ _ _ _ pre.0 pre.1.1 _ _ _ pre.1.0 child e.centres.ensures.0 in
@@ -58,8 +58,8 @@ last-requires c κs =
 
 queue-children-requires : tie.Need-queue_children-now_len-requires
 queue-children-requires c κs =
-    let m = c in
-    let e = read m.before.before.before.before.before.before.before in
+    let m = c.before.before.before.before.before.before.before in
+    let e = read m in
     let pre = (start e).requires in
     let child = e.node_child-a.ensures.0 in
     let a = inner-asks _ _ _ _ _ _ _ _ _ _ _ _ pre.0 pre.1.1 _ _ _ pre.1.0 child e.centres.ensures.0 in
@@ -79,8 +79,8 @@ same-length-2 c =
 
 returns : tie.Need-returns
 returns c =
-    let m = c in
-    let e = read m.before.before.before.before.before.before.before.before.before.before in
+    let m = c.before.before.before.before.before.before.before.before.before.before in
+    let e = read m in
     let pre = (start e).requires in
     let child = e.node_child-a.ensures.0 in
     let q = c.queue_children-now_len.ensures in

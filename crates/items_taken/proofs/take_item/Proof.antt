@@ -22,8 +22,8 @@ place i = i.id_of-id.result - 2 * (start i).args.n
 
 there : (e : tie.Else-id-n) → pair_at (start e.before).args.index.now (place e.before) + 1 < length (start e.before).args.index.now
 there e =
-    let i = e in
-    let pre = (start i.before).requires in
+    let i = e.before in
+    let pre = (start i).requires in
     place_words _ _ pre.0.room.shape (place_there _ _ _ _ _ _ _ _ _ _ _ _ _ pre.1.0 i.id_of-id.ensures pre.0 (omega arith))
 
 row : (c : tie.After-word-r) → c.word-r.result ≡ row# (start c.before.before).args.index.now (place c.before.before)
@@ -36,8 +36,8 @@ mul-if1 c = omega (arith, (start c).requires.1.0, (start c).requires.0.room.shap
 
 open-node-requires : tie.Need-open_node-requires
 open-node-requires c κs =
-    let i = c in
-    let pre = (start i.before.before.before.before).requires in
+    let i = c.before.before.before.before in
+    let pre = (start i).requires in
     (node-takes _ _ _ _ _ _ _ _ _ _ _ _ _ pre.1.0 i.id_of-id.ensures pre.0 _ c.key_of.ensures (omega arith), (pre.1.0, pre.1.2))
 
 same_length : tie.Need-shape_of-how-then-id-n
@@ -49,8 +49,8 @@ same-length-2 c = c.open_node.ensures.0.grew.since.words
 returns : tie.Need-returns-then-id-n
 returns c =
     let o = c in
-    let i = o in
-    let pre = (start i.before.before.before.before.before.before.before.before.before).requires in (
+    let i = o.before.before.before.before.before.before.before.before.before in
+    let pre = (start i).requires in (
       node-taken _ _ _ _ _ _ _ _ _ _ _ _ _ pre.1.0 i.id_of-id.ensures pre.0 _ o.key_of.ensures (omega arith) _ _ _ _
           o.open_node.ensures.0,
       o.open_node.ensures.1,
@@ -76,8 +76,8 @@ circles-requires c κs = omega (arith, (start c.before.before).requires.0.room.s
 measure-row-requires : tie.Need-measure_row-seen-requires
 measure-row-requires c κs =
     let w = c in
-    let i = w in
-    let pre = (start i.before.before.before.before.before).requires in
+    let i = w.before.before.before.before.before in
+    let pre = (start i).requires in
     let p = place-row _ _ _ _ _ _ _ _ _ _ _ _ _ pre.1.0 i.id_of-id.ensures pre.0 (omega arith) _ _ (row w.before.before.before)
     c.circles-o.ensures in
     (p.0, (p.1, pre.1.2))
@@ -92,8 +92,8 @@ returns-2 : tie.Need-returns
 returns-2 c =
     let m = c in
     let w = m in
-    let i = w in
-    let pre = (start i.before.before.before.before.before.before.before.before.before.before).requires in (
+    let i = w.before.before.before.before.before.before.before.before.before.before in
+    let pre = (start i).requires in (
       place-taken _ _ _ _ _ _ _ _ _ _ _ _ _ pre.1.0 i.id_of-id.ensures pre.0 (omega arith) _ _ _ _ _ (row w.before.before.before.before.before.before.before.before)
           m.circles-o.ensures m.measure_row-seen.ensures.0,
       m.measure_row-seen.ensures.1,

@@ -14,15 +14,15 @@ abbrev decreases-loop : tie.decreases-loop-i
 decreases-loop how marks₀ n new₀ i₀ marks new i = n - i
 
 loop-holds : tie.Need-loop-i-init invariant-loop decreases-loop
-loop-holds c = join_start _ _ _ c.before.before.requires.0 c.before.before.requires.1
+loop-holds c = join_start _ _ _ c.requires.0 c.requires.1
 
 loop-again : tie.Need-loop-i-preserved invariant-loop decreases-loop
 loop-again c =
-    let l = c.before.before.before.before.before.before.before.loop-i in
-    join-next _ _ _ l.invariant (omega arith) c.merge.ensures c.before.before.before.newly-new.ensures.0 c.before.before.before.newly-new.ensures.1
+    let l = c.loop-i in
+    join-next _ _ _ l.invariant (omega arith) c.merge.ensures c.newly-new.ensures.0 c.newly-new.ensures.1
 
 returns : tie.Need-returns invariant-loop decreases-loop
-returns c = join-done _ _ _ c.before.loop-i.invariant (omega arith)
+returns c = join-done _ _ _ c.loop-i.invariant (omega arith)
 
 pub join_spec : {M : Type 1} → statement M
 join_spec =

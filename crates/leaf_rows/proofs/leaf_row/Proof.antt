@@ -55,40 +55,40 @@ did : (c : tie.After-decide-verdict) (v : Verdict) → c.decide-verdict.result �
     ≡ leafAt (x (start c.before.before)) (start c.before.before).args.r (start c.before.before).args.index.now (start c.before.before).args.x
     (start c.before.before).args.p
 did c v e =
-    let w = c in
-    let s = start w.before.before in
-    leaf-did (x s) s.args.r s.args.index.now v s.args.x s.args.p (row w.before.before) (stored s) c.decide-verdict.ensures e
+    let w = c.before.before in
+    let s = start w in
+    leaf-did (x s) s.args.r s.args.index.now v s.args.x s.args.p (row w) (stored s) c.decide-verdict.ensures e
 
 enter-requires : tie.Need-enter-requires
 enter-requires c κs =
-    let w = c in
-    (measurable (start w.before.before.before.before.before.before.before.before.before.before.before).requires.0 _ (row_low w.before.before.before.before.before.before.before.before.before.before.before)).3
+    let w = c.before.before.before.before.before.before.before.before.before.before.before in
+    (measurable (start w).requires.0 _ (row_low w)).3
 
 returns : tie.Need-returns-then-not-is_in
 returns c =
-    let d = c in
-    leaves-as _ _ (did d.before.before.before.before.before.before.before.before.before.before.before.before In c.in-In.is)
+    let d = c.before.before.before.before.before.before.before.before.before.before.before.before in
+    leaves-as _ _ (did d In c.in-In.is)
     (leaves_in _ _ _ c.is_in.ensures (not-true _ (not_from_false _ c.if-not-is_in.true)) c.put.ensures c.enter.ensures)
 
 returns-2 : tie.Need-returns-else-not-is_in
 returns-2 c =
-    let d = c in
-    leaves-as _ _ (did d.before.before.before.before In c.in-In.is) (leaves-gone _ _ _ c.is_in.ensures (not-false _ (not_from_true _ c.if-not-is_in.false)))
+    let d = c.before.before.before.before in
+    leaves-as _ _ (did d In c.in-In.is) (leaves-gone _ _ _ c.is_in.ensures (not-false _ (not_from_true _ c.if-not-is_in.false)))
 
 returns-3 : tie.Need-returns-in_default-verdict
 returns-3 c =
-    let d = c in
-    leaves-as _ _ (did d.before.before Out (out_only _ c.in_default.not-Measure c.in_default-verdict.not-In)) (leaves-out _ _ _)
+    let d = c.before.before in
+    leaves-as _ _ (did d Out (out_only _ c.in_default.not-Measure c.in_default-verdict.not-In)) (leaves-out _ _ _)
 
 measure-to-requires : tie.Need-measure_to-requires
 measure-to-requires c κs =
-    let w = c in
-    measurable (start w.before.before.before.before.before).requires.0 _ (row_low w.before.before.before.before.before)
+    let w = c.before.before.before.before.before in
+    measurable (start w).requires.0 _ (row_low w)
 
 returns-4 : tie.Need-returns
 returns-4 c =
-    let d = c in
-    leaves-as _ _ (did d.before.before.before.before.before.before.before.before Measure c.in-Measure.is) c.measure_to.ensures
+    let d = c.before.before.before.before.before.before.before.before in
+    leaves-as _ _ (did d Measure c.in-Measure.is) c.measure_to.ensures
 
 pub leaf_row_spec : {M : Type 1} → statement M
 leaf_row_spec =

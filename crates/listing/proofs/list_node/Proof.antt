@@ -6,10 +6,10 @@ use borrow.Author.Rules.{rules}
 use native.Mathlib.Nat.{add-sub_cancel_left}
 
 returns : tie.Need-returns
-returns c = rw add-sub_cancel_left c.before.before.part_of.ensures.part
+returns c = rw add-sub_cancel_left c.part_of-part.ensures.part
 
-pub list-node-spec : {M : Type 1} → statement M
-list-node-spec =
+pub list_node_spec : {M : Type 1} → statement M
+list_node_spec =
     tie.close
     (tie.spec
     (λ c κs. search rules)

@@ -36,8 +36,8 @@ lent l =
 
 returns : tie.Need-returns-then-number-ne0
 returns c =
-    let s = c in
-    refused_is (asking s.before.before.before.before.before.before.before.before.before.before) (lending s.before.before.before.before.before.before.before.before.before.before) s.requires c.nearest_number-number.ensures c.if-number-ne0.true
+    let s = c.before.before.before.before.before.before.before.before.before.before in
+    refused_is (asking s) (lending s) s.requires c.nearest_number-number.ensures c.if-number-ne0.true
 
 rows-requires : tie.Need-rows-n-requires
 rows-requires c κs =
@@ -50,8 +50,8 @@ find-requires c κs = lent c.before.before.before.before
 
 returns-2 : tie.Need-returns
 returns-2 c =
-    let f = c in
-    let l = asked f.before.before.before.before.before.before.before.before in
+    let f = c.before.before.before.before.before.before.before.before in
+    let l = asked f in
     let e = going l in
     done-is (asking (start e)) (lending (start e)) (start e).requires e.nearest_number-number.ensures _ _ _ _ _ _ _ e.if-number-ne0.false
     l.rows-n.ensures.0 l.least.ensures f.find-found.ensures (omega arith) (omega arith)

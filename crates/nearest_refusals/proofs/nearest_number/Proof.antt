@@ -25,14 +25,14 @@ returns c = by_call _ _ _ _ _ _ _ _ _ (call c.before) c.if-number-ne0.true
 
 returns-2 : tie.Need-returns-then-set_bad
 returns-2 c =
-    let r = c in
-    by-wrong-set _ _ _ _ _ _ _ _ _ (call r.before.before.before) c.if-number-ne0.false r.rows_in-n.ensures c.set_bad.ensures
+    let r = c.before.before.before in
+    by-wrong-set _ _ _ _ _ _ _ _ _ (call r) c.if-number-ne0.false r.rows_in-n.ensures c.set_bad.ensures
     c.if-set_bad.true
 
 returns-3 : tie.Need-returns
 returns-3 c =
-    let r = c in
-    by-right-set _ _ _ _ _ _ _ _ _ (call r.before.before.before) c.if-number-ne0.false r.rows_in-n.ensures c.set_bad.ensures
+    let r = c.before.before.before in
+    by-right-set _ _ _ _ _ _ _ _ _ (call r) c.if-number-ne0.false r.rows_in-n.ensures c.set_bad.ensures
     c.if-set_bad.false
 
 pub nearest_number_spec : {M : Type 1} → statement M

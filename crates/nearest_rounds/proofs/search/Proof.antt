@@ -113,13 +113,13 @@ pop-requires c κs = (c.loop-len.invariant.0.queue, c.loop-len-test.true)
 
 mul-last : tie.Need-overflow_mul-n-in-loop-len invariant-loop decreases-loop
 mul-last c =
-    let l = c in
-    omega (arith, (counted l.before.before.before.before.before).rows-n.ensures.0, (start l.before.before.before.before.before).requires.tested.shape.whole.rows)
+    let l = c.before.before.before.before.before in
+    omega (arith, (counted l).rows-n.ensures.0, (start l).requires.tested.shape.whole.rows)
 
 last-requires : tie.Need-last-requires invariant-loop decreases-loop
 last-requires c κs =
-    let p = c in
-    let l = turn p.before.before in
+    let p = c.before.before in
+    let l = turn p in
     omega (arith, p.pop-e.ensures.outside.same, l.loop-len.invariant.0.ready.stands.room, (counted l).rows-n.ensures.0, (start l).requires.filled)
 
 same_length : tie.Need-shape_of-how-then-last-key_of invariant-loop decreases-loop
@@ -127,15 +127,15 @@ same_length c = (since (turn c.before.before.before.before.before)).bytes
 
 same-length-2 : tie.Need-shape_of-work-then-last-key_of invariant-loop decreases-loop
 same-length-2 c =
-    let p = c in
-    p.pop-e.ensures.outside.same ∙ (since (turn p.before.before.before.before.before)).words
+    let p = c.before.before.before.before.before in
+    p.pop-e.ensures.outside.same ∙ (since (turn p)).words
 
 returns : tie.Need-returns-then-last-key_of invariant-loop decreases-loop
 returns c =
     let word : c.key_of.result ≤ greatest_word = omega arith in
     let far : c.last.result < c.key_of.result = omega arith in
-    let p = c in
-    let l = turn p.before.before.before.before.before in (
+    let p = c.before.before.before.before.before in
+    let l = turn p in (
       stops _ _ _ _ _ _ (start l).requires.tested.shape _ _ _ _ l.loop-len.invariant.0 _ _ p.pop-e.ensures p.loop-len-test.true _ _ _
           (counted l).rows-n.ensures.0 c.last.ensures c.key_of.ensures word far _ _ (since l),
       listed-at (start l).args.index.now (counted l).rows-n.ensures.0
@@ -148,8 +148,8 @@ sub-take-item c = omega (arith, c.loop-len-test.true)
 
 take-item-requires : tie.Need-take_item-sizes-requires invariant-loop decreases-loop
 take-item-requires c κs =
-    let p = c in
-    let l = turn p.before.before.before.before.before.before.before in (
+    let p = c.before.before.before.before.before.before.before in
+    let l = turn p in (
       takes _ _ _ _ _ _ (start l).requires.tested.shape _ _ _ _ l.loop-len.invariant.0 _ _ p.pop-e.ensures p.loop-len-test.true
           (start l).requires.tested.edition,
       (
@@ -163,16 +163,16 @@ take-item-requires c κs =
 loop-less : tie.Need-loop-len-smaller invariant-loop decreases-loop
 loop-less c =
     let t = c in
-    let p = t in
-    let l = turn p.before.before.before.before.before.before.before.before.before.before.before.before in
+    let p = t.before.before.before.before.before.before.before.before.before.before.before.before in
+    let l = turn p in
     round-less _ _ _ _ _ _ (start l).requires.tested.shape _ _ _ _ l.loop-len.invariant.0 _ _ p.pop-e.ensures p.loop-len-test.true _ _ _ _
     t.take_item-sizes.ensures.0
 
 loop-again : tie.Need-loop-len-preserved invariant-loop decreases-loop
 loop-again c =
     let t = c in
-    let p = t in
-    let l = turn p.before.before.before.before.before.before.before.before.before.before.before.before in
+    let p = t.before.before.before.before.before.before.before.before.before.before.before.before in
+    let l = turn p in
     let key_of = t.key_of in
     let last = t.last in (
       round _ _ _ _ _ _ (start l).requires.tested.shape _ _ _ _ l.loop-len.invariant.0 _ _ p.pop-e.ensures p.loop-len-test.true _ _ _ _
@@ -191,9 +191,9 @@ same-length-4 c = (since c.before).words
 
 returns-2 : tie.Need-returns invariant-loop decreases-loop
 returns-2 c =
-    let l = c in (
-      ends _ _ _ _ _ _ (start l.before).requires.tested.shape _ _ _ _ l.loop-len.invariant.0 _ _ (since l.before) (omega arith),
-      listed-at (start l.before).args.index.now (counted l.before).rows-n.ensures.0 l.loop-len.invariant.2,
+    let l = c.before in (
+      ends _ _ _ _ _ _ (start l).requires.tested.shape _ _ _ _ l.loop-len.invariant.0 _ _ (since l) (omega arith),
+      listed-at (start l).args.index.now (counted l).rows-n.ensures.0 l.loop-len.invariant.2,
     )
 
 pub search_spec : {M : Type 1} → statement M

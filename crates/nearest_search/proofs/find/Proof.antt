@@ -32,8 +32,8 @@ clear-bytes-requires c κs =
 
 find-blank-requires : tie.Need-find_blank-counts-requires
 find-blank-requires c κs =
-    let b = c in
-    wiped-asks (asking (start b.before.before.before.before.before.before)) _ _ _ _ _ _ (counted b.before.before.before.before.before.before).rows-n.ensures.0 (start b.before.before.before.before.before.before).requires b.clear_bytes.ensures
+    let b = c.before.before.before.before.before.before in
+    wiped-asks (asking (start b)) _ _ _ _ _ _ (counted b).rows-n.ensures.0 (start b).requires b.clear_bytes.ensures
 
 mul-clear-words : tie.Need-overflow_mul-n
 mul-clear-words c =
@@ -42,14 +42,14 @@ mul-clear-words c =
 
 clear-words-requires : tie.Need-clear_words-requires
 clear-words-requires c κs =
-    let f = c in
-    let b = wiping f.before.before.before.before.before.before.before.before.before in
+    let f = c.before.before.before.before.before.before.before.before.before in
+    let b = wiping f in
     omega (arith, (counted b).rows-n.ensures.0, (start b).requires.words, f.find_blank-counts.ensures.words)
 
 returns : tie.Need-returns
 returns c =
-    let f = c in
-    let b = wiping f.before.before.before.before.before.before.before.before.before.before.before.before in
+    let f = c.before.before.before.before.before.before.before.before.before.before.before.before in
+    let b = wiping f in
     wiped-found (asking (start b)) _ _ _ _ _ _ (counted b).rows-n.ensures.0 (start b).requires b.clear_bytes.ensures _ _ _ _ _ _ _
     f.find_blank-counts.ensures c.clear_words.ensures
 

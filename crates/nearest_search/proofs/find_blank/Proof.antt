@@ -23,13 +23,13 @@ rows-requires c κs = omega (arith, c.requires.0.tested.shape.whole.words)
 
 returns : tie.Need-returns-then-n-eq0
 returns c =
-    let r = c in
-    found_none _ _ _ _ _ _ _ _ _ _ (start r.before).requires.0 (start r.before).requires.1 (sym r.rows-n.ensures.0 ∙ c.if-n-eq0.true)
+    let r = c.before in
+    found_none _ _ _ _ _ _ _ _ _ _ (start r).requires.0 (start r).requires.1 (sym r.rows-n.ensures.0 ∙ c.if-n-eq0.true)
 
 search-requires : tie.Need-search-seen-requires
 search-requires c κs =
-    let r = c in
-    begin-blank _ _ _ _ _ _ _ _ _ _ (start r.before.before.before).requires.0 (omega (arith, r.rows-n.ensures.0)) (start r.before.before.before).requires.1
+    let r = c.before.before.before in
+    begin-blank _ _ _ _ _ _ _ _ _ _ (start r).requires.0 (omega (arith, r.rows-n.ensures.0)) (start r).requires.1
 
 mul-give : tie.Need-overflow_mul-n
 mul-give c =
@@ -38,8 +38,8 @@ mul-give c =
 
 give-requires : tie.Need-give-requires
 give-requires c κs =
-    let s = c in
-    let r = counted s.before.before.before.before.before.before.before.before in
+    let s = c.before.before.before.before.before.before.before.before in
+    let r = counted s in
     gives _ _ _ _ _ _ _ _ _ _ (start r).requires.0 (omega (arith, r.rows-n.ensures.0)) _ _ _ _ s.search-seen.ensures.0 s.search-seen.ensures.1.listed _
     r.rows-n.ensures.0
 
@@ -55,8 +55,8 @@ sub-measured c =
 
 returns-2 : tie.Need-returns
 returns-2 c =
-    let g = c in
-    let s = sought g.before.before.before.before.before.before.before.before.before in
+    let g = c.before.before.before.before.before.before.before.before.before in
+    let s = sought g in
     let r = counted s in
     found_at _ _ _ _ _ _ _ _ _ _ (start r).requires.0 (omega (arith, r.rows-n.ensures.0)) _ _ _ _ s.search-seen.ensures.0
     s.search-seen.ensures.1.listed _ _ _ _ _ _ r.rows-n.ensures.0 (omega (arith, r.rows-n.ensures.0)) g.give.ensures

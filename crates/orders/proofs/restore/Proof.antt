@@ -9,7 +9,7 @@ use mathlib.Core.Path.{◌∙◌, sym}
 use native.Mathlib.Omega.{arith}
 
 -- the words have 32 bits
-narrow : (c : tie.After-slice_known-1) → Narrow c.before.args.set.now
+narrow : (c : tie.After-slice_known-1) → Narrow c.args.set.now
 narrow c i = omega (arith, c.slice_known-1.given i)
 
 returns : tie.Need-returns-then-number-ne0

@@ -35,8 +35,8 @@ dist s = between s.args.table.now s.args.c (circles# s.args.index.now)
 
 returns : tie.Need-returns-then-end-second invariant-loop decreases-loop
 returns c =
-    let e = c in
-    let s = start e.before in
+    let e = c.before in
+    let s = start e in
     reach-one (dist s) s.args.index.now s.args.k (row_self s.args.table.now s.args.c (circles# s.args.index.now))
     (s.requires.0.shape.node s.args.k s.requires.1).some
     (omega (arith, c.if-end-second.true, e.node_start-second.ensures.0, e.node_end-end.ensures))
@@ -83,16 +83,16 @@ apart-requires-2 c κs =
 loop-again : tie.Need-loop-p-preserved invariant-loop decreases-loop
 loop-again c =
     let x = c in
-    let l = x in
-    let e = ends (past l.before.before.before.before) in
+    let l = x.before.before.before.before in
+    let e = ends (past l) in
     let s = start e in
     reach-next (dist s) s.args.index.now s.args.k l.loop-p.invariant (omega (arith, x.loop-p-test.true, e.node_end-end.ensures))
     e.node_first-f.ensures.0 x.apart-x.ensures c.larger-far.ensures c.smaller-near.ensures
 
 returns-2 : tie.Need-returns invariant-loop decreases-loop
 returns-2 c =
-    let l = c in
-    let e = ends (past l.before) in
+    let l = c.before in
+    let e = ends (past l) in
     let s = start e in
     reach-done (dist s) s.args.index.now s.args.k l.loop-p.invariant (omega (arith, c.loop-p-test.false, e.node_end-end.ensures))
 

@@ -25,8 +25,8 @@ loop-holds c = (search rules, search rules, λ g. goes_start g)
 
 level-requires : tie.Need-level-made-requires invariant-loop decreases-loop
 level-requires c κs =
-    let s = c in
-    goes-level (start s.before.before.before).requires (s.loop-depth.invariant.2 (start s.before.before.before).requires) (search rules)
+    let s = c.before.before.before in
+    goes-level (start s).requires (s.loop-depth.invariant.2 (start s).requires) (search rules)
 
 loop-again : tie.Need-loop-depth-preserved invariant-loop decreases-loop
 loop-again c =

@@ -33,9 +33,9 @@ row-distance-requires c κs =
 
 returns : tie.Need-returns
 returns c =
-    let m = c in
-    let s = start m.before.before.before.before in
-    near_entry (apart s) s.args.centre _ s.args.entry.now s.requires.2 (measured m.before.before.before.before) c.kept.ensures c.kept-2.ensures
+    let m = c.before.before.before.before in
+    let s = start m in
+    near_entry (apart s) s.args.centre _ s.args.entry.now s.requires.2 (measured m) c.kept.ensures c.kept-2.ensures
 
 pub nearer_one_spec : {M : Type 1} → statement M
 nearer_one_spec =

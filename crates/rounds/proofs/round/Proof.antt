@@ -32,8 +32,8 @@ slice-aggregate-farthest c = sym (bounded c.before.before)
 
 farthest-requires : tie.Need-farthest-b-requires
 farthest-requires c κs =
-    let s = c in
-    rw (bounded s.before.before) (s.requires.1.0, s.requires.1.2)
+    let s = c.before.before in
+    rw (bounded s) (s.requires.1.0, s.requires.1.2)
 
 -- the chosen entry stands in the part
 abbrev inside : (f : tie.After-farthest-b) → f.farthest-b.result + 3 ≤ length (start f).args.part.now
@@ -50,20 +50,20 @@ shift-requires c κs = inside c.before.before
 
 nearer-requires : tie.Need-nearer-requires
 nearer-requires c κs =
-    let e = c in
-    let f = found (moved e.before.before.before) in
+    let e = c.before.before.before in
+    let f = found (moved e) in
     let s = start f in
     let r =
-    round-requires s.args.part.now f.farthest-b.result (omega (arith, s.requires.1)) refl (moved e.before.before.before).shift.ensures e.put_entry.ensures
+    round-requires s.args.part.now f.farthest-b.result (omega (arith, s.requires.1)) refl (moved e).shift.ensures e.put_entry.ensures
     (InTable s.args.table.now s.args.c) s.requires.0.1 f.farthest-b.ensures.2 (inside f) in
     (s.requires.0.0, r.1, r.0)
 
 returns : tie.Need-returns
 returns c =
-    let e = c in
-    let f = found (moved e.before.before.before.before.before.before) in
+    let e = c.before.before.before.before.before.before in
+    let f = found (moved e) in
     let s = start f in
-    round-done s.args.part.now f.farthest-b.result (omega (arith, s.requires.1)) refl (moved e.before.before.before.before.before.before).shift.ensures e.put_entry.ensures
+    round-done s.args.part.now f.farthest-b.result (omega (arith, s.requires.1)) refl (moved e).shift.ensures e.put_entry.ensures
     (between s.args.table.now s.args.c s.args.circles) s.args.bound _ f.farthest-b.ensures.0 c.nearer.ensures
 
 pub round_spec : {M : Type 1} → statement M

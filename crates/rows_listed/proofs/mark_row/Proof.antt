@@ -8,7 +8,7 @@ use borrow.Author.Rules.{rules}
 use native.Mathlib.Omega.{arith}
 
 -- where it was not marked: there is room in the list
-room : (c : tie.Then-how-r-eq0) → c.before.before.args.next < 6 * c.before.before.args.n
+room : (c : tie.Then-how-r-eq0) → c.args.next < 6 * c.args.n
 room c =
     let pre = c.requires in
     next-room _ _ _ _ pre.0 _ pre.1.0 c.if-how-r-eq0.true

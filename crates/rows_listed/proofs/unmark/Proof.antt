@@ -32,8 +32,8 @@ mul-r c = omega (arith, c.requires.small, most c.before.before)
 
 shared-slice-read-r : tie.Need-bounds-work-first invariant-loop decreases-loop
 shared-slice-read-r c =
-    let s = c in
-    omega (arith, s.requires.words, most s.before.before.before)
+    let s = c.before.before.before in
+    omega (arith, s.requires.words, most s)
 
 cast-r : tie.Need-overflow_cast-r invariant-loop decreases-loop
 cast-r c =

@@ -31,8 +31,8 @@ mark-row-requires c κs =
 
 enter-row-requires : tie.Need-enter_row-now_held-requires
 enter-row-requires c κs =
-    let m = c in
-    let pre = (start (met m.before.before.before.before.before)).requires in
+    let m = c.before.before.before.before.before in
+    let pre = (start (met m)).requires in
     (room-to-enter _ _ _ _ _ _ _ (stands-listed _ _ _ _ _ _ _ pre.0.stands _ pre.1.0 _ _ _ m.mark_row-now_next.ensures) _ pre.1.0, pre.1.0, pre.0.stands.small)
 
 mul-work : tie.Need-overflow_mul-work
@@ -50,15 +50,15 @@ mul-work-2 c =
 
 slice-write-work : tie.Need-bounds-work-n
 slice-write-work c =
-    let e = c in
-    let m = marked e.before.before in
+    let e = c.before.before in
+    let m = marked e in
     let pre = (start (met m)).requires in
     omega (arith, pre.0.stands.room, pre.1.0, e.enter_row-now_held.auto.work, m.mark_row-now_next.auto.work)
 
 returns : tie.Need-returns
 returns c =
-    let e = c in
-    let m = marked e.before.before in
+    let e = c.before.before in
+    let m = marked e in
     let q = met m in
     let s = start q in
     let d = q.query_distance-d.ensures in

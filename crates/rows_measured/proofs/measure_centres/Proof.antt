@@ -38,11 +38,11 @@ node-first-requires c κs =
 
 measure-centre-requires : tie.Need-measure_centre-seen-requires invariant-loop decreases-loop
 measure-centre-requires c κs =
-    let o = c in
-    let pre = (start o.before.before.before.before.before).requires in
+    let o = c.before.before.before.before.before in
+    let pre = (start o).requires in
     let loop = c.loop-j in
     let node-first = c.node_first-r in (
-      ready_by _ _ _ (start o.before.before.before.before.before).args.index.now _ _ _ _ _ _ _ o.circles-o.ensures
+      ready_by _ _ _ (start o).args.index.now _ _ _ _ _ _ _ o.circles-o.ensures
           (ready_on _ _ _ _ _ _ _ _ _ _ _ _ _ pre.0 loop.invariant.0.took.alone.grew.stands),
       (omega (arith, node-first.ensures.1, pre.1.1), loop.invariant.1),
     )
@@ -52,10 +52,10 @@ loop-again c =
     let loop = c.loop-j in
     let node-first = c.node_first-r in
     let measure-centre = c.measure_centre-seen in
-    let o = c in (
+    let o = c.before.before.before.before.before.before.before.before.before.before in (
       centres-step _ _ _ _ _ _ _ _ _ _ _ _ _ _ _ _ _ _ loop.invariant.0
           (omega (arith, c.loop-j-test.true)) node-first.ensures.0
-          (centres-by _ _ _ (start o.before.before.before.before.before.before.before.before.before.before).args.index.now _ _ _ _ _ _ _ _ _ _ _ o.circles-o.ensures measure-centre.ensures.0),
+          (centres-by _ _ _ (start o).args.index.now _ _ _ _ _ _ _ _ _ _ _ o.circles-o.ensures measure-centre.ensures.0),
       measure-centre.ensures.1,
     )
 

@@ -59,8 +59,8 @@ told q =
 
 returns : tie.Need-returns-then-far-d
 returns c =
-    let m = c in
-    let q = met m.before.before.before.before.before in
+    let m = c.before.before.before.before.before in
+    let q = met m in
     let s = start (ceiling q) in
     let d = told q in
     let M = m.mark_row-now_next.ensures in
@@ -77,15 +77,15 @@ same-length-2 c = (returns c).0.grew.since.words
 
 enter-row-requires : tie.Need-enter_row-now_held-requires
 enter-row-requires c κs =
-    let m = c in
-    let pre = (start (ceiling (met m.before.before.before.before.before.before))).requires in
+    let m = c.before.before.before.before.before.before in
+    let pre = (start (ceiling (met m))).requires in
     (room-to-enter _ _ _ _ _ _ _ (stands-listed _ _ _ _ _ _ _ pre.0.stands _ pre.1.0 _ _ _ m.mark_row-now_next.ensures) _ pre.1.0, pre.1.0, pre.0.stands.small)
 
 returns-2 : tie.Need-returns
 returns-2 c =
     let e = c in
-    let m = e in
-    let q = met m.before.before.before.before.before.before.before.before.before in
+    let m = e.before.before.before.before.before.before.before.before.before in
+    let q = met m in
     let s = start (ceiling q) in
     let d = told q in
     let M = m.mark_row-now_next.ensures in

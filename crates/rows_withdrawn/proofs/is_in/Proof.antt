@@ -8,12 +8,12 @@ use mathlib.Core.Path.{sym}
 use native.Mathlib.Omega.{arith}
 
 returns : tie.Need-returns-then-set-at
-returns c = sym (beyond c.before.before.args.set.now c.before.before.args.r (omega arith))
+returns c = sym (beyond c.args.set.now c.args.r (omega arith))
 
 returns-2 : tie.Need-returns
 returns-2 c =
-    let m = c.before in
-    tested m.before.before.before.args.set.now m.before.before.before.args.r _ _ (omega arith) (omega (arith, m.mask_of-bit.ensures))
+    let m = c in
+    tested m.args.set.now m.args.r _ _ (omega arith) (omega (arith, m.mask_of-bit.ensures))
 
 pub is_in_spec : {M : Type 1} → statement M
 is_in_spec = tie.close (tie.spec

@@ -21,13 +21,13 @@ loop-holds c = (omega arith, λ e k l. absurd (omega arith))
 
 loop-again : tie.Need-loop-i-preserved invariant-loop decreases-loop
 loop-again c =
-    let l = c.before.before in
-    (omega arith, λ e k h. off_next l.before.args.set.now l.loop-i.i l.loop-i.on l.loop-i.invariant.1 e k (omega arith))
+    let l = c in
+    (omega arith, λ e k h. off_next l.args.set.now l.loop-i.i l.loop-i.on l.loop-i.invariant.1 e k (omega arith))
 
 returns : tie.Need-returns invariant-loop decreases-loop
 returns c =
-    let l = c.before in
-    λ e k. off-beyond l.before.args.set.now l.loop-i.i (omega arith) (l.loop-i.invariant.1 e) k
+    let l = c in
+    λ e k. off-beyond l.args.set.now l.loop-i.i (omega arith) (l.loop-i.invariant.1 e) k
 
 pub some_on_spec : {M : Type 1} → statement M
 some_on_spec =

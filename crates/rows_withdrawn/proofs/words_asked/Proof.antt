@@ -9,7 +9,7 @@ returns : tie.Need-returns-then-some_on
 returns c = (search rules, all_asked _)
 
 returns-2 : tie.Need-returns
-returns-2 c = (search rules, none_in _ (c.before.some_on.ensures c.if-some_on.false))
+returns-2 c = (search rules, none_in _ (c.some_on.ensures c.if-some_on.false))
 
 pub words_asked_spec : {M : Type 1} → statement M
 words_asked_spec = tie.close (tie.spec

@@ -7,8 +7,8 @@ use native.Mathlib.Omega.{arith}
 
 returns : tie.Need-returns
 returns c =
-    let m = c.before in
-    put_on m.before.before.args.set.now m.before.before.args.r _ _ (omega arith) (omega (arith, m.mask_of-bit.ensures))
+    let m = c in
+    put_on m.args.set.now m.args.r _ _ (omega arith) (omega (arith, m.mask_of-bit.ensures))
 
 pub strike_row_spec : {M : Type 1} → statement M
 strike_row_spec =

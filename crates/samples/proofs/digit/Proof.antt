@@ -7,10 +7,10 @@ use borrow.Author.Rules.{rules}
 use native.Mathlib.Omega.{arith}
 
 returns : tie.Need-returns-then-x-lt10
-returns c = digit_low c.before.args.x (omega arith)
+returns c = digit_low c.args.x (omega arith)
 
 returns-2 : tie.Need-returns-else-x-lt10
-returns-2 c = digit_high c.before.args.x (omega arith)
+returns-2 c = digit_high c.args.x (omega arith)
 
 pub digit_spec : {M : Type 1} → statement M
 digit_spec = tie.close (tie.spec

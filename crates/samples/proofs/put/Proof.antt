@@ -18,16 +18,16 @@ loop-holds : tie.Need-loop-i-init invariant-loop decreases-loop
 loop-holds c = copied_start _ _ _ _ (omega arith) (omega arith)
 
 slice-write-index : tie.Need-bounds-index-at invariant-loop decreases-loop
-slice-write-index c = omega (arith, copied-long _ _ _ _ _ _ c.before.before.loop-i.invariant)
+slice-write-index c = omega (arith, copied-long _ _ _ _ _ _ c.loop-i.invariant)
 
 loop-again : tie.Need-loop-i-preserved invariant-loop decreases-loop
-loop-again c = copied_next _ _ _ _ _ _ c.before.before.loop-i.invariant c.before.loop-i-test.true
+loop-again c = copied_next _ _ _ _ _ _ c.loop-i.invariant c.loop-i-test.true
 
 same_length : tie.Need-shape_of-index invariant-loop decreases-loop
-same_length c = copied-long _ _ _ _ _ _ c.before.loop-i.invariant
+same_length c = copied-long _ _ _ _ _ _ c.loop-i.invariant
 
 returns : tie.Need-returns invariant-loop decreases-loop
-returns c = copied_all _ _ _ _ _ _ c.before.loop-i.invariant c.loop-i-test.false
+returns c = copied_all _ _ _ _ _ _ c.loop-i.invariant c.loop-i-test.false
 
 pub put_spec : {M : Type 1} → statement M
 put_spec =

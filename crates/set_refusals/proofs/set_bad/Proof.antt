@@ -10,25 +10,25 @@ use mathlib.Core.Path.{◌∙◌, ◌≡◌}
 use native.Mathlib.Omega.{arith}
 
 -- the words have 32 bits
-narrow : (c : tie.After-shared_slice_known-1) → Narrow c.before.args.set.now
+narrow : (c : tie.After-shared_slice_known-1) → Narrow c.args.set.now
 narrow c i = omega (arith, c.shared_slice_known-1.given i)
 
 -- past the first test there are as many as n rows take
-long : (c : tie.Else-set-words_for) → length c.before.before.before.args.set.now ≡ words_for_lem c.before.before.before.args.n
-long c = c.if-set-words_for.false ∙ c.before.words_for.ensures
+long : (c : tie.Else-set-words_for) → length c.args.set.now ≡ words_for_lem c.args.n
+long c = c.if-set-words_for.false ∙ c.words_for.ensures
 
 returns : tie.Need-returns-then-set-words_for
-returns c = wrong-length _ _ (λ e. c.if-set-words_for.true (omega (arith, c.before.words_for.ensures)))
+returns c = wrong-length _ _ (λ e. c.if-set-words_for.true (omega (arith, c.words_for.ensures)))
 
 returns-2 : tie.Need-returns-then-set-at
 returns-2 c = by_length _ _ (long c.before) (omega arith)
 
 returns-3 : tie.Need-returns
 returns-3 c =
-    let m = c.before in
-    let e = m.before.before in
-    not-below e.before.before.before.args.set.now e.before.before.before.args.n _ _ (omega arith) (omega (arith, m.mask_of-bit.ensures))
-    (narrow e.before.before) (long e)
+    let m = c in
+    let e = m in
+    not-below e.args.set.now e.args.n _ _ (omega arith) (omega (arith, m.mask_of-bit.ensures))
+    (narrow e.before.before.before.before.before) (long e.before.before.before)
 
 pub set_bad_spec : {M : Type 1} → statement M
 set_bad_spec =

@@ -16,7 +16,7 @@ there : (s : tie.Start) → s.args.here + 3 < length s.args.index.now
 there s = omega (arith, (words_there s.args.index.now s.requires.0 s.args.k s.requires.1.0).1, s.requires.1.1)
 
 -- the third is its first child's number
-child : (c : tie.After-word) → c.word.result ≡ child# c.before.before.args.index.now c.before.before.args.k
+child : (c : tie.After-word) → c.word.result ≡ child# c.args.index.now c.args.k
 child c = c.word.ensures.0 ∙ ap (λ (z : ℕ). at c.args.index.now (z + 2)) c.requires.1.1
 
 add-word : tie.Need-overflow_add-here

@@ -32,7 +32,7 @@ abbrev start : tie.After-word-child → tie.Start
 start c = c.before.before.before
 
 -- the second is its count
-count : (c : tie.After-word-child) → c.before.word-count.result ≡ count# (W (start c)) (K (start c))
+count : (c : tie.After-word-child) → c.word-count.result ≡ count# (W (start c)) (K (start c))
 count c = c.word-count.ensures.0 ∙ ap (λ (z : ℕ). at (W (start c)) (z + 1)) (start c).requires.1.1
 
 -- the third its first child's number
@@ -102,32 +102,32 @@ returns-3 c =
 
 returns-4 : tie.Need-returns-then-count-leaf_size
 returns-4 c =
-    let e = c in
-    let a = (start (read e.before.before)).args in
-    let few : count# a.index.now a.k ≤ l# a.index.now = omega (arith, c.if-count-leaf_size.true, c.leaf_size.ensures.0, count (read e.before.before)) in
-    rw (child (read e.before.before))
+    let e = c.before.before in
+    let a = (start (read e)).args in
+    let few : count# a.index.now a.k ≤ l# a.index.now = omega (arith, c.if-count-leaf_size.true, c.leaf_size.ensures.0, count (read e)) in
+    rw (child (read e))
     (fit-anyway a.index.now a.k a.next a.depth (room-none a.index.now a.k a.next)
-    (λ room. fit-few a.index.now a.k a.next a.depth room (some e.before.before) (near e.before.before) (nearer e.before.before) few))
+    (λ room. fit-few a.index.now a.k a.next a.depth room (some e) (near e) (nearer e) few))
 
 returns-5 : tie.Need-returns-then-depth-ge-MOST_DEPTH
 returns-5 c =
-    let e = c in
-    let a = (start (read e.before.before.before)).args in
+    let e = c.before.before.before in
+    let a = (start (read e)).args in
     let many : l# a.index.now < count# a.index.now a.k =
-    omega (arith, c.if-count-leaf_size.false, c.leaf_size.ensures.0, count (read e.before.before.before)) in
-    rw (child (read e.before.before.before))
+    omega (arith, c.if-count-leaf_size.false, c.leaf_size.ensures.0, count (read e)) in
+    rw (child (read e))
     (fit-anyway a.index.now a.k a.next a.depth (room-none a.index.now a.k a.next)
-    (λ room. fit-deep a.index.now a.k a.next a.depth room (some e.before.before.before) (near e.before.before.before) (nearer e.before.before.before) many (omega (arith, c.if-depth-ge-MOST_DEPTH.true))))
+    (λ room. fit-deep a.index.now a.k a.next a.depth room (some e) (near e) (nearer e) many (omega (arith, c.if-depth-ge-MOST_DEPTH.true))))
 
 returns-6 : tie.Need-returns-then-child-next
 returns-6 c =
-    let e = c in
-    let a = (start (read e.before.before.before.before)).args in
+    let e = c.before.before.before.before in
+    let a = (start (read e)).args in
     let many : l# a.index.now < count# a.index.now a.k =
-    omega (arith, c.if-count-leaf_size.false, c.leaf_size.ensures.0, count (read e.before.before.before.before)) in
+    omega (arith, c.if-count-leaf_size.false, c.leaf_size.ensures.0, count (read e)) in
     fit-anyway a.index.now a.k a.next a.depth (λ n. refl)
-    (λ room. fit-other a.index.now a.k a.next a.depth room (some e.before.before.before.before) (near e.before.before.before.before) (nearer e.before.before.before.before) many (omega (arith, c.if-depth-ge-MOST_DEPTH.false))
-    (λ q. c.if-child-next.true (child (read e.before.before.before.before) ∙ q)))
+    (λ room. fit-other a.index.now a.k a.next a.depth room (some e) (near e) (nearer e) many (omega (arith, c.if-depth-ge-MOST_DEPTH.false))
+    (λ q. c.if-child-next.true (child (read e) ∙ q)))
 
 returns-7 : tie.Need-returns-then-not-has_room
 returns-7 c =
@@ -149,19 +149,19 @@ tiles-requires c κs =
 
 returns-8 : tie.Need-returns
 returns-8 c =
-    let e = c in
-    let s = start (read e.before.before.before.before.before.before.before.before.before) in
+    let e = c.before.before.before.before.before.before.before.before.before in
+    let s = start (read e) in
     let a = s.args in
     let size = c.leaf_size.ensures.0 in
     let many : l# a.index.now < count# a.index.now a.k =
-    omega (arith, c.if-count-leaf_size.false, size, count (read e.before.before.before.before.before.before.before.before.before)) in
+    omega (arith, c.if-count-leaf_size.false, size, count (read e)) in
     let from = c.word-start.ensures.0 ∙ ap (at (W s)) s.requires.1.1 in
     let room = yes c.has_room.ensures (not_from_true _ c.if-not-has_room.false) in
     c.tiles.ensures
-    ∙ tile-same (W s) (child (read e.before.before.before.before.before.before.before.before.before)) c.centres.ensures.0 from (count (read e.before.before.before.before.before.before.before.before.before))
-    ∙ fit-tiled (W s) (K s) a.next a.depth room (some e.before.before.before.before.before.before.before.before.before) (near e.before.before.before.before.before.before.before.before.before) (nearer e.before.before.before.before.before.before.before.before.before) many
+    ∙ tile-same (W s) (child (read e)) c.centres.ensures.0 from (count (read e))
+    ∙ fit-tiled (W s) (K s) a.next a.depth room (some e) (near e) (nearer e) many
     (omega (arith, c.if-depth-ge-MOST_DEPTH.false))
-    (sym (child (read e.before.before.before.before.before.before.before.before.before)) ∙ c.if-child-next.false)
+    (sym (child (read e)) ∙ c.if-child-next.false)
 
 pub node_fits_spec : {M : Type 1} → statement M
 node_fits_spec =

@@ -27,7 +27,7 @@ abbrev start : tie.At-loop-k invariant-loop decreases-loop → tie.Start invaria
 start l = l.before.before.before.before.before.before.before
 
 -- the next node's words stand a step after this one's
-ahead : (l : tie.At-loop-k invariant-loop decreases-loop) → l.loop-k.here + l.before.width-step.result ≡ node_at_lem (start l).args.index.now (l.loop-k.k + 1)
+ahead : (l : tie.At-loop-k invariant-loop decreases-loop) → l.loop-k.here + l.width-step.result ≡ node_at_lem (start l).args.index.now (l.loop-k.k + 1)
 ahead l = omega (arith, node_next (start l).args.index.now l.loop-k.k, l.loop-k.invariant.1, l.loop-k.invariant.2)
 
 returns : tie.Need-returns-then-total-eq0 invariant-loop decreases-loop
@@ -46,50 +46,50 @@ loop-holds c =
 
 returns-3 : tie.Need-returns-then-next-k invariant-loop decreases-loop
 returns-3 c =
-    let at-loop = c in
-    going-orphan (start at-loop.before.before).args.index.now at-loop.loop-k.invariant.0 c.loop-k-test.true (omega (arith, c.if-next-k.true))
+    let at-loop = c.before.before in
+    going-orphan (start at-loop).args.index.now at-loop.loop-k.invariant.0 c.loop-k-test.true (omega (arith, c.if-next-k.true))
 
 returns-4 : tie.Need-returns-then-not-node_fits invariant-loop decreases-loop
 returns-4 c =
     let at3 = c in
-    let at-loop = at3 in
-    going-unfit (start at-loop.before.before.before.before).args.index.now at-loop.loop-k.invariant.0 at3.loop-k-test.true (omega (arith, at3.if-next-k.false))
+    let at-loop = at3.before.before.before.before in
+    going-unfit (start at-loop).args.index.now at-loop.loop-k.invariant.0 at3.loop-k-test.true (omega (arith, at3.if-next-k.false))
     (no c.node_fits.ensures (not_from_false _ c.if-not-node_fits.true))
 
 add-next : tie.Need-overflow_add-next invariant-loop decreases-loop
 add-next c =
-    let at-loop = c in
-    let s = start at-loop.before.before.before.before.before in
+    let at-loop = c.before.before.before.before.before in
+    let s = start at-loop in
     omega (arith, brood-few s.args.index.now at-loop.loop-k.k s.requires.0.fan.1, c.brood_of-next.ensures, at-loop.loop-k.invariant.0.next_low)
 
 add-here : tie.Need-overflow_add-here invariant-loop decreases-loop
 add-here c =
-    let at-loop = c in
-    let s = start at-loop.before.before.before.before.before in
+    let at-loop = c.before.before.before.before.before in
+    let s = start at-loop in
     let k = at-loop.loop-k.k in
     let last = c.loop-k-test.true in
     let inside = nodes-there s.args.index.now s.requires.0 (k + 1) (omega (arith, at-loop.loop-k.invariant.0, last)) in
-    omega (arith, ahead at-loop.before.before.before.before.before, inside, s.well_formed)
+    omega (arith, ahead at-loop, inside, s.well_formed)
 
 loop-again : tie.Need-loop-k-preserved-then-k-edge invariant-loop decreases-loop
 loop-again c =
     let at4 = c in
     let at3 = at4 in
-    let at-loop = at3 in
-    let s = start at-loop.before.before.before.before.before.before in
+    let at-loop = at3.before.before.before.before.before.before in
+    let s = start at-loop in
     let going = going-turn s.args.index.now at-loop.loop-k.invariant.0 at3.loop-k-test.true (omega (arith, at3.if-next-k.false))
     s.requires.0.fan.1 (yes at4.node_fits.ensures (not_from_true _ at4.if-not-node_fits.false)) c.brood_of-next.ensures c.if-k-edge.true in
-    (going, ahead at-loop.before.before.before.before.before.before, at-loop.loop-k.invariant.2)
+    (going, ahead at-loop, at-loop.loop-k.invariant.2)
 
 loop-again-2 : tie.Need-loop-k-preserved invariant-loop decreases-loop
 loop-again-2 c =
     let at4 = c in
     let at3 = at4 in
-    let at-loop = at3 in
-    let s = start at-loop.before.before.before.before.before.before in
+    let at-loop = at3.before.before.before.before.before.before in
+    let s = start at-loop in
     let going = going_on s.args.index.now at-loop.loop-k.invariant.0 at3.loop-k-test.true (omega (arith, at3.if-next-k.false))
     s.requires.0.fan.1 (yes at4.node_fits.ensures (not_from_true _ at4.if-not-node_fits.false)) c.brood_of-next.ensures c.if-k-edge.false in
-    (going, ahead at-loop.before.before.before.before.before.before, at-loop.loop-k.invariant.2)
+    (going, ahead at-loop, at-loop.loop-k.invariant.2)
 
 returns-5 : tie.Need-returns invariant-loop decreases-loop
 returns-5 c =

@@ -16,8 +16,8 @@ dist s = between s.args.table.now s.args.c (circles# s.args.index.now)
 
 returns : tie.Need-returns-then-f-g
 returns c =
-    let s = c in
-    own-safe (dist s.before.before.before) s.args.g s.args.f _ c.if-f-g.true
+    let s = c.before.before.before in
+    own-safe (dist s) s.args.g s.args.f _ c.if-f-g.true
 
 row-distance-requires : tie.Need-row_distance-requires
 row-distance-requires c κs =
@@ -27,10 +27,10 @@ row-distance-requires c κs =
 
 returns-2 : tie.Need-returns
 returns-2 c =
-    let s = c in
+    let s = c.before.before.before.before in
     let a = s.args in
     let d = c.row_distance.ensures.0 ∙ ap (λ o. between a.table.now a.c o a.g a.f) (sym s.requires.0.2) in
-    half-safe (dist s.before.before.before.before) s.requires.0.1 a.g a.f _ (omega (arith, d))
+    half-safe (dist s) s.requires.0.1 a.g a.f _ (omega (arith, d))
 
 pub halfway_spec : {M : Type 1} → statement M
 halfway_spec = tie.close (tie.spec

@@ -29,8 +29,8 @@ dist s = between s.args.table.now s.args.c (circles# s.args.index.now)
 
 returns : tie.Need-returns-then-count-c invariant-loop decreases-loop
 returns c =
-    let s = c in
-    zero-safe (dist s.before.before.before) s.args.fs.now (get_or s.args.fs.now s.args.a 0) (m# s.args.index.now)
+    let s = c.before.before.before in
+    zero-safe (dist s) s.args.fs.now (get_or s.args.fs.now s.args.a 0) (m# s.args.index.now)
 
 mul-g : tie.Need-offset_bounds-fs-a invariant-loop decreases-loop
 mul-g c = omega (arith, c.requires.1.0, c.requires.0.0.shape.whole.fan)
@@ -49,15 +49,15 @@ element-copy-out-halfway c = omega (arith, c.loop-i.invariant.1, (start c.before
 
 halfway-requires : tie.Need-halfway-requires invariant-loop decreases-loop
 halfway-requires c κs =
-    let l = c in
-    let s = start l.before.before.before in
+    let l = c.before.before.before in
+    let s = start l in
     let low = s.requires.1.1 in
     (s.requires.0, (low s.args.a s.requires.1.0, low _ (omega (arith, l.loop-i.invariant.1, s.requires.1.0))))
 
 loop-again : tie.Need-loop-i-preserved invariant-loop decreases-loop
 loop-again c =
-    let l = c in
-    let s = start l.before.before.before.before.before in
+    let l = c.before.before.before.before.before in
+    let s = start l in
     let a = s.args in
     let g = get_or a.fs.now a.a 0 in
     let more = safe-more (dist s) a.fs.now g l.loop-i.i l.loop-i.least _ l.loop-i.invariant.2 c.halfway.ensures in
@@ -65,8 +65,8 @@ loop-again c =
 
 returns-2 : tie.Need-returns invariant-loop decreases-loop
 returns-2 c =
-    let l = c in
-    let s = start l.before in
+    let l = c.before in
+    let s = start l in
     let a = s.args in
     let e : l.loop-i.i ≡ m# a.index.now = omega (arith, l.loop-i.invariant.1) in
     subst (λ (k : ℕ). SafeTo (dist s) a.fs.now (get_or a.fs.now a.a 0) k l.loop-i.least) e l.loop-i.invariant.2

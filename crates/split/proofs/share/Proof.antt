@@ -28,21 +28,21 @@ gather-requires c κs =
 
 cast-put-node-2 : tie.Need-overflow_cast-g invariant-loop decreases-loop
 cast-put-node-2 c =
-    let k = c in
-    let small = sharing-small (turn k.before.before.before.before).loop-t.invariant.0 (turn k.before.before.before.before).loop-t.invariant.1 (search rules) k.gather-g.ensures in
+    let k = c.before.before.before.before in
+    let small = sharing-small (turn k).loop-t.invariant.0 (turn k).loop-t.invariant.1 (search rules) k.gather-g.ensures in
     search rules
 
 add_at : tie.Need-overflow_add-at invariant-loop decreases-loop
 add_at c =
-    let k = c in
-    let small = sharing-small (turn k.before.before.before.before.before.before.before.before).loop-t.invariant.0 (turn k.before.before.before.before.before.before.before.before).loop-t.invariant.1 (search rules) k.gather-g.ensures in
+    let k = c.before.before.before.before.before.before.before.before in
+    let small = sharing-small (turn k).loop-t.invariant.0 (turn k).loop-t.invariant.1 (search rules) k.gather-g.ensures in
     search rules
 
 loop-again : tie.Need-loop-t-preserved invariant-loop decreases-loop
 loop-again c =
     let e = c in
-    let k = e in
-    let s = (turn k.before.before.before.before.before.before.before.before).loop-t.invariant in
+    let k = e.before.before.before.before.before.before.before.before in
+    let s = (turn k).loop-t.invariant in
     (s.0, sharing-step s.0 s.1 (search rules) k.gather-g.ensures e.put_node.ensures (search rules) (search rules))
 
 returns : tie.Need-returns invariant-loop decreases-loop

@@ -22,15 +22,15 @@ choose-requires c κs =
 
 share-requires : tie.Need-share-requires
 share-requires c κs =
-    let k = c in
-    let s = start k.before.before.before.before in
+    let k = c.before.before.before.before in
+    let s = start k in
     share-ready s.requires.0 s.requires.1.0 s.requires.1.1 (search rules) k.choose.ensures
 
 returns : tie.Need-returns
 returns c =
     let b = c in
-    let h = b in
-    let k = chosen h.before.before.before.before.before.before.before.before in
+    let h = b.before.before.before.before.before.before.before.before in
+    let k = chosen h in
     let s = start k in
     split_done s.requires.0 s.requires.1.0 s.requires.1.1 (search rules) k.choose.ensures h.share.ensures b.copy_back.ensures
 

@@ -17,8 +17,8 @@ abbrev start : tie.After-pair_at-base → tie.Start
 start c = c.before.before.before.before.before.before.before
 
 -- its run is inside the positions
-run : (c : tie.After-pair_at-base) → (c.before.before.node_start-start.result + 1 ≤ c.before.before.node_start-start.result + c.before.node_count.result)
-    × (c.before.before.node_start-start.result + c.before.node_count.result ≤ n# (start c).args.index.now)
+run : (c : tie.After-pair_at-base) → (c.node_start-start.result + 1 ≤ c.node_start-start.result + c.node_count.result)
+    × (c.node_start-start.result + c.node_count.result ≤ n# (start c).args.index.now)
 run c =
     let s = start c in
     let nd = s.requires.0.node s.args.k s.requires.1.0 in
@@ -26,7 +26,7 @@ run c =
 
 -- and is the node's
 node-run : (c : tie.After-pair_at-base)
-    → span (swept_at (start c).args.index.now) (c.before.before.node_start-start.result + 1) (c.before.before.node_start-start.result + c.before.node_count.result)
+    → span (swept_at (start c).args.index.now) (c.node_start-start.result + 1) (c.node_start-start.result + c.node_count.result)
     ≡ span (swept_at (start c).args.index.now) (start# (start c).args.index.now (start c).args.k + 1)
     (start# (start c).args.index.now (start c).args.k + count# (start c).args.index.now (start c).args.k)
 node-run c =
@@ -34,25 +34,25 @@ node-run c =
 
 sweep-bytes-requires : tie.Need-sweep_bytes-requires
 sweep-bytes-requires c κs =
-    let p = c in
-    (((start p.before).requires.0, p.pair_at-base.ensures), ((run p.before).0, (run p.before).1, (start p.before).requires.1.1))
+    let p = c.before in
+    (((start p).requires.0, p.pair_at-base.ensures), ((run p).0, (run p).1, (start p).requires.1.1))
 
 sweep-list-requires : tie.Need-sweep_list-requires
 sweep-list-requires c κs =
-    let p = c in
-    (((start p.before.before.before.before.before.before).requires.0, p.pair_at-base.ensures), ((run p.before.before.before.before.before.before).0, (run p.before.before.before.before.before.before).1))
+    let p = c.before.before.before.before.before.before in
+    (((start p).requires.0, p.pair_at-base.ensures), ((run p).0, (run p).1))
 
 returns : tie.Need-returns-then-list-ne0
 returns c =
-    let p = c in
-    leaves-as (is_in_lem (start p.before.before.before.before.before.before.before.before.before).args.withdrawn.now) (λ (i : ℕ). 0) (node-run p.before.before.before.before.before.before.before.before.before)
+    let p = c.before.before.before.before.before.before.before.before.before in
+    leaves-as (is_in_lem (start p).args.withdrawn.now) (λ (i : ℕ). 0) (node-run p)
     (record { bytes = c.sweep_bytes.ensures ∙ marked-is _ _ _ _ _; rows = c.sweep_list.ensures })
 
 returns-2 : tie.Need-returns-else-list-ne0
 returns-2 c =
-    let p = c in
-    leaves-as (is_in_lem (start p.before.before.before.before.before).args.withdrawn.now) (λ (i : ℕ). 0) (node-run p.before.before.before.before.before)
-    (record { bytes = c.sweep_bytes.ensures ∙ marked-is _ _ _ _ _; rows = told-bare (λ (i : ℕ). 0) _ (start p.before.before.before.before.before).args.list.now c.if-list-ne0.false })
+    let p = c.before.before.before.before.before in
+    leaves-as (is_in_lem (start p).args.withdrawn.now) (λ (i : ℕ). 0) (node-run p)
+    (record { bytes = c.sweep_bytes.ensures ∙ marked-is _ _ _ _ _; rows = told-bare (λ (i : ℕ). 0) _ (start p).args.list.now c.if-list-ne0.false })
 
 pub sweep_spec : {M : Type 1} → statement M
 sweep_spec =

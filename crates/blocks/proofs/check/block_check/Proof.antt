@@ -22,15 +22,15 @@ loop-holds c = search rules
 
 loop-again : tie.Need-loop-i-preserved invariant-loop decreases-loop
 loop-again c =
-    let l = c in
-    let a = (start l.before.before.before).args in
+    let l = c.before.before.before in
+    let a = (start l).args in
     (search rules, words_check a.image.now (512 * a.b) _ _ l.loop-i.i _ _ l.loop-i.invariant.1 c.get_word.ensures c.stepped-check.ensures)
 
 returns : tie.Need-returns invariant-loop decreases-loop
 unfolding check_word
 returns c =
-    let l = c in
-    let a = (start l.before).args in
+    let l = c.before in
+    let a = (start l).args in
     let e : l.loop-i.i ≡ 127 = omega arith in
     l.loop-i.invariant.1 ∙ ap₂ (λ (s k : ℕ). check_from s (words_at a.image.now (512 * a.b) k)) l.check_start-check.ensures e
 

@@ -23,8 +23,8 @@ loop-holds c = (search rules, search-start (wrong_at c.args.image.now) 0)
 
 returns : tie.Need-returns-then-not-block_good invariant-loop decreases-loop
 returns c =
-    let l = c in
-    let a = (start l.before.before.before).args in
+    let l = c.before.before.before in
+    let a = (start l).args in
     let wrong = ap not (sym c.block_good.ensures) ∙ (not_from_false _ c.if-not-block_good.true) in
     sym (lowest-is a.image.now a.blocks _ (search-stop _ 0 _ _ l.loop-b.invariant.1 c.loop-b-test.true wrong))
 
@@ -36,8 +36,8 @@ loop-again c =
 
 returns-2 : tie.Need-returns invariant-loop decreases-loop
 returns-2 c =
-    let l = c in
-    let a = (start l.before).args in
+    let l = c.before in
+    let a = (start l).args in
     sym (lowest-is a.image.now a.blocks l.loop-b.b (search-end _ 0 _ l.loop-b.b (omega arith) l.loop-b.invariant.1))
 
 pub first_wrong_spec : {M : Type 1} → statement M

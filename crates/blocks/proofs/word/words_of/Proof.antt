@@ -8,8 +8,8 @@ use Rattle.words.specs.Words.{nodes#, edition#, width}
 
 -- the nodes' words, by the edition
 product : (c : tie.After-nodes)
-    → (c.before.width.result * c.nodes.result ≡ width (edition# c.before.before.before.args.header.now) * nodes# c.before.before.before.args.header.now)
-    × (c.before.width.result * c.nodes.result ≤ 5 * c.nodes.result)
+    → (c.width.result * c.nodes.result ≡ width (edition# c.args.header.now) * nodes# c.args.header.now)
+    × (c.width.result * c.nodes.result ≤ 5 * c.nodes.result)
 product c = nodes-words c.args.header.now c.requires.1 c.width.ensures.0 c.nodes.ensures.0
 
 mul-result : tie.Need-overflow_mul-result

@@ -32,8 +32,8 @@ start l = l.before.before
 inside : (c : tie.In-loop-q invariant-loop decreases-loop)
     → 4 * (start c.before).args.base + 4 * (start c.before).args.b + 8 * c.loop-q.q + 8 ≤ length (start c.before).args.image.now
 inside c =
-    let l = c in
-    let s = start l.before in
+    let l = c.before in
+    let s = start l in
     pair_inside s.args.image.now s.requires.0 s.requires.1.0 l.loop-q.q l.loop-q.invariant.from c.loop-q-test.true
 
 loop-holds : tie.Need-loop-q-init invariant-loop decreases-loop
@@ -48,8 +48,8 @@ get-word-requires-2 c κs = omega (arith, inside c.before.before)
 loop-again : tie.Need-loop-q-preserved invariant-loop decreases-loop
 loop-again c =
     let t = c in
-    let l = t in
-    let s = start l.before.before.before.before.before in
+    let l = t.before.before.before.before.before in
+    let s = start l in
     let i = s.args.image.now in
     let on = t.loop-q-test.true in
     record {
@@ -63,8 +63,8 @@ loop-again c =
 
 returns : tie.Need-returns invariant-loop decreases-loop
 returns c =
-    let l = c in
-    let s = start l.before in
+    let l = c.before in
+    let s = start l in
     let e : l.loop-q.q ≡ s.args.end = omega arith in
     subst (λ (q : ℕ). GreatestTo (card_words_lem s.args.image.now) q l.loop-q.row l.loop-q.far) e l.loop-q.invariant.found
 

@@ -116,13 +116,13 @@ returns-7 c =
 tiles-requires : tie.Need-tiles-requires
 tiles-requires c κs =
     let e7 = c in
-    let e4 = e7 in
-    let e = past (read e4.before.before.before.before.before) in
+    let e4 = e7.before.before.before.before.before in
+    let e = past (read e4) in
     let a = (start e).args in
     let m = c.card_centres.ensures.0 in
-    let child = (read e4.before.before.before.before.before).card_child-child.ensures.0 in
+    let child = (read e4).card_child-child.ensures.0 in
     let fits = room_is (words e) a.k a.next (room e) (λ z. omega (arith, child, e7.if-child-next.false, (start e).requires.1.1)) in
-    let low = (read e4.before.before.before.before.before).card_start-start.ensures.1 in
+    let low = (read e4).card_start-start.ensures.1 in
     ((start e).requires.0, (omega (arith, m, (start e).requires.0.whole.fan.1), low, omega (arith, m, fits, e7.if-child-next.false)))
 
 returns-8 : tie.Need-returns

@@ -34,8 +34,8 @@ next : (c : tie.After-larger-far invariant-loop decreases-loop)
     → GreatestTo (card_words_lem (start c.before.before.before.before.before).args.image.now)
     (c.loop-p.p + 1) c.larger-row.result c.larger-far.result
 next c =
-    let l = c in
-    let w = card_words_lem (start l.before.before.before.before.before).args.image.now in
+    let l = c.before.before.before.before.before in
+    let w = card_words_lem (start l).args.image.now in
     let at = l.card_pair_at-base in
     greatest-next w l.loop-p.invariant.1 (c.held_word.ensures ∙ row_word w at.result l.loop-p.p at.ensures)
     (c.held_word-in-loop-p.ensures ∙ dist-word w at.result l.loop-p.p at.ensures)
@@ -61,14 +61,14 @@ add-b c = omega (arith, small c.before.before.before.before.before)
 
 block-stop-requires : tie.Need-block_stop-stop-requires invariant-loop decreases-loop
 block-stop-requires c κs =
-    let l = c in
-    (omega arith, omega arith, omega arith, small l.before.before.before.before.before)
+    let l = c.before.before.before.before.before in
+    (omega arith, omega arith, omega arith, small l)
 
 block-greatest-requires : tie.Need-block_greatest-found-requires invariant-loop decreases-loop
 block-greatest-requires c κs =
-    let l = c in
+    let l = c.before.before.before.before.before.before in
     let r = l.card_rows-n.ensures.0 in (
-      (start l.before.before.before.before.before.before).requires,
+      (start l).requires,
       (
         record {
           first = l.card_pair_at-base.ensures;
@@ -89,17 +89,17 @@ loop-again c = (omega (arith, c.block_stop-stop.ensures.1), c.block_greatest-fou
 
 returns-2 : tie.Need-returns-then-n-row invariant-loop decreases-loop
 returns-2 c =
-    let l = c in
+    let l = c.before.before in
     let r = l.card_rows-n.ensures.0 in
-    let w = card_words_lem (start l.before.before).args.image.now in
+    let w = card_words_lem (start l).args.image.now in
     let n : l.loop-p.p ≡ n# w = omega (arith, r) in
     rows-high w (omega (arith, r)) (l.loop-p.invariant.1.rows ∙ ap (most_to (row# w)) n) (omega (arith, r))
 
 returns-3 : tie.Need-returns invariant-loop decreases-loop
 returns-3 c =
-    let l = c in
+    let l = c.before.before in
     let r = l.card_rows-n.ensures.0 in
-    let w = card_words_lem (start l.before.before).args.image.now in
+    let w = card_words_lem (start l).args.image.now in
     let n : l.loop-p.p ≡ n# w = omega (arith, r) in
     rows-low w (l.loop-p.invariant.1.rows ∙ ap (most_to (row# w)) n) (l.loop-p.invariant.1.fars ∙ ap (most_to (dist# w)) n) (omega (arith, r))
 

@@ -28,8 +28,8 @@ dist s = between s.args.table.now s.args.c (circles# (card_words_lem s.args.imag
 
 loop-holds : tie.Need-loop-k-init invariant-loop decreases-loop
 loop-holds c =
-    let s = c in
-    (noded-start (dist s.before.before.before.before) (card_words_lem s.args.image.now) s.args.part.now, c.card_nodes-total.ensures.0, omega arith)
+    let s = c.before.before.before.before in
+    (noded-start (dist s) (card_words_lem s.args.image.now) s.args.part.now, c.card_nodes-total.ensures.0, omega arith)
 
 loop-again : tie.Need-loop-k-preserved invariant-loop decreases-loop
 loop-again c =
@@ -37,8 +37,8 @@ loop-again c =
     let r = w in
     let ch = r in
     let st = ch in
-    let l = st in
-    let s = start l.before.before.before.before.before.before.before.before.before.before in (
+    let l = st.before.before.before.before.before.before.before.before.before.before in
+    let s = start l in (
       noded-step (dist s) (card_words_lem s.args.image.now) l.loop-k.invariant.0 (omega (arith, s.requires.1)) w.put_node.ensures
           st.card_start-start.ensures.0 ch.card_count-count.ensures.0 ch.card_child-child.ensures.0 r.card_radius-radius.ensures
           r.card_nearest-near.ensures (search rules),
@@ -48,8 +48,8 @@ loop-again c =
 
 returns : tie.Need-returns invariant-loop decreases-loop
 returns c =
-    let l = c in
-    let s = start l.before in
+    let l = c.before in
+    let s = start l in
     noded-done (dist s) (card_words_lem s.args.image.now) l.loop-k.invariant.0 (omega arith)
 
 pub put_nodes_spec : {M : Type 1} → statement M

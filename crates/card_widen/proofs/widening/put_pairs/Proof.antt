@@ -55,8 +55,8 @@ slice-write-part-2 c = simp length-set (omega arith)
 loop-again : tie.Need-loop-p-preserved invariant-loop decreases-loop
 loop-again c =
     let h = c in
-    let l = h in
-    let s = start l.before.before.before in
+    let l = h.before.before.before in
+    let s = start l in
     let w = card_words_lem s.args.image.now in (
       placed-step w l.loop-p.invariant.0 (omega (arith, s.requires.1)) (h.held_word-row.ensures ∙ row_word w _ _ l.loop-p.invariant.2)
           (c.held_word-stored.ensures ∙ dist-word w _ _ l.loop-p.invariant.2) (simp length-set),
@@ -67,8 +67,8 @@ loop-again c =
 
 returns : tie.Need-returns invariant-loop decreases-loop
 returns c =
-    let l = c in
-    placed-done (card_words_lem (start l.before).args.image.now) l.loop-p.invariant.0 (omega arith)
+    let l = c.before in
+    placed-done (card_words_lem (start l).args.image.now) l.loop-p.invariant.0 (omega arith)
 
 pub put_pairs_spec : {M : Type 1} → statement M
 put_pairs_spec =

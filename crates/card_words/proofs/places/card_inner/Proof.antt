@@ -39,8 +39,8 @@ held-word-requires c κs = ((start c.before).requires.0, omega (arith, there c.b
 
 returns-2 : tie.Need-returns
 returns-2 c =
-    let e = c in
-    let s = start e.before.before in
+    let e = c.before.before in
+    let s = start e in
     let w = card_words_lem s.args.image.now in
     c.held_word.ensures ∙ ap (λ (z : ℕ). at w (z + 4)) c.card_node_at.ensures
     ∙ inner-some w s.args.k (sym e.card_word.ensures.0 ∙ e.if-card_word-ne2.false)

@@ -11,8 +11,8 @@ use native.Mathlib.Omega.{arith}
 
 -- the product, by the edition
 product : (c : tie.After-card_width)
-    → c.card_width.result * c.before.before.args.k
-    ≡ width (edition# (card_words_lem c.before.before.args.image.now)) * c.before.before.args.k
+    → c.card_width.result * c.args.k
+    ≡ width (edition# (card_words_lem c.args.image.now)) * c.args.k
 product c = ap (λ (z : ℕ). z * c.args.k) c.card_width.ensures
 
 mul-result : tie.Need-overflow_mul-result

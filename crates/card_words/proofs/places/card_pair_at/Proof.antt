@@ -11,8 +11,8 @@ use native.Mathlib.Omega.{arith}
 
 -- where the nodes' words end
 end : (c : tie.After-card_nodes)
-    → node_at_lem (card_words_lem c.before.before.args.image.now) c.card_nodes.result
-    ≡ node_at_lem (card_words_lem c.before.before.args.image.now) (nodes# (card_words_lem c.before.before.args.image.now))
+    → node_at_lem (card_words_lem c.args.image.now) c.card_nodes.result
+    ≡ node_at_lem (card_words_lem c.args.image.now) (nodes# (card_words_lem c.args.image.now))
 end c = ap (node_at_lem (card_words_lem c.args.image.now)) c.card_nodes.ensures.0
 
 card-node-at-requires : tie.Need-card_node_at-requires

@@ -44,13 +44,13 @@ loop-holds c =
 
 get-word-requires : tie.Need-get_word-requires invariant-loop decreases-loop
 get-word-requires c κs =
-    let l = c in
-    inside-block (start l.before).args.b l.loop-j.j _ (omega arith) (omega arith) (omega arith)
+    let l = c.before in
+    inside-block (start l).args.b l.loop-j.j _ (omega arith) (omega arith) (omega arith)
 
 loop-again : tie.Need-loop-j-preserved invariant-loop decreases-loop
 loop-again c =
-    let l = c in
-    let a = (start l.before.before).args in
+    let l = c.before.before in
+    let a = (start l).args in
     let image = a.image.now in
     let room₀ = a.room.now in
     let j = l.loop-j.j in
@@ -67,8 +67,8 @@ loop-again c =
 
 returns : tie.Need-returns invariant-loop decreases-loop
 returns c =
-    let l = c in
-    let a = (start l.before).args in
+    let l = c.before in
+    let a = (start l).args in
     let e : l.loop-j.j ≡ a.end = omega arith in
     l.loop-j.invariant.read ∙ ap (λ (j : ℕ). image_words a.image.now j ++ drop j a.room.now) e
 

@@ -33,8 +33,8 @@ loop-holds c = record { bound = omega arith; long = refl; read = refl }
 
 get-block-requires : tie.Need-get_block-requires invariant-loop decreases-loop
 get-block-requires c κs =
-    let l = c in
-    let a = (start l.before.before.before).args in
+    let l = c.before.before.before in
+    let a = (start l).args in
     let i = l.loop-j.invariant in
     let e : l.loop-j.j ≡ 127 * l.loop-j.b = omega arith in (
       (omega arith, omega arith, omega arith, omega (arith, i.long)),
@@ -45,8 +45,8 @@ loop-again : tie.Need-loop-j-preserved invariant-loop decreases-loop
 loop-again c =
     let block = c.get_block in
     let end = c.block_end-end in
-    let l = c in
-    let a = (start l.before.before.before.before.before.before).args in
+    let l = c.before.before.before.before.before.before in
+    let a = (start l).args in
     let i = l.loop-j.invariant in
     record {
       bound = omega arith;
@@ -56,8 +56,8 @@ loop-again c =
 
 returns : tie.Need-returns invariant-loop decreases-loop
 returns c =
-    let l = c in
-    let a = (start l.before).args in
+    let l = c.before in
+    let a = (start l).args in
     let e : l.loop-j.j ≡ a.t = omega arith in
     l.loop-j.invariant.read ∙ ap (λ (j : ℕ). image_words a.image.now j ++ drop j a.room.now) e
 

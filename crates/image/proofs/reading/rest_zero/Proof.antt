@@ -32,20 +32,20 @@ image-word-requires c κs = inside _ _ c.loop-j-test.true
 
 returns : tie.Need-returns-then-image_word-ne0 invariant-loop decreases-loop
 returns c =
-    let l = c in
+    let l = c.before.before.before in
     let other = ne_eqb _ 0 (λ e. c.if-image_word-ne0.true (c.image_word.ensures ∙ e)) in
-    all-stop (zero l.before.before.before) _ _ c.loop-j-test.true other ∙ sym l.loop-j.invariant
+    all-stop (zero l) _ _ c.loop-j-test.true other ∙ sym l.loop-j.invariant
 
 loop-again : tie.Need-loop-j-preserved invariant-loop decreases-loop
 loop-again c =
-    let l = c in
+    let l = c.before.before.before in
     let same = eq-eqb _ 0 (sym c.image_word.ensures ∙ c.if-image_word-ne0.false) in
-    l.loop-j.invariant ∙ all-step (zero l.before.before.before) _ _ c.loop-j-test.true same
+    l.loop-j.invariant ∙ all-step (zero l) _ _ c.loop-j-test.true same
 
 returns-2 : tie.Need-returns invariant-loop decreases-loop
 returns-2 c =
-    let l = c in
-    all_end (zero l.before) _ _ c.loop-j-test.false ∙ sym l.loop-j.invariant
+    let l = c.before in
+    all_end (zero l) _ _ c.loop-j-test.false ∙ sym l.loop-j.invariant
 
 pub rest_zero_spec : {M : Type 1} → statement M
 rest_zero_spec =

@@ -68,9 +68,9 @@ loop-again c =
     let pw = c in
     let st = pw in
     let wo = st in
-    let l = wo in
+    let l = wo.before.before.before.before.before.before.before in
     let inv = l.loop-i.invariant in
-    let a = (start l.before.before.before.before.before.before.before).args in
+    let a = (start l).args in
     let index = a.index.now in
     let first = 127 * a.b in
     let i = l.loop-i.i in
@@ -88,10 +88,10 @@ loop-again c =
 returns : tie.Need-returns invariant-loop decreases-loop
 returns c =
     let left = c in
-    let l = left in
-    let a = (start l.before.before.before.before.before).args in
+    let l = left.before.before.before.before.before in
+    let a = (start l).args in
     block-done a.index.now a.part.now l.loop-i.part _ a.b _ _ _ l.loop-i.invariant left.loop-i-test.false
-    l.check_start-check.ensures (start l.before.before.before.before.before).requires.1 c.put_word-2.ensures
+    l.check_start-check.ensures (start l).requires.1 c.put_word-2.ensures
 
 pub put_block_spec : {M : Type 1} → statement M
 put_block_spec =

@@ -65,8 +65,8 @@ loop-again c =
 
 returns : tie.Need-returns invariant-loop decreases-loop
 returns c =
-    let l = c in
-    let a = (start l.before).args in
+    let l = c.before in
+    let a = (start l).args in
     let e : l.loop-b.b ≡ a.count = omega arith in
     l.loop-b.invariant.wrote ∙ ap (λ (j : ℕ). blocks a.index.now j ++ drop (512 * j) a.image.now) e
 

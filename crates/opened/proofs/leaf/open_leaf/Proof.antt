@@ -66,16 +66,16 @@ start c = c.before.before.before.before.before.before.before.before.before.befor
 
 open-bare-requires : tie.Need-open_bare-requires invariant-loop decreases-loop
 open-bare-requires c κs =
-    let b = c in
-    let s = start b.before.before in
+    let b = c.before.before in
+    let s = start b in
     let nd = s.requires.0.tested.shape.node s.args.k s.requires.1.0 in
     let bare = b.is_bare.ensures c.if-is_bare.true in
     ((s.requires.0, bare.0), (omega (arith, nd.some), omega (arith, nd.run), s.requires.1.1, b.pair_at-base.ensures))
 
 returns : tie.Need-returns-then-is_bare invariant-loop decreases-loop
 returns c =
-    let b = c in
-    let s = start b.before.before.before.before.before in
+    let b = c.before.before.before.before.before in
+    let s = start b in
     let w = s.args.index.now in
     let set = s.args.withdrawn.now in
     let bare = b.is_bare.ensures c.if-is_bare.true in

@@ -23,15 +23,15 @@ dist s = between s.args.table.now s.args.c (circles# s.args.index.now)
 
 returns : tie.Need-returns-then-node_radius-found
 returns c =
-    let r = c in
-    let s = start r.before.before.before in
+    let r = c.before.before.before in
+    let s = start r in
     reach_far (dist s) s.args.index.now s.args.k r.reaches-found.ensures c.node_radius.ensures (λ e. omega arith)
 
 returns-2 : tie.Need-returns
 returns-2 c =
     let i = c in
-    let b = i in
-    let r = passed b.before.before in
+    let b = i.before.before in
+    let r = passed b in
     let s = start r in
     reach_near (dist s) s.args.index.now s.args.k r.reaches-found.ensures b.node_radius.ensures (omega arith) s.requires.0.edition
     i.node_inner.ensures

@@ -10,7 +10,7 @@ use native.Mathlib.Omega.{arith}
 
 -- the product, by the edition
 product : (c : tie.After-width)
-    → c.width.result * c.before.before.args.k ≡ width (edition# c.before.before.args.index.now) * c.before.before.args.k
+    → c.width.result * c.args.k ≡ width (edition# c.args.index.now) * c.args.k
 product c = ap (λ (z : ℕ). z * c.args.k) c.width.ensures.0
 
 mul-result : tie.Need-overflow_mul-result

@@ -9,7 +9,7 @@ use mathlib.Core.Path.{◌∙◌, ◌≡◌, ap}
 use native.Mathlib.Omega.{arith}
 
 -- where the nodes' words end
-end : (c : tie.After-nodes) → node_at_lem c.before.before.args.index.now c.nodes.result ≡ node_at_lem c.before.before.args.index.now (nodes# c.before.before.args.index.now)
+end : (c : tie.After-nodes) → node_at_lem c.args.index.now c.nodes.result ≡ node_at_lem c.args.index.now (nodes# c.args.index.now)
 end c = ap (node_at_lem c.args.index.now) c.nodes.ensures.0
 
 nodes-requires : tie.Need-nodes-requires
