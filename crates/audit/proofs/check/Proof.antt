@@ -19,7 +19,7 @@ use mathlib.Core.Path.{◌∙◌, ◌≡◌, refl, sym}
 use native.Mathlib.Omega.{arith}
 
 -- the start, seen from the branch past the refusals
-abbrev start : tie.Else1 → tie.Start
+abbrev start : tie.Else-number-ne0 → tie.Start
 start c = c.before.before.before.before.before
 
 -- what the call asks of numbers
@@ -27,19 +27,19 @@ abbrev asks : tie.Start → Asked
 asks s = check_asks s.args.table.now s.args.c (length s.args.work.now)
 
 -- there is no refusal in that branch
-none : (c : tie.Else1) → (said (call_faults (asks (start c)) (start c).args.table.now (start c).args.index.now [])).0 ≡ 0
-none c = sym c.before.check-number.ensures ∙ c.if1.false
+none : (c : tie.Else-number-ne0) → (said (call_faults (asks (start c)) (start c).args.table.now (start c).args.index.now [])).0 ≡ 0
+none c = sym c.check_number-number.ensures ∙ c.if-number-ne0.false
 
 -- table, workspace and index are what the passes need
-going : (c : tie.Else1) → Clear (asks (start c)) (start c).args.table.now (start c).args.index.now []
+going : (c : tie.Else-number-ne0) → Clear (asks (start c)) (start c).args.table.now (start c).args.index.now []
 going c = clear (asks (start c)) (start c).args.table.now (start c).args.index.now [] (none c)
 
-returns : tie.Need-returns
+returns : tie.Need-returns-then-number-ne0
 returns c =
-    let a = c.before.before.before.before.before.args in
-    refused a.table.now a.c a.index.now a.work.now c.before.check-number.ensures c.if1.true
+    let a = c.args in
+    refused a.table.now a.c a.index.now a.work.now c.check_number-number.ensures c.if-number-ne0.true
 
-first-fault-requires : tie.Need-first-fault-requires
+first-fault-requires : tie.Need-first_fault-requires
 first-fault-requires c κs =
     let a = (start c.before).args in
     let C = going c.before in
@@ -49,13 +49,18 @@ first-fault-requires c κs =
       omega (arith, room, C.rows),
     )
 
-returns-2 : tie.Need-returns-2
+returns-2 : tie.Need-returns
 returns-2 c =
     let e = c.before.before.before.before in
     let a = (start e).args in
-    let f = c.before.before.first-fault in
+    let f = c.first_fault in
     taken a.table.now a.c a.index.now a.work.now (none e) (going e).rows f.ensures.0 f.ensures.1
 
-pub check-spec : {M : Type 1} → statement M
-check-spec =
-    tie.close (tie.spec (λ c κs. search rules) returns first-fault-requires (λ c. search rules) returns-2)
+pub check_spec : {M : Type 1} → statement M
+check_spec =
+    tie.close (tie.spec
+    (λ c κs. search rules)
+    returns
+    first-fault-requires
+    (λ c. search rules)
+    returns-2)

@@ -14,11 +14,11 @@ use mathlib.Core.Path.{◌∙◌, ◌≡◌, ap, subst, sym}
 use native.Mathlib.Omega.{arith}
 
 -- the start, seen from the first wiping
-abbrev start : tie.After-clear-words → tie.Start
+abbrev start : tie.After-clear_words → tie.Start
 start c = c.before.before.before.before.before.before
 
 -- the first wiping, seen from the second
-abbrev first : tie.After-clear-words2 → tie.After-clear-words
+abbrev first : tie.After-clear_words-2 → tie.After-clear_words
 first c = c.before.before.before.before.before.before.before.before
 
 -- the distance between the table's rows
@@ -26,41 +26,41 @@ abbrev dist : tie.Start → ℕ → ℕ → ℕ
 dist s = between s.args.table.now s.args.c (circles# s.args.index.now)
 
 -- before the marks the first n words of the workspace are zero
-before-marks : (c : tie.After-clear-words) → c.clear-words.new.0 ≡ wiped (n# (start c).args.index.now) (start c).args.work.now
-before-marks c = c.clear-words.ensures ∙ ap (λ (i : ℕ). wiped i (start c).args.work.now) c.before.before.rows.ensures.0
+before-marks : (c : tie.After-clear_words) → c.clear_words.new.words ≡ wiped (n# (start c).args.index.now) (start c).args.work.now
+before-marks c = c.clear_words.ensures ∙ ap (λ (i : ℕ). wiped i (start c).args.work.now) c.rows-n.ensures.0
 
 -- at the end the first 6n are, and the rest is as it was at the start
-at-end : (c : tie.After-clear-words2)
-    → c.clear-words2.new.0 ≡ wiped (6 * n# (start (first c)).args.index.now) (start (first c)).args.work.now
+at-end : (c : tie.After-clear_words-2)
+    → c.clear_words-2.new.words ≡ wiped (6 * n# (start (first c)).args.index.now) (start (first c)).args.work.now
 at-end c =
-    let marks = c.before.before.before.before.first-again in
-    wiped-again _ (start (first c)).args.work.now marks.new.1.0 (first c).before.before.rows.ensures.0 (before-marks (first c))
-    marks.ensures.1 c.clear-words2.ensures
+    let marks = c.first_again-p in
+    wiped-again _ (start (first c)).args.work.now marks.new.work (first c).rows-n.ensures.0 (before-marks (first c))
+    marks.ensures.1 c.clear_words-2.ensures
 
-first-again-requires : tie.Need-first-again-requires
+first-again-requires : tie.Need-first_again-p-requires
 first-again-requires c κs =
     let f = c.before.before.before in
     ((start f).requires.0.0.shape, subst (Clear (n# (start f).args.index.now)) (sym (before-marks f)) (wiped_clear _ _ (omega arith)))
 
-returns : tie.Need-returns
+returns : tie.Need-returns-then-p-n
 returns c =
     let l = c.before.before.before in
     let a = (start (first l)).args in
-    let p = l.before.before.before.before.first-again in
-    let n = (first l).before.before.rows.ensures.0 in
+    let p = l.first_again-p in
+    let n = (first l).rows-n.ensures.0 in
     (again-found (dist (start (first l))) a.index.now p.result p.ensures.0 (omega (arith, n)), at-end l)
 
-returns-2 : tie.Need-returns-2
+returns-2 : tie.Need-returns
 returns-2 c =
     let l = c.before.before.before.before in
     let a = (start (first l)).args in
-    let p = l.before.before.before.before.first-again in
-    let n = (first l).before.before.rows.ensures.0 in
+    let p = l.first_again-p in
+    let n = (first l).rows-n.ensures.0 in
     let none = again-none (dist (start (first l))) a.index.now p.result p.ensures.0 (omega (arith, n)) in
-    (c.measured-fault.ensures ∙ none, at-end l)
+    (c.measured_fault.ensures ∙ none, at-end l)
 
-pub first-fault-spec : {M : Type 1} → statement M
-first-fault-spec =
+pub first_fault_spec : {M : Type 1} → statement M
+first_fault_spec =
     tie.close
     (tie.spec
     (λ c κs. search rules)

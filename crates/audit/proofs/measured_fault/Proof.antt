@@ -11,43 +11,43 @@ use mathlib.Core.Path.{◌∙◌}
 use native.Mathlib.Omega.{arith}
 
 -- the start, seen from the pass for 11
-abbrev start : tie.After-first-wrong-distance → tie.Start
+abbrev start : tie.After-first_wrong_distance-p → tie.Start
 start p = p.before.before.before
 
 -- the pass for 11, seen from the one for 12
-abbrev earlier : tie.After-first-wrong-reach → tie.After-first-wrong-distance
+abbrev earlier : tie.After-first_wrong_reach-k → tie.After-first_wrong_distance-p
 earlier k = k.before.before.before
 
 -- the distance between the table's rows
 abbrev dist : tie.Start → ℕ → ℕ → ℕ
 dist s = between s.args.table.now s.args.c (circles# s.args.index.now)
 
-returns : tie.Need-returns
+returns : tie.Need-returns-then-p-rows
 returns c =
     let p = c.before.before in
     let s = start p in
-    let r = p.first-wrong-distance in
+    let r = p.first_wrong_distance-p in
     distance-found (dist s) s.args.index.now r.result r.ensures (omega arith)
 
-returns-2 : tie.Need-returns-2
+returns-2 : tie.Need-returns-then-k-nodes
 returns-2 c =
     let later = c.before.before in
     let s = start (earlier later) in
-    let p = (earlier later).first-wrong-distance in
-    let k = later.first-wrong-reach in
+    let p = (earlier later).first_wrong_distance-p in
+    let k = later.first_wrong_reach-k in
     radius-found (dist s) s.args.index.now p.result p.ensures k.result k.ensures (omega arith) (omega arith)
 
-returns-3 : tie.Need-returns-3
+returns-3 : tie.Need-returns
 returns-3 c =
     let later = c.before.before.before in
     let s = start (earlier later) in
-    let p = (earlier later).first-wrong-distance in
-    let k = later.first-wrong-reach in
-    c.closeness.ensures
+    let p = (earlier later).first_wrong_distance-p in
+    let k = later.first_wrong_reach-k in
+    c.closeness-stray.ensures
     ∙ radius-none (dist s) s.args.index.now p.result p.ensures k.result k.ensures (omega arith) (omega arith)
 
-pub measured-fault-spec : {M : Type 1} → statement M
-measured-fault-spec =
+pub measured_fault_spec : {M : Type 1} → statement M
+measured_fault_spec =
     tie.close
     (tie.spec
     (λ c κs. search rules)

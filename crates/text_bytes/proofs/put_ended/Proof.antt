@@ -22,7 +22,7 @@ returns-2 c =
 
 -- the start, and the number that ends here
 abbrev start : tie.In-Inside → tie.Start
-start c = c.before.before.before.before.before.before
+start c = c.before.before.before.before
 
 abbrev value : tie.In-Inside → ℕ
 value c = c.in-Inside.v
