@@ -7,25 +7,30 @@ use Rattle.card.proofs.read_image.Tie as tie
 use borrow.Author.Rules.{rules}
 use native.Mathlib.Omega.{arith}
 
-returns : tie.Need-returns
+returns : tie.Need-returns-then-told-ne0
 returns c =
-    let r = c.before.before in
-    refused r.before.before.before.before.args.room.now r.refusal-of.ensures c.if1.true
+    let r = c in
+    refused r.args.room.now r.refusal_of-told.ensures c.if-told-ne0.true
 
-put-index-requires : tie.Need-put-index-requires
+put-index-requires : tie.Need-put_index-requires
 put-index-requires c κs =
-    let r = c.before.before.before in
-    let a = r.before.before.before.before.args in
-    let C = passed a.room.now r.refusal-of.ensures c.before.if1.false in
-    let t = counts a.room.now r.refusal-of.ensures c.before.if1.false in
+    let r = c in
+    let a = r.args in
+    let C = passed a.room.now r.refusal_of-told.ensures c.if-told-ne0.false in
+    let t = counts a.room.now r.refusal_of-told.ensures c.if-told-ne0.false in
     (clear_tabled _ _ _ _ C, (t, omega (arith, t, C.space)))
 
-returns-2 : tie.Need-returns-2
+returns-2 : tie.Need-returns
 returns-2 c =
-    let p = c.before.before in
-    let r = p.before.before.before.before in
-    taken r.before.before.before.before.args.room.now r.refusal-of.ensures p.before.before.if1.false p.put-index.ensures
+    let p = c in
+    let r = p in
+    taken r.args.room.now r.refusal_of-told.ensures p.if-told-ne0.false p.put_index.ensures
 
-pub read-image-spec : {M : Type 1} → statement M
-read-image-spec =
-    tie.close (tie.spec (λ c κs. search rules) returns put-index-requires (λ c. search rules) returns-2)
+pub read_image_spec : {M : Type 1} → statement M
+read_image_spec =
+    tie.close (tie.spec
+    (λ c κs. search rules)
+    returns
+    put-index-requires
+    (λ c. search rules)
+    returns-2)
