@@ -1,5 +1,5 @@
 /* A first program: an index over six planter minutes, its check, the two questions, a minute struck, and the index on a card and back.
-   It is linked with libbourascul.a (rt staticlib bourascul). */
+   It is linked with libbourascul.a (host/archive.sh makes it). */
 #include <stdio.h>
 
 #include "bourascul.h"

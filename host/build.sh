@@ -1,14 +1,15 @@
 #!/bin/sh
-# Builds the library for C hosts (rt staticlib) and the programs beside it, into target/host:
+# Builds the library for C hosts (host/archive.sh) and the programs beside it, into target/host:
 #   host/build.sh                  exit status 2 where something is missing
 #   host/build.sh --if-possible    says what is missing and exits 0 then
 #   host/build.sh --checked        the C code with gcc's address and undefined-behaviour checks; under an emulator with the latter alone
 # The archive is for x86-64. On another processor the programs are cross-compiled and run under an emulator; target/host/emulator has the
 # words that run one.
-# CC, EMULATOR: another compiler or emulator. BOURASCUL_ARCHIVE: an archive to link in the place of rt's.
+# CC, EMULATOR: another compiler or emulator. BOURASCUL_ARCHIVE: an archive to link in the place of ours.
 # SECOND_CC: the compiler that the bench's yardstick is compiled by as well (clang beside gcc, gcc beside clang, where there is one).
 # BOURASCUL_OTHER: an archive of the library at another commit, for the bench to time beside this one.
 # BOURASCUL_OLDER: the same, of a commit before R-1, whose calls take no circles and no set (host/older.c gives them today's parameters).
+# An archive of a commit before the port (docs/PORT.md) is made with the kit that the commit names in .ci/kit: `rt staticlib bourascul` there.
 set -eu
 cd "$(dirname "$0")/.."
 
@@ -37,11 +38,8 @@ if [ -n "$checks" ] && [ -z "$emulator" ]; then checks="$checks -fsanitize=addre
 archive=${BOURASCUL_ARCHIVE:-target/staticlib/libbourascul.a}
 if [ -z "${BOURASCUL_ARCHIVE:-}" ]; then
     has rt || missing "no rt: the Rattle kit proves and compiles the library"
-    [ -f crates/bourascul/src/lib.rt ] || missing "no crate bourascul in this repository"
-    # rt check proves what the library stands on several crates at a time, rt staticlib one after the other.
-    # shellcheck disable=SC2046
-    rt check $(sed -n 's/^bourascul: *//p' crates.txt)
-    rt staticlib bourascul
+    [ -f crates/bourascul_c/src/lib.rt ] || missing "no crate bourascul_c in this repository"
+    host/archive.sh
 fi
 [ -f "$archive" ] || missing "no archive $archive"
 

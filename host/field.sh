@@ -1,7 +1,7 @@
 #!/bin/sh
 # The library beside other exact indexes on the season, six columns, one query a call; prints a Markdown table:
 #   host/field.sh [ROWS...]        100,000 and 1,048,576 rows where none are named
-# It installs nothing. It needs g++, nanoflann and scipy (Debian: g++, libnanoflann-dev, python3-scipy) and the archive of rt staticlib
+# It installs nothing. It needs g++, nanoflann and scipy (Debian: g++, libnanoflann-dev, python3-scipy) and the archive that host/build.sh makes
 # or one named in BOURASCUL_ARCHIVE, and is no part of the gate. CXX, PYTHON: another compiler or Python.
 # Exit status 1 where an answer differs, 2 where something is missing.
 set -eu
