@@ -10,38 +10,38 @@ use mathlib.Core.Path.{◌≡◌, refl, sym}
 use native.Mathlib.Omega.{arith}
 
 -- c, m and l are the first three numbers
-abbrev start : tie.After-build → tie.Start
+abbrev start : tie.After-build-built → tie.Start
 start c = c.before.before.before.before.before.before.before.before.before.before.before.before.before
 
-first : (c : tie.After-build)
-    → c.before.before.before.before.before.before.before.before.wide.result ≡ get_or (start c).args.numbers.now 0 0
-first c = c.before.before.before.before.before.before.before.before.wide.ensures
+first : (c : tie.After-build-built)
+    → c.wide-c.result ≡ get_or (start c).args.numbers.now 0 0
+first c = c.wide-c.ensures
 
-second : (c : tie.After-build) → c.before.before.before.before.before.before.wide2.result ≡ get_or (start c).args.numbers.now 1 0
-second c = c.before.before.before.before.before.before.wide2.ensures
+second : (c : tie.After-build-built) → c.wide-m.result ≡ get_or (start c).args.numbers.now 1 0
+second c = c.wide-m.ensures
 
-third : (c : tie.After-build) → c.before.before.before.before.wide3.result ≡ get_or (start c).args.numbers.now 2 0
-third c = c.before.before.before.before.wide3.ensures
+third : (c : tie.After-build-built) → c.wide-l.result ≡ get_or (start c).args.numbers.now 2 0
+third c = c.wide-l.ensures
 
-returns : tie.Need-returns
+returns : tie.Need-returns-then-number-ne0
 returns c =
     let made = c.before.before.before.before.before.before in
-    lists made.build.ensures (part_behind (start made).args.numbers.now) (omega (arith, first made)) (omega (arith, second made))
+    lists made.build-built.ensures (part_behind (start made).args.numbers.now) (omega (arith, first made)) (omega (arith, second made))
     (omega (arith, third made)) refl
 
-print-index-requires : tie.Need-print-index-requires
+print-index-requires : tie.Need-print_index-requires
 print-index-requires c κs =
-    let made = c.before.before.before.before.before.before in
-    built_there _ _ _ _ _ _ _ _ _ _ _ _ made.build.ensures c.before.if1.false
+    let made = c in
+    built_there _ _ _ _ _ _ _ _ _ _ _ _ made.build-built.ensures c.if-number-ne0.false
 
-returns-2 : tie.Need-returns-2
+returns-2 : tie.Need-returns
 returns-2 c =
-    let made = c.before.before.before.before.before.before.before in
-    lists made.build.ensures (part_behind (start made).args.numbers.now) (omega (arith, first made)) (omega (arith, second made))
-    (omega (arith, third made)) (sym c.before.before.if1.false)
+    let made = c.before.before.before.before.before.before in
+    lists made.build-built.ensures (part_behind (start made).args.numbers.now) (omega (arith, first made)) (omega (arith, second made))
+    (omega (arith, third made)) (sym c.if-number-ne0.false)
 
-pub list-spec : {M : Type 1} → statement M
-list-spec =
+pub list_spec : {M : Type 1} → statement M
+list_spec =
     tie.close
     (tie.spec
     (λ c. search rules)
