@@ -15,19 +15,19 @@ abbrev decreases-loop : tie.decreases-loop-i
 decreases-loop came text₀ kept n i₀ text i = n - i
 
 loop-holds : tie.Need-loop-i-init invariant-loop decreases-loop
-loop-holds c = kept-start _ _ _ _ c.least-n.ensures c.requires
+loop-holds c = kept-start _ _ _ _ c.least-n.ensures c.before.before.before.requires
 
 slice-write-text : tie.Need-bounds-text-kept invariant-loop decreases-loop
-slice-write-text c = omega (arith, copied-long _ _ _ _ _ _ c.loop-i.invariant)
+slice-write-text c = omega (arith, copied-long _ _ _ _ _ _ c.before.before.loop-i.invariant)
 
 loop-again : tie.Need-loop-i-preserved invariant-loop decreases-loop
-loop-again c = copied_next _ _ _ _ _ _ c.loop-i.invariant c.loop-i-test.true
+loop-again c = copied_next _ _ _ _ _ _ c.before.before.loop-i.invariant c.before.loop-i-test.true
 
 same_length : tie.Need-shape_of-text invariant-loop decreases-loop
-same_length c = copied-long _ _ _ _ _ _ c.loop-i.invariant
+same_length c = copied-long _ _ _ _ _ _ c.before.loop-i.invariant
 
 returns : tie.Need-returns invariant-loop decreases-loop
-returns c = kept-all _ _ _ _ c.least-n.ensures _ _ c.loop-i.invariant c.loop-i-test.false
+returns c = kept-all _ _ _ _ c.before.before.least-n.ensures _ _ c.before.loop-i.invariant c.loop-i-test.false
 
 pub keep_spec : {M : Type 1} → statement M
 keep_spec =
