@@ -13,77 +13,77 @@ use mathlib.Core.Path.{◌∙◌, ap, sym}
 use native.Mathlib.Omega.{arith}
 
 -- the start, seen from behind the refusals
-abbrev start : tie.Else1 → tie.Start
+abbrev start : tie.Else-number-ne0 → tie.Start
 start c = c.before.before.before.before.before.before
 
 -- the table's numbers have 16 bits
-narrow : (c : tie.After-shared-slice-known) (i : ℕ) → get_or c.before.args.table.now i 0 ≤ 65535
-narrow c i = omega (arith, c.shared-slice-known.given i)
+narrow : (c : tie.After-shared_slice_known-1) (i : ℕ) → get_or c.before.args.table.now i 0 ≤ 65535
+narrow c i = omega (arith, c.shared_slice_known-1.given i)
 
 -- there is no refusal
-none : (c : tie.Else1)
+none : (c : tie.Else-number-ne0)
     → Passed (start c).args.table.now (start c).args.c (start c).args.index.now (start c).args.room.now (start c).args.work.now
-none c = record { narrow = narrow c.before.before.before.before.before; none = sym c.before.append-number.ensures ∙ c.if1.false }
+none c = record { narrow = narrow c.before.before.before.before.before; none = sym c.append_number-number.ensures ∙ c.if-number-ne0.false }
 
 -- few rows
-few : (c : tie.Else1) → n# (start c).args.index.now + 1 ≤ max_rows
+few : (c : tie.Else-number-ne0) → n# (start c).args.index.now + 1 ≤ max_rows
 few c = (rows_are (none c)).1
 
 -- few nodes
-little : (c : tie.After-join-row)
-    → c.join-row.result ≤ 2 * (n# (start c.before.before.before.before.before).args.index.now + 1)
-little c = c.join-row.ensures.few
+little : (c : tie.After-join_row-nodes)
+    → c.join_row-nodes.result ≤ 2 * (n# (start c.before.before.before.before.before).args.index.now + 1)
+little c = c.join_row-nodes.ensures.few
 
-returns : tie.Need-returns
-returns c = refused-grows (narrow c.before.before.before.before.before.before) c.before.before.append-number.ensures c.before.if1.true c.refused.ensures
+returns : tie.Need-returns-then-number-ne0
+returns c = refused-grows (narrow c.before.before.before.before.before.before) c.append_number-number.ensures c.if-number-ne0.true c.refused.ensures
 
-rows-requires : tie.Need-rows-requires
+rows-requires : tie.Need-rows-n-requires
 rows-requires c κs = header_there (none c)
 
-add-n : tie.Need-overflow-add-n
-add-n c = omega (arith, few c.before, c.rows.ensures)
+add-n : tie.Need-overflow_add-n
+add-n c = omega (arith, few c.before, c.rows-n.ensures)
 
 rebuild-requires : tie.Need-rebuild-requires
 rebuild-requires c κs = header_there (none c.before.before.before.before)
 
-returns-2 : tie.Need-returns-2
+returns-2 : tie.Need-returns-then-n-eq1
 returns-2 c =
-    let b = c.before.before.before.before in
-    let i = b.before.before.before in
-    built_appends (none i.before.before) (omega (arith, i.if2.true, i.before.rows.ensures)) b.rebuild.ensures
+    let b = c in
+    let i = b in
+    built_appends (none i.before.before.before.before.before.before.before.before.before) (omega (arith, i.if-n-eq1.true, i.rows-n.ensures)) b.rebuild.ensures
 
-mul-used : tie.Need-overflow-mul-used
-mul-used c = omega (arith, few c.before.before, c.before.rows.ensures)
+mul-used : tie.Need-overflow_mul-used
+mul-used c = omega (arith, few c.before.before, c.rows-n.ensures)
 
-slice-relend-prefix-join-row : tie.Need-slice-relend-prefix-join-row
+slice-relend-prefix-join-row : tie.Need-slice_bounds-join_row-end
 slice-relend-prefix-join-row c =
-    let r = c.before.before in
-    work_long (none r.before) (ap (λ (i : ℕ). i + 1) r.rows.ensures.0)
+    let r = c in
+    work_long (none r.before.before.before) (ap (λ (i : ℕ). i + 1) r.rows-n.ensures.0)
 
-slice-aggregate-join-row : tie.Need-slice-aggregate-join-row
+slice-aggregate-join-row : tie.Need-slice_bounds-join_row-end-2
 slice-aggregate-join-row c =
-    let r = c.before.before.before in
-    sym (part_long (none r.before) (ap (λ (i : ℕ). i + 1) r.rows.ensures.0))
+    let r = c in
+    sym (part_long (none r.before.before.before.before) (ap (λ (i : ℕ). i + 1) r.rows-n.ensures.0))
 
-join-row-requires : tie.Need-join-row-requires
+join-row-requires : tie.Need-join_row-nodes-requires
 join-row-requires c κs =
-    let i = c.before.before in
-    joinable (none i.before.before) (ap (λ (k : ℕ). k + 1) i.before.rows.ensures.0) i.if2.false
+    let i = c in
+    joinable (none i.before.before.before.before) (ap (λ (k : ℕ). k + 1) i.rows-n.ensures.0) i.if-n-eq1.false
 
 written-requires : tie.Need-written-requires
 written-requires c κs =
-    let j = c.before.before.before.before in
-    let r = j.before.before.before.before in
-    (omega (arith, few r.before, r.rows.ensures), omega (arith, little j, r.rows.ensures))
+    let j = c in
+    let r = j in
+    (omega (arith, few r.before.before.before.before.before.before.before.before.before, r.rows-n.ensures), omega (arith, little j.before.before.before.before, r.rows-n.ensures))
 
-returns-3 : tie.Need-returns-3
+returns-3 : tie.Need-returns
 returns-3 c =
-    let j = c.before.before.before.before.before in
-    let r = j.before.before.before.before in
-    joined_appends (none r.before) (ap (λ (k : ℕ). k + 1) r.rows.ensures.0) j.join-row.ensures (search rules) c.written.ensures
+    let j = c in
+    let r = j in
+    joined_appends (none r.before.before.before.before.before.before.before.before.before.before) (ap (λ (k : ℕ). k + 1) r.rows-n.ensures.0) j.join_row-nodes.ensures (search rules) c.written.ensures
 
-pub append-spec : {M : Type 1} → statement M
-append-spec =
+pub append_spec : {M : Type 1} → statement M
+append_spec =
     tie.close
     (tie.spec
     (λ c κs. search rules)

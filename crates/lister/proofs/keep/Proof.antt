@@ -8,26 +8,26 @@ use Rattle.laws.proofs.Copying.{Copied, copied-long, copied_next}
 use borrow.Author.Rules.{rules}
 use native.Mathlib.Omega.{arith}
 
-abbrev invariant-loop : tie.invariant-loop
+abbrev invariant-loop : tie.invariant-loop-i
 invariant-loop came text₀ kept n i₀ text i = Copied came text₀ kept n text i
 
-abbrev decreases-loop : tie.decreases-loop
+abbrev decreases-loop : tie.decreases-loop-i
 decreases-loop came text₀ kept n i₀ text i = n - i
 
-loop-holds : tie.Need-loop-init invariant-loop decreases-loop
-loop-holds c = kept-start _ _ _ _ c.least.ensures c.before.before.before.requires
+loop-holds : tie.Need-loop-i-init invariant-loop decreases-loop
+loop-holds c = kept-start _ _ _ _ c.least-n.ensures c.before.before.before.requires
 
-slice-write-text : tie.Need-slice-write-text invariant-loop decreases-loop
-slice-write-text c = omega (arith, copied-long _ _ _ _ _ _ c.before.before.loop.invariant)
+slice-write-text : tie.Need-bounds-text-kept invariant-loop decreases-loop
+slice-write-text c = omega (arith, copied-long _ _ _ _ _ _ c.before.before.loop-i.invariant)
 
-loop-again : tie.Need-loop-preserved invariant-loop decreases-loop
-loop-again c = copied_next _ _ _ _ _ _ c.before.before.loop.invariant c.before.loop-test.true
+loop-again : tie.Need-loop-i-preserved invariant-loop decreases-loop
+loop-again c = copied_next _ _ _ _ _ _ c.before.before.loop-i.invariant c.before.loop-i-test.true
 
-same_length : tie.Need-same-length invariant-loop decreases-loop
-same_length c = copied-long _ _ _ _ _ _ c.before.loop.invariant
+same_length : tie.Need-shape_of-text invariant-loop decreases-loop
+same_length c = copied-long _ _ _ _ _ _ c.before.loop-i.invariant
 
 returns : tie.Need-returns invariant-loop decreases-loop
-returns c = kept-all _ _ _ _ c.before.before.least.ensures _ _ c.before.loop.invariant c.loop-test.false
+returns c = kept-all _ _ _ _ c.before.before.least-n.ensures _ _ c.before.loop-i.invariant c.loop-i-test.false
 
 pub keep_spec : {M : Type 1} → statement M
 keep_spec =

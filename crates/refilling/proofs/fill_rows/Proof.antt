@@ -13,109 +13,109 @@ use mathlib.Core.Path.{◌≡◌}
 use native.Mathlib.Omega.{arith}
 
 -- the start and the places between, each seen from the next
-abbrev start : tie.After-rows-in → tie.Start
+abbrev start : tie.After-rows_in-n → tie.Start
 start c = c.before.before.before.before.before
 
-abbrev counted : tie.After-root → tie.After-rows-in
+abbrev counted : tie.After-root → tie.After-rows_in-n
 counted c = c.before.before.before
 
-abbrev planting : tie.After-deepen → tie.After-root
+abbrev planting : tie.After-deepen-nodes → tie.After-root
 planting c = c.before.before.before.before.before.before.before
 
-abbrev deepened : tie.After-put-header → tie.After-deepen
+abbrev deepened : tie.After-put_header → tie.After-deepen-nodes
 deepened c = c.before.before.before.before.before.before.before.before.before
 
 -- what the start asks, seen from the levels
-abbrev begun : tie.After-deepen → tie.Start
+abbrev begun : tie.After-deepen-nodes → tie.Start
 begun c = start (counted (planting c))
 
 -- the table's rows
-read : (c : tie.After-deepen) → (counted (planting c)).rows_in.result ≡ rows_of (begun c).args.table.now (begun c).args.c
-read c = (counted (planting c)).rows_in.ensures
+read : (c : tie.After-deepen-nodes) → (counted (planting c)).rows_in-n.result ≡ rows_of (begun c).args.table.now (begun c).args.c
+read c = (counted (planting c)).rows_in-n.ensures
 
 -- the root stands
-rooted : (c : tie.After-deepen)
-    → Rooted (begun c).args.table.now (begun c).args.index.now (counted (planting c)).rows_in.result (begun c).args.room.now
-    (planting c).root.new.1.1.1.0 (planting c).root.new.1.1.1.1.0
+rooted : (c : tie.After-deepen-nodes)
+    → Rooted (begun c).args.table.now (begun c).args.index.now (counted (planting c)).rows_in-n.result (begun c).args.room.now
+    (planting c).root.new.room (planting c).root.new.work
 rooted c = (planting c).root.ensures
 
 -- few nodes
-few : (c : tie.After-deepen)
-    → (c.deepen.result ≤ 2 * (counted (planting c)).rows_in.result) × ((counted (planting c)).rows_in.result ≤ 1048576)
-    × (node_at_lem c.deepen.result + 2 * (counted (planting c)).rows_in.result ≤ length (begun c).args.room.now)
-few c = few-nodes (begun c).requires (read c) (rooted c) c.deepen.ensures
+few : (c : tie.After-deepen-nodes)
+    → (c.deepen-nodes.result ≤ 2 * (counted (planting c)).rows_in-n.result) × ((counted (planting c)).rows_in-n.result ≤ 1048576)
+    × (node_at_lem c.deepen-nodes.result + 2 * (counted (planting c)).rows_in-n.result ≤ length (begun c).args.room.now)
+few c = few-nodes (begun c).requires (read c) (rooted c) c.deepen-nodes.ensures
 
 -- room and workspace are as long as they were
-wide : (c : tie.After-deepen) → length c.deepen.new.1.1.1.0 ≡ length (begun c).args.room.now
+wide : (c : tie.After-deepen-nodes) → length c.deepen-nodes.new.room ≡ length (begun c).args.room.now
 wide c = search rules
 
-half : (c : tie.After-deepen) → length c.deepen.new.1.1.1.1.0 ≡ length (begun c).args.work.now
+half : (c : tie.After-deepen-nodes) → length c.deepen-nodes.new.work ≡ length (begun c).args.work.now
 half c = search rules
 
-long : (c : tie.After-put-header) → length c.put-header.new.0 ≡ length (begun (deepened c)).args.room.now
+long : (c : tie.After-put_header) → length c.put_header.new.room ≡ length (begun (deepened c)).args.room.now
 long c = search rules
 
 root-requires : tie.Need-root-requires
 root-requires c κs =
     let r = c.before.before in
-    root-ask (start r).requires r.rows_in.ensures
+    root-ask (start r).requires r.rows_in-n.ensures
 
-deepen-requires : tie.Need-deepen-requires
+deepen-requires : tie.Need-deepen-nodes-requires
 deepen-requires c κs =
-    let x = c.before.before.before.before.before.before in
-    let r = x.before.before.before in
-    planted (start r).requires r.rows_in.ensures x.root.ensures
+    let x = c in
+    let r = x.before.before.before.before.before.before.before.before.before in
+    planted (start r).requires r.rows_in-n.ensures x.root.ensures
 
-put-header-requires : tie.Need-put-header-requires
+put-header-requires : tie.Need-put_header-requires
 put-header-requires c κs =
-    let l = c.before.before in
-    let m = l.before in
-    let e = m.before.before.before.before.before in
-    header-ready (begun e).requires (read e) (rooted e) e.deepen.ensures m.centres.ensures.0 l.leaf-size.ensures.0 (wide e)
+    let l = c in
+    let m = l in
+    let e = m.before.before.before.before.before.before.before.before in
+    header-ready (begun e).requires (read e) (rooted e) e.deepen-nodes.ensures m.centres-centres.ensures.0 l.leaf_size-leaf.ensures.0 (wide e)
     (omega arith)
 
-mul_at : tie.Need-overflow-mul-at
+mul_at : tie.Need-overflow_mul-at
 mul_at c =
     omega (arith, few c.before.before.before.before.before.before.before.before.before.before.before)
 
-add_at : tie.Need-overflow-add-at
+add_at : tie.Need-overflow_add-at
 add_at c =
     omega (arith, few c.before.before.before.before.before.before.before.before.before.before.before)
 
-mul-put-positions : tie.Need-overflow-mul-put-positions
+mul-put-positions : tie.Need-offset_bounds-room-at
 mul-put-positions c =
     omega (arith, few c.before.before.before.before.before.before.before.before.before.before.before)
 
-sub-put-positions : tie.Need-overflow-sub-put-positions
+sub-put-positions : tie.Need-slice_bounds-put_positions-count
 sub-put-positions c =
     let h = c.before.before in
     omega (arith, few (deepened h), long h)
 
-part-put-positions-start : tie.Need-slice-bounds-put-positions-start
+part-put-positions-start : tie.Need-slice_bounds-put_positions-start
 part-put-positions-start c =
     let h = c.before.before in
     omega (arith, few (deepened h), long h)
 
-put-positions-requires : tie.Need-put-positions-requires
+put-positions-requires : tie.Need-put_positions-requires
 put-positions-requires c κs =
-    let h = c.before.before.before.before in
+    let h = c.before.before.before in
     let e = deepened h in
-    positions-ready (begun e).pre (read e) (rooted e) e.deepen.ensures h.put-header.new.0 (long h) (half e)
+    positions-ready (begun e).requires (read e) (rooted e) e.deepen-nodes.ensures h.put_header.new.room (long h) (half e)
 
 returns : tie.Need-returns
 returns c =
-    let k = c.before.before in
-    let p = k.before.before.before.before in
-    let h = p.before.before.before.before.before in
-    let o = h.before.before in
-    let l = o.before in
-    let m = l.before in
-    let e = deepened h in
-    rows-joined (begun e).pre (read e) (rooted e) e.deepen.ensures o.circles.ensures m.centres.ensures.0 l.leaf-size.ensures.0
-    (omega arith) (long h) h.put-header.ensures (omega arith) p.put-positions.ensures (half e) k.clear-words.ensures
+    let k = c in
+    let p = k in
+    let h = p in
+    let o = h in
+    let l = o in
+    let m = l in
+    let e = deepened h.before.before.before.before.before.before.before.before.before.before in
+    rows-joined (begun e).requires (read e) (rooted e) e.deepen-nodes.ensures o.circles-circles.ensures m.centres-centres.ensures.0 l.leaf_size-leaf.ensures.0
+    (omega arith) (long h.before.before.before.before.before.before.before.before.before.before) h.put_header.ensures (omega arith) p.put_positions.ensures (half e) k.clear_words.ensures
 
-pub fill-rows-spec : {M : Type 1} → statement M
-fill-rows-spec =
+pub fill_rows_spec : {M : Type 1} → statement M
+fill_rows_spec =
     tie.close
     (tie.spec
     (λ c κs. search rules)

@@ -8,26 +8,26 @@ use lib.Seq.{length-take-le}
 use mathlib.Core.Path.{sym}
 use native.Mathlib.Omega.{arith}
 
-slice-aggregate-settle : tie.Need-slice-aggregate-settle
+slice-aggregate-settle : tie.Need-slice_bounds-settle-end-2
 slice-aggregate-settle c =
-    let t = c.before.before.before in
-    let s = t.before.before.before.before.before.before.requires in
-    sym (length-take-le _ _ (omega (arith, first_long s t.take_in.ensures, s.halves)))
+    let t = c in
+    let s = t.requires in
+    sym (length-take-le _ _ (omega (arith, first_long s t.take_in-reach.ensures, s.halves)))
 
-settle-requires : tie.Need-settle-requires
+settle-requires : tie.Need-settle-mark-requires
 settle-requires c κs =
-    let t = c.before.before.before in
-    root-takes t.before.before.before.before.before.before.requires t.take_in.ensures
+    let t = c in
+    root-takes t.requires t.take_in-reach.ensures
 
 returns : tie.Need-returns
 returns c =
-    let p = c.before.before in
-    let e = p.before.before.before.before in
-    let t = e.before.before.before.before in
-    root_stands t.before.before.before.before.before.before.requires t.take_in.ensures e.settle.ensures p.put-node.ensures
+    let p = c in
+    let e = p in
+    let t = e in
+    root_stands t.requires t.take_in-reach.ensures e.settle-mark.ensures p.put_node.ensures
 
-pub root-spec : {M : Type 1} → statement M
-root-spec =
+pub root_spec : {M : Type 1} → statement M
+root_spec =
     tie.close
     (tie.spec
     (λ c κs. search rules)

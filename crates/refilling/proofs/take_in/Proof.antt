@@ -7,86 +7,86 @@ use Rattle.refilling.proofs.take_in.Tie as tie
 use borrow.Author.Rules.{rules}
 use native.Mathlib.Omega.{arith}
 
-abbrev invariant-loop : tie.invariant-loop
+abbrev invariant-loop : tie.invariant-loop-z
 invariant-loop table index n work₀ c set first radius₀ inner₀ z₀ work radius inner z =
     Taking table index n work₀ work radius inner z
 
-abbrev decreases-loop : tie.decreases-loop
+abbrev decreases-loop : tie.decreases-loop-z
 decreases-loop table index n work₀ c set first radius₀ inner₀ z₀ work radius inner z = n - z
 
-node-first-requires : tie.Need-node-first-requires invariant-loop decreases-loop
+node-first-requires : tie.Need-node_first-first-requires invariant-loop decreases-loop
 node-first-requires c κs =
-    let s = c.before.before.before.before.before.requires in
+    let s = c.requires in
     (s.0.shape, (s.0.shape.root s.1.0).there)
 
-node-radius-requires : tie.Need-node-radius-requires invariant-loop decreases-loop
+node-radius-requires : tie.Need-node_radius-radius-requires invariant-loop decreases-loop
 node-radius-requires c κs =
-    let s = c.before.before.before.before.before.before.requires in
+    let s = c.requires in
     (s.0.shape.whole, (s.0.shape.root s.1.0).there)
 
-node-inner-requires : tie.Need-node-inner-requires invariant-loop decreases-loop
+node-inner-requires : tie.Need-node_inner-inner-requires invariant-loop decreases-loop
 node-inner-requires c κs =
-    let s = c.before.before.before.before.before.before.before.requires in
+    let s = c.requires in
     (s.0.shape.whole, ((s.0.shape.root s.1.0).there, s.0.edition))
 
-loop-holds : tie.Need-loop-init invariant-loop decreases-loop
+loop-holds : tie.Need-loop-z-init invariant-loop decreases-loop
 loop-holds c =
-    let i = c.before in
-    let r = i.before in
-    let s = r.before.before.before.before.before.before.before.requires in
-    taking_start _ _ _ _ s.0.more c.rows.ensures.0 r.node-radius.ensures i.node-inner.ensures
+    let i = c in
+    let r = i in
+    let s = r.requires in
+    taking_start _ _ _ _ s.0.more c.rows-z.ensures.0 r.node_radius-radius.ensures i.node_inner-inner.ensures
 
-row-distance-requires : tie.Need-row-distance-requires invariant-loop decreases-loop
+row-distance-requires : tie.Need-row_distance-d-requires invariant-loop decreases-loop
 row-distance-requires c κs =
-    let l = c.before in
-    let f = l.before.before.before.before in
-    let k = f.before.before in
-    new-measured k.before.before.before.before.requires.0 k.columns.ensures.0 f.node-first.ensures.1 (omega arith)
+    let l = c in
+    let f = l in
+    let k = f in
+    new-measured k.requires.0 k.columns-c.ensures.0 f.node_first-first.ensures.1 (omega arith)
 
-sub-put-entry : tie.Need-overflow-sub-put-entry invariant-loop decreases-loop
+sub-put-entry : tie.Need-slice_bounds-put_entry-count invariant-loop decreases-loop
 sub-put-entry c =
-    let l = c.before.before.before.before in
-    omega (arith, l.loop.invariant.long, l.before.before.before.before.before.before.before.before.before.before.requires.1.1)
+    let l = c in
+    omega (arith, l.loop-z.invariant.long, l.requires.1.1)
 
-part-put-entry-start : tie.Need-slice-bounds-put-entry-start invariant-loop decreases-loop
+part-put-entry-start : tie.Need-slice_bounds-put_entry-start invariant-loop decreases-loop
 part-put-entry-start c =
-    let l = c.before.before.before.before in
-    omega (arith, l.loop.invariant.long, l.before.before.before.before.before.before.before.before.before.before.requires.1.1)
+    let l = c in
+    omega (arith, l.loop-z.invariant.long, l.requires.1.1)
 
-put-entry-requires : tie.Need-put-entry-requires invariant-loop decreases-loop
+put-entry-requires : tie.Need-put_entry-requires invariant-loop decreases-loop
 put-entry-requires c κs =
-    let l = c.before.before.before.before.before in
-    taking-room _ _ _ _ l.loop.invariant (omega arith) l.before.before.before.before.before.before.before.before.before.before.requires.1.1
+    let l = c in
+    taking-room _ _ _ _ l.loop-z.invariant (omega arith) l.requires.1.1
 
-loop-less : tie.Need-loop-smaller invariant-loop decreases-loop
+loop-less : tie.Need-loop-z-smaller invariant-loop decreases-loop
 loop-less c =
     omega arith
 
-loop-again : tie.Need-loop-preserved invariant-loop decreases-loop
+loop-again : tie.Need-loop-z-preserved invariant-loop decreases-loop
 loop-again c =
-    let p = c.before.before in
-    let a = p.before.before in
-    let g = a.before in
-    let x = g.before in
-    let l = x.before.before in
-    let f = l.before.before.before.before in
-    let o = f.before in
-    let k = o.before in
-    let s = k.before.before.before.before.requires in
-    taking_step _ _ _ _ l.loop.invariant s.1.0 (omega arith) s.1.1
-    (new-distance s.0 _ _ (omega arith) k.columns.ensures.0 o.circles.ensures f.node-first.ensures.0 x.row-distance.ensures.0)
-    g.larger.ensures a.least-of.ensures p.put-entry.ensures (search rules)
+    let p = c in
+    let a = p in
+    let g = a in
+    let x = g in
+    let l = x in
+    let f = l in
+    let o = f in
+    let k = o in
+    let s = k.requires in
+    taking_step _ _ _ _ l.loop-z.invariant s.1.0 (omega arith) s.1.1
+    (new-distance s.0 _ _ (omega arith) k.columns-c.ensures.0 o.circles-set.ensures f.node_first-first.ensures.0 x.row_distance-d.ensures.0)
+    g.larger-radius.ensures a.least_of-inner.ensures p.put_entry.ensures (search rules)
 
-same_length : tie.Need-same-length invariant-loop decreases-loop
+same_length : tie.Need-shape_of-work invariant-loop decreases-loop
 same_length c =
-    c.before.loop.invariant.long
+    c.loop-z.invariant.long
 
 returns : tie.Need-returns invariant-loop decreases-loop
 returns c =
-    taking-done _ _ _ _ c.before.loop.invariant (omega arith)
+    taking-done _ _ _ _ c.loop-z.invariant (omega arith)
 
-pub take-in-spec : {M : Type 1} → statement M
-take-in-spec =
+pub take_in_spec : {M : Type 1} → statement M
+take_in_spec =
     tie.close
     (tie.spec
     invariant-loop
