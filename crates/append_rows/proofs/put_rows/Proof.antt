@@ -12,56 +12,56 @@ use mathlib.Core.Path.{◌≡◌, sym}
 use native.Mathlib.Omega.{arith}
 
 -- the start, seen from behind the first row's build
-abbrev start : tie.After-rebuild → tie.Start
-start c = c.before.before.before.before.before.before.before.before.before.before
+abbrev start : tie.After-rebuild-built → tie.Start
+start c = c.before.before.before.before.before.before.before.before.before
 
 -- the index has no row
-none : (c : tie.After-rebuild) → n# (start c).args.index.now ≡ 0
+none : (c : tie.After-rebuild-built) → n# (start c).args.index.now ≡ 0
 none c =
-    let i = c.before.before.before.before in
-    omega (arith, i.before.rows.ensures.0, i.if1.false)
+    let i = c in
+    omega (arith, i.rows.ensures.0, i.if-rows-ne0.false)
 
 -- the table's numbers have 16 bits
-narrow : (c : tie.After-rebuild) (i : ℕ) → get_or (start c).args.table.now i 0 ≤ 65535
-narrow c i = omega (arith, c.before.before.before.before.before.before.before.before.before.shared-slice-known.given i)
+narrow : (c : tie.After-rebuild-built) (i : ℕ) → get_or (start c).args.table.now i 0 ≤ 65535
+narrow c i = omega (arith, c.shared_slice_known-1.given i)
 
 rows-requires : tie.Need-rows-requires
-rows-requires c κs = header_there c.before.before.before.before.requires
+rows-requires c κs = header_there c.requires
 
-fill-rows-requires : tie.Need-fill-rows-requires
+fill-rows-requires : tie.Need-fill_rows-requires
 fill-rows-requires c κs =
-    let i = c.before.before in
-    some-joinable i.before.before.before.before.before.before.requires i.before.rows.ensures.0 (omega (arith, i.if1.true))
+    let i = c in
+    some-joinable i.requires i.rows.ensures.0 (omega (arith, i.if-rows-ne0.true))
 
-slice-aggregate-rebuild : tie.Need-slice-aggregate-rebuild
-slice-aggregate-rebuild c = sym (length-take-le _ _ (row-there c.before.before.before.before.before.before.before.requires))
+slice-aggregate-rebuild : tie.Need-slice_bounds-rebuild-end
+slice-aggregate-rebuild c = sym (length-take-le _ _ (row-there c.requires))
 
-rebuild-requires : tie.Need-rebuild-requires
-rebuild-requires c κs = header_there c.before.before.before.before.before.before.before.before.before.requires
+rebuild-requires : tie.Need-rebuild-built-requires
+rebuild-requires c κs = header_there c.requires
 
-array-share-prefix-first : tie.Need-array-share-prefix-first
+array-share-prefix-first : tie.Need-slice_bounds-first-end
 array-share-prefix-first c =
     let b = c.before.before in
-    words_there (start b).requires (none b) (narrow b) (omega arith) (omega arith) b.rebuild.ensures
+    words_there (start b).requires (none b) (narrow b) (omega arith) (omega arith) b.rebuild-built.ensures
 
-slice-aggregate-fill-rows : tie.Need-slice-aggregate-fill-rows
+slice-aggregate-fill-rows : tie.Need-slice_bounds-fill_rows-end
 slice-aggregate-fill-rows c =
     let b = c.before.before.before in
-    sym (length-take-le _ _ (words_there (start b).requires (none b) (narrow b) (omega arith) (omega arith) b.rebuild.ensures))
+    sym (length-take-le _ _ (words_there (start b).requires (none b) (narrow b) (omega arith) (omega arith) b.rebuild-built.ensures))
 
-fill-rows-requires-2 : tie.Need-fill-rows-requires-2
+fill-rows-requires-2 : tie.Need-fill_rows-requires-2
 fill-rows-requires-2 c κs =
     let b = c.before.before.before.before.before in
-    first-joinable (start b).requires (none b) (narrow b) (omega arith) (omega arith) b.rebuild.ensures
+    first-joinable (start b).requires (none b) (narrow b) (omega arith) (omega arith) b.rebuild-built.ensures
 
-returns-2 : tie.Need-returns-2
+returns-2 : tie.Need-returns
 returns-2 c =
-    let f = c.before.before.before.before in
-    let b = f.before.before.before.before.before.before in
-    first-joined (start b).requires (none b) (narrow b) (omega arith) (omega arith) b.rebuild.ensures f.fill-rows2.ensures
+    let f = c in
+    let b = f.before.before.before.before.before.before.before.before.before.before in
+    first-joined (start b).requires (none b) (narrow b) (omega arith) (omega arith) b.rebuild-built.ensures f.fill_rows-2.ensures
 
-pub put-rows-spec : {M : Type 1} → statement M
-put-rows-spec =
+pub put_rows_spec : {M : Type 1} → statement M
+put_rows_spec =
     tie.close
     (tie.spec
     rows-requires

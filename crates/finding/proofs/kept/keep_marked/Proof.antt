@@ -7,14 +7,14 @@ use borrow.Author.Rules.{rules}
 use lib.ListN.{length}
 use mathlib.Core.Path.{◌≡◌}
 
-abbrev invariant-loop : tie.invariant-loop
+abbrev invariant-loop : tie.invariant-loop-i
 invariant-loop table c circles queries count marks rows₀ distances₀ last kept₀ at₀ i₀ rows distances kept at i = (at ≤ length table) × (i ≤ last) × (kept ≤ length rows) × (kept ≤ length distances) × (length rows ≡ length rows₀) × (length distances ≡ length distances₀)
 
-abbrev decreases-loop : tie.decreases-loop
+abbrev decreases-loop : tie.decreases-loop-i
 decreases-loop table c circles queries count marks rows₀ distances₀ last kept₀ at₀ i₀ rows distances kept at i = last - i
 
-pub keep-marked-spec : {M : Type 1} → statement M
-keep-marked-spec =
+pub keep_marked_spec : {M : Type 1} → statement M
+keep_marked_spec =
     tie.close
     (tie.spec
     invariant-loop

@@ -6,14 +6,14 @@ use Rattle.finding.proofs.kept.least_distance.Tie as tie
 use borrow.Author.Rules.{rules}
 use lib.ListN.{length}
 
-abbrev invariant-loop : tie.invariant-loop
+abbrev invariant-loop : tie.invariant-loop-i
 invariant-loop row c circles queries count least₀ at₀ i₀ least at i = (at ≤ length queries) × (i ≤ count)
 
-abbrev decreases-loop : tie.decreases-loop
+abbrev decreases-loop : tie.decreases-loop-i
 decreases-loop row c circles queries count least₀ at₀ i₀ least at i = count - i
 
-pub least-distance-spec : {M : Type 1} → statement M
-least-distance-spec =
+pub least_distance_spec : {M : Type 1} → statement M
+least_distance_spec =
     tie.close
     (tie.spec
     invariant-loop
