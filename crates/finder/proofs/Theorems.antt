@@ -24,7 +24,7 @@ use Rattle.tree.proofs.Accepted.{once-of}
 use Rattle.tree.proofs.Theorems.{radius-exact}
 use Rattle.tree.specs.Check.{Accepted}
 use Rattle.tree.specs.Grove.{tree_of}
-use Rattle.tree.specs.Radius.{marks as marksOf, veiled}
+use Rattle.tree.specs.Radius.{marks as marks_of, veiled}
 use Rattle.words.proofs.InShape.{in_shape}
 use Rattle.words.specs.Words.{circles#, n#}
 use borrow.Author.Tests.{le-leb, leb-true}
@@ -81,7 +81,7 @@ module _ (t : List ℕ) (c o : ℕ) (w qs : List ℕ) (r : ℕ) (s : List ℕ) (
   in-exact j i h =
       subst (λ (l : List ℕ). (2 ≤ get_or l i 0) ↔ ((is_in_lem s i ≡ false) × (from t c o (row qs c j) i ≤ r)))
       (sym
-      (ap (λ (u : ℕ). write (veiled (is_in_lem s) (marksOf (from t c u (row qs c j)) r (tree_of w))) (replicate (n# w) 0)) E
+      (ap (λ (u : ℕ). write (veiled (is_in_lem s) (marks_of (from t c u (row qs c j)) r (tree_of w))) (replicate (n# w) 0)) E
       ∙ bytes-are (from t c o (row qs c j)) r (is_in_lem s) w (in_shape w A.words A.shape) (once-of (between t c o) w A)))
       (radius-exact (between t c o) w A (from t c o (row qs c j)) (query_point t c o (row qs c j) R (Q j)) r (is_in_lem s) i h)
 
