@@ -20,6 +20,7 @@ HEAD = re.compile(r"^(?:abbrev |unfoldable )?(?:pub )?(record |data )?([^\s:(){}
 HEAD_TYPE = re.compile(r"^(?:abbrev |unfoldable )?(?:pub )?(record |data )([^\s:(){}]+)")
 PART = re.compile(r"^  (?:pub )?([^\s:(){}|]+) *:")
 PATH = re.compile(r"Rattle(\.[\w+]+)+")
+INNER = re.compile(r"^\s+(?:abbrev |unfoldable )?(?:pub )?(?:record |data )?([a-z][\w'#]+[A-Z][\w'#]*|[a-z][\w'#]*[A-Z][\w'#]+)\s*(?=[:({])")
 NO_NAME = re.compile(r"^(use|pub use|mod|pub mod|module|unfolding|open|infix|syntax|--)\b|^--")
 
 
@@ -34,7 +35,7 @@ def files(*patterns):
 
 def declared():
     """Each name that a file of specs/ or proofs/ declares, with its kinds; and each that only a lemma file or a proof does."""
-    found, words = collections.defaultdict(set), set()
+    found, words, inner = collections.defaultdict(set), set(), set()
     for p in files("crates/*/specs/**/*.antt", "crates/*/proofs/**/*.antt"):
         made = os.path.basename(p) == "Proof.antt"
         into = None
@@ -42,6 +43,8 @@ def declared():
             if not line.strip() or NO_NAME.match(line):
                 continue
             if line[0].isspace():
+                if INNER.match(line):
+                    inner.add(INNER.match(line).group(1))
                 m = into and PART.match(line)
                 if m:
                     found[m.group(1)].add(into)
@@ -58,7 +61,7 @@ def declared():
                 into = "field" if kind == "record" else "constructor"
             if "/specs/" in p and re.match(r"^(abbrev|unfoldable) ", line):
                 words.add(m.group(2))
-    return found, words
+    return found, words, inner
 
 
 def imported():
@@ -95,7 +98,7 @@ OWN = {"N#": "nodes#"}
 
 
 def main():
-    found, words = declared()
+    found, words, inner = declared()
     kit = imported()
     names = words | {n for n in kit if "-" not in n}
     turn = {}
@@ -110,6 +113,8 @@ def main():
             turn[n] += "_lem"
         settled.add(turn[n])
     texts = {p: PATH.sub("", read(p)) for p in files("crates/**/*.antt", "crates/*/src/**/*.rt")}
+    every = {p: set(TOKEN.findall(t)) | set(re.findall(r"[A-Za-z_]\w*", t) if p.endswith(".rt") else []) for p, t in texts.items()}
+    words_of = every.get
     for p, t in texts.items():
         tokens = set(TOKEN.findall(t)) | set(re.findall(r"[A-Za-z_]\w*", t) if p.endswith(".rt") else [])
         for n in sorted(turn):
@@ -118,6 +123,14 @@ def main():
     count = collections.Counter(turn.values())
     for n in [n for n in turn if "-" in n and count[turn[n]] > 1]:
         del turn[n]
+    # what a module with parameters or a where declares, last, so that it takes no name away
+    settled = set(found) | set(turn.values()) | kit
+    for n in sorted(inner - set(turn) - kit):
+        new = snake(n)
+        while new in settled or any(n in tokens and new in tokens for tokens in map(words_of, texts)):
+            new += "_lem"
+        turn[n] = new
+        settled.add(new)
     clash = []
     for p, t in texts.items():
         tokens = set(TOKEN.findall(t)) | set(re.findall(r"[A-Za-z_]\w*", t) if p.endswith(".rt") else [])

@@ -23,7 +23,7 @@ use telling::refuse;
 pub const STATUS_FILE: i32 = 3;
 
 // Where answers go, and where all else.
-#[derive(Drop)]
+#[derive(Clone, Copy)]
 pub struct Ends {
     pub out: i32,
     pub err: i32,
@@ -96,7 +96,7 @@ pub fn run<R: Files + Input>(
 }
 
 // The words of the program's arguments: whether all of them fit, and how many bytes they are.
-#[derive(Drop)]
+#[derive(Clone, Copy)]
 pub struct Words {
     pub whole: bool,
     pub length: usize,

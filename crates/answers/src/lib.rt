@@ -6,7 +6,7 @@ ghost use Rattle.answers.specs.Records.{records};
 
 // An answer of a search: a row number, and how far that row is from the query.
 #[repr(C)]
-#[derive(Drop)]
+#[derive(Clone, Copy)]
 pub struct Answer {
     pub row: u32,
     pub distance: u32,

@@ -17,7 +17,7 @@ pub record Grows (says : List ℕ → ℕ → List ℕ → ℕ → ℕ → Said)
   pub said : number ≡ (says T c w (length room) (length work)).0
   pub counted : (words ≡ cond (eqb number 0) (length (grown T c w)) 0) × (nodes ≡ cond (eqb number 0) (nodes# (grown T c w)) 0)
   pub index : room' ≡ cond (eqb number 0) (grown T c w ++ drop (length (grown T c w)) room) room
-  -- the table's numbers have 16 bits, as every lent table's have: `append-accepted` rests on it
+  -- the table's numbers have 16 bits, as every lent table's have: `append_accepted` rests on it
   pub narrow : Every (λ v. v ≤ 65535) T
   -- whatever is lent, 32 bits hold the counts
   pub small : (words ≤ room_of max_rows) × (nodes ≤ 2 * max_rows)

@@ -77,8 +77,8 @@ pub record Longer (d : ℕ → ℕ → ℕ) (T : List ℕ) (c : ℕ) (w : List �
 
 module _ {d : ℕ → ℕ → ℕ} {T : List ℕ} {c : ℕ} {w : List ℕ} (L : Longer d T c w) where
   -- the tree with the row in it
-  abbrev pub newTree : Grove
-  newTree = join (between T c (circles# w)) (m# w) (l# w) (n# w) max_depth 0 (tree_of w)
+  abbrev pub new_tree : Grove
+  new_tree = join (between T c (circles# w)) (m# w) (l# w) (n# w) max_depth 0 (tree_of w)
 
   -- the old index is in shape
   old_shape : InShape w
@@ -104,7 +104,7 @@ module _ {d : ℕ → ℕ → ℕ} {T : List ℕ} {c : ℕ} {w : List ℕ} (L : 
       (accepted_good d w L.accepted L.edition h)
 
   -- the new one is, and has all rows
-  pub new_good : 1 ≤ n# w → Appended (between T c (circles# w)) (m# w) (l# w) (tree_of w) newTree
+  pub new_good : 1 ≤ n# w → Appended (between T c (circles# w)) (m# w) (l# w) (tree_of w) new_tree
   new_good h =
       subst (λ (z : ℕ). Appended (between T c (circles# w)) (m# w) (l# w) (tree_of w)
       (join (between T c (circles# w)) (m# w) (l# w) z max_depth 0 (tree_of w))) old_count
@@ -124,14 +124,14 @@ module _ {d : ℕ → ℕ → ℕ} {T : List ℕ} {c : ℕ} {w : List ℕ} (L : 
       go (suc n) e =
           let N = new_good (omega arith) in
           subst (Accepted (between T c (circles# w))) (sym (append_some T c w (omega arith)))
-          (encode-accepted (between T c (circles# w)) 2 c (circles# w) (m# w) (l# w) newTree refl new_columns new_circles (share-ok w old_shape)
+          (encode-accepted (between T c (circles# w)) 2 c (circles# w) (m# w) (l# w) new_tree refl new_columns new_circles (share-ok w old_shape)
           (omega (arith, N.count, old_count, L.few)) N.good)
 
   -- ITS TREE IS THE OLD TREE WITH THE ROW IN IT
-  pub append_tree : 1 ≤ n# w → tree_of (appended T c w) ≡ newTree
+  pub append_tree : 1 ≤ n# w → tree_of (appended T c w) ≡ new_tree
   append_tree h =
       let G = (new_good h).good in
-      ap tree_of (append_some T c w h) ∙ encode_tree c (circles# w) (m# w) (l# w) newTree G.one G.even G.fine
+      ap tree_of (append_some T c w h) ∙ encode_tree c (circles# w) (m# w) (l# w) new_tree G.one G.even G.fine
 
   -- the old tree, as nodes side by side
   old_made : 1 ≤ n# w → Made (between T c (circles# w)) (m# w) (l# w) max_depth (tree_of w)
@@ -209,7 +209,7 @@ module _ {d : ℕ → ℕ → ℕ} {T : List ℕ} {c : ℕ} {w : List ℕ} (L : 
           (encode-length 2 c (circles# w) (m# w) (l# w) (plant (between T c (circles# w)) (m# w) (l# w) (rows_of T c)) (omega arith, omega arith))
       go (suc n) e =
           subst (λ (v : List ℕ). length v ≡ words_of_lem v) (sym (append_some T c w (omega arith)))
-          (encode-length 2 c (circles# w) (m# w) (l# w) newTree (omega arith, omega arith))
+          (encode-length 2 c (circles# w) (m# w) (l# w) new_tree (omega arith, omega arith))
 
   -- AND FITS THE ROOM OF A BUILD OF ONE ROW MORE
   pub append_room : length (appended T c w) ≤ 12 * (n# w + 1) + 8
@@ -230,7 +230,7 @@ module _ {d : ℕ → ℕ → ℕ} {T : List ℕ} {c : ℕ} {w : List ℕ} (L : 
       sym (ap length (numbered_is w old_shape (tree-fits w L.accepted.shape)) ∙ simp (length-map, range_length))
       ∙ numbered-size (l# w) (tree_of w) G.fine in (
         p.0,
-        ap (λ (v : List ℕ). nodes# v) (append_some T c w h) ∙ numbered-size (l# w) newTree N.fine ∙ p.1
+        ap (λ (v : List ℕ). nodes# v) (append_some T c w h) ∙ numbered-size (l# w) new_tree N.fine ∙ p.1
             ∙ ap (λ (n : ℕ). n + cond p.0 (m# w) 0) (sym was),
       )
 

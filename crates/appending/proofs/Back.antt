@@ -28,66 +28,66 @@ use native.Mathlib.Omega.{arith}
 -- ---- the words
 module _ (w : List ℕ) where
   -- k words from word a on
-  abbrev wordsFrom : ℕ → ℕ → List ℕ
-  wordsFrom a k = map (at w) (range a k)
+  abbrev words_from : ℕ → ℕ → List ℕ
+  words_from a k = map (at w) (range a k)
 
   -- they are a part of the list
-  part-words : (a k : ℕ) → a + k ≤ length w → take k (drop a w) ≡ wordsFrom a k
+  part-words : (a k : ℕ) → a + k ≤ length w → take k (drop a w) ≡ words_from a k
   part-words a zero h = refl
   part-words a (suc k) h =
       ap (take (suc k)) (drop-cons w a 0 (omega arith)) ∙ ap (λ (l : List ℕ). at w a ∷ l) (part-words (suc a) k (omega arith))
 
   -- a + b words: a, and b more
-  words_append : (s a b : ℕ) → wordsFrom s (a + b) ≡ wordsFrom s a ++ wordsFrom (s + a) b
+  words_append : (s a b : ℕ) → words_from s (a + b) ≡ words_from s a ++ words_from (s + a) b
   words_append s a b = ap (map (at w)) (range_append s a b) ∙ map-append (at w) (range s a) (range (s + a) b)
 
   -- two words
-  two-words : (a : ℕ) → at w a ∷ at w (a + 1) ∷ [] ≡ wordsFrom a 2
+  two-words : (a : ℕ) → at w a ∷ at w (a + 1) ∷ [] ≡ words_from a 2
   two-words a =
       let p : a + 1 ≡ suc a = omega arith in
       ap (λ (i : ℕ). at w a ∷ at w i ∷ []) p
 
   -- four words, or five
   some_words : (a e : ℕ) → Edition e
-      → at w a ∷ at w (a + 1) ∷ at w (a + 2) ∷ at w (a + 3) ∷ cond (eqb e 2) (kept e (at w (a + 4)) ∷ []) [] ≡ wordsFrom a (width e)
+      → at w a ∷ at w (a + 1) ∷ at w (a + 2) ∷ at w (a + 3) ∷ cond (eqb e 2) (kept e (at w (a + 4)) ∷ []) [] ≡ words_from a (width e)
   some_words a e ed = go (eqb e 2) refl
     where
       go : (b : Bool) → eqb e 2 ≡ b
-          → at w a ∷ at w (a + 1) ∷ at w (a + 2) ∷ at w (a + 3) ∷ cond b (cond b (at w (a + 4)) 0 ∷ []) [] ≡ wordsFrom a (width e)
+          → at w a ∷ at w (a + 1) ∷ at w (a + 2) ∷ at w (a + 3) ∷ cond b (cond b (at w (a + 4)) 0 ∷ []) [] ≡ words_from a (width e)
       go true q =
           let p1 : a + 1 ≡ suc a = omega arith in
           let p2 : a + 2 ≡ suc (suc a) = omega arith in
           let p3 : a + 3 ≡ suc (suc (suc a)) = omega arith in
           let p4 : a + 4 ≡ suc (suc (suc (suc a))) = omega arith in
-          let five : at w a ∷ at w (a + 1) ∷ at w (a + 2) ∷ at w (a + 3) ∷ at w (a + 4) ∷ [] ≡ wordsFrom a 5 = cc in
-          five ∙ ap (λ (e : ℕ). wordsFrom a (width e)) (sym (eqb-true e 2 q))
+          let five : at w a ∷ at w (a + 1) ∷ at w (a + 2) ∷ at w (a + 3) ∷ at w (a + 4) ∷ [] ≡ words_from a 5 = cc in
+          five ∙ ap (λ (e : ℕ). words_from a (width e)) (sym (eqb-true e 2 q))
       go false q =
           let p1 : a + 1 ≡ suc a = omega arith in
           let p2 : a + 2 ≡ suc (suc a) = omega arith in
           let p3 : a + 3 ≡ suc (suc (suc a)) = omega arith in
-          let four : at w a ∷ at w (a + 1) ∷ at w (a + 2) ∷ at w (a + 3) ∷ [] ≡ wordsFrom a 4 = cc in
+          let four : at w a ∷ at w (a + 1) ∷ at w (a + 2) ∷ at w (a + 3) ∷ [] ≡ words_from a 4 = cc in
           let one : 1 ≡ e = omega (arith, ed.0, ed.1, eqb-false e 2 q) in
-          four ∙ ap (λ (e : ℕ). wordsFrom a (width e)) one
+          four ∙ ap (λ (e : ℕ). words_from a (width e)) one
 
   -- the words of n nodes from number k on
   node_words_lem : (k n : ℕ) → Edition (edition# w)
-      → each (node_words (edition# w)) (map (node# w) (range k n)) ≡ wordsFrom (node_at_lem w k) (width (edition# w) * n)
-  node_words_lem k zero ed = ap (wordsFrom (node_at_lem w k)) (sym (mul-zero (width (edition# w))))
+      → each (node_words (edition# w)) (map (node# w) (range k n)) ≡ words_from (node_at_lem w k) (width (edition# w) * n)
+  node_words_lem k zero ed = ap (words_from (node_at_lem w k)) (sym (mul-zero (width (edition# w))))
   node_words_lem k (suc n) ed =
       let b : ℕ = width (edition# w) in
       let p : b * suc n ≡ b + b * n = omega (arith, mul-suc b n) in
       let q : node_at_lem w (suc k) ≡ node_at_lem w k + b = omega (arith, mul-suc b k) in
-      ap₂ (λ (x y : List ℕ). x ++ y) (some_words (node_at_lem w k) (edition# w) ed) (node_words_lem (suc k) n ed ∙ ap (λ (i : ℕ). wordsFrom i (b * n)) q)
-      ∙ sym (words_append (node_at_lem w k) b (b * n)) ∙ ap (wordsFrom (node_at_lem w k)) (sym p)
+      ap₂ (λ (x y : List ℕ). x ++ y) (some_words (node_at_lem w k) (edition# w) ed) (node_words_lem (suc k) n ed ∙ ap (λ (i : ℕ). words_from i (b * n)) q)
+      ∙ sym (words_append (node_at_lem w k) b (b * n)) ∙ ap (words_from (node_at_lem w k)) (sym p)
 
   -- the words of n positions from p on
-  pair-words : (p n : ℕ) → each pair_words (held w p n) ≡ wordsFrom (pair_at w p) (2 * n)
+  pair-words : (p n : ℕ) → each pair_words (held w p n) ≡ words_from (pair_at w p) (2 * n)
   pair-words p zero = refl
   pair-words p (suc n) =
       let e : 2 * suc n ≡ 2 + 2 * n = omega arith in
       let q : pair_at w (suc p) ≡ pair_at w p + 2 = omega arith in
-      ap₂ (λ (x y : List ℕ). x ++ y) (two-words (pair_at w p)) (pair-words (suc p) n ∙ ap (λ (i : ℕ). wordsFrom i (2 * n)) q)
-      ∙ sym (words_append (pair_at w p) 2 (2 * n)) ∙ ap (wordsFrom (pair_at w p)) (sym e)
+      ap₂ (λ (x y : List ℕ). x ++ y) (two-words (pair_at w p)) (pair-words (suc p) n ∙ ap (λ (i : ℕ). words_from i (2 * n)) q)
+      ∙ sym (words_append (pair_at w p) 2 (2 * n)) ∙ ap (words_from (pair_at w p)) (sym e)
 
 -- what a possible header says of its last two words: the distance kind is 1, and the circles are columns
 pub header_last : (w : List ℕ) → whole_ok w ≡ true → (kind# w ≡ 1) × (circles_ok_lem (c# w) (circles# w) ≡ true)
@@ -142,13 +142,13 @@ tree_encode w ok sh =
     let e : ℕ = edition# w in
     let b : ℕ = width e * N in
     let H : List ℕ = e ∷ length (entries (tree_of w)) ∷ c# w ∷ m# w ∷ l# w ∷ length (numbered (tree_of w)) ∷ 1 ∷ circles# w ∷ [] in
-    let head : H ≡ wordsFrom w 0 8 = cc in
+    let head : H ≡ words_from w 0 8 = cc in
     let base : node_at_lem w 0 ≡ 8 = omega (arith, mul-zero (width e)) in
-    let one : each (node_words e) (numbered (tree_of w)) ≡ wordsFrom w 8 b =
-    ap (each (node_words e)) ns ∙ node_words_lem w 0 N S.whole.edition ∙ ap (λ (k : ℕ). wordsFrom w k b) base in
+    let one : each (node_words e) (numbered (tree_of w)) ≡ words_from w 8 b =
+    ap (each (node_words e)) ns ∙ node_words_lem w 0 N S.whole.edition ∙ ap (λ (k : ℕ). words_from w k b) base in
     let start : pair_at w 0 ≡ 8 + b = omega arith in
-    let two : each pair_words (entries (tree_of w)) ≡ wordsFrom w (8 + b) (2 * n) =
-    ap (each pair_words) es ∙ pair-words w 0 n ∙ ap (λ (k : ℕ). wordsFrom w k (2 * n)) start in
+    let two : each pair_words (entries (tree_of w)) ≡ words_from w (8 + b) (2 * n) =
+    ap (each pair_words) es ∙ pair-words w 0 n ∙ ap (λ (k : ℕ). words_from w k (2 * n)) start in
     let sum : 8 + (b + 2 * n) ≡ words_of_lem w = omega arith in
     ap₂ (λ (x y : List ℕ). x ++ y) head (ap₂ (λ (x y : List ℕ). x ++ y) one two ∙ sym (words_append w 8 b (2 * n)))
     ∙ sym (words_append w 0 8 (b + 2 * n)) ∙ sym (part-words w 0 (8 + (b + 2 * n)) (omega (arith, S.whole.words)))

@@ -9,7 +9,7 @@ use Rattle.laws.proofs.Shares.{bit}
 use Rattle.laws.proofs.Times.{lefts, tally_lefts}
 use Rattle.laws.specs.Every.{Every}
 use Rattle.laws.specs.Lists.{head, tally}
-use Rattle.tree.specs.Build.{grow, leafOf, reach, split}
+use Rattle.tree.specs.Build.{grow, leaf_of, reach, split}
 use Rattle.tree.specs.Grove.{Grove, Reach, bare, entries, fork, leaf}
 use borrow.Author.Tests.{ne_eqb}
 use lib.Dec.{T, eqb, leb}
@@ -52,21 +52,21 @@ unfolding grow
 own-keep d m l zero run g = refl
 own-keep d m l (suc deep) run g = go (leb (length run) l)
   where
-    go : (b : Bool) → keep_own (reach d run) (cond b (leafOf d run g) (fork (reach d run) (foldr (grow d m l deep) bare (split d m run)) g))
-        ≡ cond b (leafOf d run g) (fork (reach d run) (foldr (grow d m l deep) bare (split d m run)) g)
+    go : (b : Bool) → keep_own (reach d run) (cond b (leaf_of d run g) (fork (reach d run) (foldr (grow d m l deep) bare (split d m run)) g))
+        ≡ cond b (leaf_of d run g) (fork (reach d run) (foldr (grow d m l deep) bare (split d m run)) g)
     go true = refl
     go false = refl
 
 module _ (d : ℕ → ℕ → ℕ) (m l z : ℕ) where
   -- a run that has at most l rows, or no level below it, grows to its leaf
-  pub grow-leaf : (deep : ℕ) (run : List ℕ) (g : Grove) → (leb (length run) l || eqb deep 0) ≡ true → leafOf d run g ≡ grow d m l deep run g
+  pub grow-leaf : (deep : ℕ) (run : List ℕ) (g : Grove) → (leb (length run) l || eqb deep 0) ≡ true → leaf_of d run g ≡ grow d m l deep run g
   unfolding grow
   grow-leaf zero run g e = refl
   grow-leaf (suc deep) run g e =
       go (leb (length run) l) (ap (λ (b : Bool). leb (length run) l || b) (sym (ne_eqb (suc deep) 0 (λ q. omega arith))) ∙ e)
     where
       go : (b : Bool) → (b || false) ≡ true
-          → leafOf d run g ≡ cond b (leafOf d run g) (fork (reach d run) (foldr (grow d m l deep) bare (split d m run)) g)
+          → leaf_of d run g ≡ cond b (leaf_of d run g) (fork (reach d run) (foldr (grow d m l deep) bare (split d m run)) g)
       go true e = refl
       go false e = absurd (subst T (sym e) tt)
 

@@ -6,7 +6,7 @@ use Rattle.laws.proofs.Ranges.{range_append, range_length}
 use Rattle.laws.specs.Lists.{all, each, range}
 use Rattle.limits.specs.Limits.{max_depth}
 use Rattle.tree.proofs.Encode.{spans_append}
-use Rattle.tree.proofs.Forks.{as-fork, as-leaf, kidsAt}
+use Rattle.tree.proofs.Forks.{as-fork, as-leaf, kids_at}
 use Rattle.tree.proofs.Members.{entries_at, kids-entries, kids-firsts}
 use Rattle.tree.proofs.Rows.{by_root}
 use Rattle.tree.specs.Encode.{Node, below, broods, family, level_nodes, nodes, numbered, span, spans}
@@ -47,7 +47,7 @@ module _ (w : List ℕ) (S : InShape w) (t : T (tree_fits_lem w)) where
   members-length k = simp (length-map, range_length)
 
   -- how many its children have
-  kids-length : (deep k : ℕ) → k < nodes# w → inner w k ≡ true → length (entries (kidsAt w deep k)) ≡ count# w k
+  kids-length : (deep k : ℕ) → k < nodes# w → inner w k ≡ true → length (entries (kids_at w deep k)) ≡ count# w k
   kids-length deep k h e =
       ap length (kids-entries w S (tree_at w deep) (entries_at w S deep) (child# w k) (m# w) (start# w k)
       (count# w k) ((S.node k h).kids e).inside ((S.node k h).kids e).tiled)
@@ -72,7 +72,7 @@ module _ (w : List ℕ) (S : InShape w) (t : T (tree_fits_lem w)) where
       → family (nx + m# w) (s + count# w a) g ≡ vs → family nx s (tree_at w (suc deep) a g) ≡ node# w a ∷ vs
   unfolding family
   fork-node deep a s nx g vs h p e b q =
-      let ks : Grove = kidsAt w deep a in
+      let ks : Grove = kids_at w deep a in
       let sp : span ks ≡ m# w = span-forest deep (child# w a) (m# w) ((S.node a h).kids e).inside in
       let len = kids-length deep a h e in
       ap (family nx s) (as-fork w deep a g e)
@@ -87,11 +87,11 @@ module _ (w : List ℕ) (S : InShape w) (t : T (tree_fits_lem w)) where
 
   -- an inner node has its own, before those of the nodes behind it
   fork-broods : (deep a s : ℕ) (g : Grove) → a < nodes# w → inner w a ≡ true
-      → broods s (tree_at w (suc deep) a g) ≡ (s, kidsAt w deep a) ∷ broods (s + count# w a) g
+      → broods s (tree_at w (suc deep) a g) ≡ (s, kids_at w deep a) ∷ broods (s + count# w a) g
   unfolding broods
   fork-broods deep a s g h e =
       ap (broods s) (as-fork w deep a g e)
-      ∙ ap (λ (c : ℕ). (s, kidsAt w deep a) ∷ broods (s + c) g) (kids-length deep a h e)
+      ∙ ap (λ (c : ℕ). (s, kids_at w deep a) ∷ broods (s + c) g) (kids-length deep a h e)
 
   -- with no level left no node is inner
   not-inner : (a : ℕ) → a < nodes# w → Left w 0 a → inner w a ≡ true → ⊥
@@ -192,12 +192,12 @@ module _ (w : List ℕ) (S : InShape w) (t : T (tree_fits_lem w)) where
           let r = ih (nx + m# w) (omega arith) (tile-tail w a k s e u) (omega (arith, born-inner w a q)) (left-later (suc deep) a l) in
           let z = fork-broods deep a s G (omega arith) q in
           let bs : List (ℕ × Grove) = broods (s + count# w a) G in
-          let sp : span (kidsAt w deep a) ≡ m# w = span-forest deep (child# w a) (m# w) K.inside in
+          let sp : span (kids_at w deep a) ≡ m# w = span-forest deep (child# w a) (m# w) K.inside in
           let tl : T (tile w nx (m# w) s (start# w a + count# w a)) =
           subst (λ (i : ℕ). T (tile w nx (m# w) i (start# w a + count# w a))) (tile-head w a k s e u)
           (subst (λ (i : ℕ). T (tile w i (m# w) (start# w a) (start# w a + count# w a))) ch K.tiled) in (
             subst (Cover deep nx) (sym z)
-                (cover_one deep nx (m# w) s (start# w a + count# w a) (kidsAt w deep a) bs (ap (λ (i : ℕ). forest w deep i (m# w)) ch) tl
+                (cover_one deep nx (m# w) s (start# w a + count# w a) (kids_at w deep a) bs (ap (λ (i : ℕ). forest w deep i (m# w)) ch) tl
                 (omega (arith, K.inside)) r.0),
             ap (λ (fs : List (ℕ × Grove)). nx + spans fs) z ∙ ap (λ (i : ℕ). nx + (i + spans bs)) sp
                 ∙ sym (add_assoc nx (m# w) (spans bs)) ∙ r.1 ∙ ap (born w) next,

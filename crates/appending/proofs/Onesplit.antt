@@ -13,7 +13,7 @@ use Rattle.limits.specs.Limits.{max_depth}
 use Rattle.tree.proofs.Good.{nodes-size, size}
 use Rattle.tree.proofs.Grow.{split-length, split_runs, split-tally}
 use Rattle.tree.proofs.Shaped.{Fine}
-use Rattle.tree.specs.Build.{Run, grow, leafOf, reach, split}
+use Rattle.tree.specs.Build.{Run, grow, leaf_of, reach, split}
 use Rattle.tree.specs.Encode.{numbered, span}
 use Rattle.tree.specs.Grove.{Grove, Reach, bare, entries, firsts, fork, leaf}
 use borrow.Author.Tests.{le-leb, leb-false, lt-leb, ne_eqb}
@@ -46,11 +46,11 @@ module _ (d : ℕ → ℕ → ℕ) (m l : ℕ) (m2 : 2 ≤ m) (ml : m ≤ l) whe
   m1 = omega arith
 
   -- runs of at most l rows grow to their leaves
-  forest-leaves : (deep : ℕ) (gs : List (List ℕ)) → Every (λ q. length q ≤ l) gs → foldr (grow d m l deep) bare gs ≡ foldr (leafOf d) bare gs
+  forest-leaves : (deep : ℕ) (gs : List (List ℕ)) → Every (λ q. length q ≤ l) gs → foldr (grow d m l deep) bare gs ≡ foldr (leaf_of d) bare gs
   forest-leaves deep [] h = refl
   forest-leaves deep (q ∷ gs) h =
       sym (grow-leaf d m l 0 deep q (foldr (grow d m l deep) bare gs) (ap (λ (b : Bool). b || eqb deep 0) (le-leb (length q) l h.0)))
-      ∙ ap (leafOf d q) (forest-leaves deep gs h.1)
+      ∙ ap (leaf_of d q) (forest-leaves deep gs h.1)
 
   -- the parts of a run of l + 1 rows have at most l
   pub split-short : (run : List ℕ) → Run run → length run ≡ l + 1 → Every (λ q. length q ≤ l) (split d m run)
@@ -64,18 +64,18 @@ module _ (d : ℕ → ℕ → ℕ) (m l : ℕ) (m2 : 2 ≤ m) (ml : m ≤ l) whe
 
   -- A RUN OF l + 1 ROWS IS SPLIT ONCE
   pub grow-once : (deep : ℕ) (run : List ℕ) (g : Grove) → Run run → length run ≡ l + 1
-      → grow d m l (suc deep) run g ≡ fork (reach d run) (foldr (leafOf d) bare (split d m run)) g
+      → grow d m l (suc deep) run g ≡ fork (reach d run) (foldr (leaf_of d) bare (split d m run)) g
   unfolding grow
   grow-once deep run g r e =
       let b : leb (length run) l ≡ false = many (length run) e in
-      ap (λ (b : Bool). cond b (leafOf d run g) (fork (reach d run) (foldr (grow d m l deep) bare (split d m run)) g)) b
+      ap (λ (b : Bool). cond b (leaf_of d run g) (fork (reach d run) (foldr (grow d m l deep) bare (split d m run)) g)) b
       ∙ ap (λ (ks : Grove). fork (reach d run) ks g) (forest-leaves deep (split d m run) (split-short run r e))
     where
       many : (n : ℕ) → n ≡ l + 1 → leb n l ≡ false
       many n e = lt-leb n l (omega arith)
 
   -- how many nodes leaves side by side are
-  leaves-size : (gs : List (List ℕ)) → size (foldr (leafOf d) bare gs) ≡ length gs
+  leaves-size : (gs : List (List ℕ)) → size (foldr (leaf_of d) bare gs) ≡ length gs
   leaves-size [] = refl
   leaves-size (q ∷ gs) = omega (arith, leaves-size gs)
 
@@ -91,7 +91,7 @@ module _ (d : ℕ → ℕ → ℕ) (m l : ℕ) (m2 : 2 ≤ m) (ml : m ≤ l) whe
 
     -- A LEAF OF l ROWS ABOVE DEPTH 24 THAT TAKES ONE MORE BECOMES AN INNER NODE OVER m LEAVES
     pub lodge-split : (deep : ℕ) (R : Reach) (es : List (ℕ × ℕ)) (g : Grove) → Made d m l (suc deep) (leaf R es g) → Once z (leaf R es g)
-        → length es ≡ l → lodge d m l z (suc deep) R es g ≡ fork (reach d (ordered z es)) (foldr (leafOf d) bare (split d m (ordered z es))) g
+        → length es ≡ l → lodge d m l z (suc deep) R es g ≡ fork (reach d (ordered z es)) (foldr (leaf_of d) bare (split d m (ordered z es))) g
     lodge-split deep R es g M o e =
         let b : (leb (length es + 1) l || eqb (suc deep) 0) ≡ false =
         ap₂ (λ (x y : Bool). x || y) (lt-leb (length es + 1) l (omega arith)) (ne_eqb (suc deep) 0 (λ q. omega arith)) in

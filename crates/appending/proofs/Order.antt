@@ -10,7 +10,7 @@ use Rattle.laws.proofs.Joins.{each_append}
 use Rattle.laws.proofs.Times.{lefts}
 use Rattle.laws.specs.Lists.{each, head}
 use Rattle.limits.specs.Limits.{max_depth}
-use Rattle.tree.specs.Build.{leafOf, reach, split}
+use Rattle.tree.specs.Build.{leaf_of, reach, split}
 use Rattle.tree.specs.Encode.{span}
 use Rattle.tree.specs.Grove.{Grove, Reach, bare, entries, firsts, fork, leaf}
 use borrow.Author.Tests.{leb-false, ne_eqb}
@@ -36,7 +36,7 @@ groups-entries dep (fork R ks g) =
     ∙ ap₂ (λ (x y : List (ℕ × ℕ)). x ++ y) (groups-entries (suc dep) ks) (groups-entries dep g)
 
 -- the groups of leaves side by side are their runs'
-leaves_groups : (d : ℕ → ℕ → ℕ) (dep : ℕ) (gs : List (List ℕ)) → groups dep (foldr (leafOf d) bare gs) ≡ map (group_of d dep) gs
+leaves_groups : (d : ℕ → ℕ → ℕ) (dep : ℕ) (gs : List (List ℕ)) → groups dep (foldr (leaf_of d) bare gs) ≡ map (group_of d dep) gs
 unfolding groups
 leaves_groups d dep [] = refl
 leaves_groups d dep (q ∷ gs) = ap (λ (x : List Group). group_of d dep q ∷ x) (leaves_groups d dep gs)
@@ -80,7 +80,7 @@ module _ (d : ℕ → ℕ → ℕ) (m l z : ℕ) where
 
   -- the leaf that takes it and is split
   order-split : (dep : ℕ) (R : Reach) (es : List (ℕ × ℕ)) (g : Grove) → dep < max_depth → l ≤ length es
-      → Order dep (leaf R es g) (fork (reach d (ordered z es)) (foldr (leafOf d) bare (split d m (ordered z es))) g)
+      → Order dep (leaf R es g) (fork (reach d (ordered z es)) (foldr (leaf_of d) bare (split d m (ordered z es))) g)
   unfolding groups
   order-split dep R es g h k =
       let gs : List (List ℕ) = split d m (ordered z es) in

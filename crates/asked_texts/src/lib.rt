@@ -16,14 +16,14 @@ use withdrawing::withdraw_in;
 const SET_WORDS: usize = 32_768;
 
 // The status, 0 where a text was read, and its length.
-#[derive(Drop)]
+#[derive(Clone, Copy)]
 pub struct OneText {
     pub status: u32,
     pub length: usize,
 }
 
 // The status, 0 where both texts were read, and their lengths.
-#[derive(Drop)]
+#[derive(Clone, Copy)]
 pub struct Texts {
     pub status: u32,
     pub length: usize,

@@ -1,6 +1,6 @@
 -- The passes one after the other: the first that finds a fault gives the number and the place. Assumes nothing.
 use Prim.Native.Nat.{◌*◌, ◌+◌, ◌<◌, ◌≤◌, ℕ}
-use Rattle.audit.specs.Passes.{measuredFaults}
+use Rattle.audit.specs.Passes.{measured_faults}
 use Rattle.laws.proofs.Every.{every_append, every-keep, every_map}
 use Rattle.laws.proofs.First.{first-at-end, first-empty, first-kept}
 use Rattle.laws.proofs.Ranges.{at_every, range-every}
@@ -9,8 +9,8 @@ use Rattle.laws.specs.First.{First}
 use Rattle.laws.specs.Lists.{each, keep, range}
 use Rattle.limits.specs.Limits.{max_rows, within}
 use Rattle.limits.specs.Said.{Said, said}
-use Rattle.nearness.specs.Strays.{allStrays, nodeStrays}
-use Rattle.tree.specs.Check.{again, faults, strays, wrongDist, wrongReach}
+use Rattle.nearness.specs.Strays.{all_strays, node_strays}
+use Rattle.tree.specs.Check.{again, faults, strays, wrong_dist, wrong_reach_lem}
 use Rattle.words.specs.InShape.{InShape}
 use Rattle.words.specs.Words.{nodes#, count#, n#, start#}
 use mathlib.Core.Bool.{Bool, true}
@@ -38,51 +38,51 @@ again_faults w = map (λ p. (10, p, 0)) (keep (again w) (range 0 (n# w)))
 
 module _ (d : ℕ → ℕ → ℕ) (w : List ℕ) where
   -- 11, of all positions
-  abbrev distanceFaults : List Said
-  distanceFaults = map (λ p. (11, p, 0)) (keep (wrongDist d w) (range 0 (n# w)))
+  abbrev distance_faults : List Said
+  distance_faults = map (λ p. (11, p, 0)) (keep (wrong_dist d w) (range 0 (n# w)))
 
   -- 12, of all nodes
-  abbrev radiusFaults : List Said
-  radiusFaults = map (λ k. (12, k, 0)) (keep (wrongReach d w) (range 0 (nodes# w)))
+  abbrev radius_faults : List Said
+  radius_faults = map (λ k. (12, k, 0)) (keep (wrong_reach_lem d w) (range 0 (nodes# w)))
 
   -- 10 comes first, then what distances show
-  faults-are : faults d w ≡ again_faults w ++ measuredFaults d w
-  unfolding faults measuredFaults allStrays nodeStrays
+  faults-are : faults d w ≡ again_faults w ++ measured_faults d w
+  unfolding faults measured_faults all_strays node_strays
   faults-are =
-      append_assoc (again_faults w ++ distanceFaults) radiusFaults (allStrays d w)
-      ∙ append_assoc (again_faults w) distanceFaults (radiusFaults ++ allStrays d w)
+      append_assoc (again_faults w ++ distance_faults) radius_faults (all_strays d w)
+      ∙ append_assoc (again_faults w) distance_faults (radius_faults ++ all_strays d w)
 
   -- p is the lowest position with a row number again, or n
   module _ (p : ℕ) (F : First (again w) 0 (n# w) p) where
     -- there is one: 10 is said, at p
     pub again-found : p < n# w → (10, p, 0) ≡ said (faults d w)
-    again-found h = sym (ap said faults-are ∙ pass-found (again w) (λ p. (10, p, 0)) (n# w) p (measuredFaults d w) F h)
+    again-found h = sym (ap said faults-are ∙ pass-found (again w) (λ p. (10, p, 0)) (n# w) p (measured_faults d w) F h)
 
     -- there is none: what distances show is said
-    pub again-none : n# w ≤ p → said (measuredFaults d w) ≡ said (faults d w)
-    again-none h = sym (ap said faults-are ∙ pass-none (again w) (λ p. (10, p, 0)) (n# w) p (measuredFaults d w) F h)
+    pub again-none : n# w ≤ p → said (measured_faults d w) ≡ said (faults d w)
+    again-none h = sym (ap said faults-are ∙ pass-none (again w) (λ p. (10, p, 0)) (n# w) p (measured_faults d w) F h)
 
   -- p is the lowest position with a wrong distance, or n
-  module _ (p : ℕ) (F : First (wrongDist d w) 0 (n# w) p) where
+  module _ (p : ℕ) (F : First (wrong_dist d w) 0 (n# w) p) where
     -- there is one: 11 is said, at p
-    pub distance-found : p < n# w → (11, p, 0) ≡ said (measuredFaults d w)
-    unfolding measuredFaults
-    distance-found h = sym (pass-found (wrongDist d w) (λ p. (11, p, 0)) (n# w) p (radiusFaults ++ allStrays d w) F h)
+    pub distance-found : p < n# w → (11, p, 0) ≡ said (measured_faults d w)
+    unfolding measured_faults
+    distance-found h = sym (pass-found (wrong_dist d w) (λ p. (11, p, 0)) (n# w) p (radius_faults ++ all_strays d w) F h)
 
     -- there is none, and k is the lowest node with a wrong radius, or N
-    module _ (k : ℕ) (G : First (wrongReach d w) 0 (nodes# w) k) (past : n# w ≤ p) where
+    module _ (k : ℕ) (G : First (wrong_reach_lem d w) 0 (nodes# w) k) (past : n# w ≤ p) where
       -- what the passes after the first say
-      distance_none : said (measuredFaults d w) ≡ said (radiusFaults ++ allStrays d w)
-      unfolding measuredFaults
-      distance_none = pass-none (wrongDist d w) (λ p. (11, p, 0)) (n# w) p (radiusFaults ++ allStrays d w) F past
+      distance_none : said (measured_faults d w) ≡ said (radius_faults ++ all_strays d w)
+      unfolding measured_faults
+      distance_none = pass-none (wrong_dist d w) (λ p. (11, p, 0)) (n# w) p (radius_faults ++ all_strays d w) F past
 
       -- there is such a node: 12 is said, at k
-      pub radius-found : k < nodes# w → (12, k, 0) ≡ said (measuredFaults d w)
-      radius-found h = sym (distance_none ∙ pass-found (wrongReach d w) (λ k. (12, k, 0)) (nodes# w) k (allStrays d w) G h)
+      pub radius-found : k < nodes# w → (12, k, 0) ≡ said (measured_faults d w)
+      radius-found h = sym (distance_none ∙ pass-found (wrong_reach_lem d w) (λ k. (12, k, 0)) (nodes# w) k (all_strays d w) G h)
 
       -- there is none: what 13 finds is said
-      pub radius-none : nodes# w ≤ k → said (allStrays d w) ≡ said (measuredFaults d w)
-      radius-none h = sym (distance_none ∙ pass-none (wrongReach d w) (λ k. (12, k, 0)) (nodes# w) k (allStrays d w) G h)
+      pub radius-none : nodes# w ≤ k → said (all_strays d w) ≡ said (measured_faults d w)
+      radius-none h = sym (distance_none ∙ pass-none (wrong_reach_lem d w) (λ k. (12, k, 0)) (nodes# w) k (all_strays d w) G h)
 
 -- ---- a fact P of every fault
 module _ {A B : Type 0} where
@@ -103,15 +103,15 @@ module _ (P : Said → Type 0) where
   -- WHAT HOLDS OF EACH FAULT THAT THERE COULD BE HOLDS OF EACH THAT THERE IS
   every-fault : (d : ℕ → ℕ → ℕ) (w : List ℕ) → ((p : ℕ) → p < n# w → P (10, p, 0) × P (11, p, 0)) → ((k : ℕ) → k < nodes# w → P (12, k, 0))
       → ((k i : ℕ) → k < nodes# w → i < count# w k → P (13, k, start# w k + i)) → Every P (faults d w)
-  unfolding measuredFaults allStrays nodeStrays
+  unfolding measured_faults all_strays node_strays
   every-fault d w at_place at-node at-member =
       subst (Every P) (sym (faults-are d w))
-      (every_append P (again_faults w) (measuredFaults d w) (from_zero (λ p. (10, p, 0)) (again w) (n# w) (λ p h. (at_place p h).0))
-      (every_append P (distanceFaults d w) (radiusFaults d w ++ allStrays d w)
-      (from_zero (λ p. (11, p, 0)) (wrongDist d w) (n# w) (λ p h. (at_place p h).1))
-      (every_append P (radiusFaults d w) (allStrays d w) (from_zero (λ k. (12, k, 0)) (wrongReach d w) (nodes# w) at-node)
-      (every-each P (nodeStrays d w) (range 0 (nodes# w))
-      (at_every (λ k. Every P (nodeStrays d w k)) (nodes# w)
+      (every_append P (again_faults w) (measured_faults d w) (from_zero (λ p. (10, p, 0)) (again w) (n# w) (λ p h. (at_place p h).0))
+      (every_append P (distance_faults d w) (radius_faults d w ++ all_strays d w)
+      (from_zero (λ p. (11, p, 0)) (wrong_dist d w) (n# w) (λ p h. (at_place p h).1))
+      (every_append P (radius_faults d w) (all_strays d w) (from_zero (λ k. (12, k, 0)) (wrong_reach_lem d w) (nodes# w) at-node)
+      (every-each P (node_strays d w) (range 0 (nodes# w))
+      (at_every (λ k. Every P (node_strays d w k)) (nodes# w)
       (λ k h. one-pass (λ p. (13, k, p)) (strays d w k) (start# w k) (count# w k) (λ i l. at-member k i h l)))))))
 
 -- the number is one of the passes'

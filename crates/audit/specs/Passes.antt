@@ -4,8 +4,8 @@ use Rattle.std.specs.Prelude.{ℕ, List, ◌++◌, map}
 use Rattle.audit.specs.declared.Checked.{Checked}
 use Rattle.laws.specs.Lists.{keep, range}
 use Rattle.limits.specs.Said.{Said}
-use Rattle.nearness.specs.Strays.{allStrays}
-use Rattle.tree.specs.Check.{wrongDist, wrongReach}
+use Rattle.nearness.specs.Strays.{all_strays}
+use Rattle.tree.specs.Check.{wrong_dist, wrong_reach_lem}
 use Rattle.words.specs.Words.{nodes#, n#}
 
 -- what the code hands back, as a number and two places
@@ -14,7 +14,7 @@ told r = (r.number, r.place, r.second)
 
 module _ (d : ℕ → ℕ → ℕ) (w : List ℕ) where
   -- 11 to 13: the faults that distances show
-  unfoldable pub measuredFaults : List Said
-  measuredFaults =
-      map (λ p. (11, p, 0)) (keep (wrongDist d w) (range 0 (n# w)))
-      ++ (map (λ k. (12, k, 0)) (keep (wrongReach d w) (range 0 (nodes# w))) ++ allStrays d w)
+  unfoldable pub measured_faults : List Said
+  measured_faults =
+      map (λ p. (11, p, 0)) (keep (wrong_dist d w) (range 0 (n# w)))
+      ++ (map (λ k. (12, k, 0)) (keep (wrong_reach_lem d w) (range 0 (nodes# w))) ++ all_strays d w)

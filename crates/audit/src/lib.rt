@@ -3,7 +3,7 @@
 
 ghost use Rattle.std.specs.Prelude.{◌*◌, ◌≤◌, length, ◌≡◌};
 ghost use Rattle.audit.specs.Calls.{Checks};
-ghost use Rattle.audit.specs.Passes.{measuredFaults, told};
+ghost use Rattle.audit.specs.Passes.{measured_faults, told};
 ghost use Rattle.buffers.specs.Wiped.{wiped};
 ghost use Rattle.limits.specs.Said.{said};
 ghost use Rattle.measure.specs.Space.{Space};
@@ -21,7 +21,7 @@ use stored_distances::first_wrong_distance;
 use words::places::{nodes, rows};
 
 // The number given back and its two places, zero where it names none.
-#[derive(Drop)]
+#[derive(Clone, Copy)]
 pub struct Checked {
     pub number: u32,
     pub place: usize,
@@ -31,7 +31,7 @@ pub struct Checked {
 // 11 to 13: the first fault that distances show, or 0.
 fn measured_fault(table: &[u16], c: usize, index: &[u32]) -> Checked
     requires { Tested index.now table.now c × Space (between table.now c (circles# index.now)) }
-    ensures { told result ≡ said (measuredFaults (between table.now c (circles# index.now)) index.now) }
+    ensures { told result ≡ said (measured_faults (between table.now c (circles# index.now)) index.now) }
 {
     let p = first_wrong_distance(table, c, index);
     if p < rows(index) {

@@ -3,12 +3,12 @@
 
 ghost use Rattle.std.specs.Prelude.{◌*◌, ◌+◌, ◌<◌, ◌≤◌, ℕ, length, false, ◌≡◌};
 ghost use Rattle.bare_leaf.specs.Bare.{Bare};
-ghost use Rattle.leaf_decision.specs.Decision.{leafAt, leafMark};
+ghost use Rattle.leaf_decision.specs.Decision.{leaf_at, leaf_mark};
 ghost use Rattle.limits.specs.Limits.{max_columns, max_distance};
 ghost use Rattle.marking.specs.Lent.{Lent};
 ghost use Rattle.marking.specs.Written.{byte, marked};
 ghost use Rattle.measure.specs.Table.{from};
-ghost use Rattle.tree.specs.Radius.{byDistance};
+ghost use Rattle.tree.specs.Radius.{by_distance};
 ghost use Rattle.words.specs.Words.{n#, pair_at, row#};
 
 use ceilings::query_distance_to;
@@ -34,7 +34,7 @@ pub fn is_bare(how: usize, withdrawn: usize, list: usize) -> bool
 // makes one test of the two.
 fn measured_byte(table: &[u16], c: usize, circles: u32, query: &[u16], row: usize, r: u32) -> u8
     requires { (c ≤ max_columns) × (c * row + c ≤ length table.now) × (length query.now ≡ c) }
-    ensures { result ≡ byDistance (from table.now c circles query.now) r row }
+    ensures { result ≡ by_distance (from table.now c circles query.now) r row }
 {
     let over = smaller(r, Params::MOST_DISTANCE) + 1;
     let d = query_distance_to(table, c, circles, query, row, r);
@@ -57,7 +57,7 @@ fn bare_row(
     requires lent { Lent index.now table.now c query.now how.old × (0 < length how.old) }
     requires p_bound { (p < n# index.now) × (x ≤ max_distance) × (base ≡ pair_at index.now 0) }
     ensures { how.new ≡ byte (row# index.now p)
-        (leafMark (from table.now c circles query.now) r index.now x p) how.old }
+        (leaf_mark (from table.now c circles query.now) r index.now x p) how.old }
 {
     let row = word(index, base + 2 * p);
     let verdict = decide(x, index[base + 2 * p + 1], r);
@@ -88,7 +88,7 @@ pub fn open_bare(
     requires lent { Lent index.now table.now c query.now how.old × (0 < length how.old) }
     requires lo_le_hi { (lo ≤ hi) × (hi ≤ n# index.now) × (x ≤ max_distance) × (base ≡ pair_at index.now 0) }
     ensures { how.new ≡ marked (λ (i : ℕ). false)
-        (leafAt (from table.now c circles query.now) r index.now x) lo hi how.old }
+        (leaf_at (from table.now c circles query.now) r index.now x) lo hi how.old }
 {
     let mut p = lo;
     while p < hi {

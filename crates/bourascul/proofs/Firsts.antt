@@ -7,7 +7,7 @@ use Rattle.tree.proofs.Answers.{answers_length, near-at}
 use Rattle.tree.proofs.Sorted.{Sorted, sort_sorted, sorted_take, under_last}
 use Rattle.tree.specs.Grove.{Grove}
 use Rattle.tree.specs.Homes.{homes}
-use Rattle.tree.specs.Nearest.{answers, candidates, is_measured, last_distance, nearHow, passes, remaining, sort}
+use Rattle.tree.specs.Nearest.{answers, candidates, is_measured, last_distance, near_how, passes, remaining, sort}
 use borrow.Author.Tests.{le-leb, leb-true, lt-ltb, ltb-true}
 use lib.Dec.{T, eqb, leb, ltb}
 use lib.ListN.{get_or, length, take}
@@ -93,8 +93,8 @@ module _ (x : ℕ → ℕ) (gone : ℕ → Bool) (n : ℕ) where
   passes-more k k' b h = pass_still (length (candidates x gone n)) k k' b (last_distance (answers x gone n k)) (last_distance (answers x gone n k')) h (last_more k k' h)
 
   -- A ROW MEASURED FOR k IS MEASURED FOR MORE
-  pub measured-still : (t : Grove) (k k' i : ℕ) → k ≤ k' → i < n → T (is_measured (get_or (nearHow x gone n t k) i 0))
-      → T (is_measured (get_or (nearHow x gone n t k') i 0))
+  pub measured-still : (t : Grove) (k k' i : ℕ) → k ≤ k' → i < n → T (is_measured (get_or (near_how x gone n t k) i 0))
+      → T (is_measured (get_or (near_how x gone n t k') i 0))
   measured-still t k k' i more h m =
       let b : ℕ = look i (homes x t) in
       subst (λ (v : ℕ). T (is_measured v)) (sym (near-at x gone n t k' i h))

@@ -17,7 +17,7 @@ use Rattle.rowset.specs.Sets.{is_in_lem}
 use Rattle.tree.specs.Build.{build}
 use Rattle.tree.specs.Cases.{five}
 use Rattle.tree.specs.Grove.{tree_of}
-use Rattle.tree.specs.Nearest.{is_measured, nearHow}
+use Rattle.tree.specs.Nearest.{is_measured, near_how}
 use Rattle.words.specs.Words.{circles#, n#}
 use lib.Dec.{T}
 use lib.ListN.{get_or-append, drop, get_or, length, take}
@@ -28,9 +28,9 @@ use native.Mathlib.Omega.{arith}
 
 -- the how-byte of row i is the definition's
 byte-is : {x : ℕ → ℕ} {gone : ℕ → Bool} {w : List ℕ} {wanted : ℕ} {lent lent' : NearestLent} {given : ℕ} → Settled x gone w wanted lent lent' given
-    → (i : ℕ) → i < n# w → get_or lent'.how i 0 ≡ get_or (nearHow x gone (n# w) (tree_of w) wanted) i 0
+    → (i : ℕ) → i < n# w → get_or lent'.how i 0 ≡ get_or (near_how x gone (n# w) (tree_of w) wanted) i 0
 byte-is {x} {gone} {w} {wanted} {lent} Z i h =
-    let bytes : List ℕ = nearHow x gone (n# w) (tree_of w) wanted in
+    let bytes : List ℕ = near_how x gone (n# w) (tree_of w) wanted in
     ap (λ (l : List ℕ). get_or l i 0) Z.bytes
     ∙ get_or-append bytes (drop (n# w) lent.how) 0 i (subst (λ (n : ℕ). i < n) (sym (near_length x gone (n# w) (tree_of w) wanted)) h)
 

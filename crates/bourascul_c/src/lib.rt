@@ -113,8 +113,7 @@ pub extern "C" fn bourascul_nearest(
 }
 
 // The rows nearest to the query, each with its distance as a record, in a row of answers that the caller lends. The two slices of numbers that the
-// search hands out are lent too, and hold the same answers afterwards. It stands here alone: it is proved by a walk through its compiled statements,
-// and one walk is enough.
+// search hands out are lent too, and hold the same answers afterwards.
 #[unsafe(no_mangle)]
 pub extern "C" fn bourascul_nearest_answers(
     table: &[u16],

@@ -7,7 +7,7 @@ use Rattle.filling.proofs.Numbering.{numbered-levels}
 use Rattle.filling.proofs.Whole.{encode-long}
 use Rattle.growing.proofs.Items.{out_long, placed_long}
 use Rattle.growing.proofs.Rooting.{root_run}
-use Rattle.growing.specs.Levels.{Item, all_nodes, leafNode, level_out_lem, next_level, placed}
+use Rattle.growing.specs.Levels.{Item, all_nodes, leaf_node, level_out_lem, next_level, placed}
 use Rattle.growing.specs.Stages.{Fit}
 use Rattle.laws.proofs.Every.{every_append}
 use Rattle.laws.proofs.Ranges.{range_length}
@@ -110,7 +110,7 @@ module _ (d : ℕ → ℕ → ℕ) (m l : ℕ) (m2 : 2 ≤ m) (ml : m ≤ l) whe
   -- the nodes of a level and of those below it: fewer than twice the rows
   all-few : (deep next : ℕ) (qs : List Item) → Runs qs → length (all_nodes d m l deep next qs) + length qs ≤ 2 * rows qs
   unfolding all_nodes
-  all-few zero next qs h = omega (arith, length-map qs (leafNode d m l), last-few qs h)
+  all-few zero next qs h = omega (arith, length-map qs (leaf_node d m l), last-few qs h)
   all-few (suc deep) next qs h =
       let under : List Item = next_level d m l qs in
       omega (

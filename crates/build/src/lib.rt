@@ -12,7 +12,7 @@ use split::WIDTH;
 use words::places::HEADER;
 
 // What the build says: the number, how many words were written, and how many nodes they hold.
-#[derive(Drop)]
+#[derive(Clone, Copy)]
 pub struct Built {
     pub number: u32,
     pub words: usize,

@@ -22,7 +22,7 @@ use Rattle.tree.specs.Check.{Accepted}
 use Rattle.tree.specs.Encode.{encode}
 use Rattle.tree.specs.Grove.{tree_of}
 use Rattle.tree.specs.Nearest.{answers}
-use Rattle.tree.specs.Radius.{radiusHow}
+use Rattle.tree.specs.Radius.{radius_how}
 use Rattle.tree.specs.Widen.{widen}
 use Rattle.words.specs.Words.{c#, circles#, edition#, n#}
 use borrow.Author.Tests.{eq-eqb, eqb-false, eqb-true, ne_eqb}
@@ -103,12 +103,12 @@ module _ (T : List ℕ) (c : ℕ) (i : List ℕ) where
 
   -- a radius search marks the same rows in
   marked-in : Accepted d (card_words_lem i) → (q : List ℕ) → Point d (from T c (circles# (card_words_lem i)) q) → (r : ℕ) (gone : ℕ → Bool) (j : ℕ) → j < n# (card_words_lem i)
-      → (2 ≤ get_or (radiusHow (from T c (circles# (card_words_lem i)) q) r gone (n# (card_words_lem i)) (tree_of (read_words T c i))) j 0)
-      ↔ (2 ≤ get_or (radiusHow (from T c (circles# (card_words_lem i)) q) r gone (n# (card_words_lem i)) (tree_of (card_words_lem i))) j 0)
+      → (2 ≤ get_or (radius_how (from T c (circles# (card_words_lem i)) q) r gone (n# (card_words_lem i)) (tree_of (read_words T c i))) j 0)
+      ↔ (2 ≤ get_or (radius_how (from T c (circles# (card_words_lem i)) q) r gone (n# (card_words_lem i)) (tree_of (card_words_lem i))) j 0)
   marked-in A q P r gone j h =
       let x : ℕ → ℕ = from T c (circles# (card_words_lem i)) q in
       let w : List ℕ = card_words_lem i in
-      by-edition (λ v. (2 ≤ get_or (radiusHow x r gone (n# w) (tree_of v)) j 0) ↔ (2 ≤ get_or (radiusHow x r gone (n# w) (tree_of w)) j 0))
+      by-edition (λ v. (2 ≤ get_or (radius_how x r gone (n# w) (tree_of v)) j 0) ↔ (2 ≤ get_or (radius_how x r gone (n# w) (tree_of w)) j 0))
       (λ e. widen_in d w x P A r gone j h) (λ n. ((λ a. a), (λ a. a)))
 
 -- ---- an outcome of the call
@@ -192,8 +192,8 @@ module _ {T : List ℕ} {c : ℕ} {i before after : List ℕ} {number place word
         → ((gone : ℕ → Bool) (k : ℕ) → answers (from T c (circles# (take words after)) q) gone (n# (take words after)) k
         ≡ answers (from T c (circles# (card_words_lem i)) q) gone (n# (card_words_lem i)) k)
         × (Round c (circles# (card_words_lem i)) q → (r : ℕ) (gone : ℕ → Bool) (j : ℕ) → j < n# (card_words_lem i)
-        → (2 ≤ get_or (radiusHow (from T c (circles# (take words after)) q) r gone (n# (take words after)) (tree_of (take words after))) j 0)
-        ↔ (2 ≤ get_or (radiusHow (from T c (circles# (card_words_lem i)) q) r gone (n# (card_words_lem i)) (tree_of (card_words_lem i))) j 0))
+        → (2 ≤ get_or (radius_how (from T c (circles# (take words after)) q) r gone (n# (take words after)) (tree_of (take words after))) j 0)
+        ↔ (2 ≤ get_or (radius_how (from T c (circles# (card_words_lem i)) q) r gone (n# (card_words_lem i)) (tree_of (card_words_lem i))) j 0))
     read-answers A q =
         let o : ℕ = circles# (card_words_lem i) in
         let e : n# (take words after) ≡ n# (card_words_lem i) = ap n# read-there ∙ (headed T c i whole-card).1 in (

@@ -15,7 +15,7 @@ use refusals::circle_number;
 use words::places::HEADER;
 
 // What reading says: a number, the block that it names, and how many words it read.
-#[derive(Drop)]
+#[derive(Clone, Copy)]
 pub struct Read {
     pub number: u32,
     pub place: usize,

@@ -139,7 +139,7 @@ fn tree_fits(image: &[u8]) -> bool
 }
 
 // The greatest row number and the greatest distance of some positions.
-#[derive(Drop)]
+#[derive(Clone, Copy)]
 struct Greatest {
     row: u32,
     far: u32,

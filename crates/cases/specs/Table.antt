@@ -11,7 +11,7 @@ use Rattle.nearest_refusals.specs.Numbers.{said_nearest}
 use Rattle.radius_refusals.specs.Numbers.{said_radius}
 use Rattle.tree.specs.Cases.{Case, checked, five, five_words, found, grown, near, nearest, old, old_words, order, radius, right, round, seam, sought, swept}
 use Rattle.tree.specs.Cases.{withdrawn, without, words}
-use Rattle.tree.specs.Check.{again, faults, strays, wrongDist, wrongInner, wrongRadius}
+use Rattle.tree.specs.Check.{again, faults, strays, wrong_dist, wrong_inner, wrong_radius}
 use Rattle.refusals.specs.Refused.{call_faults, circle_faults}
 use Rattle.rowset.specs.Sets.{bit_of, set_bad_lem}
 use Rattle.words.specs.Index.{fit_faults}
@@ -78,7 +78,7 @@ said (found w k p p') = checks five w k p p'
 -- an entry comes out as it says
 unfoldable pub holds : Entry → Bool
 unfolding sum_to number_faults l1 between card_ok_lem header_ok_lem whole_ok words_ok_lem born level tile node_ok_lem shape_ok_lem fit_faults off_circle_lem circle_faults
-    call_faults bit_of set_bad_lem again wrongDist wrongRadius wrongInner strays faults rotate step check_from check_word window
+    call_faults bit_of set_bad_lem again wrong_dist wrong_radius wrong_inner strays faults rotate step check_from check_word window
     said_build said_check said_radius said_nearest right checks said
 holds (means k) = right k && said k
 holds (block b ws s) = eqb (check_word b (window ws 0 127)) s

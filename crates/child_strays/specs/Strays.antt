@@ -17,9 +17,9 @@ pub record Firsts (w : List ℕ) (j : ℕ) (fs : List ℕ) : Type 0 where
 
 module _ (d : ℕ → ℕ → ℕ) (w : List ℕ) where
   -- 13, of one centre: the row at p is closer than x to the first of node i
-  abbrev pub closerThan : ℕ → ℕ → ℕ → Bool
-  closerThan p x i = ltb (d (first# w i) (row# w p)) x
+  abbrev pub closer_than : ℕ → ℕ → ℕ → Bool
+  closer_than p x i = ltb (d (first# w i) (row# w p)) x
 
   -- 13, of node k's child j: it has position p, whose row is closer to the centre of another child
-  unfoldable pub kidStrays : ℕ → ℕ → ℕ → Bool
-  kidStrays k j p = in_run w p j && any (closerThan p (d (first# w j) (row# w p))) (range (child# w k) (m# w))
+  unfoldable pub kid_strays : ℕ → ℕ → ℕ → Bool
+  kid_strays k j p = in_run w p j && any (closer_than p (d (first# w j) (row# w p))) (range (child# w k) (m# w))

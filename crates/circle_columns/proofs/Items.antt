@@ -2,7 +2,7 @@
 use Prim.Native.Nat.{◌+◌, ◌-◌, ◌<◌, ◌≤◌, suc, zero, ℕ}
 use Rattle.asking.proofs.Saying.{part-piece}
 use Rattle.asking.specs.Pieces.{Found, begin_of, has_piece, part_of}
-use Rattle.circle_columns.specs.Circles.{Bits, Circled, column_trouble_lem, counts, item_says, item_trouble_lem, most_items, says, wrongItem}
+use Rattle.circle_columns.specs.Circles.{Bits, Circled, column_trouble_lem, counts, item_says, item_trouble_lem, most_items, says, wrong_item_lem}
 use Rattle.column_products.proofs.Firsts.{first-here, first-none, first_on, first_passes}
 use Rattle.column_products.specs.Chosen.{first_to}
 use Rattle.laws.specs.Lists.{any}
@@ -105,19 +105,19 @@ module _ (names : List ℕ) (c : ℕ) (list chosen : List ℕ) (k : ℕ) where
   pub right-next : {i v : ℕ} → Right i → v ≡ item_trouble_lem names c list chosen k i → v ≡ 0 → Right (i + 1)
   right-next {i} r e z = first_on bad r (rw (sym e ∙ z) refl)
 
-  pub right-not : {i v : ℕ} → Right i → v ≡ item_trouble_lem names c list chosen k i → (v ≡ 0 → ⊥) → i < 17 → i ≡ wrongItem names c list chosen k
-  unfolding wrongItem
+  pub right-not : {i v : ℕ} → Right i → v ≡ item_trouble_lem names c list chosen k i → (v ≡ 0 → ⊥) → i < 17 → i ≡ wrong_item_lem names c list chosen k
+  unfolding wrong_item_lem
   right-not {i} r e z h =
       sym (first-here bad 17 r (rw (ne_eqb (item_trouble_lem names c list chosen k i) 0 (λ q. z (e ∙ q))) refl) h)
 
-  pub right_all : {i : ℕ} → Right i → i ≡ 17 → i ≡ wrongItem names c list chosen k
-  unfolding wrongItem
+  pub right_all : {i : ℕ} → Right i → i ≡ 17 → i ≡ wrong_item_lem names c list chosen k
+  unfolding wrong_item_lem
   right_all {i} r e = e ∙ sym (subst (λ (x : ℕ). first_to bad x ≡ x) e r)
 
   -- ---- the call
   -- the first wrong item is wrong
-  first-wrong : {i : ℕ} → i ≡ wrongItem names c list chosen k → i < 17 → item_trouble_lem names c list chosen k i ≡ 0 → ⊥
-  unfolding wrongItem
+  first-wrong : {i : ℕ} → i ≡ wrong_item_lem names c list chosen k → i < 17 → item_trouble_lem names c list chosen k i ≡ 0 → ⊥
+  unfolding wrong_item_lem
   first-wrong {i} e h z =
       let w : bad i ≡ true = subst (λ (x : ℕ). bad x ≡ true) (sym e) (first_passes bad 17 (omega (arith, e))) in
       let n : bad i ≡ false = rw z refl in
@@ -133,7 +133,7 @@ module _ (names : List ℕ) (c : ℕ) (list chosen : List ℕ) (k : ℕ) where
       go false n = absurd (n refl)
 
   -- an item is wrong
-  pub circled-wrong : {i v start end : ℕ} {there : Bool} → i ≡ wrongItem names c list chosen k → i ≤ 16 → Found 44 list i there start end
+  pub circled-wrong : {i v start end : ℕ} {there : Bool} → i ≡ wrong_item_lem names c list chosen k → i ≤ 16 → Found 44 list i there start end
       → v ≡ item_trouble_lem names c list chosen k i → Circled names c list chosen k v start end 0
   circled-wrong {i} {v} {start} {end} {there} e h f t =
       let n = first-wrong e (omega arith) in
@@ -146,7 +146,7 @@ module _ (names : List ℕ) (c : ℕ) (list chosen : List ℕ) (k : ℕ) where
       }
 
   -- none is
-  pub circled-right : {i set : ℕ} → i ≡ wrongItem names c list chosen k → 17 ≤ i → Bits names c list chosen k set
+  pub circled-right : {i set : ℕ} → i ≡ wrong_item_lem names c list chosen k → 17 ≤ i → Bits names c list chosen k set
       → Circled names c list chosen k 0 0 0 set
   circled-right {i} e h b =
       record {

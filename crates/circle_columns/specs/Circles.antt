@@ -38,8 +38,8 @@ module _ (names : List ℕ) (c : ℕ) (list chosen : List ℕ) (k : ℕ) where
   item_trouble_lem i = cond (has_piece 44 list i) (cond (ltb i most_items) (column_trouble_lem chosen k (item_says names c list i)) 14) 0
 
   -- the first item with which something is wrong, or 17
-  unfoldable pub wrongItem : ℕ
-  wrongItem = first_to (λ i. not (eqb (item_trouble_lem i) 0)) (suc most_items)
+  unfoldable pub wrong_item_lem : ℕ
+  wrong_item_lem = first_to (λ i. not (eqb (item_trouble_lem i) 0)) (suc most_items)
 
 -- THE SET OF CIRCLES: the bit of place j is on exactly if one of the k columns is chosen there and an item says it
 pub record Bits (names : List ℕ) (c : ℕ) (list chosen : List ℕ) (k set : ℕ) : Type 0 where
@@ -48,9 +48,9 @@ pub record Bits (names : List ℕ) (c : ℕ) (list chosen : List ℕ) (k set : �
 -- for every list: what is wrong and where that stands, or the set of circles
 pub record Circled (names : List ℕ) (c : ℕ) (list chosen : List ℕ) (k wrong start end set : ℕ) : Type 0 where
   -- what is wrong with the first item with which something is
-  pub said : wrong ≡ cond (ltb (wrongItem names c list chosen k) 17) (item_trouble_lem names c list chosen k (wrongItem names c list chosen k)) 0
+  pub said : wrong ≡ cond (ltb (wrong_item_lem names c list chosen k) 17) (item_trouble_lem names c list chosen k (wrong_item_lem names c list chosen k)) 0
   -- and where that item stands
-  pub spot : (wrong ≡ 0 → ⊥) → (start ≡ begin_of 44 list (wrongItem names c list chosen k)) × (end ≡ end_at 44 list start) × (set ≡ 0)
+  pub spot : (wrong ≡ 0 → ⊥) → (start ≡ begin_of 44 list (wrong_item_lem names c list chosen k)) × (end ≡ end_at 44 list start) × (set ≡ 0)
   -- else the set
   pub bits : wrong ≡ 0 → Bits names c list chosen k set
   pub nowhere : wrong ≡ 0 → (start ≡ 0) × (end ≡ 0)

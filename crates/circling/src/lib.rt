@@ -2,7 +2,7 @@
 #![tactic(auto)]
 
 ghost use Rattle.std.specs.Prelude.{◌≤◌, ◌≡◌};
-ghost use Rattle.circle_columns.specs.Circles.{Bits, Circled, is_said_lem, item_trouble_lem, says, wrongItem};
+ghost use Rattle.circle_columns.specs.Circles.{Bits, Circled, is_said_lem, item_trouble_lem, says, wrong_item_lem};
 
 use asking::pieces::{bytes_of, piece_at};
 use circle_columns::{column_trouble, with_bit};
@@ -73,7 +73,7 @@ fn item_trouble(
 // The first item with which something is wrong, or one more than there can be.
 fn wrong_item(names: &[u8], c: usize, list: &[u8], chosen: [usize; MOST_COLUMNS], k: usize) -> usize
     requires { k ≤ 16 }
-    ensures { result ≡ wrongItem names.now c list.now chosen k }
+    ensures { result ≡ wrong_item_lem names.now c list.now chosen k }
 {
     let mut i = 0;
     while i <= MOST_ITEMS {

@@ -11,7 +11,7 @@ pub mod choice;
 
 // What came of a choice: 0 done, 1 it is none (row and column 0), 2 a product above 65,535, or above 3,599 in a circle, with the first such row and
 // the place of its first such column among the chosen.
-#[derive(Drop)]
+#[derive(Clone, Copy)]
 pub struct Chose {
     pub number: u32,
     pub row: usize,

@@ -2,8 +2,8 @@
 use Prim.Native.Nat.{◌*◌, ◌+◌, ◌-◌, ◌<◌, ◌≤◌, suc, zero, ℕ}
 use Rattle.appending.proofs.Lowest.{lowest_there}
 use Rattle.dealing.proofs.Settling.{piece-size}
-use Rattle.dealing.specs.Dealt.{ChildAsk, ChildDeals, ChildDealt, Deals, KidsAsk, KidsDealt, kidPiece, kidPieces, kidRows}
-use Rattle.dealing.specs.Pending.{StandAll, pendOf, size_of, sizes}
+use Rattle.dealing.specs.Dealt.{ChildAsk, ChildDeals, ChildDealt, Deals, KidsAsk, KidsDealt, kid_piece, kid_pieces, kid_rows}
+use Rattle.dealing.specs.Pending.{StandAll, pend_of, size_of, sizes}
 use Rattle.laws.proofs.Joins.{each_append}
 use Rattle.laws.proofs.Lists.{map-append}
 use Rattle.laws.proofs.Ranges.{range_length}
@@ -15,7 +15,7 @@ use Rattle.rounds.proofs.Parts.{stretch_front}
 use Rattle.rounds.specs.Stretch.{stretch}
 use Rattle.split.specs.Places.{node_at_lem}
 use Rattle.swelling.proofs.Routed.{routed, routed_all}
-use Rattle.swelling.specs.Pieces.{Piece, kidFor, kidsFrom}
+use Rattle.swelling.specs.Pieces.{Piece, kid_for, kids_from}
 use Rattle.tree.specs.Encode.{Node, node_words}
 use Rattle.words.proofs.Tiles.{tile-none, tile-tail}
 use Rattle.words.specs.InShape.{InShape}
@@ -53,7 +53,7 @@ stand_last t w last (p ∷ qs) q xs ys a l s =
 
 -- the sizes of old nodes side by side that take rows
 kids-sizes : (t w : List ℕ) (place : ℕ → ℕ) (zs : List ℕ) (s o k j a e : ℕ) → T (tile w o j a e)
-    → sizes w (kidsFrom (between t (c# w) (circles# w)) w place zs s o k j) + a ≡ e + routed place zs k j
+    → sizes w (kids_from (between t (c# w) (circles# w)) w place zs s o k j) + a ≡ e + routed place zs k j
 kids-sizes t w place zs s o k zero a e h = omega (arith, tile-none w o a e h)
 kids-sizes t w place zs s o k (suc j) a e h =
     let here : List ℕ = keep (λ z. eqb (place z) k) zs in
@@ -65,11 +65,11 @@ kids-sizes t w place zs s o k (suc j) a e h =
 
 -- THE CHILDREN OF AN INNER NODE HAVE ITS ROWS AND THE NEW ONES
 pub dealt_sizes : (t w : List ℕ) → InShape w → (o : ℕ) → o < nodes# w → inner w o ≡ true → (zs : List ℕ) (s : ℕ)
-    → sizes w (kidPieces t w o zs s) ≡ count# w o + length zs
+    → sizes w (kid_pieces t w o zs s) ≡ count# w o + length zs
 dealt_sizes t w S o there is zs s =
     let d : ℕ → ℕ → ℕ = between t (c# w) (circles# w) in
     let K = (S.node o there).kids is in
-    let one : (z : ℕ) → kidFor d w o z < m# w =
+    let one : (z : ℕ) → kid_for d w o z < m# w =
     λ z.
     let xs : List ℕ = map (λ f. d f z) (map (first# w) (range (child# w o) (m# w))) in
     let long : length xs ≡ m# w =
@@ -78,8 +78,8 @@ dealt_sizes t w S o there is zs s =
     omega (arith, lowest_there xs (omega (arith, S.whole.fan.0))) in
     omega (
       arith,
-      kids-sizes t w (kidFor d w o) zs s (child# w o) 0 (m# w) (start# w o) (start# w o + count# w o) K.tiled,
-      routed_all (kidFor d w o) zs (m# w) one,
+      kids-sizes t w (kid_for d w o) zs s (child# w o) 0 (m# w) (start# w o) (start# w o + count# w o) K.tiled,
+      routed_all (kid_for d w o) zs (m# w) one,
     )
 
 module _ {t w : List ℕ} {o n lo hi : ℕ} {room₀ work₀ : List ℕ} {s made : ℕ} (g : KidsAsk t w o n lo hi room₀ work₀ s made) where
@@ -89,11 +89,11 @@ module _ {t w : List ℕ} {o n lo hi : ℕ} {room₀ work₀ : List ℕ} {s made
 
   -- which child takes a row
   abbrev place : ℕ → ℕ
-  place = kidFor d w o
+  place = kid_for d w o
 
   -- all children's pieces
   abbrev all : List Piece
-  all = kidPieces t w o g.zs s
+  all = kid_pieces t w o g.zs s
 
   -- have all rows
   all-sizes : sizes w all ≡ count# w o + length g.zs
@@ -107,9 +107,9 @@ module _ {t w : List ℕ} {o n lo hi : ℕ} {room₀ work₀ : List ℕ} {s made
       pub some : k ≤ m# w
       pub many : length done ≡ k
       pub upto : at ≡ s + sizes w done
-      pub split : kidPieces t w o g.zs s ≡ done ++ kidsFrom (between t (c# w) (circles# w)) w (kidFor (between t (c# w) (circles# w)) w o)
+      pub split : kid_pieces t w o g.zs s ≡ done ++ kids_from (between t (c# w) (circles# w)) w (kid_for (between t (c# w) (circles# w)) w o)
           g.zs at (child# w o + k) k (m# w - k)
-      pub nodes : room ≡ take (node_at_lem made) room₀ ++ (each (node_words 2) (map (pendOf t w last) done) ++ drop (node_at_lem (made + k)) room₀)
+      pub nodes : room ≡ take (node_at_lem made) room₀ ++ (each (node_words 2) (map (pend_of t w last) done) ++ drop (node_at_lem (made + k)) room₀)
       pub before : take (3 * n) work ≡ take (3 * n) work₀
       pub long : length work ≡ length work₀
       pub wide : length room ≡ length room₀
@@ -139,24 +139,24 @@ module _ {t w : List ℕ} {o n lo hi : ℕ} {room₀ work₀ : List ℕ} {s made
     module _ {m : ℕ} {room work : List ℕ} {at k : ℕ} (inv : Turn m room work at k) where
       -- the next child's piece
       abbrev q : Piece
-      q = kidPiece t w o g.zs k at
+      q = kid_piece t w o g.zs k at
 
       -- its rows
       abbrev size : ℕ
-      size = count# w (child# w o + k) + length (kidRows t w o g.zs k)
+      size = count# w (child# w o + k) + length (kid_rows t w o g.zs k)
 
       -- the pieces that are left
       abbrev rest : List Piece
-      rest = kidsFrom d w place g.zs (at + size) (suc (child# w o + k)) (suc k) (m# w - (k + 1))
+      rest = kids_from d w place g.zs (at + size) (suc (child# w o + k)) (suc k) (m# w - (k + 1))
 
       -- they are these
-      next : k < m → kidPieces t w o g.zs s ≡ inv.done ++ q ∷ rest
+      next : k < m → kid_pieces t w o g.zs s ≡ inv.done ++ q ∷ rest
       next h =
           let less : m# w - k ≡ suc (m# w - (k + 1)) = omega (arith, inv.fan) in
-          inv.split ∙ ap (λ (j : ℕ). inv.done ++ kidsFrom d w place g.zs at (child# w o + k) k j) less
+          inv.split ∙ ap (λ (j : ℕ). inv.done ++ kids_from d w place g.zs at (child# w o + k) k j) less
 
       -- there is room for it
-      pub turn-fits : k < m → at + (count# w (child# w o + k) + length (kidRows t w o g.zs k)) ≤ s + (count# w o + length g.zs)
+      pub turn-fits : k < m → at + (count# w (child# w o + k) + length (kid_rows t w o g.zs k)) ≤ s + (count# w o + length g.zs)
       turn-fits h =
           omega (
             arith,
@@ -164,7 +164,7 @@ module _ {t w : List ℕ} {o n lo hi : ℕ} {room₀ work₀ : List ℕ} {s made
             sizes_append w inv.done (q ∷ rest),
             all-sizes,
             inv.upto,
-            piece-size t w at (child# w o + k) (kidRows t w o g.zs k),
+            piece-size t w at (child# w o + k) (kid_rows t w o g.zs k),
           )
 
       -- the rows stand as they did
@@ -222,7 +222,7 @@ module _ {t w : List ℕ} {o n lo hi : ℕ} {room₀ work₀ : List ℕ} {s made
           let c : ℕ = 3 * (n + (at + r)) in
           let low : s ≤ at = omega (arith, inv.upto) in
           let fit : c ≤ length work' = omega (arith, turn-fits h, g.fits, got.count, got.long, inv.long, g.deals.halves) in
-          let size_is : size_of w q ≡ r = piece-size t w at (child# w o + k) (kidRows t w o g.zs k) ∙ sym got.count in
+          let size_is : size_of w q ≡ r = piece-size t w at (child# w o + k) (kid_rows t w o g.zs k) ∙ sym got.count in
           let one : child# w o + (k + 1) ≡ suc (child# w o + k) = omega arith in
           let up : k + 1 ≡ suc k = omega arith in
           let more : at + r ≡ at + size = ap (λ (i : ℕ). at + i) got.count in
@@ -238,8 +238,8 @@ module _ {t w : List ℕ} {o n lo hi : ℕ} {room₀ work₀ : List ℕ} {s made
           (ap (take (3 * r)) (drop-drop (b - a) a work' ∙ ap (λ (i : ℕ). drop i work') f) ∙ ap (λ (i : ℕ). take i (drop b work')) (sym e)) in
           let len : length (stretch work' b (b + 3 * r)) ≡ 3 * size_of w q =
           length-take-le (b + 3 * r - b) (drop b work') (omega (arith, length-drop b work')) ∙ omega (arith, size_is) in
-          let nodes' : List Node = map (pendOf t w last) Dn in
-          let room_cut : room' ≡ take (node_at_lem made) room₀ ++ (each (node_words 2) (map (pendOf t w last) (Dn ++ q ∷ [])) ++ drop (node_at_lem (made +
+          let nodes' : List Node = map (pend_of t w last) Dn in
+          let room_cut : room' ≡ take (node_at_lem made) room₀ ++ (each (node_words 2) (map (pend_of t w last) (Dn ++ q ∷ [])) ++ drop (node_at_lem (made +
           (k + 1))) room₀) =
           nodes-more room' got.nodes in
           record {
@@ -251,8 +251,8 @@ module _ {t w : List ℕ} {o n lo hi : ℕ} {room₀ work₀ : List ℕ} {s made
             split =
                 next h ∙ sym (append_assoc Dn (q ∷ []) rest)
                 ∙ ap (λ (x : List Piece). (Dn ++ q ∷ []) ++ x)
-                (sym (ap₂ (λ (i j : ℕ). kidsFrom d w place g.zs i (child# w o + (k + 1)) j (m# w - (k + 1))) more up
-                ∙ ap (λ (i : ℕ). kidsFrom d w place g.zs (at + size) i (suc k) (m# w - (k + 1))) one));
+                (sym (ap₂ (λ (i j : ℕ). kids_from d w place g.zs i (child# w o + (k + 1)) j (m# w - (k + 1))) more up
+                ∙ ap (λ (i : ℕ). kids_from d w place g.zs (at + size) i (suc k) (m# w - (k + 1))) one));
             nodes = room_cut;
             before =
                 sym (take-take (3 * n) b work' (omega arith)) ∙ ap (take (3 * n)) got.before ∙ take-take (3 * n) b work (omega arith)
@@ -267,18 +267,18 @@ module _ {t w : List ℕ} {o n lo hi : ℕ} {room₀ work₀ : List ℕ} {s made
           words_long (x ∷ ns) = omega (arith, words_long ns)
 
           nodes-more : (room' : List ℕ)
-              → room' ≡ take (node_at_lem (made + k)) room ++ (node_words 2 (pendOf t w last q) ++ drop (node_at_lem (made + k + 1)) room)
+              → room' ≡ take (node_at_lem (made + k)) room ++ (node_words 2 (pend_of t w last q) ++ drop (node_at_lem (made + k + 1)) room)
               → room' ≡ take (node_at_lem made) room₀
-              ++ (each (node_words 2) (map (pendOf t w last) (inv.done ++ q ∷ [])) ++ drop (node_at_lem (made + (k + 1))) room₀)
+              ++ (each (node_words 2) (map (pend_of t w last) (inv.done ++ q ∷ [])) ++ drop (node_at_lem (made + (k + 1))) room₀)
           nodes-more room' e =
               let F : List ℕ = take (node_at_lem made) room₀ in
-              let N : List ℕ = each (node_words 2) (map (pendOf t w last) inv.done) in
-              let x : List ℕ = node_words 2 (pendOf t w last q) in
+              let N : List ℕ = each (node_words 2) (map (pend_of t w last) inv.done) in
+              let x : List ℕ = node_words 2 (pend_of t w last q) in
               let Z : List ℕ = drop (node_at_lem (made + k)) room₀ in
               let cut : room ≡ (F ++ N) ++ Z = inv.nodes ∙ sym (append_assoc F N Z) in
               let fl : length F ≡ node_at_lem made = length-take-le (node_at_lem made) room₀ (omega (arith, g.nodes)) in
               let nl : length N ≡ 5 * k =
-              words_long (map (pendOf t w last) inv.done) ∙ ap (λ (i : ℕ). 5 * i) (length-map inv.done (pendOf t w last) ∙ inv.many) in
+              words_long (map (pend_of t w last) inv.done) ∙ ap (λ (i : ℕ). 5 * i) (length-map inv.done (pend_of t w last) ∙ inv.many) in
               let size' : length (F ++ N) ≡ node_at_lem (made + k) = length-append F N ∙ omega (arith, fl, nl) in
               let j : made + k + 1 ≡ made + (k + 1) = omega arith in
               let five : node_at_lem (made + k + 1) ≡ node_at_lem (made + k) + 5 = omega arith in
@@ -286,9 +286,9 @@ module _ {t w : List ℕ} {o n lo hi : ℕ} {room₀ work₀ : List ℕ} {s made
               ap (λ (i : ℕ). drop i room) five ∙ sym (drop-drop 5 (node_at_lem (made + k)) room)
               ∙ ap (drop 5) (ap (drop (node_at_lem (made + k))) cut ∙ drop_at (F ++ N) Z (node_at_lem (made + k)) size')
               ∙ drop-drop 5 (node_at_lem (made + k)) room₀ ∙ ap (λ (i : ℕ). drop i room₀) (sym five ∙ ap (λ (i : ℕ). node_at_lem i) j) in
-              let all_words : N ++ x ≡ each (node_words 2) (map (pendOf t w last) (inv.done ++ q ∷ [])) =
-              sym (ap (each (node_words 2)) (map-append (pendOf t w last) inv.done (q ∷ []))
-              ∙ each_append (node_words 2) (map (pendOf t w last) inv.done) (pendOf t w last q ∷ [])) in
+              let all_words : N ++ x ≡ each (node_words 2) (map (pend_of t w last) (inv.done ++ q ∷ [])) =
+              sym (ap (each (node_words 2)) (map-append (pend_of t w last) inv.done (q ∷ []))
+              ∙ each_append (node_words 2) (map (pend_of t w last) inv.done) (pend_of t w last q ∷ [])) in
               e ∙ ap₂ (λ (y z : List ℕ). y ++ (x ++ z)) (ap (take (node_at_lem (made + k))) cut ∙ take_at (F ++ N) Z (node_at_lem (made + k)) size') back
               ∙ append_assoc F N (x ++ drop (node_at_lem (made + (k + 1))) room₀)
               ∙ ap (λ (y : List ℕ). F ++ y) (sym (append_assoc N x (drop (node_at_lem (made + (k + 1))) room₀)))
@@ -299,13 +299,13 @@ module _ {t w : List ℕ} {o n lo hi : ℕ} {room₀ work₀ : List ℕ} {s made
       turn-done h =
           let same : k ≡ m# w = omega (arith, inv.fan, inv.some) in
           let none : m# w - k ≡ 0 = omega (arith, inv.fan) in
-          let whole : kidPieces t w o g.zs s ≡ inv.done =
-          inv.split ∙ ap (λ (j : ℕ). inv.done ++ kidsFrom d w place g.zs at (child# w o + k) k j) none ∙ append-nil inv.done in
+          let whole : kid_pieces t w o g.zs s ≡ inv.done =
+          inv.split ∙ ap (λ (j : ℕ). inv.done ++ kids_from d w place g.zs at (child# w o + k) k j) none ∙ append-nil inv.done in
           let end : 3 * (n + at) ≡ 3 * (n + s) + 3 * (count# w o + length g.zs) = omega (arith, inv.upto, ap (sizes w) whole, all-sizes) in
           record {
             nodes =
                 inv.nodes
-                ∙ ap₂ (λ (x : List Piece) (i : ℕ). take (node_at_lem made) room₀ ++ (each (node_words 2) (map (pendOf t w last) x) ++ drop (node_at_lem
+                ∙ ap₂ (λ (x : List Piece) (i : ℕ). take (node_at_lem made) room₀ ++ (each (node_words 2) (map (pend_of t w last) x) ++ drop (node_at_lem
                 (made + i)) room₀)) (sym whole) same;
             before = inv.before;
             long = inv.long;

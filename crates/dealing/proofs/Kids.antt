@@ -3,9 +3,9 @@ use Prim.Native.Nat.{◌*◌, ◌+◌, ◌-◌, ◌<◌, ◌≤◌, ℕ}
 use Rattle.appending.specs.Append.{Ascends}
 use Rattle.dealing.proofs.Marking.{marked_long}
 use Rattle.dealing.proofs.Settling.{piece-reach, piece-size, piece-start}
-use Rattle.dealing.specs.Dealt.{ChildAsk, ChildDealt, kidPiece, kidRows}
+use Rattle.dealing.specs.Dealt.{ChildAsk, ChildDealt, kid_piece, kid_rows}
 use Rattle.dealing.specs.Marked.{Reaching, marked}
-use Rattle.dealing.specs.Pending.{Settles, pendOf, reach_of, size_of}
+use Rattle.dealing.specs.Pending.{Settles, pend_of, reach_of, size_of}
 use Rattle.groups.specs.Groups.{Picked, Picking, distances, picked, size, widest}
 use Rattle.laws.proofs.Every.{every-keep}
 use Rattle.laws.proofs.Parts.{put_more}
@@ -20,7 +20,7 @@ use Rattle.split.proofs.Laid.{under, under_distances, under_long, under_rows, un
 use Rattle.split.proofs.Parted.{part-lent, part-put}
 use Rattle.split.specs.Places.{node_at_lem}
 use Rattle.split.specs.Runs.{rows}
-use Rattle.swelling.specs.Pieces.{Piece, kidFor, piece_of}
+use Rattle.swelling.specs.Pieces.{Piece, kid_for, piece_of}
 use Rattle.swelling.specs.Swell.{reach_taking}
 use Rattle.tree.specs.Encode.{node_words}
 use Rattle.tree.specs.Grove.{Reach, reach#}
@@ -37,21 +37,21 @@ use native.Mathlib.Omega.{arith}
 
 -- what is picked for the child at place k is its rows, each with its distance from the child's first
 pub picked-marked : (d : ℕ → ℕ → ℕ) (w : List ℕ) (o k : ℕ) (zs : List ℕ)
-    → picked k (marked d w o zs) ≡ under (d (first# w (child# w o + k))) k (keep (λ z. eqb (kidFor d w o z) k) zs)
+    → picked k (marked d w o zs) ≡ under (d (first# w (child# w o + k))) k (keep (λ z. eqb (kid_for d w o z) k) zs)
 unfolding picked marked
 picked-marked d w o k [] = refl
-picked-marked d w o k (z ∷ zs) = go (eqb (kidFor d w o z) k) refl (picked-marked d w o k zs)
+picked-marked d w o k (z ∷ zs) = go (eqb (kid_for d w o z) k) refl (picked-marked d w o k zs)
   where
     here : List ℕ
-    here = keep (λ z. eqb (kidFor d w o z) k) zs
+    here = keep (λ z. eqb (kid_for d w o z) k) zs
 
-    go : (s : Bool) → eqb (kidFor d w o z) k ≡ s
-        → picked k (marked d w o zs) ≡ under (d (first# w (child# w o + k))) k (keep (λ z. eqb (kidFor d w o z) k) zs)
-        → cond s (z ∷ d (first# w (child# w o + kidFor d w o z)) z ∷ k ∷ picked k (marked d w o zs)) (picked k (marked d w o zs))
+    go : (s : Bool) → eqb (kid_for d w o z) k ≡ s
+        → picked k (marked d w o zs) ≡ under (d (first# w (child# w o + k))) k (keep (λ z. eqb (kid_for d w o z) k) zs)
+        → cond s (z ∷ d (first# w (child# w o + kid_for d w o z)) z ∷ k ∷ picked k (marked d w o zs)) (picked k (marked d w o zs))
         ≡ under (d (first# w (child# w o + k))) k
-        (cond s (z ∷ keep (λ z. eqb (kidFor d w o z) k) zs) (keep (λ z. eqb (kidFor d w o z) k) zs))
+        (cond s (z ∷ keep (λ z. eqb (kid_for d w o z) k) zs) (keep (λ z. eqb (kid_for d w o z) k) zs))
     go true e h =
-        ap₂ (λ (i : ℕ) (l : List ℕ). z ∷ d (first# w (child# w o + i)) z ∷ k ∷ l) (eqb-true (kidFor d w o z) k e) h
+        ap₂ (λ (i : ℕ) (l : List ℕ). z ∷ d (first# w (child# w o + i)) z ∷ k ∷ l) (eqb-true (kid_for d w o z) k e) h
     go false e h = h
 
 -- the words that are lent from a node on
@@ -88,7 +88,7 @@ module _ {t w : List ℕ} {o n lo hi : ℕ} {room work : List ℕ} {k at made : 
 
   -- its rows
   abbrev here : List ℕ
-  here = kidRows t w o g.zs k
+  here = kid_rows t w o g.zs k
 
   -- where it goes
   abbrev to : ℕ
@@ -127,7 +127,7 @@ module _ {t w : List ℕ} {o n lo hi : ℕ} {room work : List ℕ} {k at made : 
 
     module _ {work₁ : List ℕ} {more far near : ℕ} (got : Picked work lo hi k (3 * (n + at) + 3 * own) work₁ more far near) where
       -- how many
-      pub more-is : more ≡ length (kidRows t w o g.zs k)
+      pub more-is : more ≡ length (kid_rows t w o g.zs k)
       more-is = got.members ∙ picks-size
 
       -- it ends in the workspace
@@ -188,7 +188,7 @@ module _ {t w : List ℕ} {o n lo hi : ℕ} {room work : List ℕ} {k at made : 
             whole = omega (arith, long);
             own = omega (arith, long, counts);
             few = omega (arith, long, end_fits);
-            new = subst (New t (c# w) w) (sym rows_are) (new_keep (λ z. eqb (kidFor d w o z) k) g.deals.new);
+            new = subst (New t (c# w) w) (sym rows_are) (new_keep (λ z. eqb (kid_for d w o z) k) g.deals.new);
           }
 
       -- as the code names it
@@ -229,12 +229,12 @@ module _ {t w : List ℕ} {o n lo hi : ℕ} {room work : List ℕ} {k at made : 
             )
 
         -- its piece stands there
-        piece-stands : Stands t (c# w) w last (kidPiece t w o g.zs k at) (stretch work₂ (3 * (n + at)) (3 * (n + at) + 3 * (own + more)))
+        piece-stands : Stands t (c# w) w last (kid_piece t w o g.zs k at) (stretch work₂ (3 * (n + at)) (3 * (n + at) + 3 * (own + more)))
         piece-stands =
             let e : stretch work₂ to (to + 3 * (own + more)) ≡ part' =
             ap (take (to + 3 * (own + more) - to)) (ap (drop to) after ∙ drop_at (take to work) (part' ++ B) to fore)
             ∙ take_at part' B (to + 3 * (own + more) - to) (omega (arith, part-size)) in
-            subst (Stands t (c# w) w last (kidPiece t w o g.zs k at)) (sym e)
+            subst (Stands t (c# w) w last (kid_piece t w o g.zs k at)) (sym e)
             (subst (λ (l : List ℕ). Stands t (c# w) w last (piece_of d w at (child# w o + k) l) part') rows_are (laid.stands at))
 
         -- ---- and its node is written
@@ -243,10 +243,10 @@ module _ {t w : List ℕ} {o n lo hi : ℕ} {room work : List ℕ} {k at made : 
             (made + k)) room)) where
           -- its piece
           abbrev q : Piece
-          q = kidPiece t w o g.zs k at
+          q = kid_piece t w o g.zs k at
 
           -- its five words
-          words_are : at ∷ (own + more) ∷ mark ∷ radius ∷ inner ∷ [] ≡ node_words 2 (pendOf t w last q)
+          words_are : at ∷ (own + more) ∷ mark ∷ radius ∷ inner ∷ [] ≡ node_words 2 (pend_of t w last q)
           words_are =
               let vs : List ℕ = map (d (first# w kid)) here in
               let r =
@@ -278,7 +278,7 @@ module _ {t w : List ℕ} {o n lo hi : ℕ} {room work : List ℕ} {k at made : 
                     put_more (take a room) (at ∷ (own + more) ∷ mark ∷ radius ∷ inner ∷ []) room room put a 5 (length-take-le a room fits) fits
                     (sym (take-append-drop a room)) wrote
                     ∙ ap₂ (λ (x : List ℕ) (i : ℕ). (take a room ++ x) ++ drop i room) words_are up
-                    ∙ append_assoc (take a room) (node_words 2 (pendOf t w last q)) (drop (node_at_lem (made + k + 1)) room);
+                    ∙ append_assoc (take a room) (node_words 2 (pend_of t w last q)) (drop (node_at_lem (made + k + 1)) room);
                 before = ap (take to) after ∙ take_at (take to work) (part' ++ B) to fore;
                 long = after-long;
                 stands = piece-stands;

@@ -1,14 +1,14 @@
 -- New rows marked with the child that takes them, one after the other. Assumes nothing.
 use Prim.Native.Nat.{◌*◌, ◌+◌, ◌-◌, ◌<◌, ◌≤◌, suc, zero, ℕ}
 use Rattle.appending.specs.Append.{lowest_at}
-use Rattle.dealing.specs.Marked.{Marks, markEntry, marked}
+use Rattle.dealing.specs.Marked.{Marks, mark_entry, marked}
 use Rattle.laws.proofs.Joins.{each_append}
 use Rattle.laws.proofs.Lists.{map-map}
 use Rattle.laws.proofs.Maps.{map_shift}
 use Rattle.laws.proofs.Parts.{put_more}
 use Rattle.laws.specs.Lists.{each, range}
 use Rattle.laying.proofs.Ordering.{every_place}
-use Rattle.leafward.specs.Way.{NewRow, closestKid}
+use Rattle.leafward.specs.Way.{NewRow, closest_kid}
 use Rattle.limits.specs.Limits.{max_columns, max_rows}
 use Rattle.lodging.proofs.Entries.{rows_count, rows-read}
 use Rattle.measure.proofs.Rows.{row_ends}
@@ -16,7 +16,7 @@ use Rattle.measure.specs.Table.{between}
 use Rattle.rounds.proofs.Parts.{mid_end}
 use Rattle.rounds.specs.Entries.{InTable}
 use Rattle.split.specs.Runs.{rows}
-use Rattle.swelling.specs.Pieces.{kidFor}
+use Rattle.swelling.specs.Pieces.{kid_for}
 use Rattle.words.specs.Words.{nodes#, at, child#, circles#, first#, m#, n#}
 use borrow.Rule.Slice.PartMut.{mid_of, put_mid}
 use lib.ListN.{drop, drop_of_length-le, get_or, length, length-append, length-drop, take}
@@ -27,8 +27,8 @@ use native.Mathlib.Nat.{add-zero}
 use native.Mathlib.Omega.{arith}
 
 -- the closest child is the one whose place the row has
-pub kid_place : (d : ℕ → ℕ → ℕ) (w : List ℕ) (o z : ℕ) → closestKid d w z o ≡ kidFor d w o z
-unfolding closestKid
+pub kid_place : (d : ℕ → ℕ → ℕ) (w : List ℕ) (o z : ℕ) → closest_kid d w z o ≡ kid_for d w o z
+unfolding closest_kid
 kid_place d w o z =
     ap lowest_at
     (map_shift (λ i. d (first# w i) z) (child# w o) 0 (m# w)
@@ -128,7 +128,7 @@ module _ {t : List ℕ} {c : ℕ} {w : List ℕ} {o : ℕ} {part₀ : List ℕ} 
     marking-room h = omega (arith, ap length (mid_end p part), length-drop p part, marking-fits h)
 
     -- it is marked
-    pub marking_step : (new : List ℕ) {z k x f child set : ℕ} → p < length part → z ≡ at part p → k ≡ closestKid (between t c (circles# w)) w z o
+    pub marking_step : (new : List ℕ) {z k x f child set : ℕ} → p < length part → z ≡ at part p → k ≡ closest_kid (between t c (circles# w)) w z o
         → child ≡ child# w o
         → f ≡ first# w (child + k) → set ≡ circles# w → x ≡ between t c set f z → new ≡ z ∷ x ∷ k ∷ drop 3 (mid_of p (length part - p) part)
         → Marking (put_mid p (length part - p) part new) (p + 3)
@@ -136,15 +136,15 @@ module _ {t : List ℕ} {c : ℕ} {w : List ℕ} {o : ℕ} {part₀ : List ℕ} 
     marking_step new {z} {k} {x} {f} {child} h ez ek ec ef es ex e =
         let d : ℕ → ℕ → ℕ = between t c (circles# w) in
         let i : ℕ = inv.i in
-        let kid : k ≡ kidFor d w o z = ek ∙ kid_place d w o z in
-        let dist : x ≡ d (first# w (child# w o + kidFor d w o z)) z =
+        let kid : k ≡ kid_for d w o z = ek ∙ kid_place d w o z in
+        let dist : x ≡ d (first# w (child# w o + kid_for d w o z)) z =
         ex ∙ ap (λ (a : ℕ). between t c a f z) es ∙ ap (λ (a : ℕ). d a z) (ef ∙ ap₂ (λ (a b : ℕ). first# w (a + b)) ec kid) in
-        let entry : z ∷ x ∷ k ∷ [] ≡ markEntry d w o (get_or rs i 0) =
-        ap₂ (λ (a b : ℕ). z ∷ a ∷ b ∷ []) dist kid ∙ ap (markEntry d w o) (row_is h ez) in
+        let entry : z ∷ x ∷ k ∷ [] ≡ mark_entry d w o (get_or rs i 0) =
+        ap₂ (λ (a b : ℕ). z ∷ a ∷ b ∷ []) dist kid ∙ ap (mark_entry d w o) (row_is h ez) in
         let more : marked d w o (take i rs) ++ (z ∷ x ∷ k ∷ []) ≡ marked d w o (take (suc i) rs) =
         ap (λ (l : List ℕ). marked d w o (take i rs) ++ l) entry
-        ∙ sym (ap (each (markEntry d w o)) (take-suc rs i 0 (omega (arith, all-count, inv.place, marking-long)))
-        ∙ each_append (markEntry d w o) (take i rs) (get_or rs i 0 ∷ [])) in
+        ∙ sym (ap (each (mark_entry d w o)) (take-suc rs i 0 (omega (arith, all-count, inv.place, marking-long)))
+        ∙ each_append (mark_entry d w o) (take i rs) (get_or rs i 0 ∷ [])) in
         let up : p + 3 ≡ 3 * suc i = omega (arith, inv.place) in
         record {
           i = suc i;

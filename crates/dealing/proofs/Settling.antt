@@ -7,7 +7,7 @@ use Rattle.laws.specs.Lists.{head, range}
 use Rattle.lodging.proofs.Laying.{new-count}
 use Rattle.lodging.specs.Standing.{Lodges, Takes}
 use Rattle.measure.specs.Table.{between}
-use Rattle.swelling.specs.Pieces.{Piece, grown, leafPiece, old, piece_of, settled, start_of}
+use Rattle.swelling.specs.Pieces.{Piece, grown, leaf_piece, old, piece_of, settled, start_of}
 use Rattle.swelling.specs.Swell.{reach_taking}
 use Rattle.tree.specs.Grove.{Reach, members#, reach#}
 use Rattle.words.specs.Shape.{inner}
@@ -58,7 +58,7 @@ module _ (t w : List ℕ) (s o : ℕ) (zs : List ℕ) where
       either true R es run = refl
       either false R es run = refl
 
-      go : (b : Bool) (ys : List ℕ) → start_of (cond b (old s o zs) (leafPiece d w s o ys)) ≡ s
+      go : (b : Bool) (ys : List ℕ) → start_of (cond b (old s o zs) (leaf_piece d w s o ys)) ≡ s
       go true ys = refl
       go false [] = refl
       go false (y ∷ ys) =
@@ -74,7 +74,7 @@ module _ (t w : List ℕ) (s o : ℕ) (zs : List ℕ) where
       either true R run = length-map run (λ i. (i, d (head run) i))
       either false R run = refl
 
-      leaf : (ys : List ℕ) → size_of w (leafPiece d w s o ys) ≡ count# w o + length ys
+      leaf : (ys : List ℕ) → size_of w (leaf_piece d w s o ys) ≡ count# w o + length ys
       leaf [] = members-count ∙ omega arith
       leaf (y ∷ ys) =
           let run : List ℕ = map (λ e. e.0) (members# w o) ++ y ∷ ys in
@@ -82,7 +82,7 @@ module _ (t w : List ℕ) (s o : ℕ) (zs : List ℕ) where
           ∙ length-append (map (λ e. e.0) (members# w o)) (y ∷ ys)
           ∙ ap (λ (k : ℕ). k + length (y ∷ ys)) (length-map (members# w o) (λ e. e.0) ∙ members-count)
 
-      go : (b : Bool) → size_of w (cond b (old s o zs) (leafPiece d w s o zs)) ≡ count# w o + length zs
+      go : (b : Bool) → size_of w (cond b (old s o zs) (leaf_piece d w s o zs)) ≡ count# w o + length zs
       go true = refl
       go false = leaf zs
 
@@ -99,13 +99,13 @@ module _ (t w : List ℕ) (s o : ℕ) (zs : List ℕ) where
       either true R es run = refl
       either false R es run = refl
 
-      leaf : (ys : List ℕ) → reach_of t w (leafPiece d w s o ys) ≡ reach_taking (count# w o) (reach# w o) (map (d (first# w o)) ys)
+      leaf : (ys : List ℕ) → reach_of t w (leaf_piece d w s o ys) ≡ reach_taking (count# w o) (reach# w o) (map (d (first# w o)) ys)
       leaf [] = refl
       leaf (y ∷ ys) =
           let run : List ℕ = map (λ e. e.0) (members# w o) ++ y ∷ ys in
           either (twice run) (reach_taking (length (members# w o)) (reach# w o) (map (d (head run)) (y ∷ ys))) (map (λ i. (i, d (head run) i)) run) run
           ∙ ap₂ (λ (k a : ℕ). reach_taking k (reach# w o) (map (d a) (y ∷ ys))) members-count (first-is (count# w o) (y ∷ ys) some)
 
-      go : (b : Bool) → reach_of t w (cond b (old s o zs) (leafPiece d w s o zs)) ≡ reach_taking (count# w o) (reach# w o) (map (d (first# w o)) zs)
+      go : (b : Bool) → reach_of t w (cond b (old s o zs) (leaf_piece d w s o zs)) ≡ reach_taking (count# w o) (reach# w o) (map (d (first# w o)) zs)
       go true = refl
       go false = leaf zs

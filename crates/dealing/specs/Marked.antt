@@ -5,7 +5,7 @@ use Rattle.laws.specs.Lists.{each, greatest, lowest}
 use Rattle.limits.specs.Limits.{max_rows}
 use Rattle.rounds.specs.Entries.{InTable}
 use Rattle.split.specs.Runs.{rows}
-use Rattle.swelling.specs.Pieces.{kidFor}
+use Rattle.swelling.specs.Pieces.{kid_for}
 use Rattle.swelling.specs.Swell.{reach_taking}
 use Rattle.tree.specs.Grove.{reach#}
 use Rattle.words.specs.InShape.{InShape}
@@ -14,12 +14,12 @@ use Rattle.words.specs.Words.{nodes#, c#, child#, count#, first#, n#}
 
 module _ (d : ℕ → ℕ → ℕ) (w : List ℕ) (o : ℕ) where
   -- a row's entry: its distance from the closest child's first, and that child's place
-  abbrev pub markEntry : ℕ → List ℕ
-  markEntry z = z ∷ d (first# w (child# w o + kidFor d w o z)) z ∷ kidFor d w o z ∷ []
+  abbrev pub mark_entry : ℕ → List ℕ
+  mark_entry z = z ∷ d (first# w (child# w o + kid_for d w o z)) z ∷ kid_for d w o z ∷ []
 
   -- the entries of some rows
   unfoldable pub marked : List ℕ → List ℕ
-  marked zs = each markEntry zs
+  marked zs = each mark_entry zs
 
 -- entries of rows of the table, and an inner node of an index in shape
 pub record Marks (t : List ℕ) (c : ℕ) (w : List ℕ) (o : ℕ) (part : List ℕ) : Type 0 where

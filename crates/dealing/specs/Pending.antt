@@ -29,8 +29,8 @@ module _ (t w : List ℕ) where
 
   module _ (last : Bool) where
     -- its node while it waits; `last` says that there is no level below it
-    abbrev pub pendOf : Piece → Node
-    pendOf q = (start_of q, size_of w q, mark_of t (c# w) w last q, reach_of q)
+    abbrev pub pend_of : Piece → Node
+    pend_of q = (start_of q, size_of w q, mark_of t (c# w) w last q, reach_of q)
 
     -- pieces that stand one behind the other
     abbrev pub StandAll : List Piece → List ℕ → Type 0

@@ -1,6 +1,6 @@
 -- Level after level: the nodes and members that are still to come make up the whole with those that are there. Assumes nothing.
 use Prim.Native.Nat.{◌*◌, ◌+◌, ◌-◌, ◌<◌, ◌≤◌, suc, zero, ℕ}
-use Rattle.dealing.specs.Pending.{StandAll, pendOf, size_of, sizes}
+use Rattle.dealing.specs.Pending.{StandAll, pend_of, size_of, sizes}
 use Rattle.deepening.proofs.Sounding.{sound-some}
 use Rattle.deepening.proofs.Standing.{few_sizes, stand-long}
 use Rattle.deepening.proofs.Tiling.{below-current, fresh-pieces, pieces_append}
@@ -17,7 +17,7 @@ use Rattle.lodging.specs.Standing.{Stands}
 use Rattle.measure.specs.Table.{between}
 use Rattle.opening.specs.Sound.{Sound, Task, waits}
 use Rattle.rounds.specs.Entries.{pairs_in}
-use Rattle.swelling.specs.Pieces.{Piece, grown, grown_from, lastly, levelFrom, levelsFrom, membersFrom, old, openAll, opens, ownMembers, settled}
+use Rattle.swelling.specs.Pieces.{Piece, grown, grown_from, lastly, level_from, levels_from, members_from, old, open_all, opens, own_members, settled}
 use Rattle.swelling.specs.Swell.{parts}
 use Rattle.tree.specs.Encode.{Node, pair_words}
 use Rattle.words.specs.Words.{c#, circles#, l#, m#}
@@ -56,73 +56,73 @@ module _ (t w : List ℕ) where
 
   -- ---- the members, one level down
   -- of a leaf
-  leaf-members : (deep : ℕ) (q : Piece) → waits w q ≡ false → membersFrom d w (suc deep) q ≡ membersFrom d w deep q
-  unfolding membersFrom
+  leaf-members : (deep : ℕ) (q : Piece) → waits w q ≡ false → members_from d w (suc deep) q ≡ members_from d w deep q
+  unfolding members_from
   leaf-members deep (old s o zs) e = absurd (subst T e tt)
   leaf-members zero (settled s R es) e = refl
   leaf-members (suc deep) (settled s R es) e = refl
   leaf-members zero (grown s R run) e = go (leb (length run) (l# w)) e
     where
       go : (b : Bool) → not b ≡ false
-          → cond b (ownMembers d w (grown s R run)) (each (λ q. membersFrom d w zero q) (grown_from d s (parts d (m# w) (l# w) run)))
-          ≡ ownMembers d w (grown s R run)
+          → cond b (own_members d w (grown s R run)) (each (λ q. members_from d w zero q) (grown_from d s (parts d (m# w) (l# w) run)))
+          ≡ own_members d w (grown s R run)
       go true e = refl
       go false e = absurd (subst T e tt)
   leaf-members (suc deep) (grown s R run) e = go (leb (length run) (l# w)) e
     where
       go : (b : Bool) → not b ≡ false
-          → cond b (ownMembers d w (grown s R run)) (each (λ q. membersFrom d w (suc deep) q) (grown_from d s (parts d (m# w) (l# w) run)))
-          ≡ cond b (ownMembers d w (grown s R run)) (each (λ q. membersFrom d w deep q) (grown_from d s (parts d (m# w) (l# w) run)))
+          → cond b (own_members d w (grown s R run)) (each (λ q. members_from d w (suc deep) q) (grown_from d s (parts d (m# w) (l# w) run)))
+          ≡ cond b (own_members d w (grown s R run)) (each (λ q. members_from d w deep q) (grown_from d s (parts d (m# w) (l# w) run)))
       go true e = refl
       go false e = absurd (subst T e tt)
 
   -- of a piece that waits
-  opens-members : (deep : ℕ) (q : Piece) → waits w q ≡ true → membersFrom d w (suc deep) q ≡ each (λ p. membersFrom d w deep p) (opens d w q)
-  unfolding membersFrom
+  opens-members : (deep : ℕ) (q : Piece) → waits w q ≡ true → members_from d w (suc deep) q ≡ each (λ p. members_from d w deep p) (opens d w q)
+  unfolding members_from
   opens-members deep (settled s R es) e = absurd (subst T (sym e) tt)
   opens-members deep (old s o zs) e = refl
   opens-members deep (grown s R run) e = go (leb (length run) (l# w)) e
     where
       go : (b : Bool) → not b ≡ true
-          → cond b (ownMembers d w (grown s R run)) (each (λ q. membersFrom d w deep q) (grown_from d s (parts d (m# w) (l# w) run)))
-          ≡ each (λ q. membersFrom d w deep q) (cond b [] (grown_from d s (parts d (m# w) (l# w) run)))
+          → cond b (own_members d w (grown s R run)) (each (λ q. members_from d w deep q) (grown_from d s (parts d (m# w) (l# w) run)))
+          ≡ each (λ q. members_from d w deep q) (cond b [] (grown_from d s (parts d (m# w) (l# w) run)))
       go true e = absurd (subst T (sym e) tt)
       go false e = refl
 
   -- of a tile
-  tile-members : (deep : ℕ) (x : Tile) → Leafy w x → membersFrom d w (suc deep) x.1 ≡ each (λ p. membersFrom d w deep p) (pieces (below t w x))
+  tile-members : (deep : ℕ) (x : Tile) → Leafy w x → members_from d w (suc deep) x.1 ≡ each (λ p. members_from d w deep p) (pieces (below t w x))
   tile-members deep x l = go x.0 (waits w x.1) refl refl
     where
-      one : waits w x.1 ≡ false → membersFrom d w (suc deep) x.1 ≡ membersFrom d w deep x.1 ++ []
-      one e = leaf-members deep x.1 e ∙ sym (append-nil (membersFrom d w deep x.1))
+      one : waits w x.1 ≡ false → members_from d w (suc deep) x.1 ≡ members_from d w deep x.1 ++ []
+      one e = leaf-members deep x.1 e ∙ sym (append-nil (members_from d w deep x.1))
 
       go : (b v : Bool) → x.0 ≡ b → waits w x.1 ≡ v
-          → membersFrom d w (suc deep) x.1
-          ≡ each (λ p. membersFrom d w deep p) (pieces (cond (b && v) (fresh (opens d w x.1)) ((false, x.1) ∷ [])))
+          → members_from d w (suc deep) x.1
+          ≡ each (λ p. members_from d w deep p) (pieces (cond (b && v) (fresh (opens d w x.1)) ((false, x.1) ∷ [])))
       go true true e f =
-          opens-members deep x.1 f ∙ ap (each (λ p. membersFrom d w deep p)) (sym (fresh-pieces (opens d w x.1)))
+          opens-members deep x.1 f ∙ ap (each (λ p. members_from d w deep p)) (sym (fresh-pieces (opens d w x.1)))
       go true false e f = one f
       go false true e f = one (l e)
       go false false e f = one f
 
   -- of all
   members-down : (deep : ℕ) (ts : List Tile) → Every (Leafy w) ts
-      → each (λ p. membersFrom d w (suc deep) p) (pieces ts) ≡ each (λ p. membersFrom d w deep p) (pieces (below_all t w ts))
+      → each (λ p. members_from d w (suc deep) p) (pieces ts) ≡ each (λ p. members_from d w deep p) (pieces (below_all t w ts))
   members-down deep [] l = refl
   members-down deep (x ∷ ts) l =
       ap₂ (λ (a b : List (ℕ × ℕ)). a ++ b) (tile-members deep x l.0) (members-down deep ts l.1)
-      ∙ sym (each_append (λ p. membersFrom d w deep p) (pieces (below t w x)) (pieces (below_all t w ts)))
-      ∙ ap (each (λ p. membersFrom d w deep p)) (sym (pieces_append (below t w x) (below_all t w ts)))
+      ∙ sym (each_append (λ p. members_from d w deep p) (pieces (below t w x)) (pieces (below_all t w ts)))
+      ∙ ap (each (λ p. members_from d w deep p)) (sym (pieces_append (below t w x) (below_all t w ts)))
 
   -- ---- the nodes, one level down
-  nodes_down : (deep hi made : ℕ) (before : List Node) (ts : List Tile) → made ≡ hi + length (openAll d w (current ts))
-      → before ++ levelsFrom d w (suc deep) hi (current ts)
-      ≡ (before ++ levelFrom d w hi (current ts)) ++ levelsFrom d w deep made (current (below_all t w ts))
-  unfolding levelsFrom
+  nodes_down : (deep hi made : ℕ) (before : List Node) (ts : List Tile) → made ≡ hi + length (open_all d w (current ts))
+      → before ++ levels_from d w (suc deep) hi (current ts)
+      ≡ (before ++ level_from d w hi (current ts)) ++ levels_from d w deep made (current (below_all t w ts))
+  unfolding levels_from
   nodes_down deep hi made before ts e =
-      ap (λ (i : ℕ). before ++ (levelFrom d w hi (current ts) ++ levelsFrom d w deep i (openAll d w (current ts)))) (sym e)
-      ∙ ap (λ (x : List Piece). before ++ (levelFrom d w hi (current ts) ++ levelsFrom d w deep made x)) (sym (below-current t w ts))
-      ∙ sym (append_assoc before (levelFrom d w hi (current ts)) (levelsFrom d w deep made (current (below_all t w ts))))
+      ap (λ (i : ℕ). before ++ (level_from d w hi (current ts) ++ levels_from d w deep i (open_all d w (current ts)))) (sym e)
+      ∙ ap (λ (x : List Piece). before ++ (level_from d w hi (current ts) ++ levels_from d w deep made x)) (sym (below-current t w ts))
+      ∙ sym (append_assoc before (level_from d w hi (current ts)) (levels_from d w deep made (current (below_all t w ts))))
 
   -- ---- on the last level
   module _ {n : ℕ} (task : Task t w n) where
@@ -131,40 +131,40 @@ module _ (t w : List ℕ) where
     last_none s o zs h = subst T (sym h.1 ∙ (task.shape.node o h.0).bottom h.2) tt
 
     -- the nodes are as they wait
-    last-nodes : (qs : List Piece) → Every (Sound t w n 0) qs → map (pendOf t w true) qs ≡ map (lastly d w) qs
+    last-nodes : (qs : List Piece) → Every (Sound t w n 0) qs → map (pend_of t w true) qs ≡ map (lastly d w) qs
     last-nodes [] h = refl
     last-nodes (old s o zs ∷ qs) h = absurd (last_none s o zs h.0)
     last-nodes (grown s R run ∷ qs) h = ap (λ (x : List Node). (s, length run, 0, R) ∷ x) (last-nodes qs h.1)
     last-nodes (settled s R es ∷ qs) h = ap (λ (x : List Node). (s, length es, 0, R) ∷ x) (last-nodes qs h.1)
 
     -- the pairs of a piece are its members
-    piece-pairs : (q : Piece) (ws : List ℕ) → Sound t w n 0 q → Stands t (c# w) w true q ws → pairs_in ws ≡ each pair_words (ownMembers d w q)
+    piece-pairs : (q : Piece) (ws : List ℕ) → Sound t w n 0 q → Stands t (c# w) w true q ws → pairs_in ws ≡ each pair_words (own_members d w q)
     piece-pairs (old s o zs) ws h k = absurd (last_none s o zs h)
     piece-pairs (grown s R run) ws h k = ap pairs_in k ∙ pairs_under (d (head run)) (head run) run
     piece-pairs (settled s R es) ws h k = k.1
 
     last-pairs : (qs : List Piece) (ws : List ℕ) → Every (Sound t w n 0) qs → StandAll t w true qs ws
-        → pairs_in ws ≡ each pair_words (each (λ p. membersFrom d w 0 p) qs)
-    unfolding pairs_in membersFrom
+        → pairs_in ws ≡ each pair_words (each (λ p. members_from d w 0 p) qs)
+    unfolding pairs_in members_from
     last-pairs [] ws h k = ap pairs_in k
     last-pairs (q ∷ qs) ws h k =
         let i : ℕ = 3 * size_of w q in
         ap pairs_in (sym (take-append-drop i ws))
         ∙ pairs_append (size_of w q) (take i ws) (drop i ws) (length-take-le i ws k.0)
         ∙ ap₂ (λ (a b : List ℕ). a ++ b) (piece-pairs q (take i ws) h.0 k.1) (last-pairs qs (drop i ws) h.1 k.2)
-        ∙ sym (each_append pair_words (ownMembers d w q) (each (λ p. membersFrom d w 0 p) qs))
+        ∙ sym (each_append pair_words (own_members d w q) (each (λ p. members_from d w 0 p) qs))
 
     -- as many members as rows
-    piece-many : (q : Piece) → Sound t w n 0 q → length (ownMembers d w q) ≡ size_of w q
+    piece-many : (q : Piece) → Sound t w n 0 q → length (own_members d w q) ≡ size_of w q
     piece-many (old s o zs) h = absurd (last_none s o zs h)
     piece-many (grown s R run) h = length-map run (λ i. (i, d (head run) i))
     piece-many (settled s R es) h = refl
 
-    last-many : (qs : List Piece) → Every (Sound t w n 0) qs → length (each (λ p. membersFrom d w 0 p) qs) ≡ sizes w qs
-    unfolding membersFrom
+    last-many : (qs : List Piece) → Every (Sound t w n 0) qs → length (each (λ p. members_from d w 0 p) qs) ≡ sizes w qs
+    unfolding members_from
     last-many [] h = refl
     last-many (q ∷ qs) h =
-        length-append (ownMembers d w q) (each (λ p. membersFrom d w 0 p) qs)
+        length-append (own_members d w q) (each (λ p. members_from d w 0 p) qs)
         ∙ ap₂ (λ (a b : ℕ). a + b) (piece-many q h.0) (last-many qs h.1)
 
 -- `depth` levels are opened: with what is to come below, nodes and members are those of the whole
@@ -172,10 +172,10 @@ pub record Going (t w : List ℕ) (n : ℕ) (root : Piece) (origin room work : L
   pub before : List Node
   pub tiles : List Tile
   pub stage : Stage t w n (max_depth - depth) origin before tiles room work lo hi
-  pub nodes : before ++ levelsFrom (between t (c# w) (circles# w)) w (max_depth - depth) hi (current tiles)
-      ≡ levelsFrom (between t (c# w) (circles# w)) w max_depth 1 (root ∷ [])
-  pub members : each (λ p. membersFrom (between t (c# w) (circles# w)) w (max_depth - depth) p) (pieces tiles)
-      ≡ membersFrom (between t (c# w) (circles# w)) w max_depth root
+  pub nodes : before ++ levels_from (between t (c# w) (circles# w)) w (max_depth - depth) hi (current tiles)
+      ≡ levels_from (between t (c# w) (circles# w)) w max_depth 1 (root ∷ [])
+  pub members : each (λ p. members_from (between t (c# w) (circles# w)) w (max_depth - depth) p) (pieces tiles)
+      ≡ members_from (between t (c# w) (circles# w)) w max_depth root
 
 -- it is so, whatever the root
 abbrev pub Goes : List ℕ → List ℕ → ℕ → List ℕ → List ℕ → List ℕ → List ℕ → ℕ → ℕ → ℕ → Type 0
@@ -189,7 +189,7 @@ goes_start {t} {w} g =
       tiles = (true, g.root) ∷ [];
       stage = g.rooted;
       nodes = refl;
-      members = append-nil (membersFrom (between t (c# w) (circles# w)) w max_depth g.root);
+      members = append-nil (members_from (between t (c# w) (circles# w)) w max_depth g.root);
     }
 
 module _ {t w : List ℕ} {n : ℕ} {root : Piece} {origin room work : List ℕ} {lo hi depth : ℕ}
@@ -224,41 +224,41 @@ module _ {t w : List ℕ} {n : ℕ} {root : Piece} {origin room work : List ℕ}
   unfolding goes-level
   goes_step {room' = room'} {work'} {made} h e staged {from} ef =
       let s = staged (goes-level h e) in
-      let many : made ≡ hi + length (openAll D w (current inv.tiles)) =
+      let many : made ≡ hi + length (open_all D w (current inv.tiles)) =
       omega (arith, s.first, s.last, ap length (below-current t w inv.tiles)) in
       record {
-        before = inv.before ++ levelFrom D w hi (current inv.tiles);
+        before = inv.before ++ level_from D w hi (current inv.tiles);
         tiles = below_all t w inv.tiles;
-        stage = subst (λ (i : ℕ). Stage t w n (max_depth - (depth + 1)) origin (inv.before ++ levelFrom D w hi (current inv.tiles))
+        stage = subst (λ (i : ℕ). Stage t w n (max_depth - (depth + 1)) origin (inv.before ++ level_from D w hi (current inv.tiles))
             (below_all t w inv.tiles) room' work' i made) (sym ef) s;
         nodes =
             sym (nodes_down t w (max_depth - (depth + 1)) hi made inv.before inv.tiles many)
-            ∙ ap (λ (i : ℕ). inv.before ++ levelsFrom D w i hi (current inv.tiles)) (sym (less h)) ∙ inv.nodes;
+            ∙ ap (λ (i : ℕ). inv.before ++ levels_from D w i hi (current inv.tiles)) (sym (less h)) ∙ inv.nodes;
         members =
             sym (members-down t w (max_depth - (depth + 1)) inv.tiles inv.stage.leafy)
-            ∙ ap (λ (i : ℕ). each (λ p. membersFrom D w i p) (pieces inv.tiles)) (sym (less h)) ∙ inv.members;
+            ∙ ap (λ (i : ℕ). each (λ p. members_from D w i p) (pieces inv.tiles)) (sym (less h)) ∙ inv.members;
       }
 
   -- all are opened
   pub goes-done : max_depth ≤ depth → Layered t w n root origin room work hi
-  unfolding levelsFrom
+  unfolding levels_from
   goes-done h =
       let z : max_depth - depth ≡ 0 = omega arith in
       let s : Stage t w n 0 origin inv.before inv.tiles room work lo hi =
       subst (λ (i : ℕ). Stage t w n i origin inv.before inv.tiles room work lo hi) z inv.stage in
-      let ns : inv.before ++ map (pendOf t w true) (current inv.tiles) ≡ levelsFrom D w max_depth 1 (root ∷ []) =
+      let ns : inv.before ++ map (pend_of t w true) (current inv.tiles) ≡ levels_from D w max_depth 1 (root ∷ []) =
       ap (λ (x : List Node). inv.before ++ x)
       (last-nodes t w s.task (current inv.tiles) (current_every (Sound t w n 0) inv.tiles s.sound))
-      ∙ ap (λ (i : ℕ). inv.before ++ levelsFrom D w i hi (current inv.tiles)) (sym z) ∙ inv.nodes in
+      ∙ ap (λ (i : ℕ). inv.before ++ levels_from D w i hi (current inv.tiles)) (sym z) ∙ inv.nodes in
       let ps : List Piece = pieces inv.tiles in
-      let members : each (λ p. membersFrom D w 0 p) ps ≡ membersFrom D w max_depth root =
-      ap (λ (i : ℕ). each (λ p. membersFrom D w i p) ps) (sym z) ∙ inv.members in
+      let members : each (λ p. members_from D w 0 p) ps ≡ members_from D w max_depth root =
+      ap (λ (i : ℕ). each (λ p. members_from D w i p) ps) (sym z) ∙ inv.members in
       let some : Every (λ q. 1 ≤ size_of w q) ps = every_of (Sound t w n 0) (λ q. 1 ≤ size_of w q) (λ q k. sound-some s.task 0 q k) ps s.sound in
       record {
         nodes = s.nodes ∙ ap (with_nodes origin) ns;
         count = s.last
-            ∙ sym (ap length (sym ns) ∙ length-append inv.before (map (pendOf t w true) (current inv.tiles))
-            ∙ ap (λ (i : ℕ). length inv.before + i) (length-map (current inv.tiles) (pendOf t w true)));
+            ∙ sym (ap length (sym ns) ∙ length-append inv.before (map (pend_of t w true) (current inv.tiles))
+            ∙ ap (λ (i : ℕ). length inv.before + i) (length-map (current inv.tiles) (pend_of t w true)));
         few =
             omega (
               arith,

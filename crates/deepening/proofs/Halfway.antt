@@ -1,7 +1,7 @@
 -- A level while its pieces are opened, one after the other: what stands in room and workspace, and what opening the next one asks. Assumes nothing.
 use Prim.Native.Nat.{◌*◌, ◌+◌, ◌≤◌, suc, ℕ}
 use Rattle.dealing.proofs.Children.{sizes_append}
-use Rattle.dealing.specs.Pending.{StandAll, pendOf, size_of, sizes}
+use Rattle.dealing.specs.Pending.{StandAll, pend_of, size_of, sizes}
 use Rattle.deepening.proofs.Sounding.{opens-many, opens-sizes, opens-sound, sound-some}
 use Rattle.deepening.proofs.Standing.{Cut, few_sizes, follow_at, stand-cut, stand-long}
 use Rattle.deepening.proofs.Tiling.{Next, above-none, below-sizes, below-sound, current_append, pieces_append}
@@ -13,7 +13,7 @@ use Rattle.laws.specs.Every.{Every}
 use Rattle.measure.specs.Table.{between}
 use Rattle.opening.specs.Opened.{PieceAsk}
 use Rattle.opening.specs.Sound.{Sound, waits}
-use Rattle.swelling.specs.Pieces.{Piece, levelFrom, openAll, opens, start_of}
+use Rattle.swelling.specs.Pieces.{Piece, level_from, open_all, opens, start_of}
 use Rattle.tree.specs.Encode.{Node}
 use Rattle.words.specs.Words.{c#, circles#, m#}
 use lib.ListN.{length, length-append, length-map, take}
@@ -24,8 +24,8 @@ use mathlib.Core.Path.{◌∙◌, ◌≡◌, ap, ap₂, refl, subst, sym}
 use native.Mathlib.Omega.{arith}
 
 -- a level has a node for each of its pieces
-pub level_long : (d : ℕ → ℕ → ℕ) (w : List ℕ) (next : ℕ) (qs : List Piece) → length (levelFrom d w next qs) ≡ length qs
-unfolding levelFrom
+pub level_long : (d : ℕ → ℕ → ℕ) (w : List ℕ) (next : ℕ) (qs : List Piece) → length (level_from d w next qs) ≡ length qs
+unfolding level_from
 level_long d w next [] = refl
 level_long d w next (q ∷ qs) = ap suc (level_long d w (next + length (opens d w q)) qs)
 
@@ -36,18 +36,18 @@ module _ {t w : List ℕ} {n : ℕ} {last : Bool} {room₀ work₀ : List ℕ} {
 
   -- the nodes of the levels above and of the pieces that are opened
   abbrev pub fore : List Tile → List Node
-  fore past = g.before ++ levelFrom (between t (c# w) (circles# w)) w hi (current past)
+  fore past = g.before ++ level_from (between t (c# w) (circles# w)) w hi (current past)
 
   -- the nodes of the pieces that are not, and of the children there are
   abbrev pub rear : List Tile → List Tile → List Node
   rear past ahead =
-      map (pendOf t w false) (current ahead) ++ map (pendOf t w last) (openAll (between t (c# w) (circles# w)) w (current past))
+      map (pend_of t w false) (current ahead) ++ map (pend_of t w last) (open_all (between t (c# w) (circles# w)) w (current past))
 
   -- the tiles `past` gave way to those one level down, which end with `lead`; `ahead` did not
   pub record Half (past ahead : List Tile) (lead tail room work : List ℕ) (made k : ℕ) : Type 0 where
     pub all : g.tiles ≡ past ++ ahead
     pub nodes : room ≡ with_nodes g.origin (fore past ++ rear past ahead)
-    pub count : made ≡ hi + length (openAll (between t (c# w) (circles# w)) w (current past))
+    pub count : made ≡ hi + length (open_all (between t (c# w) (circles# w)) w (current past))
     pub here : k ≡ length g.before + length (current past)
     pub few : made + 1 ≤ 2 * length (below_all t w past ++ ahead)
     pub halves : 6 * n ≤ length work
@@ -208,13 +208,13 @@ module _ {t w : List ℕ} {n : ℕ} {last : Bool} {room₀ work₀ : List ℕ} {
       -- k nodes stand before it
       pub fore-long : length (fore past) ≡ k
       fore-long =
-          length-append g.before (levelFrom d w hi (current past)) ∙ omega (arith, level_long d w hi (current past), half.here)
+          length-append g.before (level_from d w hi (current past)) ∙ omega (arith, level_long d w hi (current past), half.here)
 
       -- and as many behind it as pieces wait and as children there are
-      pub rear-long : length (rear past next.back) ≡ length (current next.back) + length (openAll d w (current past))
+      pub rear-long : length (rear past next.back) ≡ length (current next.back) + length (open_all d w (current past))
       rear-long =
-          length-append (map (pendOf t w false) (current next.back)) (map (pendOf t w last) (openAll d w (current past)))
-          ∙ ap₂ ◌+◌ (length-map (current next.back) (pendOf t w false)) (length-map (openAll d w (current past)) (pendOf t w last))
+          length-append (map (pend_of t w false) (current next.back)) (map (pend_of t w last) (open_all d w (current past)))
+          ∙ ap₂ ◌+◌ (length-map (current next.back) (pend_of t w false)) (length-map (open_all d w (current past)) (pend_of t w last))
 
       -- `made` nodes in all
       pub all-long : made ≡ length (fore past) + (1 + length (rear past next.back))
@@ -239,8 +239,8 @@ module _ {t w : List ℕ} {n : ℕ} {last : Bool} {room₀ work₀ : List ℕ} {
                   sound = rest-sound.0;
                   nodes =
                       half.nodes
-                      ∙ ap (λ (x : List Piece). with_nodes g.origin (fore past ++ (map (pendOf t w false) x ++ map (pendOf t w last)
-                      (openAll d w (current past))))) ahead-current;
+                      ∙ ap (λ (x : List Piece). with_nodes g.origin (fore past ++ (map (pend_of t w false) x ++ map (pend_of t w last)
+                      (open_all d w (current past))))) ahead-current;
                   here = sym fore-long;
                   all = all-long;
                   there = omega (arith, made-few, g.stage.space);

@@ -1,6 +1,6 @@
 -- One level, piece after piece, from its first to behind its last. Assumes nothing.
 use Prim.Native.Nat.{◌*◌, ◌+◌, ◌<◌, ◌≤◌, suc, ℕ}
-use Rattle.dealing.specs.Pending.{StandAll, pendOf}
+use Rattle.dealing.specs.Pending.{StandAll, pend_of}
 use Rattle.deepening.proofs.Halfway.{Half, Levelling, current-count, fore, half-ask, level_long, rear, words-cut}
 use Rattle.deepening.proofs.Sounding.{opens-many}
 use Rattle.deepening.proofs.Standing.{leaves_stand, stand-append}
@@ -17,7 +17,7 @@ use Rattle.measure.specs.Table.{between}
 use Rattle.opening.proofs.Waited.{leaf_opens}
 use Rattle.opening.specs.Opened.{PieceAsk, PieceOpened, PieceOpens}
 use Rattle.opening.specs.Sound.{opened, waits}
-use Rattle.swelling.specs.Pieces.{Piece, levelFrom, openAll, opens, waiting}
+use Rattle.swelling.specs.Pieces.{Piece, level_from, open_all, opens, waiting}
 use Rattle.tree.specs.Encode.{Node}
 use Rattle.words.specs.Words.{c#, circles#, m#}
 use borrow.Author.Tests.{ne_eqb}
@@ -31,15 +31,15 @@ use native.Mathlib.Omega.{arith}
 
 -- the nodes of a level with one piece more
 level_more : (d : ℕ → ℕ → ℕ) (w : List ℕ) (next : ℕ) (qs : List Piece) (q : Piece)
-    → levelFrom d w next (qs ++ q ∷ []) ≡ levelFrom d w next qs ++ waiting d w q (next + length (openAll d w qs)) ∷ []
-unfolding levelFrom
+    → level_from d w next (qs ++ q ∷ []) ≡ level_from d w next qs ++ waiting d w q (next + length (open_all d w qs)) ∷ []
+unfolding level_from
 level_more d w next [] q = ap (λ (i : ℕ). waiting d w q i ∷ []) (sym (add-zero next))
 level_more d w next (p ∷ qs) q =
     let k : ℕ = length (opens d w p) in
-    let e : next + k + length (openAll d w qs) ≡ next + length (openAll d w (p ∷ qs)) =
-    omega (arith, length-append (opens d w p) (openAll d w qs)) in
+    let e : next + k + length (open_all d w qs) ≡ next + length (open_all d w (p ∷ qs)) =
+    omega (arith, length-append (opens d w p) (open_all d w qs)) in
     ap (λ (x : List Node). waiting d w p next ∷ x) (level_more d w (next + k) qs q)
-    ∙ ap (λ (i : ℕ). waiting d w p next ∷ (levelFrom d w (next + k) qs ++ waiting d w q i ∷ [])) e
+    ∙ ap (λ (i : ℕ). waiting d w p next ∷ (level_from d w (next + k) qs ++ waiting d w q i ∷ [])) e
 
 -- the nodes before k are opened, whatever tiles the level has
 abbrev pub Turn : List ℕ → List ℕ → ℕ → Bool → List ℕ → List ℕ → ℕ → ℕ → List ℕ → List ℕ → ℕ → ℕ → Type 0
@@ -56,11 +56,11 @@ module _ {t w : List ℕ} {n : ℕ} {last : Bool} {room₀ work₀ : List ℕ} {
 
   -- no node is opened yet
   pub levelling-start : Levelling g room₀ work₀ hi lo
-  unfolding levelFrom
+  unfolding level_from
   levelling-start =
       let z : length g.before + 0 ≡ length g.before = omega arith in
       let y : hi + 0 ≡ hi = omega arith in
-      let qs : List Node = map (pendOf t w false) (current g.tiles) in
+      let qs : List Node = map (pend_of t w false) (current g.tiles) in
       record {
         past = [];
         ahead = g.tiles;
@@ -71,7 +71,7 @@ module _ {t w : List ℕ} {n : ℕ} {last : Bool} {room₀ work₀ : List ℕ} {
               all = refl;
               nodes =
                   g.stage.nodes
-                  ∙ ap (λ (b : Bool). with_nodes g.origin (g.before ++ map (pendOf t w b) (current g.tiles))) deeper
+                  ∙ ap (λ (b : Bool). with_nodes g.origin (g.before ++ map (pend_of t w b) (current g.tiles))) deeper
                   ∙ ap₂ (λ (x y : List Node). with_nodes g.origin (x ++ y)) (sym (append-nil g.before)) (sym (append-nil qs));
               count = sym y;
               here = g.stage.first ∙ sym z;
@@ -100,10 +100,10 @@ module _ {t w : List ℕ} {n : ℕ} {last : Bool} {room₀ work₀ : List ℕ} {
         ∙ ap (λ (x : List Piece). x ++ next.q ∷ []) (above-none t w next.front next.above))
 
     -- what they are opened into
-    past-opens : openAll d w (current past') ≡ openAll d w (current past) ++ opens d w next.q
+    past-opens : open_all d w (current past') ≡ open_all d w (current past) ++ opens d w next.q
     past-opens =
-        ap (openAll d w) past-current ∙ each_append (opens d w) (current past) (next.q ∷ [])
-        ∙ ap (λ (x : List Piece). openAll d w (current past) ++ x) (append-nil (opens d w next.q))
+        ap (open_all d w) past-current ∙ each_append (opens d w) (current past) (next.q ∷ [])
+        ∙ ap (λ (x : List Piece). open_all d w (current past) ++ x) (append-nil (opens d w next.q))
 
     -- what they leave
     past-below : below_all t w past' ≡ (below_all t w past ++ next.front) ++ below t w (true, next.q)
@@ -155,19 +155,19 @@ module _ {t w : List ℕ} {n : ℕ} {last : Bool} {room₀ work₀ : List ℕ} {
     unfolding past'
     half_step {room'} {work'} {r} same got =
         let C = words-cut g half next in
-        let a : List Node = map (pendOf t w false) (current next.back) in
-        let b : List Node = map (pendOf t w last) (openAll d w (current past)) in
-        let c : List Node = map (pendOf t w last) (opens d w next.q) in
+        let a : List Node = map (pend_of t w false) (current next.back) in
+        let b : List Node = map (pend_of t w last) (open_all d w (current past)) in
+        let c : List Node = map (pend_of t w last) (opens d w next.q) in
         let x : Node = waiting d w next.q made in
         let front-nodes : fore g past ++ x ∷ [] ≡ fore g past' =
-        append_assoc g.before (levelFrom d w hi (current past)) (x ∷ [])
+        append_assoc g.before (level_from d w hi (current past)) (x ∷ [])
         ∙ ap (λ (y : List Node). g.before ++ y)
-        (ap (λ (i : ℕ). levelFrom d w hi (current past) ++ waiting d w next.q i ∷ []) half.count
-        ∙ sym (level_more d w hi (current past) next.q) ∙ ap (levelFrom d w hi) (sym past-current)) in
+        (ap (λ (i : ℕ). level_from d w hi (current past) ++ waiting d w next.q i ∷ []) half.count
+        ∙ sym (level_more d w hi (current past) next.q) ∙ ap (level_from d w hi) (sym past-current)) in
         let rear-nodes : rear g past next.back ++ c ≡ rear g past' next.back =
         append_assoc a b c
-        ∙ ap (λ (y : List Node). a ++ y) (sym (map-append (pendOf t w last) (openAll d w (current past)) (opens d w next.q))
-        ∙ ap (map (pendOf t w last)) (sym past-opens)) in
+        ∙ ap (λ (y : List Node). a ++ y) (sym (map-append (pend_of t w last) (open_all d w (current past)) (opens d w next.q))
+        ∙ ap (map (pend_of t w last)) (sym past-opens)) in
         let T : ℕ = length (below_all t w past) + length next.front + length next.back in
         let few-now : made + 1 ≤ 2 * (T + 1) =
         omega (
@@ -208,7 +208,7 @@ module _ {t w : List ℕ} {n : ℕ} {last : Bool} {room₀ work₀ : List ℕ} {
                       arith,
                       half.count,
                       ap length past-opens,
-                      length-append (openAll d w (current past)) (opens d w next.q),
+                      length-append (open_all d w (current past)) (opens d w next.q),
                     );
                 here = omega (arith, half.here, ap length past-current, length-append (current past) (next.q ∷ []));
                 few = few-then;
@@ -249,7 +249,7 @@ module _ {t w : List ℕ} {n : ℕ} {last : Bool} {room₀ work₀ : List ℕ} {
 
     -- ---- behind the last: the stage one level down
     pub levelling-done : hi ≤ k
-        → Stage t w n g.deep g.origin (g.before ++ levelFrom (between t (c# w) (circles# w)) w hi (current g.tiles))
+        → Stage t w n g.deep g.origin (g.before ++ level_from (between t (c# w) (circles# w)) w hi (current g.tiles))
         (below_all t w g.tiles) room work hi made
     levelling-done h =
         let f = inv.half in
@@ -262,9 +262,9 @@ module _ {t w : List ℕ} {n : ℕ} {last : Bool} {room₀ work₀ : List ℕ} {
         let ts : below_all t w g.tiles ≡ below_all t w past ++ ahead =
         ap (below_all t w) f.all ∙ each_append (below t w) past ahead
         ∙ ap (λ (x : List Tile). below_all t w past ++ x) (above-stay t w ahead none) in
-        let down : current (below_all t w g.tiles) ≡ openAll d w (current past) = below-current t w g.tiles ∙ ap (openAll d w) same in
-        let out : length (g.before ++ levelFrom d w hi (current g.tiles)) ≡ length g.before + length (current g.tiles) =
-        length-append g.before (levelFrom d w hi (current g.tiles))
+        let down : current (below_all t w g.tiles) ≡ open_all d w (current past) = below-current t w g.tiles ∙ ap (open_all d w) same in
+        let out : length (g.before ++ level_from d w hi (current g.tiles)) ≡ length g.before + length (current g.tiles) =
+        length-append g.before (level_from d w hi (current g.tiles))
         ∙ ap (λ (i : ℕ). length g.before + i) (level_long d w hi (current g.tiles)) in
         let leaves : Every (λ q. waits w q ≡ false) (pieces ahead) =
         above_leaves w ahead none (every-right (Leafy w) past ahead (subst (Every (Leafy w)) f.all g.stage.leafy)) in
@@ -273,9 +273,9 @@ module _ {t w : List ℕ} {n : ℕ} {last : Bool} {room₀ work₀ : List ℕ} {
           nodes =
               f.nodes
               ∙ ap₂ (λ (x y : List Piece).
-              with_nodes g.origin ((g.before ++ levelFrom d w hi x) ++ (map (pendOf t w false) y ++ map (pendOf t w last)
-              (openAll d w (current past))))) (sym same) (above-none t w ahead none)
-              ∙ ap₂ (λ (b : Bool) (x : List Piece). with_nodes g.origin ((g.before ++ levelFrom d w hi (current g.tiles)) ++ map (pendOf t w b)
+              with_nodes g.origin ((g.before ++ level_from d w hi x) ++ (map (pend_of t w false) y ++ map (pend_of t w last)
+              (open_all d w (current past))))) (sym same) (above-none t w ahead none)
+              ∙ ap₂ (λ (b : Bool) (x : List Piece). with_nodes g.origin ((g.before ++ level_from d w hi (current g.tiles)) ++ map (pend_of t w b)
               x)) g.shallow (sym down);
           space = g.stage.space;
           first = omega (arith, out, g.stage.last);

@@ -23,7 +23,7 @@ use Rattle.opening.specs.Sound.{Late, Sound, Task, waits}
 use Rattle.regrow.proofs.Found.{leaf_few}
 use Rattle.swelling.proofs.Counted.{members_long}
 use Rattle.swelling.proofs.Parting.{parts-runs, parts-tally}
-use Rattle.swelling.specs.Pieces.{Piece, grown, grown_from, kidFor, kidsFrom, leafPiece, old, opens, piece_of, settled, start_of}
+use Rattle.swelling.specs.Pieces.{Piece, grown, grown_from, kid_for, kids_from, leaf_piece, old, opens, piece_of, settled, start_of}
 use Rattle.swelling.specs.Swell.{parts, reach_taking}
 use Rattle.tree.specs.Build.{Run}
 use Rattle.tree.specs.Grove.{Reach, members#, reach#}
@@ -96,7 +96,7 @@ module _ {t w : List ℕ} {n : ℕ} (task : Task t w n) where
         leaf_few w task.tree o there (omega (arith, shallow)) none
 
     -- a leaf that takes rows
-    leaf-sounds : (zs : List ℕ) → New t (c# w) w zs → Every (λ z. z < n) zs → inner w o ≡ false → Sound t w n deep (leafPiece d w s o zs)
+    leaf-sounds : (zs : List ℕ) → New t (c# w) w zs → Every (λ z. z < n) zs → inner w o ≡ false → Sound t w n deep (leaf_piece d w s o zs)
     leaf-sounds [] new low e =
         omega (arith, members_long d w task.shape o, (task.shape.node o there).some)
     leaf-sounds (z ∷ zs) new low e =
@@ -127,7 +127,7 @@ module _ {t w : List ℕ} {n : ℕ} (task : Task t w n) where
     node-sounds : (zs : List ℕ) → New t (c# w) w zs → Every (λ z. z < n) zs → Sound t w n deep (piece_of d w s o zs)
     node-sounds zs new low = go (inner w o) refl
       where
-        go : (b : Bool) → inner w o ≡ b → Sound t w n deep (cond b (old s o zs) (leafPiece d w s o zs))
+        go : (b : Bool) → inner w o ≡ b → Sound t w n deep (cond b (old s o zs) (leaf_piece d w s o zs))
         go true e = (there, e, left, new, low, shallow)
         go false e = leaf-sounds zs new low e
 
@@ -142,7 +142,7 @@ module _ {t w : List ℕ} {n : ℕ} (task : Task t w n) where
   Depth deep o = Left w deep o × (o < level w (suc (max_depth - deep)))
 
   kids-sound : (deep : ℕ) (place : ℕ → ℕ) (zs : List ℕ) → New t (c# w) w zs → Every (λ z. z < n) zs → (s o k j : ℕ) → o + j ≤ nodes# w
-      → ((i : ℕ) → i < j → Depth deep (o + i)) → Every (Sound t w n deep) (kidsFrom d w place zs s o k j)
+      → ((i : ℕ) → i < j → Depth deep (o + i)) → Every (Sound t w n deep) (kids_from d w place zs s o k j)
   kids-sound deep place zs new low s o k zero h f = tt
   kids-sound deep place zs new low s o k (suc j) h f =
       let here : List ℕ = keep (λ z. eqb (place z) k) zs in
@@ -169,12 +169,12 @@ module _ {t w : List ℕ} {n : ℕ} (task : Task t w n) where
       )
 
   -- they follow each other
-  kids-follow : (place : ℕ → ℕ) (zs : List ℕ) (s o k j : ℕ) → Follow w s (kidsFrom d w place zs s o k j)
+  kids-follow : (place : ℕ → ℕ) (zs : List ℕ) (s o k j : ℕ) → Follow w s (kids_from d w place zs s o k j)
   kids-follow place zs s o k zero = tt
   kids-follow place zs s o k (suc j) =
       let here : List ℕ = keep (λ z. eqb (place z) k) zs in (
         piece-start t w s o here,
-        subst (λ (i : ℕ). Follow w (s + i) (kidsFrom d w place zs (s + (count# w o + length here)) (suc o) (suc k) j)) (sym (piece-size t w s o here))
+        subst (λ (i : ℕ). Follow w (s + i) (kids_from d w place zs (s + (count# w o + length here)) (suc o) (suc k) j)) (sym (piece-size t w s o here))
             (kids-follow place zs (s + (count# w o + length here)) (suc o) (suc k) j),
       )
 
@@ -190,7 +190,7 @@ module _ {t w : List ℕ} {n : ℕ} (task : Task t w n) where
   pub opens-sound : (deep : ℕ) (q : Piece) → Sound t w n (suc deep) q → Every (Sound t w n deep) (opens (between t (c# w) (circles# w)) w q)
   opens-sound deep (settled s R es) h = tt
   opens-sound deep (old s o zs) h =
-      kids-sound deep (kidFor d w o) zs h.3 h.4 s (child# w o) 0 (m# w) ((task.shape.node o h.0).kids h.1).inside
+      kids-sound deep (kid_for d w o) zs h.3 h.4 s (child# w o) 0 (m# w) ((task.shape.node o h.0).kids h.1).inside
       (kids-depth deep o h.0 h.1 h.2 h.5)
   opens-sound deep (grown s R run) h = go (leb (length run) (l# w)) refl
     where
@@ -216,7 +216,7 @@ module _ {t w : List ℕ} {n : ℕ} (task : Task t w n) where
   -- starts where it starts
   pub opens-follow : (q : Piece) → Follow w (start_of q) (opens (between t (c# w) (circles# w)) w q)
   opens-follow (settled s R es) = tt
-  opens-follow (old s o zs) = kids-follow (kidFor d w o) zs s (child# w o) 0 (m# w)
+  opens-follow (old s o zs) = kids-follow (kid_for d w o) zs s (child# w o) 0 (m# w)
   opens-follow (grown s R run) = go (leb (length run) (l# w))
     where
       go : (b : Bool) → Follow w s (cond b [] (grown_from d s (parts d (m# w) (l# w) run)))
@@ -243,7 +243,7 @@ module _ {t w : List ℕ} {n : ℕ} (task : Task t w n) where
   -- is m pieces
   pub opens-many : (q : Piece) → waits w q ≡ true → length (opens (between t (c# w) (circles# w)) w q) ≡ m# w
   opens-many (settled s R es) e = absurd (subst T (sym e) tt)
-  opens-many (old s o zs) e = kids_many d w (kidFor d w o) zs s (child# w o) 0 (m# w)
+  opens-many (old s o zs) e = kids_many d w (kid_for d w o) zs s (child# w o) 0 (m# w)
   opens-many (grown s R run) e = go (leb (length run) (l# w)) e
     where
       go : (b : Bool) → not b ≡ true → length (cond b [] (grown_from d s (parts d (m# w) (l# w) run))) ≡ m# w

@@ -11,7 +11,7 @@ use Rattle.laws.specs.Every.{Every}
 use Rattle.measure.specs.Table.{between}
 use Rattle.opening.proofs.Waited.{leaf_opens}
 use Rattle.opening.specs.Sound.{Sound, Task, opened, waits}
-use Rattle.swelling.specs.Pieces.{Piece, openAll, opens, start_of}
+use Rattle.swelling.specs.Pieces.{Piece, open_all, opens, start_of}
 use Rattle.words.specs.Words.{c#, circles#}
 use lib.Dec.{T}
 use lib.ListN.{length}
@@ -61,16 +61,16 @@ module _ (t w : List ℕ) where
       go false = refl
 
   -- on the level below is what the level is opened into
-  pub below-current : (ts : List Tile) → current (below_all t w ts) ≡ openAll (between t (c# w) (circles# w)) w (current ts)
+  pub below-current : (ts : List Tile) → current (below_all t w ts) ≡ open_all (between t (c# w) (circles# w)) w (current ts)
   below-current [] = refl
   below-current (x ∷ ts) =
       current_append (below t w x) (below_all t w ts) ∙ go x.0 (waits w x.1) refl (below-current ts)
     where
-      go : (b v : Bool) → waits w x.1 ≡ v → current (below_all t w ts) ≡ openAll d w (current ts)
+      go : (b v : Bool) → waits w x.1 ≡ v → current (below_all t w ts) ≡ open_all d w (current ts)
           → current (cond (b && v) (fresh (opens d w x.1)) ((false, x.1) ∷ [])) ++ current (below_all t w ts)
-          ≡ openAll d w (cond b (x.1 ∷ current ts) (current ts))
+          ≡ open_all d w (cond b (x.1 ∷ current ts) (current ts))
       go true true e h = ap₂ (λ (l k : List Piece). l ++ k) (fresh-current (opens d w x.1)) h
-      go true false e h = h ∙ ap (λ (l : List Piece). l ++ openAll d w (current ts)) (sym (leaf_opens d w x.1 e))
+      go true false e h = h ∙ ap (λ (l : List Piece). l ++ open_all d w (current ts)) (sym (leaf_opens d w x.1 e))
       go false true e h = h
       go false false e h = h
 

@@ -3,10 +3,10 @@
 use Rattle.std.specs.Prelude.{ℕ, List, map}
 use Rattle.fates.specs.declared.Fate.TheVariants.{Closed, Opened, Swept}
 use Rattle.fates.specs.declared.Fate.{Fate}
-use Rattle.marking.specs.Marks.{first_at, leastFrom}
+use Rattle.marking.specs.Marks.{first_at, least_from}
 use Rattle.tree.specs.Grove.{bare, reach#, tree_at}
 use Rattle.tree.specs.Homes.{child_bound_lem}
-use Rattle.tree.specs.Radius.{marksIn}
+use Rattle.tree.specs.Radius.{marks_in}
 
 -- the how-bytes of each case for all rows but the first: 2, in unmeasured; 0, out unmeasured; or what opening the node gives
 abbrev pub fate_marks : List ℕ → List (ℕ × ℕ) → Fate → List (ℕ × ℕ)
@@ -16,9 +16,9 @@ fate_marks others opened Opened = opened
 
 module _ (x : ℕ → ℕ) (r : ℕ) (w : List ℕ) where
   -- the marks of the rows of node k but its first, with the bound b and `levels` left below it
-  unfoldable pub nodeMarks : ℕ → ℕ → ℕ → List (ℕ × ℕ)
-  nodeMarks levels k b = marksIn x r (λ x R. b) (tree_at w levels k bare)
+  unfoldable pub node_marks : ℕ → ℕ → ℕ → List (ℕ × ℕ)
+  node_marks levels k b = marks_in x r (λ x R. b) (tree_at w levels k bare)
 
   -- those of node i as one of the children ch, ch + 1, .. of a node with the bound b
-  abbrev pub kidMarks : ℕ → ℕ → ℕ → ℕ → List (ℕ × ℕ)
-  kidMarks levels b ch i = nodeMarks levels i (child_bound_lem b (leastFrom x w ch) (first_at x w i) (reach# w i))
+  abbrev pub kid_marks : ℕ → ℕ → ℕ → ℕ → List (ℕ × ℕ)
+  kid_marks levels b ch i = node_marks levels i (child_bound_lem b (least_from x w ch) (first_at x w i) (reach# w i))

@@ -2,7 +2,7 @@
 #![tactic(auto)]
 
 ghost use Rattle.std.specs.Prelude.{◌<◌, ◌≤◌, ◌≡◌};
-ghost use Rattle.descending.specs.Descent.{nodeMarks};
+ghost use Rattle.descending.specs.Descent.{node_marks};
 ghost use Rattle.fates.specs.Settling.{fate_of_lem};
 ghost use Rattle.fates.specs.declared.Fate.TheVariants.{Opened};
 ghost use Rattle.limits.specs.Limits.{max_distance};
@@ -41,7 +41,7 @@ pub fn descend(
         × (x ≡ first_at (from table.now c (circles# index.now) query.now) index.now k)
         × (Opened ≡ fate_of_lem x (radius# index.now k) bound r) }
     ensures { Leaves (is_in_lem withdrawn.now) (from table.now c (circles# index.now) query.now)
-        (nodeMarks (from table.now c (circles# index.now) query.now) r index.now levels k bound)
+        (node_marks (from table.now c (circles# index.now) query.now) r index.now levels k bound)
         how.old how.new list.old list.new }
 {
     let ch = node_child(index, k);

@@ -13,7 +13,7 @@ use sweeping::sweep;
 use words::places::node_radius;
 
 // A node is swept, closed or opened.
-#[derive(Drop)]
+#[derive(Clone, Copy)]
 pub enum Fate {
     Swept,
     Closed,

@@ -1,6 +1,6 @@
 -- What is safe is spared: no other centre is closer. Assumes nothing.
 use Prim.Native.Nat.{◌+◌, ◌-◌, ◌<◌, ◌≤◌, ℕ}
-use Rattle.child_strays.specs.Strays.{Firsts, closerThan}
+use Rattle.child_strays.specs.Strays.{Firsts, closer_than}
 use Rattle.laws.proofs.First.{any-lost}
 use Rattle.laws.specs.Lists.{any, range}
 use Rattle.spared_rows.specs.Safe.{SafeTo}
@@ -15,11 +15,11 @@ use native.Mathlib.Omega.{arith}
 module _ (d : ℕ → ℕ → ℕ) where
   -- no centre is closer to a row that is within what is safe
   pub none-closer : (w : List ℕ) (child p g x safe : ℕ) (fs : List ℕ) → Firsts w child fs → x ≡ d g (row# w p) → SafeTo d fs g (m# w) safe → x ≤ safe
-      → false ≡ any (closerThan d w p x) (range child (m# w))
+      → false ≡ any (closer_than d w p x) (range child (m# w))
   none-closer w child p g x safe fs F e S q =
-      sym (any-lost (closerThan d w p x) child (m# w) (record { from = omega arith; to = omega arith; none = none; here = λ h. absurd (omega arith) }))
+      sym (any-lost (closer_than d w p x) child (m# w) (record { from = omega arith; to = omega arith; none = none; here = λ h. absurd (omega arith) }))
     where
-      none : (j : ℕ) → child ≤ j → j < child + m# w → closerThan d w p x j ≡ false
+      none : (j : ℕ) → child ≤ j → j < child + m# w → closer_than d w p x j ≡ false
       none j lo hi =
           let n : child + (j - child) ≡ j = omega arith in
           let f : get_or fs (j - child) 0 ≡ first# w j = F.at (j - child) (omega arith) ∙ ap (first# w) n in

@@ -4,7 +4,7 @@
 #![tactic(auto)]
 
 ghost use Rattle.std.specs.Prelude.{◌+◌, ◌<◌, ltb, true, ◌≡◌};
-ghost use Rattle.child_strays.specs.Strays.{FirstIn, Firsts, closerThan, kidStrays};
+ghost use Rattle.child_strays.specs.Strays.{FirstIn, Firsts, closer_than, kid_strays};
 ghost use Rattle.laws.specs.Lists.{any, range};
 ghost use Rattle.measure.specs.Space.{Space};
 ghost use Rattle.measure.specs.Table.{between};
@@ -44,7 +44,7 @@ fn closer_to_other(
     requires firsts { Firsts index.now child fs.now × (p < n# index.now)
         × (x ≡ between table.now c (circles# index.now) g (row# index.now p))
         × SafeTo (between table.now c (circles# index.now)) fs.now g (m# index.now) safe }
-    ensures { result ≡ any (closerThan (between table.now c (circles# index.now)) index.now p x)
+    ensures { result ≡ any (closer_than (between table.now c (circles# index.now)) index.now p x)
         (range child (m# index.now)) }
 {
     if x <= safe {
@@ -73,7 +73,7 @@ pub fn child_stray(
 ) -> usize
     requires tested { Tested index.now table.now c × Space (between table.now c (circles# index.now)) × (circles# index.now ≡ 0) }
     requires k_bound { (k < nodes# index.now) × (inner index.now k ≡ true) × (a < m# index.now) × Firsts index.now (child# index.now k) fs.now }
-    ensures { FirstIn index.now k (kidStrays (between table.now c (circles# index.now)) index.now k
+    ensures { FirstIn index.now k (kid_strays (between table.now c (circles# index.now)) index.now k
         (child# index.now k + a)) result }
 {
     let child = node_child(index, k);

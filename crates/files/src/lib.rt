@@ -8,7 +8,7 @@ use std::rt::Files;
 use std::{fs, str};
 
 // What came of the reading: it may have failed before the text's end, and the text may be longer than its room.
-#[derive(Drop)]
+#[derive(Clone, Copy)]
 pub struct Came {
     pub whole: bool,
     pub fits: bool,
@@ -16,7 +16,7 @@ pub struct Came {
 }
 
 // What is read: standard input, or a file, which is closed where it is dropped.
-#[derive(Drop)]
+#[derive(Clone, Copy)]
 pub enum Source<I, F> {
     Input(I),
     File(F),

@@ -2,7 +2,7 @@
 -- nodes. Assumes nothing.
 use Prim.Native.Nat.{◌+◌, ◌≤◌, suc, zero, ℕ}
 use Rattle.growing.proofs.Items.{placed_long}
-use Rattle.growing.specs.Levels.{Item, all_nodes, leafNode, level_out_lem, next_level, parts, placed}
+use Rattle.growing.specs.Levels.{Item, all_nodes, leaf_node, level_out_lem, next_level, parts, placed}
 use Rattle.laws.proofs.Every.{every_append}
 use Rattle.laws.proofs.Lists.{map-append, tally_length}
 use Rattle.laws.specs.Every.{Every}
@@ -10,7 +10,7 @@ use Rattle.levels.proofs.Singles.{numbered-items}
 use Rattle.levels.specs.Singles.{Single, kids_of, level_of, levels_of, lower, singles}
 use Rattle.limits.specs.Limits.{max_depth}
 use Rattle.tree.proofs.Grow.{forest-span, forest-tally, split-length, split_runs, split-tally}
-use Rattle.tree.specs.Build.{Run, grow, leafOf, reach, split}
+use Rattle.tree.specs.Build.{Run, grow, leaf_of, reach, split}
 use Rattle.tree.specs.Encode.{Node, numbered}
 use Rattle.tree.specs.Grove.{Grove, bare, entries, fork, rows_in}
 use borrow.Author.Tests.{leb-false}
@@ -57,8 +57,8 @@ module _ (d : ℕ → ℕ → ℕ) (m l : ℕ) (m1 : 1 ≤ m) (ml : m ≤ l) whe
   grown-single (suc deep) s r g h = go (leb (length r) l) refl
     where
       go : (b : Bool) → leb (length r) l ≡ b
-          → singles s (cond b (leafOf d r g) (fork (reach d r) (forest deep (split d m r)) g))
-          ≡ (s, cond b (leafOf d r bare) (fork (reach d r) (forest deep (split d m r)) bare)) ∷ singles (s + length r) g
+          → singles s (cond b (leaf_of d r g) (fork (reach d r) (forest deep (split d m r)) g))
+          ≡ (s, cond b (leaf_of d r bare) (fork (reach d r) (forest deep (split d m r)) bare)) ∷ singles (s + length r) g
       go true e = rw length-map refl
       go false e = rw (inner-long deep r h e) refl
 
@@ -76,7 +76,7 @@ module _ (d : ℕ → ℕ → ℕ) (m l : ℕ) (m1 : 1 ≤ m) (ml : m ≤ l) whe
   item-kids deep q h = go (leb (length q.1) l) refl
     where
       go : (b : Bool) → leb (length q.1) l ≡ b
-          → kids_of q.0 (cond b (leafOf d q.1 bare) (fork (reach d q.1) (forest deep (split d m q.1)) bare))
+          → kids_of q.0 (cond b (leaf_of d q.1 bare) (fork (reach d q.1) (forest deep (split d m q.1)) bare))
           ≡ map (single deep) (cond b [] (placed q.0 (split d m q.1)))
       go true e = refl
       go false e =
@@ -107,10 +107,10 @@ module _ (d : ℕ → ℕ → ℕ) (m l : ℕ) (m1 : 1 ≤ m) (ml : m ≤ l) whe
   out-singles deep next (q ∷ qs) h = go (leb (length q.1) l) refl (λ k. out-singles deep k qs h.1)
     where
       go : (b : Bool) → leb (length q.1) l ≡ b → ((k : ℕ) → level_of k (map (single (suc deep)) qs) ≡ level_out_lem d m l k qs)
-          → level_of next ((q.0, cond b (leafOf d q.1 bare) (fork (reach d q.1) (forest deep (split d m q.1)) bare))
+          → level_of next ((q.0, cond b (leaf_of d q.1 bare) (fork (reach d q.1) (forest deep (split d m q.1)) bare))
           ∷ map (single (suc deep)) qs)
-          ≡ cond b (leafNode d m l q ∷ level_out_lem d m l next qs) ((q.0, length q.1, next, reach d q.1) ∷ level_out_lem d m l (next + m) qs)
-      go true e ih = rw (length-map, add-zero next) (ap (λ (ns : List Node). leafNode d m l q ∷ ns) (ih next))
+          ≡ cond b (leaf_node d m l q ∷ level_out_lem d m l next qs) ((q.0, length q.1, next, reach d q.1) ∷ level_out_lem d m l (next + m) qs)
+      go true e ih = rw (length-map, add-zero next) (ap (λ (ns : List Node). leaf_node d m l q ∷ ns) (ih next))
       go false e ih =
           let runs = split_runs d m l m1 ml q.1 h.0 (omega (arith, leb-false (length q.1) l e)) in
           let many : length (singles q.0 (forest deep (split d m q.1))) ≡ m =
@@ -119,10 +119,10 @@ module _ (d : ℕ → ℕ → ℕ) (m l : ℕ) (m1 : 1 ≤ m) (ml : m ≤ l) whe
           rw (inner-long deep q.1 h.0 e, many) (ap (λ (ns : List Node). (q.0, length q.1, next, reach d q.1) ∷ ns) (ih (next + m)))
 
   -- of the last level, all are leaves
-  out-leaves : (next : ℕ) (qs : List Item) → level_of next (map (single zero) qs) ≡ map (leafNode d m l) qs
+  out-leaves : (next : ℕ) (qs : List Item) → level_of next (map (single zero) qs) ≡ map (leaf_node d m l) qs
   unfolding level_of grow
   out-leaves next [] = refl
-  out-leaves next (q ∷ qs) = rw (length-map, add-zero next) (ap (λ (ns : List Node). leafNode d m l q ∷ ns) (out-leaves next qs))
+  out-leaves next (q ∷ qs) = rw (length-map, add-zero next) (ap (λ (ns : List Node). leaf_node d m l q ∷ ns) (out-leaves next qs))
 
   -- ---- all levels
   -- from a level on, `deep` levels down

@@ -4,7 +4,7 @@ use Rattle.buffers.proofs.Whole.{wiped-whole}
 use Rattle.buffers.specs.Wiped.{wiped}
 use Rattle.filling.proofs.Framed.{framed}
 use Rattle.filling.proofs.Numbering.{numbered-levels}
-use Rattle.filling.proofs.Positions.{entries-leaves, pairs-laid, pairsOf}
+use Rattle.filling.proofs.Positions.{entries-leaves, pairs-laid, pairs_of}
 use Rattle.filling.specs.Filled.{Filled, Grown}
 use Rattle.growing.proofs.Rooting.{root_run}
 use Rattle.growing.specs.Levels.{all_nodes, leaves}
@@ -72,7 +72,7 @@ module _ (d : ℕ → ℕ → ℕ) (m l : ℕ) (m1 : 1 ≤ m) (ml : m ≤ l) whe
   plant-pairs zero h = absurd (omega arith)
   plant-pairs (suc n) h =
       let ls : List (List ℕ) = leaves d m l max_depth (range 0 (suc n)) in
-      pairs-laid d ls ∙ ap (each pair_words) (sym (entries-leaves d m l max_depth (range 0 (suc n)) bare ∙ append-nil (each (pairsOf d) ls)))
+      pairs-laid d ls ∙ ap (each pair_words) (sym (entries-leaves d m l max_depth (range 0 (suc n)) bare ∙ append-nil (each (pairs_of d) ls)))
 
 module _ {t : List ℕ} {c m l n : ℕ} (fit : Fit t c m l n) where
   -- there are centres

@@ -19,12 +19,12 @@ use Rattle.nearest_steps.specs.Asked.{NearestLent, asks, lends}
 use Rattle.query_refusals.proofs.Why.{asked_well}
 use Rattle.radius.proofs.How.{bytes-are}
 use Rattle.rowset.specs.Sets.{is_in_lem, set_bad_lem}
-use Rattle.several_queries.specs.Searched.{Asked, hasIn, howAfter, howOf, mark_of, measuredBy, some_to}
+use Rattle.several_queries.specs.Searched.{Asked, has_in, how_after, how_of, mark_of, measured_by, some_to}
 use Rattle.tree.proofs.Accepted.{once-of}
 use Rattle.tree.proofs.Theorems.{radius-exact}
 use Rattle.tree.specs.Check.{Accepted}
 use Rattle.tree.specs.Grove.{tree_of}
-use Rattle.tree.specs.Radius.{marks as marksOf, veiled}
+use Rattle.tree.specs.Radius.{marks as marks_of, veiled}
 use Rattle.words.proofs.InShape.{in_shape}
 use Rattle.words.specs.Words.{circles#, n#}
 use borrow.Author.Tests.{le-leb, leb-true}
@@ -76,36 +76,36 @@ some_of f (suc k) j h e = go (ℕ_discrete j k) (some_of f k j)
 module _ (t : List ℕ) (c o : ℕ) (w qs : List ℕ) (r : ℕ) (s : List ℕ) (E : circles# w ≡ o) (A : Accepted (between t c o) w) (R : Rounded t c o)
     (Q : Rounded qs c o) where
   -- the search for query j has row i in exactly then
-  in-exact : (j i : ℕ) → i < n# w → (2 ≤ get_or (howOf t c w qs r s j) i 0) ↔ ((is_in_lem s i ≡ false) × (from t c o (row qs c j) i ≤ r))
-  unfolding howOf
+  in-exact : (j i : ℕ) → i < n# w → (2 ≤ get_or (how_of t c w qs r s j) i 0) ↔ ((is_in_lem s i ≡ false) × (from t c o (row qs c j) i ≤ r))
+  unfolding how_of
   in-exact j i h =
       subst (λ (l : List ℕ). (2 ≤ get_or l i 0) ↔ ((is_in_lem s i ≡ false) × (from t c o (row qs c j) i ≤ r)))
       (sym
-      (ap (λ (u : ℕ). write (veiled (is_in_lem s) (marksOf (from t c u (row qs c j)) r (tree_of w))) (replicate (n# w) 0)) E
+      (ap (λ (u : ℕ). write (veiled (is_in_lem s) (marks_of (from t c u (row qs c j)) r (tree_of w))) (replicate (n# w) 0)) E
       ∙ bytes-are (from t c o (row qs c j)) r (is_in_lem s) w (in_shape w A.words A.shape) (once-of (between t c o) w A)))
       (radius-exact (between t c o) w A (from t c o (row qs c j)) (query_point t c o (row qs c j) R (Q j)) r (is_in_lem s) i h)
 
   -- so has the mark of k searches
   mark-exact : (k i : ℕ) → i < n# w → (mark_of t c w qs r s k i ≡ 1) ↔ ((is_in_lem s i ≡ false) × Within t c o qs r k i)
   unfolding mark_of
-  mark-exact k i h = (λ e. near (some_to (hasIn t c w qs r s i) k) refl e, λ x. marked x)
+  mark-exact k i h = (λ e. near (some_to (has_in t c w qs r s i) k) refl e, λ x. marked x)
     where
-      near : (b : Bool) → some_to (hasIn t c w qs r s i) k ≡ b → cond {A = ℕ} b 1 0 ≡ 1 → (is_in_lem s i ≡ false) × Within t c o qs r k i
+      near : (b : Bool) → some_to (has_in t c w qs r s i) k ≡ b → cond {A = ℕ} b 1 0 ≡ 1 → (is_in_lem s i ≡ false) × Within t c o qs r k i
       near true p e =
-          let m = some-yes (hasIn t c w qs r s i) k p in
-          let x = (in-exact m.which i h).0 (leb-true 2 (get_or (howOf t c w qs r s m.which) i 0) m.passes) in
+          let m = some-yes (has_in t c w qs r s i) k p in
+          let x = (in-exact m.which i h).0 (leb-true 2 (get_or (how_of t c w qs r s m.which) i 0) m.passes) in
           (x.0, record { query = m.which; there = m.below; near = x.1 })
       near false p e = absurd (omega arith)
 
-      marked : (is_in_lem s i ≡ false) × Within t c o qs r k i → cond {A = ℕ} (some_to (hasIn t c w qs r s i) k) 1 0 ≡ 1
+      marked : (is_in_lem s i ≡ false) × Within t c o qs r k i → cond {A = ℕ} (some_to (has_in t c w qs r s i) k) 1 0 ≡ 1
       marked x =
-          rw (some_of (hasIn t c w qs r s i) k x.1.query x.1.there (le-leb 2 (get_or (howOf t c w qs r s x.1.query) i 0) ((in-exact x.1.query i h).1 (x.0, x.1.near))))
+          rw (some_of (has_in t c w qs r s i) k x.1.query x.1.there (le-leb 2 (get_or (how_of t c w qs r s x.1.query) i 0) ((in-exact x.1.query i h).1 (x.0, x.1.near))))
           refl
 
   -- a mark is 0 or 1
   mark-small : (k i : ℕ) → mark_of t c w qs r s k i ≤ 1
   unfolding mark_of
-  mark-small k i = go (some_to (hasIn t c w qs r s i) k)
+  mark-small k i = go (some_to (has_in t c w qs r s i) k)
     where
       go : (b : Bool) → cond {A = ℕ} b 1 0 ≤ 1
       go true = omega arith
@@ -155,8 +155,8 @@ module _ {t : List ℕ} {c o : ℕ} {qs : List ℕ} {r : ℕ} {s room work how m
       → Asked t c v qs r s (rows_of qs c) how how₂ marks marks₂ in₂ met₂ → (in₁ ≡ in₂) × (met₁ ≡ met₂) × (how₁ ≡ how₂) × (marks₁ ≡ marks₂)
   asked-only w v e x y = (
     x.inside ∙ ap (λ (u : List ℕ). sum_to (mark_of t c u qs r s (rows_of qs c)) (n# u)) e ∙ sym y.inside,
-    x.measures ∙ ap (λ (u : List ℕ). sum_to (measuredBy t c u qs r s) (rows_of qs c)) e ∙ sym y.measures,
-    x.bytes ∙ ap (λ (u : List ℕ). howAfter t c u qs r s (rows_of qs c) how) e ∙ sym y.bytes,
+    x.measures ∙ ap (λ (u : List ℕ). sum_to (measured_by t c u qs r s) (rows_of qs c)) e ∙ sym y.measures,
+    x.bytes ∙ ap (λ (u : List ℕ). how_after t c u qs r s (rows_of qs c) how) e ∙ sym y.bytes,
     x.marked ∙ ap (λ (u : List ℕ). first_of (mark_of t c u qs r s (rows_of qs c)) (n# u) ++ drop (n# u) marks) e ∙ sym y.marked,
   )
 

@@ -1,7 +1,7 @@
 -- The frontier in the workspace, as a queue of items. A working notion, on which no promise rests. Assumes nothing.
 use Rattle.std.specs.Prelude.{◌*◌, ◌+◌, ◌-◌, ◌<◌, ◌≤◌, ℕ, leb, ltb, length, cond, List, ◌++◌, map, ◌≡◌}
 use Rattle.frontier.specs.Workspace.{kept, work_words}
-use Rattle.index_space.specs.Items.{IndexItem, greatest_word, least_to, node, place, placeBound}
+use Rattle.index_space.specs.Items.{IndexItem, greatest_word, least_to, node, place, place_bound}
 use Rattle.laws.specs.Bags.{SameBag, upto}
 use Rattle.laws.specs.Lists.{keep}
 use Rattle.laws.specs.Outside.{Outside}
@@ -27,7 +27,7 @@ items w x work len = map (item_of w x) (entries work 0 len)
 
 -- the entry of position p of a leaf that has the bound b and its first at x
 abbrev pub placed : List ℕ → ℕ → ℕ → ℕ → ℕ
-placed w b x p = packed (placeBound w b x p) (2 * n# w + p)
+placed w b x p = packed (place_bound w b x p) (2 * n# w + p)
 
 -- the entry of node j, of a parent with the bound b and centres at y at least, by the distances that are kept
 abbrev pub noded : List ℕ → List ℕ → ℕ → ℕ → ℕ → ℕ

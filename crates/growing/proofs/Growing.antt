@@ -2,7 +2,7 @@
 use Prim.Native.Nat.{◌+◌, ◌-◌, ◌<◌, ◌≤◌, suc, zero, ℕ}
 use Rattle.growing.proofs.Tiles.{runs_few}
 use Rattle.growing.specs.Rooted.{Layered, Planted, Rooted, root_item}
-use Rattle.growing.specs.Levels.{Item, all_nodes, leafNode, leaves, level_out_lem, next_level, opened}
+use Rattle.growing.specs.Levels.{Item, all_nodes, leaf_node, leaves, level_out_lem, next_level, opened}
 use Rattle.growing.specs.Stages.{Fit, Level, Stage, Staged, with_nodes}
 use Rattle.laws.proofs.Joins.{each_append}
 use Rattle.laws.specs.Lists.{each, range}
@@ -58,7 +58,7 @@ module _ (d : ℕ → ℕ → ℕ) (m l : ℕ) where
       ∙ sym (append_assoc before (level_out_lem d m l hi items) (all_nodes d m l deep made (next_level d m l items)))
 
   -- where no level is left, each item is a leaf
-  nodes-none : (hi : ℕ) (items : List Item) → all_nodes d m l 0 hi items ≡ map (leafNode d m l) items
+  nodes-none : (hi : ℕ) (items : List Item) → all_nodes d m l 0 hi items ≡ map (leaf_node d m l) items
   unfolding all_nodes
   nodes-none hi items = refl
 
@@ -117,15 +117,15 @@ module _ {t : List ℕ} {c o m l n : ℕ} {origin room work : List ℕ} {lo hi d
   growing-done h =
       let z : max_depth - depth ≡ 0 = omega arith in
       let s = inv.stage in
-      let ns : inv.before ++ map (leafNode d m l) inv.items ≡ all_nodes d m l max_depth 1 (root_item n ∷ []) =
+      let ns : inv.before ++ map (leaf_node d m l) inv.items ≡ all_nodes d m l max_depth 1 (root_item n ∷ []) =
       ap (λ (x : List Node). inv.before ++ x) (sym (nodes-none d m l hi inv.items))
       ∙ ap (λ (k : ℕ). inv.before ++ all_nodes d m l k hi inv.items) (sym z) ∙ inv.nodes in
       let ts : inv.tiles ≡ leaves d m l max_depth (range 0 n) =
       sym (leaves_none d m l inv.tiles) ∙ ap (λ (k : ℕ). each (leaves d m l k) inv.tiles) (sym z) ∙ inv.below in
       record {
         nodes = s.nodes ∙ ap (with_nodes origin) ns;
-        count = s.last ∙ sym (ap length (sym ns) ∙ length-append inv.before (map (leafNode d m l) inv.items)
-            ∙ ap (λ (k : ℕ). length inv.before + k) (length-map inv.items (leafNode d m l)));
+        count = s.last ∙ sym (ap length (sym ns) ∙ length-append inv.before (map (leaf_node d m l) inv.items)
+            ∙ ap (λ (k : ℕ). length inv.before + k) (length-map inv.items (leaf_node d m l)));
         few = omega (arith, s.few, runs_few inv.tiles s.tiled.runs, s.tiled.full);
         tiles = s.tiled.words ∙ ap (each (laid d)) ts;
       }

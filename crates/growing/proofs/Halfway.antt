@@ -3,7 +3,7 @@ use Prim.Native.Nat.{◌*◌, ◌+◌, ◌≤◌, ℕ}
 use Rattle.growing.proofs.Items.{next_small, out_long, out-small}
 use Rattle.growing.proofs.Rooms.{read_count, read-start, room-long}
 use Rattle.growing.proofs.Tiles.{runs_few}
-use Rattle.growing.specs.Levels.{Item, leafNode, level_out_lem, next_level, opened, placed, waits}
+use Rattle.growing.specs.Levels.{Item, leaf_node, level_out_lem, next_level, opened, placed, waits}
 use Rattle.growing.specs.Stages.{Level, Tiled, with_nodes}
 use Rattle.laws.specs.Lists.{each, joined, keep}
 use Rattle.measure.specs.Table.{between}
@@ -24,7 +24,7 @@ module _ {t : List ℕ} {c o m l n : ℕ} {room₀ work₀ : List ℕ} {lo hi : 
 
   -- the nodes of the items that are not, and of the children there are
   abbrev pub rear : List Item → List Item → List Node
-  rear done todo = map (leafNode (between t c o) m l) todo ++ map (leafNode (between t c o) m l) (next_level (between t c o) m l done)
+  rear done todo = map (leaf_node (between t c o) m l) todo ++ map (leaf_node (between t c o) m l) (next_level (between t c o) m l done)
 
   -- `done` are opened and `todo` are not; the tiles `past` gave way to their children's, `ahead` did not
   pub record Half (done todo : List Item) (past ahead : List (List ℕ)) (room work : List ℕ) (made k : ℕ) : Type 0 where
@@ -72,8 +72,8 @@ module _ {t : List ℕ} {c o m l n : ℕ} {room₀ work₀ : List ℕ} {lo hi : 
     -- and as many behind it as items wait and as children there are
     rear-long : length (rear done rest) ≡ length rest + length (next_level d m l done)
     rear-long =
-        length-append (map (leafNode d m l) rest) (map (leafNode d m l) (next_level d m l done))
-        ∙ ap₂ ◌+◌ (length-map rest (leafNode d m l)) (length-map (next_level d m l done) (leafNode d m l))
+        length-append (map (leaf_node d m l) rest) (map (leaf_node d m l) (next_level d m l done))
+        ∙ ap₂ ◌+◌ (length-map rest (leaf_node d m l)) (length-map (next_level d m l done) (leaf_node d m l))
 
     -- the level's items: those done, this one, and the rest
     pub items_long : length g.items ≡ length done + (1 + length rest)
@@ -96,7 +96,7 @@ module _ {t : List ℕ} {c o m l n : ℕ} {room₀ work₀ : List ℕ} {lo hi : 
     pub long : length room ≡ length g.origin
     long =
         let ns : List Node = fore done ++ rear done (q ∷ rest) in
-        let fits : node_at_lem (length ns) ≤ length g.origin = omega (arith, all-long (leafNode d m l q), made-few, g.stage.space) in
+        let fits : node_at_lem (length ns) ≤ length g.origin = omega (arith, all-long (leaf_node d m l q), made-few, g.stage.space) in
         ap length half.nodes ∙ room-long g.origin header-fits ns fits
 
     -- its start is read
@@ -120,8 +120,8 @@ module _ {t : List ℕ} {c o m l n : ℕ} {room₀ work₀ : List ℕ} {lo hi : 
           runs = half.runs;
           nodes =
               half.nodes
-              ∙ ap (with_nodes g.origin) (fore-more done q (leafNode d m l q) (rear done rest) (out-small d m l one g.fit.leafy hi done q e)
-              ∙ ap (λ (y : List Item). fore (done ++ q ∷ []) ++ (map (leafNode d m l) rest ++ map (leafNode d m l) y)) (sym next));
+              ∙ ap (with_nodes g.origin) (fore-more done q (leaf_node d m l q) (rear done rest) (out-small d m l one g.fit.leafy hi done q e)
+              ∙ ap (λ (y : List Item). fore (done ++ q ∷ []) ++ (map (leaf_node d m l) rest ++ map (leaf_node d m l) y)) (sym next));
           count = half.count ∙ ap (λ (x : List Item). hi + length x) (sym next);
           here = omega (arith, half.here, length-append done (q ∷ []));
           tiled = half.tiled;

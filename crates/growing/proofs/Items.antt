@@ -1,6 +1,6 @@
 -- The items of a level: their nodes and the items of the level below, for one item more. Assumes nothing.
 use Prim.Native.Nat.{◌+◌, ◌≤◌, suc, ℕ}
-use Rattle.growing.specs.Levels.{Item, leafNode, level_out_lem, next_level, parts, placed}
+use Rattle.growing.specs.Levels.{Item, leaf_node, level_out_lem, next_level, parts, placed}
 use Rattle.laws.proofs.Joins.{each_append}
 use Rattle.tree.proofs.Grow.{split-length}
 use Rattle.tree.specs.Build.{reach, split}
@@ -41,7 +41,7 @@ out_long d m l next [] = refl
 out_long d m l next (q ∷ qs) = go (leb (length q.1) l) (λ k. out_long d m l k qs)
   where
     go : (b : Bool) → ((k : ℕ) → length (level_out_lem d m l k qs) ≡ length qs)
-        → length (cond b (leafNode d m l q ∷ level_out_lem d m l next qs) ((q.0, length q.1, next, reach d q.1) ∷ level_out_lem d m l (next + m) qs))
+        → length (cond b (leaf_node d m l q ∷ level_out_lem d m l next qs) ((q.0, length q.1, next, reach d q.1) ∷ level_out_lem d m l (next + m) qs))
         ≡ suc (length qs)
     go true ih = ap suc (ih next)
     go false ih = ap suc (ih (next + m))
@@ -59,10 +59,10 @@ module _ (d : ℕ → ℕ → ℕ) (m l : ℕ) (m1 : 1 ≤ m) (ml : m ≤ l) whe
   out_append next (p ∷ ps) qs = go (leb (length p.1) l) (λ k. out_append k ps qs)
     where
       go : (b : Bool) → ((k : ℕ) → level_out_lem d m l k (ps ++ qs) ≡ level_out_lem d m l k ps ++ level_out_lem d m l (k + length (next_level d m l ps)) qs)
-          → cond b (leafNode d m l p ∷ level_out_lem d m l next (ps ++ qs)) (inner next p ∷ level_out_lem d m l (next + m) (ps ++ qs))
-          ≡ cond b (leafNode d m l p ∷ level_out_lem d m l next ps) (inner next p ∷ level_out_lem d m l (next + m) ps)
+          → cond b (leaf_node d m l p ∷ level_out_lem d m l next (ps ++ qs)) (inner next p ∷ level_out_lem d m l (next + m) (ps ++ qs))
+          ≡ cond b (leaf_node d m l p ∷ level_out_lem d m l next ps) (inner next p ∷ level_out_lem d m l (next + m) ps)
           ++ level_out_lem d m l (next + length (cond b [] (placed p.0 (split d m p.1)) ++ next_level d m l ps)) qs
-      go true ih = ap (λ (ns : List Node). leafNode d m l p ∷ ns) (ih next)
+      go true ih = ap (λ (ns : List Node). leaf_node d m l p ∷ ns) (ih next)
       go false ih =
           let kids : List Item = placed p.0 (split d m p.1) in
           let k : next + m + length (next_level d m l ps) ≡ next + length (kids ++ next_level d m l ps) =
@@ -74,14 +74,14 @@ module _ (d : ℕ → ℕ → ℕ) (m l : ℕ) (m1 : 1 ≤ m) (ml : m ≤ l) whe
     -- the last item's node is a leaf's or an inner node's
     out-last : (b : Bool) → leb (length q.1) l ≡ b
         → level_out_lem d m l next (done ++ q ∷ [])
-        ≡ level_out_lem d m l next done ++ cond b (leafNode d m l q ∷ []) (inner (next + length (next_level d m l done)) q ∷ [])
+        ≡ level_out_lem d m l next done ++ cond b (leaf_node d m l q ∷ []) (inner (next + length (next_level d m l done)) q ∷ [])
     unfolding level_out_lem
     out-last b e =
         let k : ℕ = next + length (next_level d m l done) in
-        out_append next done (q ∷ []) ∙ ap (λ (b : Bool). level_out_lem d m l next done ++ cond b (leafNode d m l q ∷ []) (inner k q ∷ [])) e
+        out_append next done (q ∷ []) ∙ ap (λ (b : Bool). level_out_lem d m l next done ++ cond b (leaf_node d m l q ∷ []) (inner k q ∷ [])) e
 
     -- an item of at most l rows is a leaf
-    pub out-small : leb (length q.1) l ≡ true → level_out_lem d m l next (done ++ q ∷ []) ≡ level_out_lem d m l next done ++ leafNode d m l q ∷ []
+    pub out-small : leb (length q.1) l ≡ true → level_out_lem d m l next (done ++ q ∷ []) ≡ level_out_lem d m l next done ++ leaf_node d m l q ∷ []
     out-small e = out-last true e
 
     -- any other has its first child's number

@@ -4,7 +4,7 @@ use Rattle.growing.proofs.Halfway.{Half, Levelling, fore, one}
 use Rattle.growing.proofs.Items.{out_long}
 use Rattle.growing.proofs.Opening.{half-open, half_step}
 use Rattle.growing.proofs.Waiting.{next-waits, none-waiting, runs_able, small-opened}
-use Rattle.growing.specs.Levels.{Item, leafNode, level_out_lem, next_level, opened}
+use Rattle.growing.specs.Levels.{Item, leaf_node, level_out_lem, next_level, opened}
 use Rattle.growing.specs.Stages.{Level, Openable, Opened, Stage, Tiled, with_nodes}
 use Rattle.laws.proofs.Joins.{each_append}
 use Rattle.laws.specs.Lists.{each, joined}
@@ -42,7 +42,7 @@ module _ {t : List ℕ} {c o m l n : ℕ} {room₀ work₀ : List ℕ} {lo hi : 
               nodes =
                   g.stage.nodes
                   ∙ ap₂ (λ (x y : List Node). with_nodes g.origin (x ++ y)) (sym (append-nil g.before))
-                  (sym (append-nil (map (leafNode d m l) g.items)));
+                  (sym (append-nil (map (leaf_node d m l) g.items)));
               count = sym y;
               here = g.stage.first ∙ sym z;
               tiled = g.stage.tiled;
@@ -90,7 +90,7 @@ module _ {t : List ℕ} {c o m l n : ℕ} {room₀ work₀ : List ℕ} {lo hi : 
             length-append g.before (level_out_lem d m l hi g.items) ∙ ap (λ (k : ℕ). length g.before + k) (out_long d m l hi g.items) in
             record {
               nodes =
-                  f.nodes ∙ ap (λ (x : List Item). with_nodes g.origin (fore g x ++ map (leafNode d m l) (next_level d m l x))) (sym e);
+                  f.nodes ∙ ap (λ (x : List Item). with_nodes g.origin (fore g x ++ map (leaf_node d m l) (next_level d m l x))) (sym e);
               space = g.stage.space;
               first = omega (arith, out, g.stage.last);
               last = omega (arith, out, f.count, ap (λ (x : List Item). length (next_level d m l x)) e, g.stage.last);

@@ -6,7 +6,7 @@ use Rattle.growing.proofs.Rooms.{child-set, nodes-added}
 use Rattle.growing.proofs.Splits.{nodes-after, tile-ready, tiles-after}
 use Rattle.growing.proofs.Tiles.{joined_append, tile-run}
 use Rattle.growing.proofs.Waiting.{Next, next-waiting, small-opened}
-use Rattle.growing.specs.Levels.{Item, leafNode, level_out_lem, next_level, opened, placed, waits}
+use Rattle.growing.specs.Levels.{Item, leaf_node, level_out_lem, next_level, opened, placed, waits}
 use Rattle.growing.specs.Stages.{Level, Openable, Opened, Tiled, with_nodes}
 use Rattle.laws.proofs.Joins.{each_append}
 use Rattle.laws.proofs.Lists.{map-append}
@@ -161,12 +161,12 @@ module _ {t : List ℕ} {c o m l n : ℕ} {room₀ work₀ : List ℕ} {lo hi : 
 
       -- their nodes
       abbrev new : List Node
-      new = map (leafNode d m l) items
+      new = map (leaf_node d m l) items
 
       -- the nodes are written behind the last
       room_is : room' ≡ with_nodes g.origin (nodes ++ new)
       room_is =
-          nodes-added g.origin (header-fits g half) nodes new made m (all-long g half node) (length-map items (leafNode d m l) ∙ items-many) set_is
+          nodes-added g.origin (header-fits g half) nodes new made m (all-long g half node) (length-map items (leaf_node d m l) ∙ items-many) set_is
           (nodes-after g.fit front q.1 next.back tiled-cut large_is start-at (count-is g half) got (start_is g half))
 
       -- its children's items stand last on the level below
@@ -187,10 +187,10 @@ module _ {t : List ℕ} {c o m l n : ℕ} {room₀ work₀ : List ℕ} {lo hi : 
       -- so that the nodes are those of the level with one item more opened
       nodes_are : nodes ++ new ≡ fore g (done ++ q ∷ []) ++ rear g (done ++ q ∷ []) rest
       nodes_are =
-          let R : List Node = map (leafNode d m l) rest in
-          let M : List Node = map (leafNode d m l) (next_level d m l done) in
-          let more : M ++ new ≡ map (leafNode d m l) (next_level d m l (done ++ q ∷ [])) =
-          sym (map-append (leafNode d m l) (next_level d m l done) items) ∙ ap (map (leafNode d m l)) (sym next-is) in
+          let R : List Node = map (leaf_node d m l) rest in
+          let M : List Node = map (leaf_node d m l) (next_level d m l done) in
+          let more : M ++ new ≡ map (leaf_node d m l) (next_level d m l (done ++ q ∷ [])) =
+          sym (map-append (leaf_node d m l) (next_level d m l done) items) ∙ ap (map (leaf_node d m l)) (sym next-is) in
           append_assoc (fore g done) (node ∷ rear g done rest) new ∙ fore-more g done q node (rear g done rest ++ new) out-is
           ∙ ap (λ (x : List Node). fore g (done ++ q ∷ []) ++ x) (append_assoc R M new ∙ ap (λ (x : List Node). R ++ x) more)
 

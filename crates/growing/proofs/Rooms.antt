@@ -1,13 +1,13 @@
 -- The nodes' words in the room: reading one, giving it its first child, and adding its children. Assumes nothing.
 use Prim.Native.Nat.{◌*◌, ◌+◌, ◌≤◌, ℕ}
-use Rattle.growing.specs.Levels.{leafNode, placed}
+use Rattle.growing.specs.Levels.{leaf_node, placed}
 use Rattle.growing.specs.Stages.{with_nodes}
 use Rattle.laws.proofs.Joins.{each_append}
 use Rattle.laws.specs.Lists.{each}
 use Rattle.split.specs.Places.{child#, count#, node_at_lem, start#}
 use Rattle.split.specs.Runs.{run_nodes}
 use Rattle.tree.proofs.Written.{each_words}
-use Rattle.tree.specs.Build.{innerReach, radius}
+use Rattle.tree.specs.Build.{inner_reach, radius}
 use Rattle.tree.specs.Encode.{Node, node_words}
 use Rattle.tree.specs.Grove.{Reach}
 use lib.ListN.{drop, get_or, length, length-append, length-drop, set, take}
@@ -17,10 +17,10 @@ use mathlib.Core.Path.{◌∙◌, ◌≡◌, ap, ap₂, refl, sym}
 use native.Mathlib.Omega.{arith}
 
 -- the nodes of runs that follow each other are the leaf nodes of their items
-pub run-nodes : (d : ℕ → ℕ → ℕ) (m l at : ℕ) (rs : List (List ℕ)) → run_nodes d at rs ≡ each (node_words 2) (map (leafNode d m l) (placed at rs))
+pub run-nodes : (d : ℕ → ℕ → ℕ) (m l at : ℕ) (rs : List (List ℕ)) → run_nodes d at rs ≡ each (node_words 2) (map (leaf_node d m l) (placed at rs))
 unfolding run_nodes
 run-nodes d m l at [] = refl
-run-nodes d m l at (r ∷ rs) = ap (λ (x : List ℕ). at ∷ length r ∷ 0 ∷ radius d r ∷ innerReach d r ∷ x) (run-nodes d m l (at + length r) rs)
+run-nodes d m l at (r ∷ rs) = ap (λ (x : List ℕ). at ∷ length r ∷ 0 ∷ radius d r ∷ inner_reach d r ∷ x) (run-nodes d m l (at + length r) rs)
 
 module _ (o : List ℕ) (eight : 8 ≤ length o) where
   -- header and nodes take 8 + 5 words a node

@@ -1,7 +1,7 @@
 -- The root: all rows in ascending order, in the workspace and as the first node. Assumes nothing.
 use Prim.Native.Nat.{◌*◌, ◌+◌, ◌-◌, ◌<◌, ◌≤◌, max, suc, zero, ℕ}
 use Rattle.growing.specs.Rooted.{Room, RootLaid, Rooted, entry_of0, root_item}
-use Rattle.growing.specs.Levels.{leafNode}
+use Rattle.growing.specs.Levels.{leaf_node}
 use Rattle.growing.specs.Stages.{Tiled}
 use Rattle.laws.proofs.Lists.{map-append}
 use Rattle.laws.proofs.Parts.{put_more}
@@ -13,7 +13,7 @@ use Rattle.laws.specs.Upto.{most_to}
 use Rattle.measure.specs.Table.{between}
 use Rattle.split.proofs.Laid.{laid-long}
 use Rattle.split.specs.Runs.{laid}
-use Rattle.tree.specs.Build.{Run, innerReach, radius}
+use Rattle.tree.specs.Build.{Run, inner_reach, radius}
 use Rattle.tree.specs.Encode.{node_words, nodes}
 use borrow.Rule.Slice.PartMut.{mid_of, put_mid}
 use lib.ListN.{drop, length, take, take-append-drop}
@@ -49,7 +49,7 @@ root_radius d zero h = absurd (omega arith)
 root_radius d (suc n) h = greatest-range (d 0) (suc n)
 
 -- and so it is for the inner reach
-root_inner : (d : ℕ → ℕ → ℕ) (n : ℕ) → 1 ≤ n → innerReach d (range 0 n) ≡ lowest (map (d 0) (rest (range 0 n)))
+root_inner : (d : ℕ → ℕ → ℕ) (n : ℕ) → 1 ≤ n → inner_reach d (range 0 n) ≡ lowest (map (d 0) (rest (range 0 n)))
 root_inner d zero h = absurd (omega arith)
 root_inner d (suc n) h = refl
 
@@ -85,7 +85,7 @@ module _ {t : List ℕ} {c m l n : ℕ} (o : ℕ) {room work : List ℕ} (asked 
       → Rooted (between t c o) m l n room (put_mid 8 (length room - 8) room ys) work'
   root_stands {r} {i} {work'} {ys} same told put =
       let fits : 8 ≤ length room = omega (arith, asked.space) in
-      let w : 0 ∷ n ∷ 0 ∷ r ∷ i ∷ [] ≡ node_words 2 (leafNode d m l (root_item n)) =
+      let w : 0 ∷ n ∷ 0 ∷ r ∷ i ∷ [] ≡ node_words 2 (leaf_node d m l (root_item n)) =
       ap₂ (λ (x y : ℕ). 0 ∷ x ∷ 0 ∷ y ∷ i ∷ []) (sym (range_length 0 n)) (told.far ∙ sym (root_radius d n some))
       ∙ ap (λ (z : ℕ). 0 ∷ length (range 0 n) ∷ 0 ∷ radius d (range 0 n) ∷ z ∷ []) (told.near ∙ sym (root_inner d n some)) in
       record {

@@ -2,7 +2,7 @@
 use Prim.Native.Nat.{◌*◌, ◌+◌, ◌<◌, ◌≤◌, ℕ}
 use Rattle.growing.proofs.Rooms.{run-nodes}
 use Rattle.growing.proofs.Tiles.{kids-few, kids-tiled, tile-inside, tile-read, tile-rows, tile-run, tile-words}
-use Rattle.growing.specs.Levels.{leafNode, placed}
+use Rattle.growing.specs.Levels.{leaf_node, placed}
 use Rattle.growing.specs.Stages.{Fit, Openable, Opened, Tiled}
 use Rattle.laws.specs.Lists.{each, joined}
 use Rattle.measure.specs.Table.{between}
@@ -59,7 +59,7 @@ module _ {t : List ℕ} {c o m l n : ℕ} (fit : Fit t c m l n) {work : List ℕ
     -- their nodes are in the room, no children yet
     pub nodes-after : {at : ℕ} → s ≡ at
         → room' ≡ take (node_at_lem made) room
-        ++ (each (node_words 2) (map (leafNode (between t c o) m l) (placed at (split (between t c o) m run))) ++ drop (node_at_lem (made + m)) room)
+        ++ (each (node_words 2) (map (leaf_node (between t c o) m l) (placed at (split (between t c o) m run))) ++ drop (node_at_lem (made + m)) room)
     nodes-after {at} here =
         let kids : List (List ℕ) = split (between t c o) m run in
         let around : List ℕ → List ℕ = λ x. take (node_at_lem made) room ++ (x ++ drop (node_at_lem (made + m)) room) in

@@ -23,8 +23,8 @@ waits l q = not (leb (length q.1) l)
 
 module _ (d : ℕ → ℕ → ℕ) (m l : ℕ) where
   -- an item's node while it has no children
-  abbrev pub leafNode : Item → Node
-  leafNode q = (q.0, length q.1, 0, reach d q.1)
+  abbrev pub leaf_node : Item → Node
+  leaf_node q = (q.0, length q.1, 0, reach d q.1)
 
   -- the items that an item is split into: none where it stays a leaf
   abbrev pub parts : Item → List Item
@@ -38,7 +38,7 @@ module _ (d : ℕ → ℕ → ℕ) (m l : ℕ) where
   unfoldable pub level_out_lem : ℕ → List Item → List Node
   level_out_lem next [] = []
   level_out_lem next (q ∷ qs) =
-      let stays : List Node = leafNode q ∷ level_out_lem next qs in
+      let stays : List Node = leaf_node q ∷ level_out_lem next qs in
       let splits : List Node = (q.0, length q.1, next, reach d q.1) ∷ level_out_lem (next + m) qs in
       cond (leb (length q.1) l) stays splits
 
@@ -48,7 +48,7 @@ module _ (d : ℕ → ℕ → ℕ) (m l : ℕ) where
 
   -- the nodes of a level and of the `deep` levels below it
   unfoldable pub all_nodes : ℕ → ℕ → List Item → List Node
-  all_nodes zero next qs = map leafNode qs
+  all_nodes zero next qs = map leaf_node qs
   all_nodes (suc deep) next qs = level_out_lem next qs ++ all_nodes deep (next + length (next_level qs)) (next_level qs)
 
   -- the runs of the leaves under a run with `deep` levels below it, in the order of positions

@@ -1,6 +1,6 @@
 -- What stands in the room and in the workspace while the tree grows. A working notion, on which no promise rests. Assumes nothing.
 use Rattle.std.specs.Prelude.{◌*◌, ◌+◌, ◌<◌, ◌≤◌, ℕ, drop, length, set, take, List, ◌++◌, map, ◌≡◌}
-use Rattle.growing.specs.Levels.{Item, leafNode, level_out_lem, next_level, opened, placed, waits}
+use Rattle.growing.specs.Levels.{Item, leaf_node, level_out_lem, next_level, opened, placed, waits}
 use Rattle.laws.specs.Every.{Every}
 use Rattle.laws.specs.Lists.{each, joined, keep}
 use Rattle.limits.specs.Limits.{max_centres, max_columns, max_leaf, max_rows}
@@ -38,7 +38,7 @@ pub record Tiled (d : ℕ → ℕ → ℕ) (n : ℕ) (work : List ℕ) (tiles : 
 -- The nodes lo to hi are the level's items, no children yet, and behind `before`; those that wait to be split are the tiles that wait, in their order
 pub record Stage (d : ℕ → ℕ → ℕ) (m l n : ℕ) (origin : List ℕ) (before : List Node) (items : List Item) (tiles : List (List ℕ))
     (room work : List ℕ) (lo hi : ℕ) : Type 0 where
-  pub nodes : room ≡ with_nodes origin (before ++ map (leafNode d m l) items)
+  pub nodes : room ≡ with_nodes origin (before ++ map (leaf_node d m l) items)
   pub space : 10 * n + header_words ≤ length origin
   pub first : lo ≡ length before
   pub last : hi ≡ length before + length items

@@ -11,7 +11,7 @@ pub mod reading;
 mod writing;
 
 // What writing says: a number, and how many blocks it wrote.
-#[derive(Drop)]
+#[derive(Clone, Copy)]
 pub struct Written {
     pub number: u32,
     pub blocks: usize,

@@ -11,7 +11,7 @@ use header_test::card_ok;
 use words::places::HEADER;
 
 // What is wrong with an image: a number, the block that it names, and with 0 how many words its index has.
-#[derive(Drop)]
+#[derive(Clone, Copy)]
 pub struct Checked {
     pub number: u32,
     pub place: usize,

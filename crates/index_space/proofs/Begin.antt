@@ -2,10 +2,10 @@
 use Prim.Native.Nat.{◌+◌, ◌-◌, ◌<◌, ◌≤◌, min, suc, ℕ}
 use Rattle.best_first.specs.Search.{Due, Kept, rows_closer}
 use Rattle.index_space.proofs.Below.{below}
-use Rattle.index_space.proofs.Laws.{badOf, homes_of, off}
+use Rattle.index_space.proofs.Laws.{bad_of, homes_of, off}
 use Rattle.index_space.proofs.Opening.{run-parts}
 use Rattle.index_space.specs.Fits.{home_bound}
-use Rattle.index_space.specs.Items.{live_of, rootOf, space_of, waitsNode}
+use Rattle.index_space.specs.Items.{live_of, root_of, space_of, waits_node}
 use Rattle.laws.proofs.Bags.{times_total, total-append, total-map, total_range}
 use Rattle.laws.proofs.Sums.{sum_below-zero}
 use Rattle.laws.proofs.Times.{lefts, look_every, times_every}
@@ -18,7 +18,7 @@ use Rattle.tree.proofs.Homes.{homes-rows}
 use Rattle.tree.proofs.Members.{firsts_at}
 use Rattle.tree.proofs.Rows.{by_root, full-tree, rows-low, rows-tree}
 use Rattle.tree.specs.Grove.{Grove, bare, firsts, rows_in, tree_at, tree_of}
-use Rattle.tree.specs.Homes.{homes, homesIn}
+use Rattle.tree.specs.Homes.{homes, homes_in}
 use Rattle.words.specs.InShape.{InShape, Root}
 use Rattle.words.specs.Words.{nodes#, first#, n#, row#}
 use mathlib.Core.Bool.{Bool}
@@ -75,12 +75,12 @@ module _ (w : List ℕ) (S : InShape w) (some : 1 ≤ n# w) (once : (i : ℕ) �
 
   -- a tree's homes are its root's first under 0, and those below
   two-parts : (f : ℕ × ℕ → ℕ) (t : Grove)
-      → total f (homes x t) ≡ total f (map (λ i. (i, 0)) (firsts t)) + total f (homesIn x (λ u R. 0) t)
+      → total f (homes x t) ≡ total f (map (λ i. (i, 0)) (firsts t)) + total f (homes_in x (λ u R. 0) t)
   unfolding homes
-  two-parts f t = total-append f (map (λ i. (i, 0)) (firsts t)) (homesIn x (λ u R. 0) t)
+  two-parts f t = total-append f (map (λ i. (i, 0)) (firsts t)) (homes_in x (λ u R. 0) t)
 
   -- the homes below the root, whose bound is 0
-  below_root : (f : ℕ × ℕ → ℕ) → total f (homesIn x (λ u R. 0) (tree_at w max_depth 0 bare)) ≡ below w x f 0 0
+  below_root : (f : ℕ × ℕ → ℕ) → total f (homes_in x (λ u R. 0) (tree_at w max_depth 0 bare)) ≡ below w x f 0 0
   unfolding below
   below_root f = refl
 
@@ -89,11 +89,11 @@ module _ (w : List ℕ) (S : InShape w) (some : 1 ≤ n# w) (once : (i : ℕ) �
   root-parts =
       let o : ℕ × ℕ → ℕ = off w hb in
       let t : Grove = tree_at w max_depth 0 bare in
-      let e : total o (map (λ i. (i, 0)) (firsts t)) + total o (homesIn x (λ u R. 0) t) ≡ 0 =
+      let e : total o (map (λ i. (i, 0)) (firsts t)) + total o (homes_in x (λ u R. 0) t) ≡ 0 =
       sym (two-parts o t) ∙ ap (λ (t : Grove). total o (homes x t)) (sym tree-root) ∙ total_every o hs homes-sound in
       let a : total o (map (λ i. (i, 0)) (firsts t)) ≡ o (first# w 0, 0) + 0 =
       ap (λ (l : List ℕ). total o (map (λ i. (i, 0)) l)) (firsts_at w S max_depth 0 bare root-there) in
-      both (o (first# w 0, 0)) (total o (map (λ i. (i, 0)) (firsts t))) (total o (homesIn x (λ u R. 0) t)) (below w x o 0 0) e a (below_root o)
+      both (o (first# w 0, 0)) (total o (map (λ i. (i, 0)) (firsts t))) (total o (homes_in x (λ u R. 0) t)) (below w x o 0 0) e a (below_root o)
     where
       both : (a b c d : ℕ) → b + c ≡ 0 → b ≡ a + 0 → c ≡ d → a + d ≡ 0
       both a b c d h e f = omega arith
@@ -113,7 +113,7 @@ module _ (w : List ℕ) (S : InShape w) (some : 1 ≤ n# w) (once : (i : ℕ) �
       omega (arith, ap (rows_closer (n# w) (live_of gone) x) root-home)
 
   -- each row is the root's first or waits below the root
-  root-rows : (r : ℕ) → r < n# w → is r (first# w 0) + (waitsNode w 0 r + 0) ≡ 1
+  root-rows : (r : ℕ) → r < n# w → is r (first# w 0) + (waits_node w 0 r + 0) ≡ 1
   root-rows r h =
       let R : Root w = S.root some in
       let f : ℕ → ℕ = λ (p : ℕ). is r (row# w p) in
@@ -129,10 +129,10 @@ module _ (w : List ℕ) (S : InShape w) (some : 1 ≤ n# w) (once : (i : ℕ) �
 
   -- THE SEARCH BEGINS SOUNDLY, with the root's first measured
   pub begins : (gone : ℕ → Bool) (wanted : ℕ) → 1 ≤ wanted → (m : ℕ → ℕ) → ((r : ℕ) → r < n# w → m r ≡ is r (first# w 0))
-      → Kept (space_of w gone) (homes_of w hb x) wanted x (rootOf w x ∷ []) m
+      → Kept (space_of w gone) (homes_of w hb x) wanted x (root_of w x ∷ []) m
   begins gone wanted h m e = record { once = λ r l. omega (arith, e r l, root-rows r l); sound = sound; due = λ r l p. due r (omega (arith, e r l)) }
     where
-      sound : total (badOf w hb x) (rootOf w x ∷ []) ≡ 0
+      sound : total (bad_of w hb x) (root_of w x ∷ []) ≡ 0
       sound = root-bad (nodes# w) (x (first# w 0)) (off w hb (first# w 0, 0)) (below w x (off w hb) 0 0) root-there root-parts
         where
           root-bad : (N u a z : ℕ) → 1 ≤ N → a + z ≡ 0 → (1 - N) + gap u u + z + 0 ≡ 0

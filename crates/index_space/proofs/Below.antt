@@ -2,17 +2,17 @@
 -- below its children. Assumes nothing.
 use Prim.Native.Nat.{◌+◌, ◌-◌, ◌<◌, ◌≤◌, min, suc, zero, ℕ}
 use Rattle.index_space.proofs.Leasts.{least_all}
-use Rattle.index_space.specs.Items.{least_to, placeBound}
+use Rattle.index_space.specs.Items.{least_to, place_bound}
 use Rattle.laws.proofs.Bags.{total-append, total-map, total_range}
 use Rattle.laws.proofs.Sums.{sum_below-same, sum_from, sum_none}
 use Rattle.laws.specs.Bags.{total}
 use Rattle.laws.specs.Lists.{head, range, rest}
 use Rattle.laws.specs.Upto.{sum_to}
 use Rattle.limits.specs.Limits.{max_depth}
-use Rattle.tree.proofs.Forks.{as-fork, as-leaf, forkNode, kids-first, kidsAt, leafNode, no-levels}
+use Rattle.tree.proofs.Forks.{as-fork, as-leaf, fork_node, kids-first, kids_at, leaf_node, no-levels}
 use Rattle.tree.proofs.Members.{kids-firsts, run-first}
 use Rattle.tree.specs.Grove.{Grove, Reach, bare, first, firsts, fork, leaf, members#, reach#, tree_at}
-use Rattle.tree.specs.Homes.{child_bound_lem, homesIn, nearestOf, rowBound}
+use Rattle.tree.specs.Homes.{child_bound_lem, homes_in, nearest_of, row_bound}
 use Rattle.words.proofs.InShape.{left_root}
 use Rattle.words.specs.InShape.{InShape, Kids, Left}
 use Rattle.words.specs.Shape.{inner}
@@ -36,38 +36,38 @@ total_rest f g j (suc k) =
 -- ---- the homes of nodes side by side
 module _ (x : ℕ → ℕ) (f : ℕ × ℕ → ℕ) where
   -- where there is no node there is no home
-  bare-total : (β : ℕ → Reach → ℕ) → total f (homesIn x β bare) ≡ 0
-  unfolding homesIn
+  bare-total : (β : ℕ → Reach → ℕ) → total f (homes_in x β bare) ≡ 0
+  unfolding homes_in
   bare-total β = refl
 
   -- a leaf and those after it: its rows but the first, each under its own bound, and theirs
-  leaf-total : (β : ℕ → Reach → ℕ) (R : Reach) (es : List (ℕ × ℕ)) (g : Grove) → total f (homesIn x β (leaf R es g))
-      ≡ total f (map (λ e. (e.0, rowBound x (β (x (head (map (λ e. e.0) es))) R) (head (map (λ e. e.0) es)) e)) (rest es))
-      + total f (homesIn x β g)
-  unfolding homesIn
+  leaf-total : (β : ℕ → Reach → ℕ) (R : Reach) (es : List (ℕ × ℕ)) (g : Grove) → total f (homes_in x β (leaf R es g))
+      ≡ total f (map (λ e. (e.0, row_bound x (β (x (head (map (λ e. e.0) es))) R) (head (map (λ e. e.0) es)) e)) (rest es))
+      + total f (homes_in x β g)
+  unfolding homes_in
   leaf-total β R es g =
-      total-append f (map (λ e. (e.0, rowBound x (β (x (head (map (λ e. e.0) es))) R) (head (map (λ e. e.0) es)) e)) (rest es)) (homesIn x β g)
+      total-append f (map (λ e. (e.0, row_bound x (β (x (head (map (λ e. e.0) es))) R) (head (map (λ e. e.0) es)) e)) (rest es)) (homes_in x β g)
 
   -- an inner node and those after it: its centres but the first under its own bound, what is below its children, and theirs
-  fork-total : (β : ℕ → Reach → ℕ) (R : Reach) (ks g : Grove) → total f (homesIn x β (fork R ks g))
-      ≡ total f (map (λ r. (r, β (x (first ks)) R)) (rest (firsts ks))) + total f (homesIn x (child_bound_lem (β (x (first ks)) R) (nearestOf x ks)) ks)
-      + total f (homesIn x β g)
-  unfolding homesIn
+  fork-total : (β : ℕ → Reach → ℕ) (R : Reach) (ks g : Grove) → total f (homes_in x β (fork R ks g))
+      ≡ total f (map (λ r. (r, β (x (first ks)) R)) (rest (firsts ks))) + total f (homes_in x (child_bound_lem (β (x (first ks)) R) (nearest_of x ks)) ks)
+      + total f (homes_in x β g)
+  unfolding homes_in
   fork-total β R ks g =
       let a : List (ℕ × ℕ) = map (λ r. (r, β (x (first ks)) R)) (rest (firsts ks)) in
-      let b : List (ℕ × ℕ) = homesIn x (child_bound_lem (β (x (first ks)) R) (nearestOf x ks)) ks in
-      omega (arith, total-append f (a ++ b) (homesIn x β g), total-append f a b)
+      let b : List (ℕ × ℕ) = homes_in x (child_bound_lem (β (x (first ks)) R) (nearest_of x ks)) ks in
+      omega (arith, total-append f (a ++ b) (homes_in x β g), total-append f a b)
 
   -- a leaf, and those after it: the leaf stands alone under the bound that it has
-  leaf-alone : (β : ℕ → Reach → ℕ) (R : Reach) (es : List (ℕ × ℕ)) (g : Grove) → total f (homesIn x β (leaf R es g))
-      ≡ total f (homesIn x (λ u v. β (x (head (map (λ e. e.0) es))) R) (leaf R es bare)) + total f (homesIn x β g)
+  leaf-alone : (β : ℕ → Reach → ℕ) (R : Reach) (es : List (ℕ × ℕ)) (g : Grove) → total f (homes_in x β (leaf R es g))
+      ≡ total f (homes_in x (λ u v. β (x (head (map (λ e. e.0) es))) R) (leaf R es bare)) + total f (homes_in x β g)
   leaf-alone β R es g =
       let γ : ℕ → Reach → ℕ = λ u v. β (x (head (map (λ e. e.0) es))) R in
       omega (arith, leaf-total β R es g, leaf-total γ R es bare, bare-total γ)
 
   -- an inner node, and those after it: it stands alone under the bound that it has
   fork-alone : (β : ℕ → Reach → ℕ) (R : Reach) (ks g : Grove)
-      → total f (homesIn x β (fork R ks g)) ≡ total f (homesIn x (λ u v. β (x (first ks)) R) (fork R ks bare)) + total f (homesIn x β g)
+      → total f (homes_in x β (fork R ks g)) ≡ total f (homes_in x (λ u v. β (x (first ks)) R) (fork R ks bare)) + total f (homes_in x β g)
   fork-alone β R ks g =
       let γ : ℕ → Reach → ℕ = λ u v. β (x (first ks)) R in
       omega (arith, fork-total β R ks g, fork-total γ R ks bare, bare-total γ)
@@ -103,58 +103,58 @@ module _ (w : List ℕ) where
 
   module _ (x : ℕ → ℕ) where
     -- the least distance over the centres of node k
-    abbrev pub nearestTo : ℕ → ℕ
-    nearestTo k = least_to (λ (i : ℕ). x (first# w (child# w k + i))) (m# w - 1)
+    abbrev pub nearest_to : ℕ → ℕ
+    nearest_to k = least_to (λ (i : ℕ). x (first# w (child# w k + i))) (m# w - 1)
 
     -- the bound of its i-th child, its own being b
-    abbrev pub kidBound : ℕ → ℕ → ℕ → ℕ
-    kidBound k b i = child_bound_lem b (nearestTo k) (x (first# w (child# w k + i))) (reach# w (child# w k + i))
+    abbrev pub kid_bound : ℕ → ℕ → ℕ → ℕ
+    kid_bound k b i = child_bound_lem b (nearest_to k) (x (first# w (child# w k + i))) (reach# w (child# w k + i))
 
   module _ (x : ℕ → ℕ) (f : ℕ × ℕ → ℕ) where
     -- the rows at home below node k, whose bound is b, by their weight, where it is read as at most `deep` levels
-    belowAt : ℕ → ℕ → ℕ → ℕ
-    belowAt deep k b = total f (homesIn x (λ u v. b) (tree_at w deep k bare))
+    below_at : ℕ → ℕ → ℕ → ℕ
+    below_at deep k b = total f (homes_in x (λ u v. b) (tree_at w deep k bare))
 
     -- the same, read to the depth that an index can have
     unfoldable pub below : ℕ → ℕ → ℕ
-    below k b = total f (homesIn x (λ u v. b) (tree_at w max_depth k bare))
+    below k b = total f (homes_in x (λ u v. b) (tree_at w max_depth k bare))
 
     module _ (S : InShape w) where
       -- A NODE'S PART OF THE TOTAL: what is below it under the bound that it has
       node-total : (deep k : ℕ) (β : ℕ → Reach → ℕ) (g : Grove) → k < nodes# w
-          → total f (homesIn x β (tree_at w deep k g)) ≡ belowAt deep k (β (x (first# w k)) (reach# w k)) + total f (homesIn x β g)
-      unfolding belowAt
+          → total f (homes_in x β (tree_at w deep k g)) ≡ below_at deep k (β (x (first# w k)) (reach# w k)) + total f (homes_in x β g)
+      unfolding below_at
       node-total deep k β g h = go deep
         where
-          by-leaf : (deep : ℕ) → ((g : Grove) → tree_at w deep k g ≡ leafNode w k g)
-              → total f (homesIn x β (tree_at w deep k g)) ≡ belowAt deep k (β (x (first# w k)) (reach# w k)) + total f (homesIn x β g)
+          by-leaf : (deep : ℕ) → ((g : Grove) → tree_at w deep k g ≡ leaf_node w k g)
+              → total f (homes_in x β (tree_at w deep k g)) ≡ below_at deep k (β (x (first# w k)) (reach# w k)) + total f (homes_in x β g)
           by-leaf deep e =
-              ap (λ (t : Grove). total f (homesIn x β t)) (e g) ∙ leaf-alone x f β (reach# w k) (members# w k) g
-              ∙ ap (λ (z : ℕ). z + total f (homesIn x β g))
-              (ap (λ (i : ℕ). total f (homesIn x (λ u v. β (x i) (reach# w k)) (leafNode w k bare)))
+              ap (λ (t : Grove). total f (homes_in x β t)) (e g) ∙ leaf-alone x f β (reach# w k) (members# w k) g
+              ∙ ap (λ (z : ℕ). z + total f (homes_in x β g))
+              (ap (λ (i : ℕ). total f (homes_in x (λ u v. β (x i) (reach# w k)) (leaf_node w k bare)))
               (run-first w S (start# w k) (count# w k) (S.node k h).some)
-              ∙ ap (λ (t : Grove). total f (homesIn x (λ u v. β (x (first# w k)) (reach# w k)) t)) (sym (e bare)))
+              ∙ ap (λ (t : Grove). total f (homes_in x (λ u v. β (x (first# w k)) (reach# w k)) t)) (sym (e bare)))
 
           by-fork : (deep : ℕ) → inner w k ≡ true
-              → total f (homesIn x β (tree_at w (suc deep) k g)) ≡ belowAt (suc deep) k (β (x (first# w k)) (reach# w k)) + total f (homesIn x β g)
+              → total f (homes_in x β (tree_at w (suc deep) k g)) ≡ below_at (suc deep) k (β (x (first# w k)) (reach# w k)) + total f (homes_in x β g)
           by-fork deep e =
-              ap (λ (t : Grove). total f (homesIn x β t)) (as-fork w deep k g e) ∙ fork-alone x f β (reach# w k) (kidsAt w deep k) g
-              ∙ ap (λ (z : ℕ). z + total f (homesIn x β g))
-              (ap (λ (i : ℕ). total f (homesIn x (λ u v. β (x i) (reach# w k)) (forkNode w deep k bare))) (kids-first w S deep k h e)
-              ∙ ap (λ (t : Grove). total f (homesIn x (λ u v. β (x (first# w k)) (reach# w k)) t)) (sym (as-fork w deep k bare e)))
+              ap (λ (t : Grove). total f (homes_in x β t)) (as-fork w deep k g e) ∙ fork-alone x f β (reach# w k) (kids_at w deep k) g
+              ∙ ap (λ (z : ℕ). z + total f (homes_in x β g))
+              (ap (λ (i : ℕ). total f (homes_in x (λ u v. β (x i) (reach# w k)) (fork_node w deep k bare))) (kids-first w S deep k h e)
+              ∙ ap (λ (t : Grove). total f (homes_in x (λ u v. β (x (first# w k)) (reach# w k)) t)) (sym (as-fork w deep k bare e)))
 
           at : (deep : ℕ) (b : Bool) → inner w k ≡ b
-              → total f (homesIn x β (tree_at w (suc deep) k g)) ≡ belowAt (suc deep) k (β (x (first# w k)) (reach# w k)) + total f (homesIn x β g)
+              → total f (homes_in x β (tree_at w (suc deep) k g)) ≡ below_at (suc deep) k (β (x (first# w k)) (reach# w k)) + total f (homes_in x β g)
           at deep true e = by-fork deep e
           at deep false e = by-leaf (suc deep) (λ g. as-leaf w (suc deep) k g e)
 
-          go : (deep : ℕ) → total f (homesIn x β (tree_at w deep k g)) ≡ belowAt deep k (β (x (first# w k)) (reach# w k)) + total f (homesIn x β g)
+          go : (deep : ℕ) → total f (homes_in x β (tree_at w deep k g)) ≡ below_at deep k (β (x (first# w k)) (reach# w k)) + total f (homes_in x β g)
           go zero = by-leaf zero (no-levels w k)
           go (suc deep) = at deep (inner w k) refl
 
       -- nodes side by side: what is below each under the bound that it has
-      kids-total : (deep j m : ℕ) (β : ℕ → Reach → ℕ) → j + m ≤ nodes# w → total f (homesIn x β (foldr (tree_at w deep) bare (range j m)))
-          ≡ sum_to (λ (i : ℕ). belowAt deep (j + i) (β (x (first# w (j + i))) (reach# w (j + i)))) m
+      kids-total : (deep j m : ℕ) (β : ℕ → Reach → ℕ) → j + m ≤ nodes# w → total f (homes_in x β (foldr (tree_at w deep) bare (range j m)))
+          ≡ sum_to (λ (i : ℕ). below_at deep (j + i) (β (x (first# w (j + i))) (reach# w (j + i)))) m
       unfolding sum_to
       kids-total deep j zero β h = bare-total x f β
       kids-total deep j (suc m) β h =
@@ -162,17 +162,17 @@ module _ (w : List ℕ) where
             arith,
             node-total deep j β (foldr (tree_at w deep) bare (range (suc j) m)) (omega arith),
             kids-total deep (suc j) m β (omega arith),
-            sum_from (λ (k : ℕ). belowAt deep k (β (x (first# w k)) (reach# w k))) j m,
+            sum_from (λ (k : ℕ). below_at deep k (β (x (first# w k)) (reach# w k))) j m,
           )
 
       -- BELOW A LEAF: its rows but the first, each under its own bound
       pub leaf-below : (k b : ℕ) → k < nodes# w → inner w k ≡ false
-          → below k b ≡ sum_to (λ (i : ℕ). f (row# w (start# w k + suc i), placeBound w b (x (first# w k)) (start# w k + suc i))) (count# w k - 1)
+          → below k b ≡ sum_to (λ (i : ℕ). f (row# w (start# w k + suc i), place_bound w b (x (first# w k)) (start# w k + suc i))) (count# w k - 1)
       unfolding below
       leaf-below k b h e =
-          let home : ℕ → ℕ × ℕ → ℕ × ℕ = λ i e. (e.0, rowBound x b i e) in
+          let home : ℕ → ℕ × ℕ → ℕ × ℕ = λ i e. (e.0, row_bound x b i e) in
           let es : List (ℕ × ℕ) = members# w k in
-          ap (λ (t : Grove). total f (homesIn x (λ u v. b) t)) (as-leaf w max_depth k bare e) ∙ leaf-total x f (λ u v. b) (reach# w k) es bare
+          ap (λ (t : Grove). total f (homes_in x (λ u v. b) t)) (as-leaf w max_depth k bare e) ∙ leaf-total x f (λ u v. b) (reach# w k) es bare
           ∙ ap₂ (λ (a c : ℕ). a + c)
           (ap (λ (i : ℕ). total f (map (home i) (rest es))) (run-first w S (start# w k) (count# w k) (S.node k h).some)
           ∙ total-map f (home (first# w k)) (rest es)
@@ -181,17 +181,17 @@ module _ (w : List ℕ) where
           ∙ omega arith
 
       -- the least distance over the centres of node k, as the tree has it
-      nearest-kids : (deep k : ℕ) → k < nodes# w → inner w k ≡ true → nearestOf x (kidsAt w deep k) ≡ nearestTo x k
+      nearest-kids : (deep k : ℕ) → k < nodes# w → inner w k ≡ true → nearest_of x (kids_at w deep k) ≡ nearest_to x k
       nearest-kids deep k h e =
           ap (λ (l : List ℕ). foldr min (x (head l)) (map x l)) (kids-firsts w S deep (child# w k) (m# w) ((S.node k h).kids e).inside)
           ∙ least_all x (first# w) (child# w k) (m# w) (omega (arith, S.whole.fan.0))
 
       -- a child's part is the same read a level lower: 23 is one level less than an index can have
-      same-below : (k j b : ℕ) → k < nodes# w → inner w k ≡ true → j < m# w → belowAt 23 (child# w k + j) b ≡ below (child# w k + j) b
-      unfolding belowAt below
+      same-below : (k j b : ℕ) → k < nodes# w → inner w k ≡ true → j < m# w → below_at 23 (child# w k + j) b ≡ below (child# w k + j) b
+      unfolding below_at below
       same-below k j b h e l =
           let K : Kids w k = (S.node k h).kids e in
-          ap (λ (t : Grove). total f (homesIn x (λ u v. b) t))
+          ap (λ (t : Grove). total f (homes_in x (λ u v. b) t))
           (tree-deeper S 23 (child# w k + j) bare (omega (arith, K.inside)) (K.down max_depth j (all-levels k)))
         where
           all-levels : (k : ℕ) → Left w max_depth k
@@ -201,34 +201,34 @@ module _ (w : List ℕ) where
       fork-parts : (k b : ℕ) → k < nodes# w → inner w k ≡ true
           → below k b
           ≡ sum_to (λ (i : ℕ). f (first# w (child# w k + suc i), b)) (m# w - 1)
-          + sum_to (λ (i : ℕ). belowAt 23 (child# w k + i) (kidBound x k b i)) (m# w)
+          + sum_to (λ (i : ℕ). below_at 23 (child# w k + i) (kid_bound x k b i)) (m# w)
       unfolding below
       fork-parts k b h e =
-          ap (λ (t : Grove). total f (homesIn x (λ u v. b) t)) (as-fork w 23 k bare e) ∙ fork-total x f (λ u v. b) (reach# w k) (kidsAt w 23 k) bare
+          ap (λ (t : Grove). total f (homes_in x (λ u v. b) t)) (as-fork w 23 k bare e) ∙ fork-total x f (λ u v. b) (reach# w k) (kids_at w 23 k) bare
           ∙ ap₂ (λ (a c : ℕ). a + c) (ap₂ (λ (a c : ℕ). a + c) centres kids) (bare-total x f (λ u v. b))
           ∙ omega arith
         where
           within : child# w k + m# w ≤ nodes# w
           within = ((S.node k h).kids e).inside
 
-          centres : total f (map (λ (r : ℕ). (r, b)) (rest (firsts (kidsAt w 23 k))))
+          centres : total f (map (λ (r : ℕ). (r, b)) (rest (firsts (kids_at w 23 k))))
               ≡ sum_to (λ (i : ℕ). f (first# w (child# w k + suc i), b)) (m# w - 1)
           centres =
               ap (λ (l : List ℕ). total f (map (λ (r : ℕ). (r, b)) (rest l))) (kids-firsts w S 23 (child# w k) (m# w) within)
               ∙ total-map f (λ (r : ℕ). (r, b)) (rest (map (first# w) (range (child# w k) (m# w))))
               ∙ total_rest (λ (r : ℕ). f (r, b)) (first# w) (child# w k) (m# w)
 
-          kids : total f (homesIn x (child_bound_lem b (nearestOf x (kidsAt w 23 k))) (kidsAt w 23 k))
-              ≡ sum_to (λ (i : ℕ). belowAt 23 (child# w k + i) (kidBound x k b i)) (m# w)
+          kids : total f (homes_in x (child_bound_lem b (nearest_of x (kids_at w 23 k))) (kids_at w 23 k))
+              ≡ sum_to (λ (i : ℕ). below_at 23 (child# w k + i) (kid_bound x k b i)) (m# w)
           kids =
-              ap (λ (y : ℕ). total f (homesIn x (child_bound_lem b y) (kidsAt w 23 k))) (nearest-kids 23 k h e)
-              ∙ kids-total 23 (child# w k) (m# w) (child_bound_lem b (nearestTo x k)) within
+              ap (λ (y : ℕ). total f (homes_in x (child_bound_lem b y) (kids_at w 23 k))) (nearest-kids 23 k h e)
+              ∙ kids-total 23 (child# w k) (m# w) (child_bound_lem b (nearest_to x k)) within
 
       -- BELOW AN INNER NODE: its centres but the first under its own bound, and what is below its children under theirs
       pub fork-below : (k b : ℕ) → k < nodes# w → inner w k ≡ true → below k b
-          ≡ sum_to (λ (i : ℕ). f (first# w (child# w k + suc i), b)) (m# w - 1) + sum_to (λ (i : ℕ). below (child# w k + i) (kidBound x k b i)) (m# w)
+          ≡ sum_to (λ (i : ℕ). f (first# w (child# w k + suc i), b)) (m# w - 1) + sum_to (λ (i : ℕ). below (child# w k + i) (kid_bound x k b i)) (m# w)
       fork-below k b h e =
           fork-parts k b h e
           ∙ ap (λ (z : ℕ). sum_to (λ (i : ℕ). f (first# w (child# w k + suc i), b)) (m# w - 1) + z)
-          (sum_below-same (λ (i : ℕ). belowAt 23 (child# w k + i) (kidBound x k b i)) (λ (i : ℕ). below (child# w k + i) (kidBound x k b i)) (m# w)
-          (λ i l. same-below k i (kidBound x k b i) h e l))
+          (sum_below-same (λ (i : ℕ). below_at 23 (child# w k + i) (kid_bound x k b i)) (λ (i : ℕ). below (child# w k + i) (kid_bound x k b i)) (m# w)
+          (λ i l. same-below k i (kid_bound x k b i) h e l))

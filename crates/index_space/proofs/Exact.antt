@@ -5,11 +5,11 @@ use Rattle.best_first.proofs.Keeps.{search-keeps}
 use Rattle.best_first.proofs.Local.{measured-on-both, search-back}
 use Rattle.best_first.specs.Search.{Due, Homes, Kept, Lawful, SearchReach, both}
 use Rattle.index_space.proofs.Begin.{begins, root-due}
-use Rattle.index_space.proofs.Laws.{badOf, homes_of, known, lawful, shares}
+use Rattle.index_space.proofs.Laws.{bad_of, homes_of, known, lawful, shares}
 use Rattle.index_space.proofs.Opening.{item-local}
 use Rattle.index_space.proofs.Ranks.{due-passes, last_at, passes-is}
 use Rattle.index_space.specs.Fits.{IndexFits, home_bound}
-use Rattle.index_space.specs.Items.{IndexItem, live_of, measuredBy, node, openedBy, rootOf, space_of, waitsOf}
+use Rattle.index_space.specs.Items.{IndexItem, live_of, measured_by, node, opened_by, root_of, space_of, waits_of}
 use Rattle.index_space.specs.Run.{RunToEnd, SearchRun, in_order}
 use Rattle.laws.proofs.Every.{every-keep, every_map}
 use Rattle.laws.proofs.Ranges.{at_every}
@@ -92,11 +92,11 @@ module _ (w : List ℕ) (S : InShape w) (filled : 1 ≤ n# w) (gone : ℕ → Bo
   agree-due r h c = F.agree r h ((due-passes x' gone (n# w) wanted some (hb r)).0 c)
 
   -- what an item opens is the same on both, where they agree in the rows that it measures
-  opens-same : (i : IndexItem) → badOf w hb x' i ≡ 0 → ((r : ℕ) → 0 < measuredBy w i r → x r ≡ x' r) → openedBy w x i ≡ openedBy w x' i
+  opens-same : (i : IndexItem) → bad_of w hb x' i ≡ 0 → ((r : ℕ) → 0 < measured_by w i r → x r ≡ x' r) → opened_by w x i ≡ opened_by w x' i
   opens-same i g h = item-local w x' x i h
 
   -- the root waits with its first at the same distance on both
-  root-same : rootOf w x ≡ rootOf w x'
+  root-same : root_of w x ≡ root_of w x'
   root-same =
       let R : Root w = S.root filled in
       ap (node 0 0) (agree-due (first# w 0) (S.place (start# w 0) (omega (arith, R.start))).row
@@ -104,35 +104,35 @@ module _ (w : List ℕ) (S : InShape w) (filled : 1 ≤ n# w) (gone : ℕ → Bo
 
   module _ (q : List IndexItem) (m : ℕ → ℕ) (R : SearchRun w gone wanted x q m) where
     -- the search of these rows begins soundly
-    begun : Kept (space_of w gone) H wanted x' (rootOf w x' ∷ []) R.start
+    begun : Kept (space_of w gone) H wanted x' (root_of w x' ∷ []) R.start
     begun = begins w S filled F.once x' gone wanted some R.start R.begun
 
     -- the run on the lent rows began with the root as it waits on these
-    reached : SearchReach (space_of w gone) wanted x (rootOf w x' ∷ []) R.start q m
+    reached : SearchReach (space_of w gone) wanted x (root_of w x' ∷ []) R.start q m
     reached = subst (λ (i : IndexItem). SearchReach (space_of w gone) wanted x (i ∷ []) R.start q m) root-same R.reached
 
     -- A RUN ON THE LENT ROWS KEEPS WHAT A SEARCH OF THE ROWS THAT FIT KEEPS
     pub run-keeps : Kept (space_of w gone) H wanted x' q m
     run-keeps =
-        search-keeps (space_of w gone) H wanted x' law (rootOf w x' ∷ []) R.start q m begun
-        (search-back (space_of w gone) H wanted x' law x agree-due opens-same (known w hb x' S) (rootOf w x' ∷ []) R.start q m begun reached)
+        search-keeps (space_of w gone) H wanted x' law (root_of w x' ∷ []) R.start q m begun
+        (search-back (space_of w gone) H wanted x' law x agree-due opens-same (known w hb x' S) (root_of w x' ∷ []) R.start q m begun reached)
 
     -- SO WHAT AN ITEM MEASURES THAT IS TAKEN IS NEW, and no row twice
-    pub taken-new : (i : IndexItem) (others : List IndexItem) → SameBag q (i ∷ others) → (r : ℕ) → r < n# w → m r + measuredBy w i r ≤ 1
+    pub taken-new : (i : IndexItem) (others : List IndexItem) → SameBag q (i ∷ others) → (r : ℕ) → r < n# w → m r + measured_by w i r ≤ 1
     taken-new i others t r h =
         let K : Kept (space_of w gone) H wanted x' q m = run-keeps in
         omega (
           arith,
           K.once r h,
-          t (λ (j : IndexItem). waitsOf w j r),
-          shares w hb x' S i r (omega (arith, K.sound, t (badOf w hb x'))),
+          t (λ (j : IndexItem). waits_of w j r),
+          shares w hb x' S i r (omega (arith, K.sound, t (bad_of w hb x'))),
         )
 
   module _ (m : ℕ → ℕ) (R : RunToEnd w gone wanted x m) where
     -- THE MEASURED ROWS ARE THOSE WHOSE HOME BOUND PASSES
     pub measured-passes : (r : ℕ) → r < n# w → ltb 0 (m r) ≡ passes x' gone (n# w) wanted (hb r)
     measured-passes r h =
-        let a = measured-on-both (space_of w gone) H wanted x' law x agree-due opens-same (known w hb x' S) (rootOf w x' ∷ []) R.run.start
+        let a = measured-on-both (space_of w gone) H wanted x' law x agree-due opens-same (known w hb x' S) (root_of w x' ∷ []) R.run.start
         R.waiting m (begun R.waiting m R.run) (reached R.waiting m R.run) R.ended r h in
         let b = due-passes x' gone (n# w) wanted some (hb r) in
         test_same (ltb 0 (m r)) (passes x' gone (n# w) wanted (hb r)) (λ e. b.0 (a.0 (ltb-true 0 (m r) e))) (λ e. lt-ltb 0 (m r) (a.1 (b.1 e)))

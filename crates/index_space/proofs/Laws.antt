@@ -2,10 +2,10 @@
 use Prim.Native.Nat.{◌+◌, ◌-◌, ◌<◌, ◌≤◌, suc, zero, ℕ}
 use Rattle.best_first.proofs.Low.{bound-below-homes}
 use Rattle.best_first.specs.Search.{Homes, Lawful}
-use Rattle.index_space.proofs.Below.{below, fork-below, kidBound, leaf-below, nearestTo}
+use Rattle.index_space.proofs.Below.{below, fork-below, kid_bound, leaf-below, nearest_to}
 use Rattle.index_space.proofs.Leasts.{least-same}
 use Rattle.index_space.proofs.Opening.{InTree, inner-not, inner-some, item-falls, item-rises, item-split, kid_in, size_of}
-use Rattle.index_space.specs.Items.{IndexItem, bound_of, centreAt, childOf, live_of, measuredBy, measuresAt, nearestAt, node, openedBy, opens_at, place, placeBound, place_of, space_of, waitsOf}
+use Rattle.index_space.specs.Items.{IndexItem, bound_of, centre_at, child_of, live_of, measured_by, measures_at, nearest_at, node, opened_by, opens_at, place, place_bound, place_of, space_of, waits_of}
 use Rattle.laws.proofs.Bags.{total-upto}
 use Rattle.laws.proofs.Ones.{is-not, sum_each_none}
 use Rattle.laws.proofs.Sums.{sum_below-zero}
@@ -46,17 +46,17 @@ module _ (w : List ℕ) (hb : ℕ → ℕ) where
 
   module _ (x : ℕ → ℕ) where
     -- 0 where it is an item of the index, at its first's distance, and all bounds that follow from its own are home bounds
-    abbrev pub badOf : IndexItem → ℕ
-    badOf (node k b u) = (suc k - nodes# w) + gap u (x (first# w k)) + below w x off k b
-    badOf (place p b) = off (row# w p, b)
+    abbrev pub bad_of : IndexItem → ℕ
+    bad_of (node k b u) = (suc k - nodes# w) + gap u (x (first# w k)) + below w x off k b
+    bad_of (place p b) = off (row# w p, b)
 
     -- where the rows have their homes
     abbrev pub homes_of : Homes IndexItem
-    homes_of = record { waits = waitsOf w; bad = badOf; home = hb }
+    homes_of = record { waits = waits_of w; bad = bad_of; home = hb }
 
     module _ (S : InShape w) where
       -- ---- a sound node
-      module _ (k b u : ℕ) (g : badOf (node k b u) ≡ 0) where
+      module _ (k b u : ℕ) (g : bad_of (node k b u) ≡ 0) where
         -- it is a node of the index
         in_tree : k < nodes# w
         in_tree = omega arith
@@ -70,14 +70,14 @@ module _ (w : List ℕ) (hb : ℕ → ℕ) where
         true_below = omega arith
 
         -- a leaf's rows but the first wait under their home bounds
-        kin-leaf : inner w k ≡ false → total badOf (upto (place_of w k b u) (count# w k - 1)) ≡ 0
-        kin-leaf e = total-upto badOf (place_of w k b u) (count# w k - 1) ∙ sum_below-zero (λ (i : ℕ). badOf (place_of w k b u i)) (count# w k - 1) each
+        kin-leaf : inner w k ≡ false → total bad_of (upto (place_of w k b u) (count# w k - 1)) ≡ 0
+        kin-leaf e = total-upto bad_of (place_of w k b u) (count# w k - 1) ∙ sum_below-zero (λ (i : ℕ). bad_of (place_of w k b u i)) (count# w k - 1) each
           where
-            each : (i : ℕ) → i < count# w k - 1 → badOf (place_of w k b u i) ≡ 0
+            each : (i : ℕ) → i < count# w k - 1 → bad_of (place_of w k b u i) ≡ 0
             each i l =
                 let p : ℕ = start# w k + suc i in
-                subst (λ (z : ℕ). off (row# w p, placeBound w b z p) ≡ 0) (sym true-first)
-                (sum_each_none (λ (i : ℕ). off (row# w (start# w k + suc i), placeBound w b (x (first# w k)) (start# w k + suc i))) (count# w k - 1)
+                subst (λ (z : ℕ). off (row# w p, place_bound w b z p) ≡ 0) (sym true-first)
+                (sum_each_none (λ (i : ℕ). off (row# w (start# w k + suc i), place_bound w b (x (first# w k)) (start# w k + suc i))) (count# w k - 1)
                 (sym (leaf-below w x off S k b in_tree e) ∙ true_below) i l)
 
         module _ (e : inner w k ≡ true) where
@@ -87,11 +87,11 @@ module _ (w : List ℕ) (hb : ℕ → ℕ) where
 
           -- below an inner node: its centres but the first, and its children, have their home bounds
           parts : sum_to (λ (i : ℕ). off (first# w (q + suc i), b)) (m# w - 1)
-              + sum_to (λ (i : ℕ). below w x off (q + i) (kidBound w x k b i)) (m# w) ≡ 0
+              + sum_to (λ (i : ℕ). below w x off (q + i) (kid_bound w x k b i)) (m# w) ≡ 0
           parts = sym (fork-below w x off S k b in_tree e) ∙ true_below
 
           -- the distance that is told of a child's first is its own
-          true-centre : (j : ℕ) → centreAt w x q u j ≡ x (first# w (q + j))
+          true-centre : (j : ℕ) → centre_at w x q u j ≡ x (first# w (q + j))
           true-centre zero =
               let z : q + 0 ≡ q = omega arith in
               true-first ∙ ap (λ (s : ℕ). x (row# w s)) (sym (ap (start# w) z ∙ ((S.node k in_tree).kids e).same))
@@ -116,60 +116,60 @@ module _ (w : List ℕ) (hb : ℕ → ℕ) where
               go (no f) = absurd (none_above (λ (j : ℕ). is r (first# w (q + suc j))) (m# w - 1) p (each f))
 
           -- an inner node's children are sound
-          kin-fork : total badOf (upto (childOf w x q b u) (m# w)) ≡ 0
-          kin-fork = total-upto badOf (childOf w x q b u) (m# w) ∙ sum_below-zero (λ (j : ℕ). badOf (childOf w x q b u j)) (m# w) each
+          kin-fork : total bad_of (upto (child_of w x q b u) (m# w)) ≡ 0
+          kin-fork = total-upto bad_of (child_of w x q b u) (m# w) ∙ sum_below-zero (λ (j : ℕ). bad_of (child_of w x q b u j)) (m# w) each
             where
-              each : (j : ℕ) → j < m# w → badOf (childOf w x q b u j) ≡ 0
+              each : (j : ℕ) → j < m# w → bad_of (child_of w x q b u j) ≡ 0
               each j l =
-                  sound_node (q + j) (nodes# w) (centreAt w x q u j) (x (first# w (q + j))) (below w x off (q + j) (bound_of (childOf w x q b u j)))
+                  sound_node (q + j) (nodes# w) (centre_at w x q u j) (x (first# w (q + j))) (below w x off (q + j) (bound_of (child_of w x q b u j)))
                   (kid_in w S k in_tree e j l) (true-centre j) bounds
                 where
-                  near : nearestTo w x k ≡ nearestAt w x q u
-                  near = least-same (λ (i : ℕ). x (first# w (q + i))) (centreAt w x q u) (m# w - 1) (λ i m. sym (true-centre i))
+                  near : nearest_to w x k ≡ nearest_at w x q u
+                  near = least-same (λ (i : ℕ). x (first# w (q + i))) (centre_at w x q u) (m# w - 1) (λ i m. sym (true-centre i))
 
-                  part : below w x off (q + j) (kidBound w x k b j) ≡ 0
-                  part = sum_each_none (λ (i : ℕ). below w x off (q + i) (kidBound w x k b i)) (m# w) (omega (arith, parts)) j l
+                  part : below w x off (q + j) (kid_bound w x k b j) ≡ 0
+                  part = sum_each_none (λ (i : ℕ). below w x off (q + i) (kid_bound w x k b i)) (m# w) (omega (arith, parts)) j l
 
-                  bounds : below w x off (q + j) (bound_of (childOf w x q b u j)) ≡ 0
+                  bounds : below w x off (q + j) (bound_of (child_of w x q b u j)) ≡ 0
                   bounds =
                       sym (ap (below w x off (q + j)) (ap₂ (λ (v z : ℕ). child_bound_lem b z v (reach# w (q + j))) (sym (true-centre j)) near)) ∙ part
 
         -- a row that it measures has its bound as home bound, q being its first child's number
-        home_at : (r q : ℕ) → child# w k ≡ q → 0 < measuresAt w q r → off (r, b) ≡ 0
+        home_at : (r q : ℕ) → child# w k ≡ q → 0 < measures_at w q r → off (r, b) ≡ 0
         home_at r zero e p = absurd (omega arith)
         home_at r (suc q) e p =
             subst (λ (z : ℕ). 0 < sum_to (λ (j : ℕ). is r (first# w (z + suc j))) (m# w - 1) → off (r, b) ≡ 0) e
             (home-fork (inner-some w k (omega arith)) r) p
 
         -- what it opens is sound, q being its first child's number
-        kin-at : (q : ℕ) → child# w k ≡ q → total badOf (opens_at w x q k b u) ≡ 0
+        kin-at : (q : ℕ) → child# w k ≡ q → total bad_of (opens_at w x q k b u) ≡ 0
         kin-at zero e = kin-leaf (inner-not w k e)
-        kin-at (suc q) e = subst (λ (z : ℕ). total badOf (upto (childOf w x z b u) (m# w)) ≡ 0) e (kin-fork (inner-some w k (omega arith)))
+        kin-at (suc q) e = subst (λ (z : ℕ). total bad_of (upto (child_of w x z b u) (m# w)) ≡ 0) e (kin-fork (inner-some w k (omega arith)))
 
       -- ---- a sound item
       -- if it is a node, it is one of the index
-      sound-in : (i : IndexItem) → badOf i ≡ 0 → InTree w i
+      sound-in : (i : IndexItem) → bad_of i ≡ 0 → InTree w i
       sound-in (node k b u) g = in_tree k b u g
       sound-in (place p b) g = tt
 
       -- what it opens is sound
-      kin : (i : IndexItem) → badOf i ≡ 0 → total badOf (openedBy w x i) ≡ 0
+      kin : (i : IndexItem) → bad_of i ≡ 0 → total bad_of (opened_by w x i) ≡ 0
       kin (node k b u) g = kin-at k b u g (child# w k) refl
       kin (place p b) g = refl
 
       -- a row that it measures is one of the table, and has its bound as home bound
-      at_home : (i : IndexItem) (r : ℕ) → badOf i ≡ 0 → 0 < measuredBy w i r → off (r, bound_of i) ≡ 0
+      at_home : (i : IndexItem) (r : ℕ) → bad_of i ≡ 0 → 0 < measured_by w i r → off (r, bound_of i) ≡ 0
       at_home (node k b u) r g p = home_at k b u g r (child# w k) refl p
       at_home (place p b) r g q =
           let e : r ≡ row# w p = omega arith in
           ap (λ (z : ℕ). off (z, b)) e ∙ g
 
       -- the home bound of a row that it measures is its bound
-      there : (i : IndexItem) (r : ℕ) → badOf i ≡ 0 → 0 < measuredBy w i r → hb r ≡ bound_of i
+      there : (i : IndexItem) (r : ℕ) → bad_of i ≡ 0 → 0 < measured_by w i r → hb r ≡ bound_of i
       there i r g p = omega (arith, at_home i r g p)
 
       -- a row that waits under it is measured by it, or waits under one that it opens
-      pub shares : (i : IndexItem) (r : ℕ) → badOf i ≡ 0 → waitsOf w i r ≡ measuredBy w i r + total (λ (j : IndexItem). waitsOf w j r) (openedBy w x i)
+      pub shares : (i : IndexItem) (r : ℕ) → bad_of i ≡ 0 → waits_of w i r ≡ measured_by w i r + total (λ (j : IndexItem). waits_of w j r) (opened_by w x i)
       shares i r g = item-split w x S i r (sound-in i g)
 
       -- THE LAWS, where no row is closer than its home bound
@@ -185,5 +185,5 @@ module _ (w : List ℕ) (hb : ℕ → ℕ) where
       }
 
       -- a row that it measures is one of the table
-      pub known : (i : IndexItem) (r : ℕ) → badOf i ≡ 0 → 0 < measuredBy w i r → r < n# w
+      pub known : (i : IndexItem) (r : ℕ) → bad_of i ≡ 0 → 0 < measured_by w i r → r < n# w
       known i r g p = omega (arith, at_home i r g p)

@@ -4,7 +4,7 @@
 use Prim.Native.Nat.{◌+◌, ◌-◌, ◌<◌, ◌≤◌, ℕ}
 use Rattle.best_first.proofs.Keeps.{closer_le}
 use Rattle.best_first.specs.Search.{Ended, both, found, step}
-use Rattle.index_space.specs.Items.{IndexItem, bound_of, live_of, measuredBy, openedBy, space_of}
+use Rattle.index_space.specs.Items.{IndexItem, bound_of, live_of, measured_by, opened_by, space_of}
 use Rattle.index_space.specs.Run.{RunSoFar, RunToEnd}
 use Rattle.laws.proofs.Bags.{total-append, total-none}
 use Rattle.laws.specs.Bags.{SameBag, total}
@@ -36,8 +36,8 @@ module _ (w : List ℕ) (gone : ℕ → Bool) (wanted : ℕ) (x : ℕ → ℕ) w
 
     -- ---- a round: some of what it opens waits with the others, and the rest is left out
     module _ (due : nearer m (bound_of item) < wanted) (q' out : List IndexItem) (m' : ℕ → ℕ)
-        (queued : (f : IndexItem → ℕ) → total f q' + total f out ≡ total f (openedBy w x item) + total f others)
-        (marked : (r : ℕ) → m' r ≡ m r + measuredBy w item r) where
+        (queued : (f : IndexItem → ℕ) → total f q' + total f out ≡ total f (opened_by w x item) + total f others)
+        (marked : (r : ℕ) → m' r ≡ m r + measured_by w item r) where
       -- none left out has a lower bound than the item
       least-left : total (λ (j : IndexItem). bound_of item - bound_of j) R.left ≡ 0
       least-left =
@@ -71,13 +71,13 @@ module _ (w : List ℕ) (gone : ℕ → Bool) (wanted : ℕ) (x : ℕ → ℕ) w
         beyond = omega (arith, total-append (lack m') out R.left, e, still-left);
       }
         where
-          waits : (f : IndexItem → ℕ) → total f (q' ++ (out ++ R.left)) ≡ total f (openedBy w x item ++ (others ++ R.left))
+          waits : (f : IndexItem → ℕ) → total f (q' ++ (out ++ R.left)) ≡ total f (opened_by w x item ++ (others ++ R.left))
           waits f =
               omega (
                 arith,
                 total-append f q' (out ++ R.left),
                 total-append f out R.left,
-                total-append f (openedBy w x item) (others ++ R.left),
+                total-append f (opened_by w x item) (others ++ R.left),
                 total-append f others R.left,
                 queued f,
               )

@@ -1,7 +1,7 @@
 -- What taking an item does, by the shape alone: the rows under it are shared out, its bound does not fall, its size does. Assumes nothing.
 use Prim.Native.Nat.{◌+◌, ◌-◌, ◌<◌, ◌≤◌, max, suc, zero, ℕ}
 use Rattle.index_space.proofs.Leasts.{least-same}
-use Rattle.index_space.specs.Items.{IndexItem, bound_of, centreAt, childOf, measuredBy, measuresAt, node, openedBy, opens_at, place, place_of, waitsNode, waitsOf}
+use Rattle.index_space.specs.Items.{IndexItem, bound_of, centre_at, child_of, measured_by, measures_at, node, opened_by, opens_at, place, place_of, waits_node, waits_of}
 use Rattle.laws.proofs.Bags.{total-upto, upto-same}
 use Rattle.laws.proofs.Ones.{is_self}
 use Rattle.laws.proofs.Sums.{sum_add, sum_below-same, sum_below-zero, sum_from, sum_front, sum_none, sum_ones, sum_part, sum_split}
@@ -47,12 +47,12 @@ module _ (w : List ℕ) where
   run_of k r = sum_to (λ (i : ℕ). is r (row# w (start# w k + i))) (count# w k)
 
   -- a node's run is its first, and the rows that wait under it
-  pub run-parts : (k r : ℕ) → 1 ≤ count# w k → sum_to (λ (i : ℕ). is r (row# w (start# w k + i))) (count# w k) ≡ is r (first# w k) + waitsNode w k r
+  pub run-parts : (k r : ℕ) → 1 ≤ count# w k → sum_to (λ (i : ℕ). is r (row# w (start# w k + i))) (count# w k) ≡ is r (first# w k) + waits_node w k r
   run-parts k r h =
       let f : ℕ → ℕ = λ (i : ℕ). is r (row# w (start# w k + i)) in
       let e : count# w k ≡ suc (count# w k - 1) = omega arith in
       let z : start# w k + 0 ≡ start# w k = omega arith in
-      ap (sum_to f) e ∙ sum_front f (count# w k - 1) ∙ ap (λ (p : ℕ). is r (row# w p) + waitsNode w k r) z
+      ap (sum_to f) e ∙ sum_front f (count# w k - 1) ∙ ap (λ (p : ℕ). is r (row# w p) + waits_node w k r) z
 
   -- a node that has no child is no inner node
   pub inner-not : (k : ℕ) → child# w k ≡ 0 → inner w k ≡ false
@@ -119,7 +119,7 @@ module _ (w : List ℕ) where
 
     -- WHAT WAITS UNDER IT IS WHAT IT MEASURES AND WHAT THEN WAITS UNDER ITS CHILDREN
     fork-split : (r : ℕ)
-        → waitsNode w k r ≡ sum_to (λ (j : ℕ). is r (first# w (q + suc j))) (m# w - 1) + sum_to (λ (j : ℕ). waitsNode w (q + j) r) (m# w)
+        → waits_node w k r ≡ sum_to (λ (j : ℕ). is r (first# w (q + suc j))) (m# w - 1) + sum_to (λ (j : ℕ). waits_node w (q + j) r) (m# w)
     unfolding run_of
     fork-split r =
         omega (
@@ -127,9 +127,9 @@ module _ (w : List ℕ) where
           run-parts k r (S.node k h).some,
           kids-rows r,
           firsts_rows r,
-          sum_below-same (λ (j : ℕ). run_of (q + j) r) (λ (j : ℕ). is r (first# w (q + j)) + waitsNode w (q + j) r) (m# w)
+          sum_below-same (λ (j : ℕ). run_of (q + j) r) (λ (j : ℕ). is r (first# w (q + j)) + waits_node w (q + j) r) (m# w)
               (λ j l. run-parts (q + j) r (kid-some j l)),
-          sum_add (λ (j : ℕ). is r (first# w (q + j))) (λ (j : ℕ). waitsNode w (q + j) r) (m# w),
+          sum_add (λ (j : ℕ). is r (first# w (q + j))) (λ (j : ℕ). waits_node w (q + j) r) (m# w),
         )
 
     -- a child has fewer rows
@@ -159,7 +159,7 @@ module _ (w : List ℕ) where
 
   module _ (d : ℕ → ℕ) where
     -- what is opened has no lower bound
-    pub item-rises : (i : IndexItem) → total (λ (j : IndexItem). bound_of i - bound_of j) (openedBy w d i) ≡ 0
+    pub item-rises : (i : IndexItem) → total (λ (j : IndexItem). bound_of i - bound_of j) (opened_by w d i) ≡ 0
     item-rises (node k b x) = go (child# w k)
       where
         go : (q : ℕ) → total (λ (j : IndexItem). b - bound_of j) (opens_at w d q k b x) ≡ 0
@@ -167,30 +167,30 @@ module _ (w : List ℕ) where
             total-upto (λ (j : IndexItem). b - bound_of j) (place_of w k b x) (count# w k - 1)
             ∙ sum_below-zero (λ (j : ℕ). b - bound_of (place_of w k b x j)) (count# w k - 1) (λ j l. omega arith)
         go (suc q) =
-            total-upto (λ (j : IndexItem). b - bound_of j) (childOf w d (suc q) b x) (m# w)
-            ∙ sum_below-zero (λ (j : ℕ). b - bound_of (childOf w d (suc q) b x j)) (m# w) (λ j l. rises b _)
+            total-upto (λ (j : IndexItem). b - bound_of j) (child_of w d (suc q) b x) (m# w)
+            ∙ sum_below-zero (λ (j : ℕ). b - bound_of (child_of w d (suc q) b x j)) (m# w) (λ j l. rises b _)
     item-rises (place p b) = refl
 
     module _ (S : InShape w) where
       -- A ROW THAT WAITS UNDER AN ITEM IS MEASURED BY IT, OR WAITS UNDER ONE THAT IT OPENS
-      pub item-split : (i : IndexItem) (r : ℕ) → InTree i → waitsOf w i r ≡ measuredBy w i r + total (λ (j : IndexItem). waitsOf w j r) (openedBy w d i)
+      pub item-split : (i : IndexItem) (r : ℕ) → InTree i → waits_of w i r ≡ measured_by w i r + total (λ (j : IndexItem). waits_of w j r) (opened_by w d i)
       item-split (node k b x) r h = go (child# w k) refl
         where
-          go : (q : ℕ) → child# w k ≡ q → waitsNode w k r ≡ measuresAt w q r + total (λ (j : IndexItem). waitsOf w j r) (opens_at w d q k b x)
-          go zero e = omega (arith, total-upto (λ (j : IndexItem). waitsOf w j r) (place_of w k b x) (count# w k - 1))
+          go : (q : ℕ) → child# w k ≡ q → waits_node w k r ≡ measures_at w q r + total (λ (j : IndexItem). waits_of w j r) (opens_at w d q k b x)
+          go zero e = omega (arith, total-upto (λ (j : IndexItem). waits_of w j r) (place_of w k b x) (count# w k - 1))
           go (suc q) e =
               subst
-              (λ (z : ℕ). waitsNode w k r
-              ≡ sum_to (λ (j : ℕ). is r (first# w (z + suc j))) (m# w - 1) + total (λ (j : IndexItem). waitsOf w j r) (upto (childOf w d z b x) (m# w))) e
+              (λ (z : ℕ). waits_node w k r
+              ≡ sum_to (λ (j : ℕ). is r (first# w (z + suc j))) (m# w - 1) + total (λ (j : IndexItem). waits_of w j r) (upto (child_of w d z b x) (m# w))) e
               (omega (
                 arith,
                 fork-split S k h (inner-some k (omega arith)) r,
-                total-upto (λ (j : IndexItem). waitsOf w j r) (childOf w d (child# w k) b x) (m# w),
+                total-upto (λ (j : IndexItem). waits_of w j r) (child_of w d (child# w k) b x) (m# w),
               ))
       item-split (place p b) r h = omega arith
 
       -- what is opened is smaller
-      pub item-falls : (i : IndexItem) → InTree i → total (λ (j : IndexItem). suc (size_of j) - size_of i) (openedBy w d i) ≡ 0
+      pub item-falls : (i : IndexItem) → InTree i → total (λ (j : IndexItem). suc (size_of j) - size_of i) (opened_by w d i) ≡ 0
       item-falls (node k b x) h = go (child# w k) refl
         where
           go : (q : ℕ) → child# w k ≡ q → total (λ (j : IndexItem). suc (size_of j) - suc (count# w k)) (opens_at w d q k b x) ≡ 0
@@ -198,23 +198,23 @@ module _ (w : List ℕ) where
               total-upto (λ (j : IndexItem). suc (size_of j) - suc (count# w k)) (place_of w k b x) (count# w k - 1)
               ∙ sum_below-zero (λ (j : ℕ). 1 - suc (count# w k)) (count# w k - 1) (λ j l. omega arith)
           go (suc q) e =
-              subst (λ (z : ℕ). total (λ (j : IndexItem). suc (size_of j) - suc (count# w k)) (upto (childOf w d z b x) (m# w)) ≡ 0) e
-              (total-upto (λ (j : IndexItem). suc (size_of j) - suc (count# w k)) (childOf w d (child# w k) b x) (m# w)
+              subst (λ (z : ℕ). total (λ (j : IndexItem). suc (size_of j) - suc (count# w k)) (upto (child_of w d z b x) (m# w)) ≡ 0) e
+              (total-upto (λ (j : IndexItem). suc (size_of j) - suc (count# w k)) (child_of w d (child# w k) b x) (m# w)
               ∙ sum_below-zero (λ (j : ℕ). suc (suc (count# w (child# w k + j))) - suc (count# w k)) (m# w)
               (λ j l. omega (arith, kid-less S k h (inner-some k (omega arith)) j l)))
       item-falls (place p b) h = refl
 
   -- what an item opens follows from the distances of the rows that it measures
-  pub item-local : (d d' : ℕ → ℕ) (i : IndexItem) → ((r : ℕ) → 0 < measuredBy w i r → d' r ≡ d r) → openedBy w d' i ≡ openedBy w d i
+  pub item-local : (d d' : ℕ → ℕ) (i : IndexItem) → ((r : ℕ) → 0 < measured_by w i r → d' r ≡ d r) → opened_by w d' i ≡ opened_by w d i
   item-local d d' (node k b x) h = go (child# w k) h
     where
-      go : (q : ℕ) → ((r : ℕ) → 0 < measuresAt w q r → d' r ≡ d r) → opens_at w d' q k b x ≡ opens_at w d q k b x
+      go : (q : ℕ) → ((r : ℕ) → 0 < measures_at w q r → d' r ≡ d r) → opens_at w d' q k b x ≡ opens_at w d q k b x
       go zero h = refl
       go (suc q) h =
-          upto-same (childOf w d' (suc q) b x) (childOf w d (suc q) b x) (m# w)
-          (λ j l. cc (centre j (omega arith), least-same (centreAt w d' (suc q) x) (centreAt w d (suc q) x) (m# w - 1) centre))
+          upto-same (child_of w d' (suc q) b x) (child_of w d (suc q) b x) (m# w)
+          (λ j l. cc (centre j (omega arith), least-same (centre_at w d' (suc q) x) (centre_at w d (suc q) x) (m# w - 1) centre))
         where
-          centre : (j : ℕ) → j ≤ m# w - 1 → centreAt w d' (suc q) x j ≡ centreAt w d (suc q) x j
+          centre : (j : ℕ) → j ≤ m# w - 1 → centre_at w d' (suc q) x j ≡ centre_at w d (suc q) x j
           centre zero l = refl
           centre (suc j) l =
               let r : ℕ = first# w (suc q + suc j) in

@@ -88,8 +88,8 @@ over_all x n f =
 -- ---- among the rows that remain
 module _ (x : ℕ → ℕ) (gone : ℕ → Bool) (n : ℕ) where
   -- how many of the rows that remain are closer than k
-  abbrev pub nearerThan : ℕ → ℕ
-  nearerThan k = rows_closer n (live_of gone) x k
+  abbrev pub nearer_than : ℕ → ℕ
+  nearer_than k = rows_closer n (live_of gone) x k
 
   -- a total over the candidates is one over the rows that remain
   pub over-rows : (f : ℕ × ℕ → ℕ) → total f (candidates x gone n) ≡ sum_to (λ (i : ℕ). left_of gone (λ (i : ℕ). f (i, x i)) i) n
@@ -110,7 +110,7 @@ module _ (x : ℕ → ℕ) (gone : ℕ → Bool) (n : ℕ) where
   sorted-rows f = total_sort f (candidates x gone n) ∙ over-rows f
 
   -- those closer than k
-  nearer-rows : (k : ℕ) → total (nearer k) (sort (candidates x gone n)) ≡ nearerThan k
+  nearer-rows : (k : ℕ) → total (nearer k) (sort (candidates x gone n)) ≡ nearer_than k
   nearer-rows k =
       sorted-rows (nearer k)
       ∙ sum_below-same (λ (i : ℕ). cond (gone i) 0 (min 1 (k - x i))) (λ (i : ℕ). min (live_of gone i) (k - x i)) n (λ i l. at (gone i) (k - x i))
@@ -124,7 +124,7 @@ module _ (x : ℕ → ℕ) (gone : ℕ → Bool) (n : ℕ) where
   remain = length_total (candidates x gone n) ∙ sym (total_sort (λ (a : ℕ × ℕ). 1) (candidates x gone n))
 
   -- no more are closer than remain
-  nearer-most : (k : ℕ) → nearerThan k ≤ length (candidates x gone n)
+  nearer-most : (k : ℕ) → nearer_than k ≤ length (candidates x gone n)
   nearer-most k =
       omega (
         arith,
@@ -134,11 +134,11 @@ module _ (x : ℕ → ℕ) (gone : ℕ → Bool) (n : ℕ) where
       )
 
   -- no fewer are closer than a greater distance
-  nearer-up : (k k' : ℕ) → k ≤ k' → nearerThan k ≤ nearerThan k'
+  nearer-up : (k k' : ℕ) → k ≤ k' → nearer_than k ≤ nearer_than k'
   nearer-up k k' h = closer_le n (live_of gone) (live_of gone) x k k' (λ r. omega arith) h
 
   -- FEWER THAN w OF THEM ARE CLOSER THAN D, the distance of the w-th
-  few-rowsCloser : (w : ℕ) → 1 ≤ w → w ≤ length (candidates x gone n) → nearerThan (last_distance (take w (sort (candidates x gone n)))) < w
+  few-rowsCloser : (w : ℕ) → 1 ≤ w → w ≤ length (candidates x gone n) → nearer_than (last_distance (take w (sort (candidates x gone n)))) < w
   few-rowsCloser zero l h = absurd (omega arith)
   few-rowsCloser (suc w) l h =
       let D : ℕ = last_distance (take (suc w) (sort (candidates x gone n))) in
@@ -146,7 +146,7 @@ module _ (x : ℕ → ℕ) (gone : ℕ → Bool) (n : ℕ) where
       (few_sorted (sort (candidates x gone n)) w (sort_sorted (candidates x gone n)) (omega (arith, remain)))
 
   -- AND w ARE AT MOST AT D
-  many-within : (w : ℕ) → 1 ≤ w → w ≤ length (candidates x gone n) → w ≤ nearerThan (last_distance (take w (sort (candidates x gone n))) + 1)
+  many-within : (w : ℕ) → 1 ≤ w → w ≤ length (candidates x gone n) → w ≤ nearer_than (last_distance (take w (sort (candidates x gone n))) + 1)
   many-within zero l h = absurd (omega arith)
   many-within (suc w) l h =
       let D : ℕ = last_distance (take (suc w) (sort (candidates x gone n))) in
@@ -164,22 +164,22 @@ module _ (x : ℕ → ℕ) (gone : ℕ → Bool) (n : ℕ) where
     passes-is b = refl
 
     -- A BOUND PASSES EXACTLY IF FEWER THAN w OF THE ROWS THAT REMAIN ARE CLOSER
-    pub due-passes : 1 ≤ wanted → (b : ℕ) → (nearerThan b < wanted) ↔ (passes x gone n wanted b ≡ true)
+    pub due-passes : 1 ≤ wanted → (b : ℕ) → (nearer_than b < wanted) ↔ (passes x gone n wanted b ≡ true)
     due-passes some b =
-        subst (λ (p : Bool). (nearerThan b < wanted) ↔ (p ≡ true)) (sym (passes-is b)) (go (ltb (length (candidates x gone n)) wanted) refl)
+        subst (λ (p : Bool). (nearer_than b < wanted) ↔ (p ≡ true)) (sym (passes-is b)) (go (ltb (length (candidates x gone n)) wanted) refl)
       where
-        go : (a : Bool) → ltb (length (candidates x gone n)) wanted ≡ a → (nearerThan b < wanted) ↔ ((a || leb b last_at) ≡ true)
+        go : (a : Bool) → ltb (length (candidates x gone n)) wanted ≡ a → (nearer_than b < wanted) ↔ ((a || leb b last_at) ≡ true)
         go true e = (λ h. refl, λ h. omega (arith, ltb-true (length (candidates x gone n)) wanted e, nearer-most b))
         go false e = (λ h. to h (leb b last_at) refl, λ h. from (leb-true b last_at h))
           where
             enough : wanted ≤ length (candidates x gone n)
             enough = ltb-false (length (candidates x gone n)) wanted e
 
-            to : nearerThan b < wanted → (c : Bool) → leb b last_at ≡ c → c ≡ true
+            to : nearer_than b < wanted → (c : Bool) → leb b last_at ≡ c → c ≡ true
             to h true q = refl
             to h false q = absurd (omega (arith, many-within wanted some enough, nearer-up (last_at + 1) b (omega (arith, leb-false b last_at q))))
 
-            from : b ≤ last_at → nearerThan b < wanted
+            from : b ≤ last_at → nearer_than b < wanted
             from h = omega (arith, few-rowsCloser wanted some enough, nearer-up b last_at h)
 
   -- a bound that some row is no closer than passes where as many are wanted as there are rows

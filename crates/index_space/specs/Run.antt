@@ -1,7 +1,7 @@
 -- A run of the search over the items of an index, and what it has found. A working notion, on which no promise rests. Assumes nothing.
 use Rattle.std.specs.Prelude.{◌<◌, ℕ, ltb, Bool, List, [], ◌++◌, ◌∷◌, map, ◌≡◌}
 use Rattle.best_first.specs.Search.{Ended, SearchReach}
-use Rattle.index_space.specs.Items.{IndexItem, rootOf, space_of}
+use Rattle.index_space.specs.Items.{IndexItem, root_of, space_of}
 use Rattle.laws.specs.Bags.{is}
 use Rattle.laws.specs.Lists.{keep, range}
 use Rattle.tree.specs.Nearest.{sort}
@@ -12,7 +12,7 @@ use Rattle.words.specs.Words.{first#, n#}
 pub record SearchRun (w : List ℕ) (gone : ℕ → Bool) (wanted : ℕ) (x : ℕ → ℕ) (waiting : List IndexItem) (m : ℕ → ℕ) : Type 0 where
   pub start : ℕ → ℕ
   pub begun : (r : ℕ) → r < n# w → start r ≡ is r (first# w 0)
-  pub reached : SearchReach (space_of w gone) wanted x (rootOf w x ∷ []) start waiting m
+  pub reached : SearchReach (space_of w gone) wanted x (root_of w x ∷ []) start waiting m
 
 -- It has come to where these items wait, but for those that are left out: w measured rows that remain are closer than the bound of each.
 pub record RunSoFar (w : List ℕ) (gone : ℕ → Bool) (wanted : ℕ) (x : ℕ → ℕ) (waiting : List IndexItem) (m : ℕ → ℕ) : Type 0 where

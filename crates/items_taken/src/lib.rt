@@ -19,7 +19,7 @@ use rows_measured::{measure_centres, measure_row};
 use words::places::{centres, circles, node_child, word};
 
 // How many entries the frontier and the answers have, and the word behind the list of rows measured.
-#[derive(Drop)]
+#[derive(Clone, Copy)]
 pub struct Sizes {
     pub len: usize,
     pub held: usize,

@@ -18,7 +18,7 @@ pub fn label_in(line: &[u8], column: usize) -> &[u8]
 }
 
 // How many rows have a label, and the last of them.
-#[derive(Drop)]
+#[derive(Clone, Copy)]
 pub struct Hits {
     pub count: usize,
     pub row: usize,

@@ -12,10 +12,10 @@ use Rattle.laws.specs.Lists.{head}
 use Rattle.laying.proofs.Storing.{head_first, run_count}
 use Rattle.laying.specs.Lay.{ready, unsplit, with_row}
 use Rattle.leafward.proofs.Changing.{join-changed}
-use Rattle.leafward.specs.Changed.{NewReach, changedAt}
+use Rattle.leafward.specs.Changed.{NewReach, changed_at}
 use Rattle.leafward.specs.Way.{LeafFound}
 use Rattle.limits.specs.Limits.{max_depth}
-use Rattle.tree.specs.Build.{Run, grow, leafOf}
+use Rattle.tree.specs.Build.{Run, grow, leaf_of}
 use Rattle.tree.specs.Grove.{Grove, Reach, bare, leaf, members#, reach#, tree_of}
 use Rattle.words.specs.InShape.{InShape}
 use Rattle.words.specs.Words.{nodes#, count#, dist#, first#, l#, m#, n#, row#, run#, start#}
@@ -76,13 +76,13 @@ module _ (w : List ℕ) (S : InShape w) (z v left : ℕ) (there : v < nodes# w) 
   -- ---- the tree
   module _ (d : ℕ → ℕ → ℕ) where
     -- leaf v with `deep` levels below it, before the nodes g: not split, or grown from the run that is laid
-    abbrev pub leafAnew : Reach → ℕ → Grove → Grove
-    leafAnew R deep g =
-        keep_own R (cond (unsplit w v left z) (leafOf d (ready w v left z) g) (grow d (m# w) (l# w) deep (ready w v left z) g))
+    abbrev pub leaf_anew : Reach → ℕ → Grove → Grove
+    leaf_anew R deep g =
+        keep_own R (cond (unsplit w v left z) (leaf_of d (ready w v left z) g) (grow d (m# w) (l# w) deep (ready w v left z) g))
 
     -- that is what it is when it has taken row z
     lodge-ready : (R : Reach) (g : Grove)
-        → lodge d (m# w) (l# w) z left R (members# w v) g ≡ leafAnew (reach_with (count# w v) R (d (first# w v) z)) left g
+        → lodge d (m# w) (l# w) z left R (members# w v) g ≡ leaf_anew (reach_with (count# w v) R (d (first# w v) z)) left g
     unfolding lodge ready unsplit
     lodge-ready R g =
         let es : List (ℕ × ℕ) = members# w v in
@@ -95,7 +95,7 @@ module _ (w : List ℕ) (S : InShape w) (z v left : ℕ) (there : v < nodes# w) 
         (with_row w v z)) (head_first w v z some)
       where
         chosen : Bool → Reach → List ℕ → Grove
-        chosen b own l = keep_own own (cond b (leafOf d (cond b l (orderly l)) g) (grow d (m# w) (l# w) left (cond b l (orderly l)) g))
+        chosen b own l = keep_own own (cond b (leaf_of d (cond b l (orderly l)) g) (grow d (m# w) (l# w) left (cond b l (orderly l)) g))
 
         whole : Bool → ℕ → List ℕ → Grove
         whole b k l = chosen b (reach_with k R (d (head l) z)) l
@@ -110,7 +110,7 @@ module _ (w : List ℕ) (S : InShape w) (z v left : ℕ) (there : v < nodes# w) 
     -- THE TREE THAT TAKES ROW Z: leaf v is not split or grown from the run that is laid, the nodes whose run holds its reach to the row, and all
     -- else stays
     pub join-laid : (R : ℕ → Reach) → NewReach d w z v R → 1 ≤ nodes# w → LeafFound d w z v left
-        → join d (m# w) (l# w) z max_depth 0 (tree_of w) ≡ changedAt w R v (leafAnew (R v)) max_depth 0 bare
+        → join d (m# w) (l# w) z max_depth 0 (tree_of w) ≡ changed_at w R v (leaf_anew (R v)) max_depth 0 bare
     join-laid R Q h F =
-        join-changed d w S z v R (leafAnew (R v)) Q left
-        (λ g. ap (λ (r : Reach). leafAnew r left g) (Q.on v there (omega arith, omega arith)) ∙ sym (lodge-ready (reach# w v) g)) h F
+        join-changed d w S z v R (leaf_anew (R v)) Q left
+        (λ g. ap (λ (r : Reach). leaf_anew r left g) (Q.on v there (omega arith, omega arith)) ∙ sym (lodge-ready (reach# w v) g)) h F

@@ -3,7 +3,7 @@ use Rattle.std.specs.Prelude.{◌+◌, ℕ, leb, ltb, cond, List, [], ◌∷◌}
 use Rattle.laws.specs.Lists.{gap}
 use Rattle.leaf_decision.specs.declared.Verdict.TheVariants.{In, Measure, Out}
 use Rattle.leaf_decision.specs.declared.Verdict.{Verdict}
-use Rattle.tree.specs.Radius.{byDistance}
+use Rattle.tree.specs.Radius.{by_distance}
 use Rattle.words.specs.Words.{dist#, row#}
 
 -- 01, Which rows are measured, Radius: a row of an opened leaf whose first is at x, by its stored distance s
@@ -18,9 +18,9 @@ verdict_byte v Measure = v
 
 module _ (x : ℕ → ℕ) (r : ℕ) (w : List ℕ) where
   -- a position of an opened leaf whose first is at xf
-  unfoldable pub leafMark : ℕ → ℕ → ℕ
-  leafMark xf p = verdict_byte (byDistance x r (row# w p)) (decision xf (dist# w p) r)
+  unfoldable pub leaf_mark : ℕ → ℕ → ℕ
+  leaf_mark xf p = verdict_byte (by_distance x r (row# w p)) (decision xf (dist# w p) r)
 
   -- the same, with its row
-  abbrev pub leafAt : ℕ → ℕ → List (ℕ × ℕ)
-  leafAt xf p = (row# w p, leafMark xf p) ∷ []
+  abbrev pub leaf_at : ℕ → ℕ → List (ℕ × ℕ)
+  leaf_at xf p = (row# w p, leaf_mark xf p) ∷ []

@@ -8,7 +8,7 @@ ghost use Rattle.limits.specs.Limits.{max_distance};
 use numbers::apart;
 
 // What the stored distance says of a row.
-#[derive(Drop)]
+#[derive(Clone, Copy)]
 pub enum Verdict {
     In,
     Out,

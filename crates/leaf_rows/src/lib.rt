@@ -2,13 +2,13 @@
 #![tactic(auto)]
 
 ghost use Rattle.std.specs.Prelude.{◌*◌, ◌+◌, ◌<◌, ◌≤◌, length, [], ◌∷◌, ◌≡◌};
-ghost use Rattle.leaf_decision.specs.Decision.{leafAt};
+ghost use Rattle.leaf_decision.specs.Decision.{leaf_at};
 ghost use Rattle.limits.specs.Limits.{max_columns, max_distance, max_rows};
 ghost use Rattle.marking.specs.Lent.{Lent};
 ghost use Rattle.marking.specs.Listed.{Leaves};
 ghost use Rattle.measure.specs.Table.{from};
 ghost use Rattle.rowset.specs.Sets.{is_in_lem};
-ghost use Rattle.tree.specs.Radius.{byDistance};
+ghost use Rattle.tree.specs.Radius.{by_distance};
 ghost use Rattle.words.specs.Words.{n#, pair_at};
 
 use leaf_decision::{Verdict, decide};
@@ -30,7 +30,7 @@ fn measure_to(
 )
     requires { (c ≤ max_columns) × (c * row + c ≤ length table.now) × (length query.now ≡ c) × (row < max_rows) }
     ensures { Leaves (is_in_lem withdrawn.now) (from table.now c circles query.now)
-        ((row, byDistance (from table.now c circles query.now) r row) ∷ []) how.old how.new
+        ((row, by_distance (from table.now c circles query.now) r row) ∷ []) how.old how.new
         list.old list.new }
 {
     let x = ceilings::query_distance_to(table, c, circles, query, row, r);
@@ -55,7 +55,7 @@ pub fn leaf_row(
     requires lent { Lent index.now table.now c query.now how.old }
     requires p_bound { (p < n# index.now) × (x ≤ max_distance) × (base ≡ pair_at index.now 0) }
     ensures { Leaves (is_in_lem withdrawn.now) (from table.now c circles query.now)
-        (leafAt (from table.now c circles query.now) r index.now x p) how.old how.new
+        (leaf_at (from table.now c circles query.now) r index.now x p) how.old how.new
         list.old list.new }
 {
     let row = word(index, base + 2 * p);

@@ -8,10 +8,10 @@ use Rattle.laws.proofs.Maps.{map_shift}
 use Rattle.laws.proofs.Ranges.{range_length}
 use Rattle.laws.specs.Lists.{range}
 use Rattle.leafward.proofs.Walking.{way_end, way_step}
-use Rattle.leafward.specs.Changed.{Holds, NewReach, changedAt}
-use Rattle.leafward.specs.Way.{LeafFound, closestKid, left_at, toKid, wayTo}
+use Rattle.leafward.specs.Changed.{Holds, NewReach, changed_at}
+use Rattle.leafward.specs.Way.{LeafFound, closest_kid, left_at, to_kid, way_to}
 use Rattle.limits.specs.Limits.{max_depth}
-use Rattle.tree.proofs.Forks.{as-fork, as-leaf, forkNode, kids-first, kidsAt, leafNode, no-levels}
+use Rattle.tree.proofs.Forks.{as-fork, as-leaf, fork_node, kids-first, kids_at, leaf_node, no-levels}
 use Rattle.tree.proofs.Members.{entries_at, kids-entries, kids-firsts}
 use Rattle.tree.proofs.Rows.{by_root}
 use Rattle.tree.specs.Grove.{Grove, Reach, bare, entries, first, firsts, fork, leaf, members#, reach#, tree_at, tree_of}
@@ -31,11 +31,11 @@ use native.Mathlib.Omega.{arith}
 module _ (d : ℕ → ℕ → ℕ) (w : List ℕ) (S : InShape w) (z : ℕ) where
   -- ---- where the way leads
   -- the closest child is one of the children
-  closest-there : (k : ℕ) → closestKid d w z k < m# w
-  unfolding closestKid
+  closest-there : (k : ℕ) → closest_kid d w z k < m# w
+  unfolding closest_kid
   closest-there k =
-      let xs : List ℕ = map (toKid d w z k) (range 0 (m# w)) in
-      let n : length xs ≡ m# w = length-map (range 0 (m# w)) (toKid d w z k) ∙ range_length 0 (m# w) in
+      let xs : List ℕ = map (to_kid d w z k) (range 0 (m# w)) in
+      let n : length xs ≡ m# w = length-map (range 0 (m# w)) (to_kid d w z k) ∙ range_length 0 (m# w) in
       omega (arith, lowest_there xs (omega (arith, S.whole.fan.0)))
 
   -- node v comes at node k or after it, and node k's run holds its
@@ -45,20 +45,20 @@ module _ (d : ℕ → ℕ → ℕ) (w : List ℕ) (S : InShape w) (z : ℕ) wher
     holds : Holds w v k
 
   -- so does the leaf that the way leads to
-  way-under : (deep k : ℕ) → k < nodes# w → Under k (wayTo d w z deep k)
-  unfolding wayTo
+  way-under : (deep k : ℕ) → k < nodes# w → Under k (way_to d w z deep k)
+  unfolding way_to
   way-under zero k h = record { there = h; later = omega arith; holds = (omega arith, omega arith) }
   way-under (suc deep) k h = go (λ j q. way-under deep j q) (inner w k) refl
     where
       j : ℕ
-      j = child# w k + closestKid d w z k
+      j = child# w k + closest_kid d w z k
 
-      go : ((j : ℕ) → j < nodes# w → Under j (wayTo d w z deep j)) → (b : Bool) → inner w k ≡ b → Under k (cond b (wayTo d w z deep j) k)
+      go : ((j : ℕ) → j < nodes# w → Under j (way_to d w z deep j)) → (b : Bool) → inner w k ≡ b → Under k (cond b (way_to d w z deep j) k)
       go ih true e =
           let K = (S.node k h).kids e in
           let c = closest-there k in
           let U = ih j (omega (arith, K.inside)) in
-          let P = K.part (closestKid d w z k) c in
+          let P = K.part (closest_kid d w z k) c in
           record {
             there = U.there;
             later = omega (arith, U.later, K.later);
@@ -67,8 +67,8 @@ module _ (d : ℕ → ℕ → ℕ) (w : List ℕ) (S : InShape w) (z : ℕ) wher
       go ih false e = record { there = h; later = omega arith; holds = (omega arith, omega arith) }
 
   -- the closest of the children's centres
-  closest-kid : (deep k : ℕ) → k < nodes# w → inner w k ≡ true → lowest_at (map (λ f. d f z) (firsts (kidsAt w deep k))) ≡ closestKid d w z k
-  unfolding closestKid
+  closest-kid : (deep k : ℕ) → k < nodes# w → inner w k ≡ true → lowest_at (map (λ f. d f z) (firsts (kids_at w deep k))) ≡ closest_kid d w z k
+  unfolding closest_kid
   closest-kid deep k h e =
       let f : ℕ → ℕ = λ i. d (first# w i) z in
       ap (λ (l : List ℕ). lowest_at (map (λ i. d i z) l)) (kids-firsts w S deep (child# w k) (m# w) ((S.node k h).kids e).inside)
@@ -76,7 +76,7 @@ module _ (d : ℕ → ℕ → ℕ) (w : List ℕ) (S : InShape w) (z : ℕ) wher
       ∙ ap (λ (i : ℕ). map f (range i (m# w))) (sym (add-zero (child# w k))) ∙ sym (map_shift f (child# w k) 0 (m# w)))
 
   -- an inner node's children have its rows
-  kids-count : (deep k : ℕ) → k < nodes# w → inner w k ≡ true → length (entries (kidsAt w deep k)) ≡ count# w k
+  kids-count : (deep k : ℕ) → k < nodes# w → inner w k ≡ true → length (entries (kids_at w deep k)) ≡ count# w k
   kids-count deep k h e =
       let K = (S.node k h).kids e in
       ap length (kids-entries w S (tree_at w deep) (entries_at w S deep) (child# w k) (m# w) (start# w k) (count# w k) K.inside K.tiled)
@@ -89,19 +89,19 @@ module _ (d : ℕ → ℕ → ℕ) (w : List ℕ) (S : InShape w) (z : ℕ) wher
   join-past zero at k g = refl
   join-past (suc deep) at k g = go (inner w k)
     where
-      go : (b : Bool) → join d (m# w) (l# w) z (suc deep) (suc at) (cond b (forkNode w deep k g) (leafNode w k g))
-          ≡ cond b (forkNode w deep k (join d (m# w) (l# w) z (suc deep) at g)) (leafNode w k (join d (m# w) (l# w) z (suc deep) at g))
+      go : (b : Bool) → join d (m# w) (l# w) z (suc deep) (suc at) (cond b (fork_node w deep k g) (leaf_node w k g))
+          ≡ cond b (fork_node w deep k (join d (m# w) (l# w) z (suc deep) at g)) (leaf_node w k (join d (m# w) (l# w) z (suc deep) at g))
       go true = refl
       go false = refl
 
   -- ---- the tree with node v changed
   module _ (v : ℕ) (R : ℕ → Reach) (anew : ℕ → Grove → Grove) (Q : NewReach d w z v R) where
     abbrev A : ℕ → ℕ → Grove → Grove
-    A deep k g = changedAt w R v anew deep k g
+    A deep k g = changed_at w R v anew deep k g
 
     -- node v itself
     changed-there : (deep k : ℕ) (g : Grove) → k ≡ v → A deep k g ≡ anew deep g
-    unfolding changedAt
+    unfolding changed_at
     changed-there zero k g e = rw (eq-eqb k v e) refl
     changed-there (suc deep) k g e = rw (eq-eqb k v e) refl
 
@@ -119,7 +119,7 @@ module _ (d : ℕ → ℕ → ℕ) (w : List ℕ) (S : InShape w) (z : ℕ) wher
 
     -- A NODE WHOSE RUN DOES NOT HOLD NODE V'S STAYS
     node_stays : (deep k : ℕ) (g : Grove) → k < nodes# w → (Holds w v k → ⊥) → A deep k g ≡ tree_at w deep k g
-    unfolding changedAt tree_at
+    unfolding changed_at tree_at
     node_stays zero k g h o = rw (ne_eqb k v (other k o), Q.off k h o) refl
     node_stays (suc deep) k g h o =
         ap (λ (b : Bool). cond b (anew (suc deep) g) (cond (inner w k) (fork (R k) (foldr (A deep) bare (range (child# w k) (m# w))) g)
@@ -128,7 +128,7 @@ module _ (d : ℕ → ℕ → ℕ) (w : List ℕ) (S : InShape w) (z : ℕ) wher
       where
         go : ((k : ℕ) (g : Grove) → k < nodes# w → (Holds w v k → ⊥) → A deep k g ≡ tree_at w deep k g) → (b : Bool) → inner w k ≡ b
             → cond b (fork (R k) (foldr (A deep) bare (range (child# w k) (m# w))) g) (leaf (R k) (members# w k) g)
-            ≡ cond b (forkNode w deep k g) (leafNode w k g)
+            ≡ cond b (fork_node w deep k g) (leaf_node w k g)
         go ih true e =
             let K = (S.node k h).kids e in
             ap₂ (λ (r : Reach) (ks : Grove). fork r ks g) (Q.off k h o)
@@ -140,7 +140,7 @@ module _ (d : ℕ → ℕ → ℕ) (w : List ℕ) (S : InShape w) (z : ℕ) wher
     module _ (left : ℕ) (new : (g : Grove) → anew left g ≡ lodge d (m# w) (l# w) z left (reach# w v) (members# w v) g) where
       -- node v is where the way leads from node k
       abbrev Leads : ℕ → ℕ → Type 0
-      Leads deep k = (v ≡ wayTo d w z deep k) × (left ≡ left_at d w z deep k)
+      Leads deep k = (v ≡ way_to d w z deep k) × (left ≡ left_at d w z deep k)
 
       -- node k's run holds node v's then
       leads-under : (deep k : ℕ) → k < nodes# w → Leads deep k → Under k v
@@ -184,12 +184,12 @@ module _ (d : ℕ → ℕ → ℕ) (w : List ℕ) (S : InShape w) (z : ℕ) wher
 
       -- a node that leads to node v
       node-joined : (deep k : ℕ) (g : Grove) → k < nodes# w → Leads deep k → join d (m# w) (l# w) z deep 0 (tree_at w deep k g) ≡ A deep k g
-      unfolding join changedAt
+      unfolding join changed_at
       node-joined zero k g h u =
           ap (join d (m# w) (l# w) z 0 0) (no-levels w k g) ∙ leaf-joined 0 k g (u.0 ∙ at_zero.0) (u.1 ∙ at_zero.1)
         where
-          at_zero : (wayTo d w z 0 k ≡ k) × (left_at d w z 0 k ≡ 0)
-          at_zero = unfold wayTo left_at in (refl, refl)
+          at_zero : (way_to d w z 0 k ≡ k) × (left_at d w z 0 k ≡ 0)
+          at_zero = unfold way_to left_at in (refl, refl)
       node-joined (suc deep) k g h u = go (λ j f q p. node-joined deep j f q p) (inner w k) refl
         where
           go : ((k : ℕ) (g : Grove) → k < nodes# w → Leads deep k → join d (m# w) (l# w) z deep 0 (tree_at w deep k g) ≡ A deep k g)
@@ -197,10 +197,10 @@ module _ (d : ℕ → ℕ → ℕ) (w : List ℕ) (S : InShape w) (z : ℕ) wher
           go ih true e =
               let K = (S.node k h).kids e in
               let s = way_step d w z deep k e in
-              let at : ℕ = closestKid d w z k in
+              let at : ℕ = closest_kid d w z k in
               let u' : Leads deep (child# w k + at) = (u.0 ∙ s.0, u.1 ∙ s.1) in
               let U = leads-under deep (child# w k + at) (omega (arith, K.inside, closest-there k)) u' in
-              let ks : Grove = kidsAt w deep k in
+              let ks : Grove = kids_at w deep k in
               let own : reach_with (length (entries ks)) (reach# w k) (d (first ks) z) ≡ R k =
               ap₂ (λ (a b : ℕ). reach_with a (reach# w k) (d b z)) (kids-count deep k h e) (kids-first w S deep k h e)
               ∙ sym (Q.on k h (leads-under (suc deep) k h u).holds) in
@@ -216,7 +216,7 @@ module _ (d : ℕ → ℕ → ℕ) (w : List ℕ) (S : InShape w) (z : ℕ) wher
 
       -- THE TREE THAT TAKES ROW Z: the leaf at the end of the way is another, the nodes whose run holds its reach to the row, and all else stays
       pub join-changed : 1 ≤ nodes# w → LeafFound d w z v left
-          → join d (m# w) (l# w) z max_depth 0 (tree_of w) ≡ changedAt w R v anew max_depth 0 bare
+          → join d (m# w) (l# w) z max_depth 0 (tree_of w) ≡ changed_at w R v anew max_depth 0 bare
       join-changed h F =
           by_root (λ g. join d (m# w) (l# w) z max_depth 0 g ≡ A max_depth 0 bare) w
           (λ q. node-joined max_depth 0 bare q (F.node, F.levels)) (λ e. absurd (omega arith))

@@ -5,7 +5,7 @@ use Rattle.appending.specs.Append.{lowest_at}
 use Rattle.laws.proofs.Every.{every-unmap}
 use Rattle.laws.proofs.Ranges.{every-at, get_d_range, range_length}
 use Rattle.laws.specs.Lists.{range}
-use Rattle.leafward.specs.Way.{NewRow, closestKid, toKid}
+use Rattle.leafward.specs.Way.{NewRow, closest_kid, to_kid}
 use Rattle.limits.specs.Limits.{max_columns}
 use Rattle.measure.proofs.Rows.{row_ends}
 use Rattle.measure.specs.Table.{between}
@@ -80,7 +80,7 @@ pub record Choosing (t : List ℕ) (c : ℕ) (w : List ℕ) (k z child m o at le
   pub all : m ≡ m# w
   pub set : o ≡ circles# w
   pub upto : j ≤ m
-  pub low : Least (toKid (between t c (circles# w)) w z k) j at least
+  pub low : Least (to_kid (between t c (circles# w)) w z k) j at least
 
 module _ {t : List ℕ} {c : ℕ} {w : List ℕ} {z : ℕ} (L : NewRow t c w z) where
   -- two rows can be measured, one of the index and the new one
@@ -104,12 +104,12 @@ module _ {t : List ℕ} {c : ℕ} {w : List ℕ} {z : ℕ} (L : NewRow t c w z) 
         all = em;
         set = eo;
         upto = omega (arith, K.1);
-        low = least_start (toKid (between t c (circles# w)) w z k) (ex ∙ ap₂ (λ (o i : ℕ). between t c o i z) eo (ef ∙ ap (first# w) at));
+        low = least_start (to_kid (between t c (circles# w)) w z k) (ex ∙ ap₂ (λ (o i : ℕ). between t c o i z) eo (ef ∙ ap (first# w) at));
       }
 
 module _ {t : List ℕ} {c : ℕ} {w : List ℕ} {k z child m o at least j : ℕ} (C : Choosing t c w k z child m o at least j) where
   -- how far the next child's centre is
-  next-is : {f x : ℕ} → f ≡ first# w (child + j) → x ≡ between t c o f z → x ≡ toKid (between t c (circles# w)) w z k j
+  next-is : {f x : ℕ} → f ≡ first# w (child + j) → x ≡ between t c o f z → x ≡ to_kid (between t c (circles# w)) w z k j
   next-is ef ex = ex ∙ ap₂ (λ (o i : ℕ). between t c o i z) C.set (ef ∙ ap (λ (i : ℕ). first# w (i + j)) C.first)
 
   -- it is not closer
@@ -122,7 +122,7 @@ module _ {t : List ℕ} {c : ℕ} {w : List ℕ} {k z child m o at least j : ℕ
     all = C.all;
     set = C.set;
     upto = omega arith;
-    low = least_stays (toKid (between t c (circles# w)) w z k) C.low (next-is ef ex) q;
+    low = least_stays (to_kid (between t c (circles# w)) w z k) C.low (next-is ef ex) q;
   }
 
   -- it is
@@ -135,13 +135,13 @@ module _ {t : List ℕ} {c : ℕ} {w : List ℕ} {k z child m o at least j : ℕ
     all = C.all;
     set = C.set;
     upto = omega arith;
-    low = least_moves (toKid (between t c (circles# w)) w z k) C.low (next-is ef ex) q;
+    low = least_moves (to_kid (between t c (circles# w)) w z k) C.low (next-is ef ex) q;
   }
 
   -- all children are seen
-  pub choosing_done : m ≤ j → (at ≡ closestKid (between t c (circles# w)) w z k) × (at < m# w)
-  unfolding closestKid
+  pub choosing_done : m ≤ j → (at ≡ closest_kid (between t c (circles# w)) w z k) × (at < m# w)
+  unfolding closest_kid
   choosing_done h =
       let e : j ≡ m# w = omega (arith, C.upto, C.all) in
-      let f : ℕ → ℕ = toKid (between t c (circles# w)) w z k in
+      let f : ℕ → ℕ = to_kid (between t c (circles# w)) w z k in
       (least-done f C.low ∙ ap (λ (i : ℕ). lowest_at (map f (range 0 i))) e, omega (arith, C.low.inside))

@@ -1,6 +1,6 @@
 -- The walk from the root down to the leaf that a row joins. Assumes nothing.
 use Prim.Native.Nat.{◌+◌, ◌-◌, ◌<◌, ◌≤◌, suc, zero, ℕ}
-use Rattle.leafward.specs.Way.{LeafFound, NewRow, closestKid, left_at, wayTo}
+use Rattle.leafward.specs.Way.{LeafFound, NewRow, closest_kid, left_at, way_to}
 use Rattle.limits.specs.Limits.{max_depth}
 use Rattle.measure.specs.Table.{between}
 use Rattle.words.proofs.InShape.{left_root}
@@ -17,15 +17,15 @@ use native.Mathlib.Omega.{arith}
 -- ---- one step of the way
 module _ (d : ℕ → ℕ → ℕ) (w : List ℕ) (z : ℕ) where
   -- the way ends at a leaf
-  pub way_end : (left k : ℕ) → inner w k ≡ false → (wayTo d w z left k ≡ k) × (left_at d w z left k ≡ left)
-  unfolding wayTo left_at
+  pub way_end : (left k : ℕ) → inner w k ≡ false → (way_to d w z left k ≡ k) × (left_at d w z left k ≡ left)
+  unfolding way_to left_at
   way_end zero k e = (refl, refl)
   way_end (suc left) k e = (rw e refl, rw e refl)
 
   -- and goes on from an inner node to its closest child
-  pub way_step : (left k : ℕ) → inner w k ≡ true → (wayTo d w z (suc left) k ≡ wayTo d w z left (child# w k + closestKid d w z k))
-      × (left_at d w z (suc left) k ≡ left_at d w z left (child# w k + closestKid d w z k))
-  unfolding wayTo left_at
+  pub way_step : (left k : ℕ) → inner w k ≡ true → (way_to d w z (suc left) k ≡ way_to d w z left (child# w k + closest_kid d w z k))
+      × (left_at d w z (suc left) k ≡ left_at d w z left (child# w k + closest_kid d w z k))
+  unfolding way_to left_at
   way_step left k e = (rw e refl, rw e refl)
 
 -- ---- the walk
@@ -35,7 +35,7 @@ pub record Walking (t : List ℕ) (c : ℕ) (w : List ℕ) (z node left child : 
   pub there : node < nodes# w
   pub first : child ≡ child# w node
   pub below : Left w left node
-  pub way : wayTo (between t c (circles# w)) w z max_depth 0 ≡ wayTo (between t c (circles# w)) w z left node
+  pub way : way_to (between t c (circles# w)) w z max_depth 0 ≡ way_to (between t c (circles# w)) w z left node
   pub levels : left_at (between t c (circles# w)) w z max_depth 0 ≡ left_at (between t c (circles# w)) w z left node
 
 -- at the root
@@ -61,7 +61,7 @@ module _ {t : List ℕ} {c : ℕ} {w : List ℕ} {z node left child : ℕ} (W : 
   walking-later h q = (omega (arith, (kids h).inside, W.first), omega (arith, (kids h).later, W.first))
 
   -- one step down
-  pub walking-step : {r next : ℕ} → (child ≡ 0 → ⊥) → (r ≡ closestKid (between t c (circles# w)) w z node) × (r < m# w) → next ≡ child# w (child + r)
+  pub walking-step : {r next : ℕ} → (child ≡ 0 → ⊥) → (r ≡ closest_kid (between t c (circles# w)) w z node) × (r < m# w) → next ≡ child# w (child + r)
       → Walking t c w z (child + r) (left - 1) next
   walking-step {r} {next} h q e =
       go left refl
@@ -69,7 +69,7 @@ module _ {t : List ℕ} {c : ℕ} {w : List ℕ} {z node left child : ℕ} (W : 
       d : ℕ → ℕ → ℕ
       d = between t c (circles# w)
 
-      here : child + r ≡ child# w node + closestKid d w z node
+      here : child + r ≡ child# w node + closest_kid d w z node
       here = ap₂ ◌+◌ W.first q.0
 
       go : (l : ℕ) → left ≡ l → Walking t c w z (child + r) (left - 1) next
@@ -82,7 +82,7 @@ module _ {t : List ℕ} {c : ℕ} {w : List ℕ} {z node left child : ℕ} (W : 
             there = (walking-later h q.1).0;
             first = e;
             below = subst (λ (i : ℕ). Left w (left - 1) (i + r)) (sym W.first) ((kids h).down left r W.below);
-            way = W.way ∙ ap (λ (i : ℕ). wayTo d w z i node) p ∙ s.0 ∙ ap₂ (wayTo d w z) m (sym here);
+            way = W.way ∙ ap (λ (i : ℕ). way_to d w z i node) p ∙ s.0 ∙ ap₂ (way_to d w z) m (sym here);
             levels = W.levels ∙ ap (λ (i : ℕ). left_at d w z i node) p ∙ s.1 ∙ ap₂ (left_at d w z) m (sym here);
           }
 

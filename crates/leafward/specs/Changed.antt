@@ -19,8 +19,8 @@ pub record NewReach (d : ℕ → ℕ → ℕ) (w : List ℕ) (z v : ℕ) (R : �
 
 module _ (w : List ℕ) (R : ℕ → Reach) (v : ℕ) (anew : ℕ → Grove → Grove) where
   -- node k with at most `deep` levels below it, before the nodes g: each node reaches as R says, and node v is `anew`
-  unfoldable pub changedAt : ℕ → ℕ → Grove → Grove
-  changedAt zero k g = cond (eqb k v) (anew zero g) (leaf (R k) (members# w k) g)
-  changedAt (suc deep) k g =
-      let branch : Grove = fork (R k) (foldr (changedAt deep) bare (range (child# w k) (m# w))) g in
+  unfoldable pub changed_at : ℕ → ℕ → Grove → Grove
+  changed_at zero k g = cond (eqb k v) (anew zero g) (leaf (R k) (members# w k) g)
+  changed_at (suc deep) k g =
+      let branch : Grove = fork (R k) (foldr (changed_at deep) bare (range (child# w k) (m# w))) g in
       cond (eqb k v) (anew (suc deep) g) (cond (inner w k) branch (leaf (R k) (members# w k) g))

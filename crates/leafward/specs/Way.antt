@@ -17,26 +17,26 @@ pub record NewRow (t : List ℕ) (c : ℕ) (w : List ℕ) (z : ℕ) : Type 0 whe
 
 module _ (d : ℕ → ℕ → ℕ) (w : List ℕ) (z : ℕ) where
   -- how far the centre of node k's child j is from row z
-  abbrev pub toKid : ℕ → ℕ → ℕ
-  toKid k j = d (first# w (child# w k + j)) z
+  abbrev pub to_kid : ℕ → ℕ → ℕ
+  to_kid k j = d (first# w (child# w k + j)) z
 
   -- which child of node k has the centre closest to row z, ties to the earliest
-  unfoldable pub closestKid : ℕ → ℕ
-  closestKid k = lowest_at (map (toKid k) (range 0 (m# w)))
+  unfoldable pub closest_kid : ℕ → ℕ
+  closest_kid k = lowest_at (map (to_kid k) (range 0 (m# w)))
 
   -- the leaf that row z joins, from node k on, which has at most `deep` levels below it
-  unfoldable pub wayTo : ℕ → ℕ → ℕ
-  wayTo zero k = k
-  wayTo (suc deep) k = let below : ℕ = wayTo deep (child# w k + closestKid k) in cond (inner w k) below k
+  unfoldable pub way_to : ℕ → ℕ → ℕ
+  way_to zero k = k
+  way_to (suc deep) k = let below : ℕ = way_to deep (child# w k + closest_kid k) in cond (inner w k) below k
 
   -- how many levels can be below that leaf
   unfoldable pub left_at : ℕ → ℕ → ℕ
   left_at zero k = zero
-  left_at (suc deep) k = let below : ℕ = left_at deep (child# w k + closestKid k) in cond (inner w k) below (suc deep)
+  left_at (suc deep) k = let below : ℕ = left_at deep (child# w k + closest_kid k) in cond (inner w k) below (suc deep)
 
   -- the leaf, and the levels that can be below it
   pub record LeafFound (v left : ℕ) : Type 0 where
-    pub node : v ≡ wayTo max_depth 0
+    pub node : v ≡ way_to max_depth 0
     pub levels : left ≡ left_at max_depth 0
     pub there : v < nodes# w
     pub leaf : inner w v ≡ false

@@ -2,7 +2,7 @@
 #![tactic(auto)]
 
 ghost use Rattle.std.specs.Prelude.{◌<◌, ◌≤◌, true, ◌≡◌};
-ghost use Rattle.leafward.specs.Way.{LeafFound, NewRow, closestKid};
+ghost use Rattle.leafward.specs.Way.{LeafFound, NewRow, closest_kid};
 ghost use Rattle.measure.specs.Table.{between};
 ghost use Rattle.words.specs.Shape.{inner};
 ghost use Rattle.words.specs.Words.{nodes#, circles#, m#};
@@ -22,7 +22,7 @@ pub struct Leaf {
 pub fn closest_child(table: &[u16], c: usize, index: &[u32], k: usize, z: usize) -> usize
     requires new_row { NewRow table.now c index.now z }
     requires k_bound { (k < nodes# index.now) × (inner index.now k ≡ true) }
-    ensures { (result ≡ closestKid (between table.now c (circles# index.now)) index.now z k)
+    ensures { (result ≡ closest_kid (between table.now c (circles# index.now)) index.now z k)
         × (result < m# index.now) }
 {
     let child = node_child(index, k);

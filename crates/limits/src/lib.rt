@@ -7,7 +7,7 @@ ghost use Rattle.limits.specs.Limits.{circles_ok_lem, columns_ok_lem, edition_ok
 ghost use Rattle.limits.specs.Said.{number_faults, said};
 
 // What an index is built with: the centres of an inner node, the rows that a leaf may have, and the columns that are circles, a bit for each.
-#[derive(Drop)]
+#[derive(Clone, Copy)]
 pub struct Params {
     pub centres: usize,
     pub leaf: usize,
@@ -15,7 +15,7 @@ pub struct Params {
 }
 
 // What the constructor answers.
-#[derive(Drop)]
+#[derive(Clone, Copy)]
 pub enum Chosen {
     Taken(Params),
     Refused,
@@ -108,7 +108,7 @@ pub fn edition_ok(edition: usize) -> bool
 // ---- the refusals that numbers decide
 
 // What numbers decide of a call: its table's length and columns, and for each other part whether it is met. A part that a call has not is never met.
-#[derive(Drop)]
+#[derive(Clone, Copy)]
 pub struct Asked {
     pub length: usize,
     pub columns: usize,

@@ -6,7 +6,7 @@ ghost use Rattle.asking.specs.Pieces.{place_from};
 ghost use Rattle.line_fields.specs.Fields.{between, span_of, stopping};
 
 // Where a field stands; both are 0 where there is none.
-#[derive(Drop)]
+#[derive(Clone, Copy)]
 pub struct Span {
     pub start: usize,
     pub end: usize,

@@ -9,7 +9,7 @@ use shape_test::shape_ok;
 use words::places::{node_count, node_start, nodes, pair_at};
 
 // Where among the index words a node's pairs stand: the first word's place, and how many words.
-#[derive(Drop)]
+#[derive(Clone, Copy)]
 pub struct Part {
     pub start: usize,
     pub length: usize,

@@ -18,7 +18,7 @@ use Rattle.rounds.proofs.Parts.{mid_end, put_end}
 use Rattle.rounds.specs.Entries.{pairs_in}
 use Rattle.split.proofs.Laid.{laid-long, under, under_rows}
 use Rattle.split.specs.Runs.{laid, rows}
-use Rattle.swelling.specs.Pieces.{Piece, grown, leafPiece, settled}
+use Rattle.swelling.specs.Pieces.{Piece, grown, leaf_piece, settled}
 use Rattle.swelling.specs.Swell.{reach_taking}
 use Rattle.tree.specs.Encode.{pair_words}
 use Rattle.tree.specs.Grove.{Reach, members#, reach#}
@@ -97,18 +97,18 @@ module _ {t : List ℕ} {c : ℕ} {w : List ℕ} {o : ℕ} {part₀ : List ℕ} 
         let size : length (members# w o) ≡ length part₀ / 3 =
         length-map (run# w o) (λ p. (row# w p, dist# w p)) ∙ range_length (start# w o) (count# w o) ∙ sym same in
         record {
-          stands = λ s. subst (λ (l : List ℕ). Stands t c w last (leafPiece d w s o l) part') (sym none) (
+          stands = λ s. subst (λ (l : List ℕ). Stands t c w last (leaf_piece d w s o l) part') (sym none) (
             ap length e ∙ kept-size w (run# w o) ∙ sym (ap (λ (i : ℕ). 3 * i) (length-map (run# w o) (λ p. (row# w p, dist# w p)))),
             ap pairs_in e ∙ pairs-kept w (run# w o),
           );
-          marked = λ s. subst (λ (l : List ℕ). cond b 0 4294967295 ≡ mark_of t c w last (leafPiece d w s o l)) (sym none)
+          marked = λ s. subst (λ (l : List ℕ). cond b 0 4294967295 ≡ mark_of t c w last (leaf_piece d w s o l)) (sym none)
               (ap (λ (x : Bool). cond x 0 4294967295) (sym eb ∙ ap₂ (λ (i j : ℕ). last || leb i j) (sym size) ek));
         }
 
   -- ---- it takes some
   -- its piece by whether a row stands twice
   piece_is : (s : ℕ) → (length part₀ / 3 ≡ count# w o → ⊥)
-      → leafPiece d w s o zs
+      → leaf_piece d w s o zs
       ≡ cond (twice all) (settled s (reach_taking (length (members# w o)) (reach# w o) (map (d (head all)) zs)) (map {B = ℕ × ℕ} (λ i. (
         i,
         d
@@ -118,7 +118,7 @@ module _ {t : List ℕ} {c : ℕ} {w : List ℕ} {o : ℕ} {part₀ : List ℕ} 
   piece_is s some = go zs refl
     where
       go : (ys : List ℕ) → zs ≡ ys
-          → leafPiece d w s o ys
+          → leaf_piece d w s o ys
           ≡ cond (twice (own ++ ys)) (settled s (reach_taking (length (members# w o)) (reach# w o) (map (d (head (own ++ ys))) ys)) (map {B = ℕ × ℕ}
           (λ i. (i, d (head (own ++ ys)) i)) (own ++ ys)))
           (grown s (reach_taking (length (members# w o)) (reach# w o) (map (d (head (own ++ ys))) ys)) (own ++ ys))

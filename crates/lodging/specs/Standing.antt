@@ -7,7 +7,7 @@ use Rattle.limits.specs.Limits.{max_rows}
 use Rattle.measure.specs.Table.{between}
 use Rattle.rounds.specs.Entries.{InTable, pairs_in}
 use Rattle.split.specs.Runs.{laid, rows}
-use Rattle.swelling.specs.Pieces.{Piece, grown, leafPiece, old, settled}
+use Rattle.swelling.specs.Pieces.{Piece, grown, leaf_piece, old, settled}
 use Rattle.tree.specs.Encode.{pair_words}
 use Rattle.words.specs.InShape.{InShape}
 use Rattle.words.specs.Words.{nodes#, at, c#, circles#, count#, dist#, l#, n#, row#, run#, start#}
@@ -63,5 +63,5 @@ module _ (t : List ℕ) (c : ℕ) (w : List ℕ) (last : Bool) where
 
 -- WHAT A LEAF IS LAID AS: its piece, wherever it starts
 pub record Lodges (t : List ℕ) (c : ℕ) (w : List ℕ) (o : ℕ) (last : Bool) (part part' : List ℕ) (mark : ℕ) : Type 0 where
-  pub stands : (s : ℕ) → Stands t c w last (leafPiece (between t c (circles# w)) w s o (new_rows w o part)) part'
-  pub marked : (s : ℕ) → mark ≡ mark_of t c w last (leafPiece (between t c (circles# w)) w s o (new_rows w o part))
+  pub stands : (s : ℕ) → Stands t c w last (leaf_piece (between t c (circles# w)) w s o (new_rows w o part)) part'
+  pub marked : (s : ℕ) → mark ≡ mark_of t c w last (leaf_piece (between t c (circles# w)) w s o (new_rows w o part))

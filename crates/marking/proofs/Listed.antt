@@ -9,7 +9,7 @@ use Rattle.marking.specs.Listed.{Leaves, entered, listed, room_for, span, told, 
 use Rattle.marking.specs.Written.{byte, mark, marked, write}
 use Rattle.measure.specs.Distance.{capped}
 use Rattle.tree.proofs.Veiled.{veiled-append}
-use Rattle.tree.specs.Radius.{byDistance, shown, veiled}
+use Rattle.tree.specs.Radius.{by_distance, shown, veiled}
 use borrow.Author.Tests.{le-leb, le-ltb, leb-false, leb-true, lt-leb, lt-ltb, ne_eqb}
 use lib.Dec.{eqb, leb, ltb}
 use lib.ListN.{get_or, length, length-set, set}
@@ -163,7 +163,7 @@ module _ (gone : ℕ → Bool) (x : ℕ → ℕ) (i : ℕ) {h l : List ℕ} wher
 -- ---- a measured row, of which measuring gave the number d
 module _ (gone : ℕ → Bool) (x : ℕ → ℕ) (r i : ℕ) {d : ℕ} {h h₁ l l₁ : List ℕ} where
   -- it is its distance
-  pub leaves-full : d ≡ x i → Leaves gone (λ (j : ℕ). d) ((i, cond (leb d r) 3 1) ∷ []) h h₁ l l₁ → Leaves gone x ((i, byDistance x r i) ∷ []) h h₁ l l₁
+  pub leaves-full : d ≡ x i → Leaves gone (λ (j : ℕ). d) ((i, cond (leb d r) 3 1) ∷ []) h h₁ l l₁ → Leaves gone x ((i, by_distance x r i) ∷ []) h h₁ l l₁
   unfolding told listed
   leaves-full e a =
       record {
@@ -173,7 +173,7 @@ module _ (gone : ℕ → Bool) (x : ℕ → ℕ) (r i : ℕ) {d : ℕ} {h h₁ l
 
   -- it is that under the ceiling r
   pub leaves_to : d ≡ capped r (x i) → x i ≤ max_distance → Leaves gone (λ (j : ℕ). d) ((i, cond (leb d r) 3 1) ∷ []) h h₁ l l₁
-      → Leaves gone x ((i, byDistance x r i) ∷ []) h h₁ l l₁
+      → Leaves gone x ((i, by_distance x r i) ∷ []) h h₁ l l₁
   unfolding told listed
   leaves_to e m a = go (leb (x i) r) refl
     where
@@ -185,7 +185,7 @@ module _ (gone : ℕ → Bool) (x : ℕ → ℕ) (r i : ℕ) {d : ℕ} {h h₁ l
           no true = refl
           no false = refl
 
-      go : (b : Bool) → leb (x i) r ≡ b → Leaves gone x ((i, byDistance x r i) ∷ []) h h₁ l l₁
+      go : (b : Bool) → leb (x i) r ≡ b → Leaves gone x ((i, by_distance x r i) ∷ []) h h₁ l l₁
       go true q = leaves-full (omega (arith, leb-true (x i) r q)) a
       go false q =
           let far : leb d r ≡ false = lt-leb d r (omega (arith, leb-false (x i) r q)) in

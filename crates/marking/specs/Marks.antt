@@ -3,7 +3,7 @@
 use Rattle.std.specs.Prelude.{◌+◌, ◌<◌, ◌≤◌, ℕ, get_or, List, [], ◌∷◌, map, ◌≡◌}
 use Rattle.laws.specs.Lists.{least, range}
 use Rattle.limits.specs.Limits.{max_distance}
-use Rattle.tree.specs.Radius.{byDistance}
+use Rattle.tree.specs.Radius.{by_distance}
 use Rattle.words.specs.Words.{first#, m#, row#}
 
 -- a position of a swept node
@@ -16,8 +16,8 @@ module _ (x : ℕ → ℕ) (w : List ℕ) where
   first_at k = x (first# w k)
 
   -- the least distance over the m centres whose nodes are ch, ch + 1, ..
-  abbrev pub leastFrom : ℕ → ℕ
-  leastFrom ch = least (first_at ch) (map first_at (range ch (m# w)))
+  abbrev pub least_from : ℕ → ℕ
+  least_from ch = least (first_at ch) (map first_at (range ch (m# w)))
 
   -- ds holds the distances of these centres
   pub record Distances (ch : ℕ) (ds : List ℕ) : Type 0 where
@@ -26,5 +26,5 @@ module _ (x : ℕ → ℕ) (w : List ℕ) where
 
 module _ (x : ℕ → ℕ) (r : ℕ) (w : List ℕ) where
   -- the centre that is node k's first
-  abbrev pub centreAt : ℕ → List (ℕ × ℕ)
-  centreAt k = (first# w k, byDistance x r (first# w k)) ∷ []
+  abbrev pub centre_at : ℕ → List (ℕ × ℕ)
+  centre_at k = (first# w k, by_distance x r (first# w k)) ∷ []

@@ -8,7 +8,7 @@ use Rattle.laws.specs.Lists.{head, keep, range, rest, without}
 use Rattle.limits.specs.Limits.{max_depth}
 use Rattle.tree.proofs.Centres.{chosen, group_of, left, split-is}
 use Rattle.meaning.specs.Ascending.{Ascending, InOrder}
-use Rattle.tree.specs.Build.{choose, closest, farthest, grow, leafOf, plant, reach, split}
+use Rattle.tree.specs.Build.{choose, closest, farthest, grow, leaf_of, plant, reach, split}
 use Rattle.tree.specs.Grove.{Grove, bare, fork}
 use lib.Dec.{eqb, leb}
 use lib.ListN.{length}
@@ -68,7 +68,7 @@ module _ (d : ℕ → ℕ → ℕ) where
       (chosen d m run)))
 
   -- a leaf's rows are its run's
-  leaf-ordered : (run : List ℕ) (g : Grove) → Ascending (rest run) → InOrder g → InOrder (leafOf d run g)
+  leaf-ordered : (run : List ℕ) (g : Grove) → Ascending (rest run) → InOrder g → InOrder (leaf_of d run g)
   leaf-ordered run g h k = (subst (λ is. Ascending (rest is)) (sym (paired (λ i. i) (d (head run)) run ∙ map_id run)) h, k)
 
   -- so it is in each leaf that grows of such a run
@@ -83,7 +83,7 @@ module _ (d : ℕ → ℕ → ℕ) where
       forest ih (q ∷ gs) u = ih q (foldr (grow d m l deep) bare gs) u.0 (forest ih gs u.1)
 
       go : ((run : List ℕ) (g : Grove) → Ascending (rest run) → InOrder g → InOrder (grow d m l deep run g)) → (b : Bool)
-          → InOrder (cond b (leafOf d run g) (fork (reach d run) (foldr (grow d m l deep) bare (split d m run)) g))
+          → InOrder (cond b (leaf_of d run g) (fork (reach d run) (foldr (grow d m l deep) bare (split d m run)) g))
       go ih true = leaf-ordered run g h k
       go ih false = (forest ih (split d m run) (split-ascends m run h), k)
 

@@ -6,7 +6,7 @@ use Rattle.laws.specs.Every.{Every}
 use Rattle.laws.specs.Lists.{any, each, greatest, has, keep, range}
 use Rattle.limits.specs.Said.{Said}
 use Rattle.tree.proofs.Alike.{Alike, distances-same, first-same, inner-same, nearest-same, run-same}
-use Rattle.tree.specs.Check.{again, faults, in_run, kids, strays, wrongDist, wrongInner, wrongRadius, wrongReach}
+use Rattle.tree.specs.Check.{again, faults, in_run, kids, strays, wrong_dist, wrong_inner, wrong_radius, wrong_reach_lem}
 use Rattle.words.specs.InShape.{InShape}
 use Rattle.words.specs.Shape.{inner}
 use Rattle.words.specs.Words.{nodes#, child#, count#, dist#, edition#, first#, inner#, m#, n#, row#, run#, start#}
@@ -52,8 +52,8 @@ module _ {w v : List ℕ} (A : Alike w v) (S : InShape w) (d : ℕ → ℕ → �
   in-run-same p k h = ap₂ (λ (s c : ℕ). leb s p && ltb p (s + c)) (A.start k h) (A.count k h)
 
   -- a stored distance that is wrong is wrong in both
-  dist_same : (p : ℕ) → p < n# w → wrongDist d v p ≡ wrongDist d w p
-  unfolding wrongDist
+  dist_same : (p : ℕ) → p < n# w → wrong_dist d v p ≡ wrong_dist d w p
+  unfolding wrong_dist
   dist_same p q =
       let f : List ℕ → ℕ → Bool = λ u k. not (inner u k) && in_run u p k && not (eqb (dist# u p) (d (first# u k) (row# u p))) in
       ap (λ (N : ℕ). any (f v) (range 0 N)) A.nodes
@@ -63,13 +63,13 @@ module _ {w v : List ℕ} (A : Alike w v) (S : InShape w) (d : ℕ → ℕ → �
 
   -- ---- 12
   -- so is a radius
-  radius-same : (k : ℕ) → k < nodes# w → wrongRadius d v k ≡ wrongRadius d w k
-  unfolding wrongRadius
+  radius-same : (k : ℕ) → k < nodes# w → wrong_radius d v k ≡ wrong_radius d w k
+  unfolding wrong_radius
   radius-same k h = ap₂ (λ (a b : ℕ). not (eqb a b)) (A.radius k h) (ap greatest (distances-same A S d k h))
 
   -- and a reach, outer or inner
-  reach-same : (k : ℕ) → k < nodes# w → wrongReach d v k ≡ wrongReach d w k
-  unfolding wrongInner
+  reach-same : (k : ℕ) → k < nodes# w → wrong_reach_lem d v k ≡ wrong_reach_lem d w k
+  unfolding wrong_inner
   reach-same k h =
       ap₂ (λ (a b : Bool). a || b) (radius-same k h)
       (ap₂ (λ (e : ℕ) (b : Bool). eqb e 2 && not b) edition (ap₂ (λ (a b : ℕ). eqb a b) (inners k h) (nearest-same A S d k h)))
@@ -109,12 +109,12 @@ module _ {w v : List ℕ} (A : Alike w v) (S : InShape w) (d : ℕ → ℕ → �
       let a : keep (again v) (range 0 (n# v)) ≡ keep (again w) (range 0 (n# w)) =
       ap (λ (n : ℕ). keep (again v) (range 0 n)) A.rows
       ∙ keep_same (again v) (again w) (range 0 (n# w)) (at_every (λ p. again v p ≡ again w p) (n# w) again-same) in
-      let b : keep (wrongDist d v) (range 0 (n# v)) ≡ keep (wrongDist d w) (range 0 (n# w)) =
-      ap (λ (n : ℕ). keep (wrongDist d v) (range 0 n)) A.rows
-      ∙ keep_same (wrongDist d v) (wrongDist d w) (range 0 (n# w)) (at_every (λ p. wrongDist d v p ≡ wrongDist d w p) (n# w) dist_same) in
-      let c : keep (wrongReach d v) (range 0 (nodes# v)) ≡ keep (wrongReach d w) (range 0 (nodes# w)) =
-      ap (λ (n : ℕ). keep (wrongReach d v) (range 0 n)) A.nodes
-      ∙ keep_same (wrongReach d v) (wrongReach d w) (range 0 (nodes# w)) (at_every (λ k. wrongReach d v k ≡ wrongReach d w k) (nodes# w) reach-same) in
+      let b : keep (wrong_dist d v) (range 0 (n# v)) ≡ keep (wrong_dist d w) (range 0 (n# w)) =
+      ap (λ (n : ℕ). keep (wrong_dist d v) (range 0 n)) A.rows
+      ∙ keep_same (wrong_dist d v) (wrong_dist d w) (range 0 (n# w)) (at_every (λ p. wrong_dist d v p ≡ wrong_dist d w p) (n# w) dist_same) in
+      let c : keep (wrong_reach_lem d v) (range 0 (nodes# v)) ≡ keep (wrong_reach_lem d w) (range 0 (nodes# w)) =
+      ap (λ (n : ℕ). keep (wrong_reach_lem d v) (range 0 n)) A.nodes
+      ∙ keep_same (wrong_reach_lem d v) (wrong_reach_lem d w) (range 0 (nodes# w)) (at_every (λ k. wrong_reach_lem d v k ≡ wrong_reach_lem d w k) (nodes# w) reach-same) in
       let e : each (F v) (range 0 (nodes# v)) ≡ each (F w) (range 0 (nodes# w)) =
       ap (λ (n : ℕ). each (F v) (range 0 n)) A.nodes
       ∙ each_same (F v) (F w) (range 0 (nodes# w)) (at_every (λ k. F v k ≡ F w k) (nodes# w)
@@ -123,5 +123,5 @@ module _ {w v : List ℕ} (A : Alike w v) (S : InShape w) (d : ℕ → ℕ → �
       (λ i q. stray-same k (start# w k + i) h (omega (arith, (S.node k h).run))))))) in
       let G : List ℕ → List ℕ → List ℕ → List Said → List Said =
       λ x y z r. map (λ p. (10, p, 0)) x ++ map (λ p. (11, p, 0)) y ++ map (λ k. (12, k, 0)) z ++ r in
-      ap₂ (λ (x y : List ℕ). G x y (keep (wrongReach d v) (range 0 (nodes# v))) (each (F v) (range 0 (nodes# v)))) a b
-      ∙ ap₂ (λ (z : List ℕ) (r : List Said). G (keep (again w) (range 0 (n# w))) (keep (wrongDist d w) (range 0 (n# w))) z r) c e
+      ap₂ (λ (x y : List ℕ). G x y (keep (wrong_reach_lem d v) (range 0 (nodes# v))) (each (F v) (range 0 (nodes# v)))) a b
+      ∙ ap₂ (λ (z : List ℕ) (r : List Said). G (keep (again w) (range 0 (n# w))) (keep (wrong_dist d w) (range 0 (n# w))) z r) c e

@@ -19,8 +19,8 @@ use Rattle.tree.specs.Cases.{five, five_words}
 use Rattle.tree.specs.Check.{Accepted}
 use Rattle.tree.specs.Encode.{broods, encode, family, level_nodes, nodes, numbered}
 use Rattle.tree.specs.Grove.{tree_at, tree_of}
-use Rattle.tree.specs.Homes.{homes, homesIn}
-use Rattle.tree.specs.Nearest.{answers, measured, nearHow, passes, remaining}
+use Rattle.tree.specs.Homes.{homes, homes_in}
+use Rattle.tree.specs.Nearest.{answers, measured, near_how, passes, remaining}
 use Rattle.words.specs.Index.{fit_faults}
 use Rattle.words.specs.Shape.{born, level, node_ok_lem, shape_ok_lem, tile}
 use Rattle.words.specs.Words.{card_ok_lem, header_ok_lem, whole_ok, words_ok_lem}
@@ -52,12 +52,12 @@ pub record Right (k : Case) : Type 0 where
   pub right : set_bad_lem k.withdrawn 5 ≡ false
   pub count : min k.wanted (remaining (is_in_lem k.withdrawn) 5) ≡ length k.answers
   pub first : answers (x k.query) (is_in_lem k.withdrawn) 5 k.wanted ≡ k.answers
-  pub near : nearHow (x k.query) (is_in_lem k.withdrawn) 5 (tree_of five_words) k.wanted ≡ k.bytes
+  pub near : near_how (x k.query) (is_in_lem k.withdrawn) 5 (tree_of five_words) k.wanted ≡ k.bytes
   pub met : measured k.bytes ≡ k.met
 
 -- it does so in every case, by computation
 right_all : Every Right asked
-unfolding sum_to l1 from bit_of set_bad_lem answers tree_at tree_of homesIn homes passes nearHow
+unfolding sum_to l1 from bit_of set_bad_lem answers tree_at tree_of homes_in homes passes near_how
 right_all = (
   record { some = λ e. omega arith; right = refl; count = refl; first = refl; near = refl; met = refl },
   (
@@ -74,7 +74,7 @@ right_all = (
 
 -- and so where rows are withdrawn
 right-struck : Every Right struck_out
-unfolding sum_to l1 from bit_of set_bad_lem answers tree_at tree_of homesIn homes passes nearHow
+unfolding sum_to l1 from bit_of set_bad_lem answers tree_at tree_of homes_in homes passes near_how
 right-struck = (
   record { some = λ e. omega arith; right = refl; count = refl; first = refl; near = refl; met = refl },
   (

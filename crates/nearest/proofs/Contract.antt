@@ -21,7 +21,7 @@ use Rattle.tree.proofs.Rows.{rows-tree}
 use Rattle.tree.proofs.Theorems.{home_below, same_row}
 use Rattle.tree.specs.Grove.{Grove, tree_of}
 use Rattle.tree.specs.Homes.{homes}
-use Rattle.tree.specs.Nearest.{answers, candidates, is_measured, nearHow, passes, remaining, sort}
+use Rattle.tree.specs.Nearest.{answers, candidates, is_measured, near_how, passes, remaining, sort}
 use Rattle.words.specs.Words.{circles#, n#, row#}
 use borrow.Author.Tests.{eqb-false, eqb-true, not-false}
 use lib.Dec.{T, eqb}
@@ -80,8 +80,8 @@ module _ (x : ℕ → ℕ) (gone : ℕ → Bool) (n wanted k : ℕ) (ek : k ≡ 
           subst (λ (k : ℕ). passes x gone n k b ≡ true) e p
 
   -- and the how-bytes are the same, where no row is closer than its home bound
-  same-near : (g : Grove) → ((i : ℕ) → i < n → look i (homes x g) ≤ x i) → nearHow x gone n g k ≡ nearHow x gone n g wanted
-  unfolding nearHow
+  same-near : (g : Grove) → ((i : ℕ) → i < n → look i (homes x g) ≤ x i) → near_how x gone n g k ≡ near_how x gone n g wanted
+  unfolding near_how
   same-near g under =
       ap (λ (as' : List (ℕ × ℕ)). map (byte as' k) (range 0 n)) same-answers
       ∙ map_same (byte (answers x gone n wanted) k) (byte (answers x gone n wanted) wanted) (range 0 n)
@@ -115,7 +115,7 @@ module _ (x : ℕ → ℕ) (gone : ℕ → Bool) (n wanted k : ℕ) (ek : k ≡ 
 -- ---- a table that serves is one that fits
 -- the how-byte of a row whose home bound passes is 1 or 3
 pub byte-measured : (x : ℕ → ℕ) (gone : ℕ → Bool) (n : ℕ) (g : Grove) (k i : ℕ) → i < n → passes x gone n k (look i (homes x g)) ≡ true
-    → T (is_measured (get_or (nearHow x gone n g k) i 0))
+    → T (is_measured (get_or (near_how x gone n g k) i 0))
 byte-measured x gone n g k i h p =
     subst (λ (v : ℕ). T (is_measured v)) (sym (near-at x gone n g k i h)) (go (has i (map (λ a. a.0) (answers x gone n k))))
   where

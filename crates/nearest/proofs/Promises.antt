@@ -30,7 +30,7 @@ use Rattle.tree.proofs.Sorted.{sort_every, sort_sorted, sorted_take, under_last}
 use Rattle.tree.proofs.Theorems.{home_below}
 use Rattle.tree.specs.Check.{Accepted}
 use Rattle.tree.specs.Grove.{tree_of}
-use Rattle.tree.specs.Nearest.{answers, candidates, is_measured, last_distance, measured, nearHow, passes, remaining, sort}
+use Rattle.tree.specs.Nearest.{answers, candidates, is_measured, last_distance, measured, near_how, passes, remaining, sort}
 use Rattle.words.specs.Words.{circles#}
 use borrow.Author.Tests.{le-leb, le-ltb, leb-true}
 use lib.Dec.{T, leb}
@@ -140,22 +140,22 @@ module _ {asked : NearestAsked} {room : ℕ} {lent lent' : NearestLent} {number 
         (part_length (λ a. a.1))
 
     -- the first n how-bytes are those of the definition
-    first-bytes : take (rows_in asked) lent'.how ≡ nearHow x (gone asked) (rows_in asked) (tree_of asked.index) asked.wanted
+    first-bytes : take (rows_in asked) lent'.how ≡ near_how x (gone asked) (rows_in asked) (tree_of asked.index) asked.wanted
     first-bytes =
         ap (take (rows_in asked)) Z.bytes
-        ∙ take_at (nearHow x (gone asked) (rows_in asked) (tree_of asked.index) asked.wanted) (drop (rows_in asked) lent.how) (rows_in asked)
+        ∙ take_at (near_how x (gone asked) (rows_in asked) (tree_of asked.index) asked.wanted) (drop (rows_in asked) lent.how) (rows_in asked)
         (near_length x (gone asked) (rows_in asked) (tree_of asked.index) asked.wanted)
 
     -- the count is that of the definition's how-bytes 1 and 3
-    pub count-is : met ≡ measured (nearHow x (gone asked) (rows_in asked) (tree_of asked.index) asked.wanted)
+    pub count-is : met ≡ measured (near_how x (gone asked) (rows_in asked) (tree_of asked.index) asked.wanted)
     count-is = s.counted done ∙ ap measured first-bytes
 
     -- a row's how-byte is that of the definition
     byte_at : (i : ℕ) → i < rows_in asked → get_or lent'.how i 0 ≡ get_or
-        (nearHow x (gone asked) (rows_in asked) (tree_of asked.index) asked.wanted) i 0
+        (near_how x (gone asked) (rows_in asked) (tree_of asked.index) asked.wanted) i 0
     byte_at i h =
         ap (λ (l : List ℕ). get_or l i 0) Z.bytes
-        ∙ get_or-append (nearHow x (gone asked) (rows_in asked) (tree_of asked.index) asked.wanted) (drop (rows_in asked) lent.how) 0 i
+        ∙ get_or-append (near_how x (gone asked) (rows_in asked) (tree_of asked.index) asked.wanted) (drop (rows_in asked) lent.how) 0 i
         (subst (λ (n : ℕ). i < n) (sym (near_length x (gone asked) (rows_in asked) (tree_of asked.index) asked.wanted)) h)
 
 -- ---- a call that is not refused, on any index in shape
@@ -248,7 +248,7 @@ module _ {asked : NearestAsked} {room : ℕ} {lent lent' : NearestLent} {number 
       let e = near_length x (gone asked) (rows_in asked) (tree_of asked.index) asked.wanted in
       let shift : (i : ℕ) → 0 + i ≡ i = λ i. omega arith in
       count-is s done x Z
-      ∙ tally_rows is_measured f (nearHow x (gone asked) (rows_in asked) (tree_of asked.index) asked.wanted) 0
+      ∙ tally_rows is_measured f (near_how x (gone asked) (rows_in asked) (tree_of asked.index) asked.wanted) 0
       (λ i l. let h : i < rows_in asked = subst (λ (n : ℕ). i < n) e l in ap is_measured (sym (byte_at s done x Z i h)) ∙ same i h ∙ ap f (sym (shift i)))
       ∙ ap (λ (n : ℕ). tally f (range 0 n)) e
 

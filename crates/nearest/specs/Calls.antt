@@ -6,7 +6,7 @@ use Rattle.nearest_steps.specs.Asked.{NearestAsked, NearestLent, away, gone, pos
 use Rattle.nearest_refusals.specs.Numbers.{said_nearest}
 use Rattle.tree.specs.Check.{Accepted}
 use Rattle.tree.specs.Grove.{tree_of}
-use Rattle.tree.specs.Nearest.{is_measured, measured, nearHow}
+use Rattle.tree.specs.Nearest.{is_measured, measured, near_how}
 use Rattle.words.specs.Words.{circles#}
 
 -- the table t' stands on the circles of the index and fits it, and the table asked about agrees with it in every row that the search on t' measures
@@ -15,7 +15,7 @@ pub record Serves (a : NearestAsked) (t' : List ℕ) : Type 0 where
   pub round : Rounded t' a.columns (circles# a.index)
   pub accepted : Accepted (between t' a.columns (circles# a.index)) a.index
   pub agree : (i : ℕ) → i < rows_in a
-      → T (is_measured (get_or (nearHow (from t' a.columns (circles# a.index) a.query) (gone a) (rows_in a) (tree_of a.index)
+      → T (is_measured (get_or (near_how (from t' a.columns (circles# a.index) a.query) (gone a) (rows_in a) (tree_of a.index)
       a.wanted) i 0))
       → row a.table a.columns i ≡ row t' a.columns i
 

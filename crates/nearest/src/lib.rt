@@ -9,7 +9,7 @@ use nearest_refusals::{least, nearest_number};
 use nearest_search::find;
 
 // What a call gives: 0 or why it was refused; on success how many answers, and how many rows were measured.
-#[derive(Drop)]
+#[derive(Clone, Copy)]
 pub struct Given {
     pub number: u32,
     pub given: usize,

@@ -8,7 +8,7 @@ use Rattle.nearest_steps.specs.Asked.{NearestAsked, NearestLent, away, gone, row
 use Rattle.rows_listed.proofs.Wiped.{wiped-zero}
 use Rattle.rows_listed.specs.Listed.{Blank, Listed}
 use Rattle.tree.specs.Grove.{tree_of}
-use Rattle.tree.specs.Nearest.{answers, measured, nearHow}
+use Rattle.tree.specs.Nearest.{answers, measured, near_how}
 use lib.ListN.{drop, take}
 use lib.Seq.{take_at}
 use mathlib.Core.List.{List, ◌++◌, map}
@@ -30,7 +30,7 @@ module _ (a : NearestAsked) (b b' c c' : NearestLent) (given met given₁ met₁
 
   -- the how-bytes of the definition
   abbrev near : List ℕ
-  near = nearHow x' (gone a) (rows_in a) (tree_of a.index) a.wanted
+  near = near_how x' (gone a) (rows_in a) (tree_of a.index) a.wanted
 
   -- the rows measured are those of the definition
   count : (l l' : List ℕ) → l' ≡ near ++ drop (rows_in a) l → measured (take (rows_in a) l') ≡ measured near

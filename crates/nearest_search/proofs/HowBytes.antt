@@ -5,7 +5,7 @@ use Rattle.laws.proofs.Ranges.{range_length}
 use Rattle.laws.specs.Lists.{has, look, range}
 use Rattle.tree.specs.Grove.{Grove}
 use Rattle.tree.specs.Homes.{homes}
-use Rattle.tree.specs.Nearest.{answers, nearHow, passes}
+use Rattle.tree.specs.Nearest.{answers, near_how, passes}
 use Rattle.words.specs.Words.{n#}
 use lib.Dec.{ltb}
 use lib.ListN.{drop, get_or, length, length-drop, length-map}
@@ -31,8 +31,8 @@ bit_is (suc zero) h = refl
 bit_is (suc (suc v)) h = absurd (omega arith)
 
 -- there are n how-bytes
-pub near_length : (x : ℕ → ℕ) (gone : ℕ → Bool) (n : ℕ) (g : Grove) (wanted : ℕ) → length (nearHow x gone n g wanted) ≡ n
-unfolding nearHow
+pub near_length : (x : ℕ → ℕ) (gone : ℕ → Bool) (n : ℕ) (g : Grove) (wanted : ℕ) → length (near_how x gone n g wanted) ≡ n
+unfolding near_how
 near_length x gone n g wanted =
     length-map (range 0 n) (λ i. cond (has i (map (λ a. a.0) (answers x gone n wanted))) 3 (cond (passes x gone n wanted (look i (homes x g))) 1 0))
     ∙ range_length 0 n

@@ -6,7 +6,7 @@ use Rattle.laws.specs.Lists.{has}
 use Rattle.nearest_steps.specs.Asked.{NearestAsked, NearestLent, away, gone, positions_left, rows_in}
 use Rattle.rows_listed.specs.Listed.{Listed}
 use Rattle.tree.specs.Grove.{tree_of}
-use Rattle.tree.specs.Nearest.{answers, measured, nearHow, remaining}
+use Rattle.tree.specs.Nearest.{answers, measured, near_how, remaining}
 use Rattle.tree.specs.Tested.{Tested}
 use Rattle.words.specs.Words.{at, n#}
 
@@ -25,7 +25,7 @@ pub record Settled (x : ℕ → ℕ) (gone : ℕ → Bool) (w : List ℕ) (wante
   pub count : given ≡ min wanted (remaining gone (n# w))
   pub rows : b'.rows ≡ map (λ a. a.0) (answers x gone (n# w) wanted) ++ drop given b.rows
   pub distances : b'.distances ≡ map (λ a. a.1) (answers x gone (n# w) wanted) ++ drop given b.distances
-  pub bytes : b'.how ≡ nearHow x gone (n# w) (tree_of w) wanted ++ drop (n# w) b.how
+  pub bytes : b'.how ≡ near_how x gone (n# w) (tree_of w) wanted ++ drop (n# w) b.how
 
 -- the answers on every index in shape, whether or not it fits a table: the lent rows are n, at x, and `left` positions hold one that remains
 pub record SoundAnswers (x : ℕ → ℕ) (gone : ℕ → Bool) (n left wanted : ℕ) (b' : NearestLent) (given : ℕ) : Type 0 where

@@ -12,7 +12,7 @@ use frontier::workspace::{ANSWERS, END, MET};
 use nearest_rounds::search;
 
 // How many answers there are, and how many rows were measured.
-#[derive(Drop)]
+#[derive(Clone, Copy)]
 pub struct Counts {
     pub given: usize,
     pub measured: usize,

@@ -2,7 +2,7 @@
 -- positions but the first. Assumes nothing.
 use Prim.Native.Nat.{◌+◌, ◌-◌, ◌<◌, ◌≤◌, suc, zero, ℕ}
 use Rattle.index_space.proofs.Opening.{InTree, item-split}
-use Rattle.index_space.specs.Items.{IndexItem, left_of, live_of, measuredBy, node, openedBy, place, rootOf, waitsOf}
+use Rattle.index_space.specs.Items.{IndexItem, left_of, live_of, measured_by, node, opened_by, place, root_of, waits_of}
 use Rattle.laws.proofs.Bags.{total_range}
 use Rattle.laws.proofs.Ones.{is-not, is_self}
 use Rattle.laws.proofs.Sums.{sum_add, sum_below-same, sum_below-zero, sum_change, sum_front}
@@ -101,16 +101,16 @@ left_split false v a f xs e = e
 
 -- UNDER A SOUND ITEM IS LEFT WHAT IT MEASURES, AND WHAT IS THEN LEFT UNDER WHAT IT OPENS, of the rows that remain
 pub still-split : (w : List ℕ) → InShape w → (x : ℕ → ℕ) (gone : ℕ → Bool) (work : List ℕ) (i : IndexItem) → amiss w x work i ≡ 0
-    → still w gone i ≡ sum_to (left_of gone (measuredBy w i)) (n# w) + total (still w gone) (openedBy w x i)
+    → still w gone i ≡ sum_to (left_of gone (measured_by w i)) (n# w) + total (still w gone) (opened_by w x i)
 still-split w S x gone work i g =
     omega (
       arith,
-      sum_below-same (left_of gone (waitsOf w i))
-          (λ (r : ℕ). left_of gone (measuredBy w i) r + total (λ (j : IndexItem). left_of gone (waitsOf w j) r) (openedBy w x i)) (n# w)
-          (λ r l. left_split (gone r) (waitsOf w i r) (measuredBy w i r) (λ (j : IndexItem). waitsOf w j r) (openedBy w x i)
+      sum_below-same (left_of gone (waits_of w i))
+          (λ (r : ℕ). left_of gone (measured_by w i) r + total (λ (j : IndexItem). left_of gone (waits_of w j) r) (opened_by w x i)) (n# w)
+          (λ r l. left_split (gone r) (waits_of w i r) (measured_by w i r) (λ (j : IndexItem). waits_of w j r) (opened_by w x i)
           (item-split w x S i r (in_tree w x work i g))),
-      sum_add (left_of gone (measuredBy w i)) (λ (r : ℕ). total (λ (j : IndexItem). left_of gone (waitsOf w j) r) (openedBy w x i)) (n# w),
-      sum_list (λ (j : IndexItem). left_of gone (waitsOf w j)) (n# w) (openedBy w x i),
+      sum_add (left_of gone (measured_by w i)) (λ (r : ℕ). total (λ (j : IndexItem). left_of gone (waits_of w j) r) (opened_by w x i)) (n# w),
+      sum_list (λ (j : IndexItem). left_of gone (waits_of w j)) (n# w) (opened_by w x i),
     )
 
 -- ---- the root, where there are rows
@@ -121,7 +121,7 @@ module _ (w : List ℕ) (S : InShape w) (filled : 1 ≤ n# w) where
 
   -- ITS FIRST, AND WHAT IS LEFT UNDER THE ROOT, ARE ALL POSITIONS THAT HOLD A ROW THAT REMAINS
   pub still-root : (x : ℕ → ℕ) (gone : ℕ → Bool)
-      → live_of gone (first# w 0) + still w gone (rootOf w x) ≡ tally (λ p. not (gone (row# w p))) (range 0 (n# w))
+      → live_of gone (first# w 0) + still w gone (root_of w x) ≡ tally (λ p. not (gone (row# w p))) (range 0 (n# w))
   still-root x gone =
       let R = S.root filled in
       let f : ℕ → ℕ = λ (p : ℕ). live_of gone (row# w (start# w 0 + p)) in

@@ -6,7 +6,7 @@ use Rattle.frontier.specs.Waiting.{FrontierRoom, More, at_most, item_of, items, 
 use Rattle.frontier.specs.Workspace.{kept}
 use Rattle.index_space.proofs.Leasts.{least-same}
 use Rattle.index_space.proofs.Opening.{inner-some, kid_in, kid-some, kids-count}
-use Rattle.index_space.specs.Items.{bound_of, centreAt, childOf, measuredBy, measuresAt, nearestAt, node, openedBy, opens_at, weight}
+use Rattle.index_space.specs.Items.{bound_of, centre_at, child_of, measured_by, measures_at, nearest_at, node, opened_by, opens_at, weight}
 use Rattle.laws.proofs.Ones.{is_self}
 use Rattle.laws.proofs.Sums.{sum_below_le, sum_ones, sum_part}
 use Rattle.laws.specs.Bags.{SameBag, is, upto}
@@ -78,23 +78,23 @@ module _ (t : List ℕ) (c : ℕ) (q w : List ℕ) (wanted : ℕ) (struck : List
       ap (row# w) (ap (start# w) z ∙ ((S.node k there).kids in#).same)
 
   -- it measures its centres but the first
-  measures-are : (r : ℕ) → firsts_to w a (m# w - 1) r ≡ measuredBy w (node k b u) r
+  measures-are : (r : ℕ) → firsts_to w a (m# w - 1) r ≡ measured_by w (node k b u) r
   measures-are r = go (child# w k) some
     where
-      go : (q : ℕ) → 0 < q → firsts_to w q (m# w - 1) r ≡ measuresAt w q r
+      go : (q : ℕ) → 0 < q → firsts_to w q (m# w - 1) r ≡ measures_at w q r
       go zero h = absurd (omega arith)
       go (suc q) h = refl
 
   -- it opens to its children
-  opens-are : upto (childOf w x a b u) (m# w) ≡ openedBy w x (node k b u)
+  opens-are : upto (child_of w x a b u) (m# w) ≡ opened_by w x (node k b u)
   opens-are = go (child# w k) some
     where
-      go : (q : ℕ) → 0 < q → upto (childOf w x q b u) (m# w) ≡ opens_at w x q k b u
+      go : (q : ℕ) → 0 < q → upto (child_of w x q b u) (m# w) ≡ opens_at w x q k b u
       go zero h = absurd (omega arith)
       go (suc q) h = refl
 
   -- the distance of a child's first is that of its row
-  centre-is : (i : ℕ) → centreAt w x a u i ≡ x (first# w (a + i))
+  centre-is : (i : ℕ) → centre_at w x a u i ≡ x (first# w (a + i))
   centre-is zero = ap x (sym same_first)
   centre-is (suc i) = refl
 
@@ -139,20 +139,20 @@ module _ (t : List ℕ) (c : ℕ) (q w : List ℕ) (wanted : ℕ) (struck : List
     -- ---- y is the least distance kept for a centre, and the children's entries are made with it
     module _ (y : ℕ) (ey : y ≡ least_kept w work₁ a (e - (a + 1))) where
       -- the least distance over the node's centres
-      nearest-is : y ≡ nearestAt w x a u
+      nearest-is : y ≡ nearest_at w x a u
       nearest-is =
           ey ∙ ap (least_kept w work₁ a) fewer
-          ∙ least-same (λ (i : ℕ). kept work₁ (n# w) (first# w (a + i))) (centreAt w x a u) (m# w - 1)
+          ∙ least-same (λ (i : ℕ). kept work₁ (n# w) (first# w (a + i))) (centre_at w x a u) (m# w - 1)
           (λ i l. centre-kept i (omega (arith, S.whole.fan.0)) ∙ sym (centre-is i))
 
       -- the item of a child's entry is the child
-      child-read : (i : ℕ) → i < m# w → item_of w x (noded w work₁ b y (a + i)) ≡ childOf w x a b u i
+      child-read : (i : ℕ) → i < m# w → item_of w x (noded w work₁ b y (a + i)) ≡ child_of w x a b u i
       child-read i l =
           let j : ℕ = a + i in
           item-node w x (child_bound_lem b y (kept work₁ (n# w) (first# w j)) (reach# w j)) j (omega (arith, kids_there, S.whole.nodes))
           (id-small t c q w wanted struck how work len held k b T j (omega (arith, kids_there, S.whole.nodes)))
           ∙ ap₂ (λ (v z : ℕ). node j (child_bound_lem b z v (reach# w j)) (x (first# w j))) (centre-kept i l ∙ sym (centre-is i)) nearest-is
-          ∙ ap (λ (v : ℕ). node j (child_bound_lem b (nearestAt w x a u) (centreAt w x a u i) (reach# w j)) v) (sym (centre-is i))
+          ∙ ap (λ (v : ℕ). node j (child_bound_lem b (nearest_at w x a u) (centre_at w x a u i) (reach# w j)) v) (sym (centre-is i))
 
       -- AN INNER NODE IS TAKEN: its centres are measured, and its children wait
       taken-inner : (work₂ : List ℕ) (kids last len' : ℕ) → kids ≡ m# w → last ≡ last_of work₁ (3 * n) wanted held'
@@ -163,19 +163,19 @@ module _ (t : List ℕ) (c : ℕ) (q w : List ℕ) (wanted : ℕ) (struck : List
           let M : More work₁ work₂ len (m# w) g last len' = subst (λ (k : ℕ). More work₁ work₂ len k g last len') all M₀ in
           let O : Outside work₁ work₂ 0 (2 * n# w) =
           front_alone (n# w) len (m# w) work₁ work₂ (omega (arith, T.room.fits, kids-fit)) M.outside in
-          let o = opened w x work₁ work₂ len (m# w) g last len' (childOf w x a b u) M child-read (last_of work₂ (3 * n# w) wanted held')
-          (openedBy w x (node k b u)) (last_then w wanted work₁ work₂ held' last n (omega (arith, T.ready.stands.wanted)) en el O) opens-are in
+          let o = opened w x work₁ work₂ len (m# w) g last len' (child_of w x a b u) M child-read (last_of work₂ (3 * n# w) wanted held')
+          (opened_by w x (node k b u)) (last_then w wanted work₁ work₂ held' last n (omega (arith, T.ready.stands.wanted)) en el O) opens-are in
           record {
-            grew = grew-front x (is_in_lem struck) (n# w) wanted how how' work work₁ work₂ held held' (measuredBy w (node k b u))
+            grew = grew-front x (is_in_lem struck) (n# w) wanted how how' work work₁ work₂ held held' (measured_by w (node k b u))
                 (grew-as x (is_in_lem struck) (n# w) wanted how how' work work₁ held held' (firsts_to w a (m# w - 1))
-                (measuredBy w (node k b u)) measures-are K.alone.grew)
+                (measured_by w (node k b u)) measures-are K.alone.grew)
                 O;
             seen = λ r l p. O.over (2 * n# w + r) (omega arith) ∙ K.seen r l (omega (arith, measures-are r));
             queue = M.queue;
             small = o.0;
             queued = subst
                 (λ (es : List ℕ). SameBag (items w x work₂ len')
-                (at_most bound_of (last_of work₂ (3 * n# w) wanted held') (openedBy w x (node k b u)) ++ map (item_of w x) es))
+                (at_most bound_of (last_of work₂ (3 * n# w) wanted held') (opened_by w x (node k b u)) ++ map (item_of w x) es))
                 front.1 o.1;
           }
 

@@ -11,7 +11,7 @@ use Rattle.frontier.specs.Workspace.{kept}
 use Rattle.index_space.proofs.Exact.{taken-new}
 use Rattle.index_space.proofs.Leaving.{all-bag, leaves, leaves-off}
 use Rattle.index_space.specs.Fits.{IndexFits}
-use Rattle.index_space.specs.Items.{IndexItem, bound_of, greatest_word, openedBy, space_of, weight}
+use Rattle.index_space.specs.Items.{IndexItem, bound_of, greatest_word, opened_by, space_of, weight}
 use Rattle.index_space.specs.Run.{RunSoFar}
 use Rattle.laws.proofs.Bags.{same_map, total-append, total_le, total-map, total-neither, total-none}
 use Rattle.laws.specs.Bags.{SameBag, total}
@@ -177,7 +177,7 @@ module _ (t : List ℕ) (c : ℕ) (q w : List ℕ) (wanted : ℕ) (struck : List
           (item_of w (from t c (circles# w) q) v)) where
         -- what it opens
         abbrev opened : List IndexItem
-        opened = openedBy w x item
+        opened = opened_by w x item
 
         -- the last distance by then
         abbrev last' : ℕ

@@ -4,7 +4,7 @@ use Rattle.answers_held.specs.Answers.{last_of}
 use Rattle.frontier.proofs.Reading.{item-place, node-read, opened, place_read}
 use Rattle.frontier.specs.Waiting.{More, item_of, placed}
 use Rattle.frontier.specs.Workspace.{kept}
-use Rattle.index_space.specs.Items.{measuredBy, measuresAt, node, openedBy, opens_at, place, placeBound, place_of}
+use Rattle.index_space.specs.Items.{measured_by, measures_at, node, opened_by, opens_at, place, place_bound, place_of}
 use Rattle.laws.specs.Bags.{is, total, upto}
 use Rattle.laws.specs.Outside.{Outside}
 use Rattle.measure.specs.Table.{from}
@@ -76,17 +76,17 @@ module _ (t : List ℕ) (c : ℕ) (q w : List ℕ) (wanted : ℕ) (struck : List
         subst (λ (n : ℕ). More work work' len (count# w k - 1) (queued n) last len') en M₀ in
         let O : Outside work work' 0 (2 * n# w) = front_alone (n# w) len (count# w k - 1) work work' (omega (arith, T.room.fits)) M.outside in
         let this : (i : ℕ) → i < count# w k - 1 → item_of w x (g i) ≡ place_of w k b u i =
-        λ i l. item-place w x (placeBound w b (kept work (n# w) (first# w k)) (start# w k + suc i)) (start# w k + suc i)
+        λ i l. item-place w x (place_bound w b (kept work (n# w) (first# w k)) (start# w k + suc i)) (start# w k + suc i)
         (id-small (2 * n# w + (start# w k + suc i)) (omega (arith, (S.node k node-there).run)))
-        ∙ ap (λ (v : ℕ). place (start# w k + suc i) (placeBound w b v (start# w k + suc i))) first-kept in
+        ∙ ap (λ (v : ℕ). place (start# w k + suc i) (place_bound w b v (start# w k + suc i))) first-kept in
         let leafy : upto (place_of w k b u) (count# w k - 1) ≡ opens_at w x (child# w k) k b u = ap (λ (q : ℕ). opens_at w x q k b u) (sym z) in
         let o = opened w x work work' len (count# w k - 1) g last len' (place_of w k b u) M this (last_of work' (3 * n# w) wanted held)
-        (openedBy w x (node k b u)) (last_then w wanted work work' held last n (omega (arith, T.ready.stands.wanted)) en el O) leafy in
+        (opened_by w x (node k b u)) (last_then w wanted work work' held last n (omega (arith, T.ready.stands.wanted)) en el O) leafy in
         record {
-          grew = grew-front x (is_in_lem struck) (n# w) wanted how how work work work' held held (measuredBy w (node k b u))
-              (grew_none x (is_in_lem struck) (n# w) wanted how work held (measuredBy w (node k b u)) (λ r. ap (λ (q : ℕ). measuresAt w q r) z)
+          grew = grew-front x (is_in_lem struck) (n# w) wanted how how work work work' held held (measured_by w (node k b u))
+              (grew_none x (is_in_lem struck) (n# w) wanted how work held (measured_by w (node k b u)) (λ r. ap (λ (q : ℕ). measures_at w q r) z)
               T.ready.stands) O;
-          seen = λ r l p. absurd (omega (arith, ap (λ (q : ℕ). measuresAt w q r) z));
+          seen = λ r l p. absurd (omega (arith, ap (λ (q : ℕ). measures_at w q r) z));
           queue = M.queue;
           small = o.0;
           queued = o.1;

@@ -6,7 +6,7 @@ use Rattle.best_first.specs.Search.{SearchReach, start}
 use Rattle.frontier.proofs.Reading.{item-node}
 use Rattle.frontier.specs.Waiting.{item_of, items}
 use Rattle.frontier.specs.Workspace.{kept}
-use Rattle.index_space.specs.Items.{IndexItem, left_of, live_of, rootOf, space_of, weight}
+use Rattle.index_space.specs.Items.{IndexItem, left_of, live_of, root_of, space_of, weight}
 use Rattle.index_space.specs.Run.{RunSoFar}
 use Rattle.laws.proofs.Ones.{is_bit, is_self}
 use Rattle.laws.proofs.Sums.{sum_below-zero}
@@ -95,7 +95,7 @@ module _ (t : List ℕ) (c : ℕ) (q w : List ℕ) (wanted : ℕ) (struck : List
           K.alone.grew.stands
 
       -- the root alone waits
-      one : items w x work₂ 1 ≡ rootOf w x ∷ []
+      one : items w x work₂ 1 ≡ root_of w x ∷ []
       one = ap (λ (e : ℕ). item_of w x e ∷ []) entry_zero ∙ ap (λ (i : IndexItem). i ∷ []) (item-node w x 0 0 (omega arith) (omega arith))
         where
           entry_zero : entry work₂ 0 0 ≡ 0
@@ -133,7 +133,7 @@ module _ (t : List ℕ) (c : ℕ) (q w : List ℕ) (wanted : ℕ) (struck : List
               run = record {
                 start = at how₁;
                 begun = λ r l. omega (arith, b.1 r, blank r l);
-                reached = subst (λ (l : List IndexItem). SearchReach (space_of w (is_in_lem struck)) wanted x (rootOf w x ∷ []) (at how₁) (l ++ [])
+                reached = subst (λ (l : List IndexItem). SearchReach (space_of w (is_in_lem struck)) wanted x (root_of w x ∷ []) (at how₁) (l ++ [])
                     (at how₁)) (sym one) start;
               };
               beyond = refl;

@@ -2,7 +2,7 @@
 use Prim.Native.Nat.{◌+◌, ◌-◌, ◌<◌, ◌≤◌, suc, zero, ℕ}
 use Rattle.frontier.specs.Workspace.{kept}
 use Rattle.index_space.proofs.Opening.{inner-some, kid_in, kid-some, kids-count}
-use Rattle.index_space.specs.Items.{IndexItem, childOf, measuresAt, node, openedBy, opens_at, place, place_of, weight}
+use Rattle.index_space.specs.Items.{IndexItem, child_of, measures_at, node, opened_by, opens_at, place, place_of, weight}
 use Rattle.laws.proofs.Bags.{total-upto}
 use Rattle.laws.proofs.Ones.{is_self}
 use Rattle.laws.proofs.Sums.{sum_add, sum_below-same, sum_below-zero, sum_ones, sum_part}
@@ -51,16 +51,16 @@ module _ (w : List ℕ) (S : InShape w) (x : ℕ → ℕ) where
     there = omega arith
 
     -- they stand for as many positions as it does
-    kids-weight : total (weight w) (upto (childOf w x (child# w k) b u) (m# w)) ≡ count# w k
-    kids-weight = total-upto (weight w) (childOf w x (child# w k) b u) (m# w) ∙ kids-count w S k there i
+    kids-weight : total (weight w) (upto (child_of w x (child# w k) b u) (m# w)) ≡ count# w k
+    kids-weight = total-upto (weight w) (child_of w x (child# w k) b u) (m# w) ∙ kids-count w S k there i
 
     -- their costs are twice its positions, less one for each of them
-    kids-cost : total (cost w) (upto (childOf w x (child# w k) b u) (m# w)) + m# w ≡ count# w k + count# w k
+    kids-cost : total (cost w) (upto (child_of w x (child# w k) b u) (m# w)) + m# w ≡ count# w k + count# w k
     kids-cost =
         let f : ℕ → ℕ = λ (j : ℕ). count# w (child# w k + j) in
         omega (
           arith,
-          total-upto (cost w) (childOf w x (child# w k) b u) (m# w),
+          total-upto (cost w) (child_of w x (child# w k) b u) (m# w),
           kids-count w S k there i,
           sum_ones (m# w),
           sum_add (λ (j : ℕ). f j + f j - 1) (λ (j : ℕ). 1) (m# w),
@@ -71,9 +71,9 @@ module _ (w : List ℕ) (S : InShape w) (x : ℕ → ℕ) where
     -- they are sound, once the distances of its centres are kept
     kids-amiss : (work' : List ℕ) → kept work' (n# w) (first# w k) ≡ x (first# w k)
         → ((r : ℕ) → r < n# w → 0 < sum_to (λ (j : ℕ). is r (first# w (child# w k + suc j))) (m# w - 1) → kept work' (n# w) r ≡ x r)
-        → total (amiss w x work') (upto (childOf w x (child# w k) b u) (m# w)) ≡ 0
+        → total (amiss w x work') (upto (child_of w x (child# w k) b u) (m# w)) ≡ 0
     kids-amiss work' own seen =
-        total-upto (amiss w x work') (childOf w x (child# w k) b u) (m# w)
+        total-upto (amiss w x work') (child_of w x (child# w k) b u) (m# w)
         ∙ sum_below-zero
         (λ (j : ℕ). (suc (child# w k + j) - nodes# w) + gap (kept work' (n# w) (first# w (child# w k + j))) (x (first# w (child# w k + j)))) (m# w)
         (λ j l. none-amiss (child# w k + j) (nodes# w) (kept work' (n# w) (first# w (child# w k + j))) (x (first# w (child# w k + j)))
@@ -90,35 +90,35 @@ module _ (w : List ℕ) (S : InShape w) (x : ℕ → ℕ) where
 
   -- ---- what a sound item opens
   -- it stands for no more positions
-  pub opened-weight : (work : List ℕ) (i : IndexItem) → amiss w x work i ≡ 0 → total (weight w) (openedBy w x i) ≤ weight w i
+  pub opened-weight : (work : List ℕ) (i : IndexItem) → amiss w x work i ≡ 0 → total (weight w) (opened_by w x i) ≤ weight w i
   opened-weight work (node k b u) g = go (child# w k) refl
     where
       go : (q : ℕ) → child# w k ≡ q → total (weight w) (opens_at w x q k b u) ≤ count# w k
       go zero e = omega (arith, total-upto (weight w) (place_of w k b u) (count# w k - 1), sum_ones (count# w k - 1))
       go (suc q) e =
-          subst (λ (z : ℕ). total (weight w) (upto (childOf w x z b u) (m# w)) ≤ count# w k) e
+          subst (λ (z : ℕ). total (weight w) (upto (child_of w x z b u) (m# w)) ≤ count# w k) e
           (omega (arith, kids-weight work k b u g (inner-some w k (omega arith))))
   opened-weight work (place p b) g = omega arith
 
   -- it costs less
-  pub opened-cost : (work : List ℕ) (i : IndexItem) → amiss w x work i ≡ 0 → total (cost w) (openedBy w x i) < cost w i
+  pub opened-cost : (work : List ℕ) (i : IndexItem) → amiss w x work i ≡ 0 → total (cost w) (opened_by w x i) < cost w i
   opened-cost work (node k b u) g = go (child# w k) refl
     where
       go : (q : ℕ) → child# w k ≡ q → total (cost w) (opens_at w x q k b u) < count# w k + count# w k - 1
       go zero e =
           omega (arith, total-upto (cost w) (place_of w k b u) (count# w k - 1), sum_ones (count# w k - 1), some_weight w S x work (node k b u) g)
       go (suc q) e =
-          subst (λ (z : ℕ). total (cost w) (upto (childOf w x z b u) (m# w)) < count# w k + count# w k - 1) e
+          subst (λ (z : ℕ). total (cost w) (upto (child_of w x z b u) (m# w)) < count# w k + count# w k - 1) e
           (omega (arith, kids-cost work k b u g (inner-some w k (omega arith)), S.whole.fan.0))
   opened-cost work (place p b) g = omega arith
 
   -- it is sound, once the distances of the centres that it measures are kept
   pub opened-amiss : (work work' : List ℕ) (i : IndexItem) → amiss w x work i ≡ 0
       → ((r : ℕ) → r < n# w → kept work (n# w) r ≡ x r → kept work' (n# w) r ≡ x r)
-      → ((r : ℕ) → r < n# w → 0 < centres_by w i r → kept work' (n# w) r ≡ x r) → total (amiss w x work') (openedBy w x i) ≡ 0
+      → ((r : ℕ) → r < n# w → 0 < centres_by w i r → kept work' (n# w) r ≡ x r) → total (amiss w x work') (opened_by w x i) ≡ 0
   opened-amiss work work' (node k b u) g keeps seen = go (child# w k) refl seen
     where
-      go : (q : ℕ) → child# w k ≡ q → ((r : ℕ) → r < n# w → 0 < measuresAt w q r → kept work' (n# w) r ≡ x r)
+      go : (q : ℕ) → child# w k ≡ q → ((r : ℕ) → r < n# w → 0 < measures_at w q r → kept work' (n# w) r ≡ x r)
           → total (amiss w x work') (opens_at w x q k b u) ≡ 0
       go zero e s =
           total-upto (amiss w x work') (place_of w k b u) (count# w k - 1)
@@ -126,6 +126,6 @@ module _ (w : List ℕ) (S : InShape w) (x : ℕ → ℕ) where
       go (suc q) e s =
           subst
           (λ (z : ℕ). ((r : ℕ) → r < n# w → 0 < sum_to (λ (j : ℕ). is r (first# w (z + suc j))) (m# w - 1) → kept work' (n# w) r ≡ x r)
-          → total (amiss w x work') (upto (childOf w x z b u) (m# w)) ≡ 0) e
+          → total (amiss w x work') (upto (child_of w x z b u) (m# w)) ≡ 0) e
           (kids-amiss work k b u g (inner-some w k (omega arith)) work' (keeps (first# w k) (first-row k (omega arith)) (omega arith))) s
   opened-amiss work work' (place p b) g keeps seen = refl

@@ -5,7 +5,7 @@ use Rattle.answers_held.specs.Answers.{BestHeld, last_of}
 use Rattle.frontier.specs.Waiting.{FrontierRoom, at_most, items}
 use Rattle.frontier.specs.Workspace.{answers_at, kept}
 use Rattle.index_space.specs.Fits.{IndexFits}
-use Rattle.index_space.specs.Items.{IndexItem, bound_of, greatest_word, left_of, measuredBy, measuresAt, node, openedBy, place, waitsOf, weight}
+use Rattle.index_space.specs.Items.{IndexItem, bound_of, greatest_word, left_of, measured_by, measures_at, node, opened_by, place, waits_of, weight}
 use Rattle.index_space.specs.Run.{RunSoFar, RunToEnd}
 use Rattle.laws.specs.Bags.{SameBag, total}
 use Rattle.laws.specs.Lists.{gap}
@@ -24,7 +24,7 @@ amiss w x work (place p b) = suc p - n# w
 
 -- how often it measures row r as a centre, whose distance is kept: an inner node its centres but the first, a position none
 abbrev pub centres_by : List ℕ → IndexItem → ℕ → ℕ
-centres_by w (node k b u) r = measuresAt w (child# w k) r
+centres_by w (node k b u) r = measures_at w (child# w k) r
 centres_by w (place p b) r = 0
 
 -- it can be taken: with it gone len entries wait, and there is room for all that it stands for
@@ -37,16 +37,16 @@ pub record CanTake (a : NearestAsked) (how work : List ℕ) (len held : ℕ) (i 
 -- distance by then
 pub record Taken (w : List ℕ) (x : ℕ → ℕ) (gone : ℕ → Bool) (wanted : ℕ) (how how' work work' : List ℕ) (len len' held held' : ℕ)
     (i : IndexItem) : Type 0 where
-  pub grew : Grew x gone (n# w) wanted how how' work work' held held' (measuredBy w i)
+  pub grew : Grew x gone (n# w) wanted how how' work work' held held' (measured_by w i)
   pub seen : (r : ℕ) → r < n# w → 0 < centres_by w i r → kept work' (n# w) r ≡ x r
   pub queue : Queue work' 0 len'
-  pub small : total (λ (j : IndexItem). bound_of j - greatest_word) (openedBy w x i) ≡ 0
-  pub queued : SameBag (items w x work' len') (at_most bound_of (last_of work' (answers_at (n# w)) wanted held') (openedBy w x i) ++ items w x work len)
+  pub small : total (λ (j : IndexItem). bound_of j - greatest_word) (opened_by w x i) ≡ 0
+  pub queued : SameBag (items w x work' len') (at_most bound_of (last_of work' (answers_at (n# w)) wanted held') (opened_by w x i) ++ items w x work len)
 
 -- ---- the whole search
 -- how often rows that remain are still to be measured under an item
 abbrev pub still : List ℕ → (ℕ → Bool) → IndexItem → ℕ
-still w gone i = sum_to (left_of gone (waitsOf w i)) (n# w)
+still w gone i = sum_to (left_of gone (waits_of w i)) (n# w)
 
 -- Between two rounds. No more are held or wait than positions hold a row that remains; where fewer are held than are wanted, nothing was left out:
 -- all of these are held or wait. The last promise is for lent rows that are, where it counts, those of a table that the index fits.

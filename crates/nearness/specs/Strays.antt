@@ -13,9 +13,9 @@ told s = (s.number, s.node, s.position)
 
 module _ (d : ℕ → ℕ → ℕ) (w : List ℕ) where
   -- 13, of one node: its faults in the order of positions
-  unfoldable pub nodeStrays : ℕ → List Said
-  nodeStrays k = map (λ p. (13, k, p)) (keep (strays d w k) (run# w k))
+  unfoldable pub node_strays : ℕ → List Said
+  node_strays k = map (λ p. (13, k, p)) (keep (strays d w k) (run# w k))
 
   -- 13, of all nodes
-  unfoldable pub allStrays : List Said
-  allStrays = each nodeStrays (range 0 (nodes# w))
+  unfoldable pub all_strays : List Said
+  all_strays = each node_strays (range 0 (nodes# w))

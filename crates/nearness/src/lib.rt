@@ -2,11 +2,11 @@
 #![tactic(auto)]
 
 ghost use Rattle.std.specs.Prelude.{◌+◌, ◌<◌, ◌≤◌, true, ◌≡◌};
-ghost use Rattle.child_strays.specs.Strays.{FirstIn, Firsts, kidStrays};
+ghost use Rattle.child_strays.specs.Strays.{FirstIn, Firsts, kid_strays};
 ghost use Rattle.limits.specs.Said.{said};
 ghost use Rattle.measure.specs.Space.{Space};
 ghost use Rattle.measure.specs.Table.{between};
-ghost use Rattle.nearness.specs.Strays.{allStrays, told};
+ghost use Rattle.nearness.specs.Strays.{all_strays, told};
 ghost use Rattle.tree.specs.Check.{strays};
 ghost use Rattle.tree.specs.Tested.{Tested};
 ghost use Rattle.words.specs.InShape.{InShape};
@@ -19,7 +19,7 @@ use reach::{lesser, node_end};
 use words::places::{centres, node_child, node_first, nodes};
 
 // 13 with the lowest node that has a member closer to another centre and the lowest such position there, or zeros.
-#[derive(Drop)]
+#[derive(Clone, Copy)]
 pub struct Stray {
     pub number: u32,
     pub node: usize,
@@ -54,7 +54,7 @@ fn child_first(
 ) -> usize
     requires tested { Tested index.now table.now c × Space (between table.now c (circles# index.now)) }
     requires k_bound { (k < nodes# index.now) × (inner index.now k ≡ true) × (a < m# index.now) × Firsts index.now (child# index.now k) fs.now }
-    ensures { FirstIn index.now k (kidStrays (between table.now c (circles# index.now)) index.now k
+    ensures { FirstIn index.now k (kid_strays (between table.now c (circles# index.now)) index.now k
         (child# index.now k + a)) result }
 {
     if (words::places::circles(index) == 0) & (c <= 6) {
@@ -88,7 +88,7 @@ fn first_stray(table: &[u16], c: usize, index: &[u32], k: usize) -> usize
 // The first member that is closer to another centre: by node, then by position.
 pub fn closeness(table: &[u16], c: usize, index: &[u32]) -> Stray
     requires { Tested index.now table.now c × Space (between table.now c (circles# index.now)) }
-    ensures { told result ≡ said (allStrays (between table.now c (circles# index.now)) index.now) }
+    ensures { told result ≡ said (all_strays (between table.now c (circles# index.now)) index.now) }
 {
     let total = nodes(index);
     let mut k = 0;

@@ -4,7 +4,7 @@ use Rattle.laws.proofs.Lists.{map-append}
 use Rattle.laws.proofs.Maps.{map_shift}
 use Rattle.laws.proofs.Ranges.{range_append}
 use Rattle.laws.specs.Lists.{least, range}
-use Rattle.marking.specs.Marks.{Distances, first_at, leastFrom}
+use Rattle.marking.specs.Marks.{Distances, first_at, least_from}
 use Rattle.words.specs.Words.{m#}
 use lib.ListN.{get_or, length, take}
 use lib.Seq.{take-suc}
@@ -35,7 +35,7 @@ take-map f ds (suc m) l h =
 
 -- the least of the distances held is that of the centres
 pub least-is : (x : ℕ → ℕ) (w : List ℕ) (ch m : ℕ) (ds : List ℕ) → m ≡ m# w → 1 ≤ m → m ≤ length ds → Distances x w ch ds
-    → least (get_or ds 0 0) (take m ds) ≡ leastFrom x w ch
+    → least (get_or ds 0 0) (take m ds) ≡ least_from x w ch
 least-is x w ch m ds e l k D =
     let ats : (j : ℕ) → j < m → get_or ds j 0 ≡ first_at x w (ch + j) = λ j q. D.at j (omega arith) in
     let zero-at : get_or ds 0 0 ≡ first_at x w ch = ats 0 l ∙ ap (first_at x w) (add-zero ch) in

@@ -4,10 +4,10 @@ ghost use Rattle.laws.specs.Lists.{least};
 ghost use Rattle.limits.specs.Limits.{max_centres, max_columns, max_distance, max_rows};
 ghost use Rattle.marking.specs.Lent.{Lent};
 ghost use Rattle.marking.specs.Listed.{Leaves, span};
-ghost use Rattle.marking.specs.Marks.{Distances, centreAt, first_at};
+ghost use Rattle.marking.specs.Marks.{Distances, centre_at, first_at};
 ghost use Rattle.measure.specs.Table.{from};
 ghost use Rattle.rowset.specs.Sets.{is_in_lem};
-ghost use Rattle.tree.specs.Radius.{byDistance};
+ghost use Rattle.tree.specs.Radius.{by_distance};
 ghost use Rattle.words.specs.Words.{nodes#, circles#, m#};
 
 use limits::Params;
@@ -29,7 +29,7 @@ fn measure_row(
     requires { (c ≤ max_columns) × (c * row + c ≤ length table.now) × (length query.now ≡ c) × (row < max_rows) }
     ensures distance { (result ≡ from table.now c circles query.now row) × (result ≤ max_distance) }
     ensures marks { Leaves (is_in_lem withdrawn.now) (from table.now c circles query.now)
-        ((row, byDistance (from table.now c circles query.now) r row) ∷ []) how.old how.new
+        ((row, by_distance (from table.now c circles query.now) r row) ∷ []) how.old how.new
         list.old list.new }
 {
     let x = row_distances::query_distance(table, c, circles, query, row);
@@ -55,7 +55,7 @@ pub fn open_inner(
     requires index_bound { (ch + m# index.now ≤ nodes# index.now) × (x ≤ max_distance)
         × (x ≡ first_at (from table.now c (circles# index.now) query.now) index.now ch) }
     ensures marks { Leaves (is_in_lem withdrawn.now) (from table.now c (circles# index.now) query.now)
-        (span (λ (j : ℕ). centreAt (from table.now c (circles# index.now) query.now) r index.now (ch + j))
+        (span (λ (j : ℕ). centre_at (from table.now c (circles# index.now) query.now) r index.now (ch + j))
         1 (m# index.now)) how.old how.new list.old list.new }
     ensures distances { Distances (from table.now c (circles# index.now) query.now) index.now ch result }
 {

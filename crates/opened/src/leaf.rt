@@ -1,6 +1,6 @@
 // An opened leaf: each of its rows but the first.
 ghost use Rattle.std.specs.Prelude.{◌+◌, ◌<◌, ◌≤◌};
-ghost use Rattle.leaf_decision.specs.Decision.{leafAt};
+ghost use Rattle.leaf_decision.specs.Decision.{leaf_at};
 ghost use Rattle.limits.specs.Limits.{max_distance};
 ghost use Rattle.marking.specs.Lent.{Lent};
 ghost use Rattle.marking.specs.Listed.{Leaves, span};
@@ -28,7 +28,7 @@ pub fn open_leaf(
     requires lent { Lent index.now table.now c query.now how.old }
     requires k_bound { (k < nodes# index.now) × (x ≤ max_distance) }
     ensures { Leaves (is_in_lem withdrawn.now) (from table.now c (circles# index.now) query.now)
-        (span (leafAt (from table.now c (circles# index.now) query.now) r index.now x)
+        (span (leaf_at (from table.now c (circles# index.now) query.now) r index.now x)
         (start# index.now k + 1) (start# index.now k + count# index.now k))
         how.old how.new list.old list.new }
 {

@@ -2,7 +2,7 @@
 use Prim.Native.Nat.{◌*◌, ◌+◌, ◌<◌, ◌≤◌, suc, ℕ}
 use Rattle.appending.proofs.Lowest.{orderly_tally}
 use Rattle.appending.specs.Append.{Ascends, orderly}
-use Rattle.dealing.specs.Pending.{StandAll, pendOf}
+use Rattle.dealing.specs.Pending.{StandAll, pend_of}
 use Rattle.laws.proofs.Every.{every-both}
 use Rattle.laws.proofs.Times.{every_same}
 use Rattle.laws.specs.Every.{Every}
@@ -20,7 +20,7 @@ use Rattle.split.specs.Runs.{SplitAmong, Splittable, laid, rows, run_at, run_nod
 use Rattle.swelling.proofs.Parting.{parts-runs}
 use Rattle.swelling.specs.Pieces.{grown_from}
 use Rattle.swelling.specs.Swell.{parts}
-use Rattle.tree.specs.Build.{Run, innerReach, radius}
+use Rattle.tree.specs.Build.{Run, inner_reach, radius}
 use Rattle.tree.specs.Encode.{node_words}
 use Rattle.words.specs.Words.{c#, circles#, l#, m#}
 use lib.Dec.{eqb, leb}
@@ -38,10 +38,10 @@ module _ (t w : List ℕ) (last : Bool) where
 
   -- the nodes of runs side by side are those of their pieces
   pub grown-nodes : (s : ℕ) (gs : List (List ℕ))
-      → run_nodes (between t (c# w) (circles# w)) s gs ≡ each (node_words 2) (map (pendOf t w last) (grown_from (between t (c# w) (circles# w)) s gs))
+      → run_nodes (between t (c# w) (circles# w)) s gs ≡ each (node_words 2) (map (pend_of t w last) (grown_from (between t (c# w) (circles# w)) s gs))
   unfolding run_nodes
   grown-nodes s [] = refl
-  grown-nodes s (q ∷ gs) = ap (λ (x : List ℕ). s ∷ length q ∷ 0 ∷ radius d q ∷ innerReach d q ∷ x) (grown-nodes (s + length q) gs)
+  grown-nodes s (q ∷ gs) = ap (λ (x : List ℕ). s ∷ length q ∷ 0 ∷ radius d q ∷ inner_reach d q ∷ x) (grown-nodes (s + length q) gs)
 
   -- runs that are in order stand as they are laid
   pub grown-stand : (s : ℕ) (gs : List (List ℕ)) → Every (λ q. orderly q ≡ q) gs

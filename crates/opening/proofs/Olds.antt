@@ -1,7 +1,7 @@
 -- An old inner node is opened: its new rows are marked, dealt out to its children in the second half, and copied back to its place. Assumes nothing.
 use Prim.Native.Nat.{◌*◌, ◌+◌, ◌-◌, ◌<◌, ◌≤◌, ℕ}
 use Rattle.dealing.proofs.Marking.{marked_long}
-use Rattle.dealing.specs.Dealt.{KidsAsk, KidsDeal, KidsDealt, kidPieces}
+use Rattle.dealing.specs.Dealt.{KidsAsk, KidsDeal, KidsDealt, kid_pieces}
 use Rattle.dealing.specs.Marked.{Marks, marked}
 use Rattle.laws.specs.Every.{Every}
 use Rattle.limits.specs.Limits.{max_rows}
@@ -222,7 +222,7 @@ module _ {t w : List ℕ} {n : ℕ} {room work : List ℕ} {o s count made : ℕ
           ∙ ap (take (3 * n - hi)) first_back
 
       -- AN OLD INNER NODE IS OPENED
-      pub old-done : Replaced t w n last (kidPieces t w o g.zs s) room work s count made room' W₃
+      pub old-done : Replaced t w n last (kid_pieces t w o g.zs s) room work s count made room' W₃
       old-done =
           let A : List ℕ = take (3 * s) work in
           let cut : W₃ ≡ (A ++ P) ++ drop hi W₂ =

@@ -9,8 +9,8 @@ use Rattle.opening.proofs.Waited.{child-is, count-is, inside_is, mark-is, opens-
 use Rattle.opening.specs.Opened.{OldAsk, OldOpens, PieceOpened, Replaced, Waiting}
 use Rattle.split.specs.Places.{child#, count#, node_at_lem, start#}
 use Rattle.split.specs.Runs.{SplitAmong, Splittable, laid}
-use Rattle.swelling.proofs.Parting.{centres, early, groupAmong, others, parts_is}
-use Rattle.swelling.specs.Pieces.{Piece, grown, grown_from, kidsFrom, old, opens, settled}
+use Rattle.swelling.proofs.Parting.{centres, early, group_among, others, parts_is}
+use Rattle.swelling.specs.Pieces.{Piece, grown, grown_from, kids_from, old, opens, settled}
 use Rattle.swelling.specs.Swell.{parts}
 use Rattle.tree.proofs.Centres.{chosen-length}
 use Rattle.tree.specs.Encode.{Node}
@@ -28,7 +28,7 @@ use native.Mathlib.Omega.{arith}
 
 -- ---- how many pieces
 -- as many as old nodes side by side
-pub kids_many : (d : ℕ → ℕ → ℕ) (w : List ℕ) (place : ℕ → ℕ) (zs : List ℕ) (s o k j : ℕ) → length (kidsFrom d w place zs s o k j) ≡ j
+pub kids_many : (d : ℕ → ℕ → ℕ) (w : List ℕ) (place : ℕ → ℕ) (zs : List ℕ) (s o k j : ℕ) → length (kids_from d w place zs s o k j) ≡ j
 kids_many d w place zs s o k zero = refl
 kids_many d w place zs s o k (suc j) = ap suc
     (kids_many d w place zs (s + (words.count# w o + length (keep (λ (z : ℕ). eqb (place z) k) zs))) (suc o) (suc k) j)
@@ -42,7 +42,7 @@ grown_many d s (q ∷ gs) = ap suc (grown_many d (s + length q) gs)
 pub parts_many : (d : ℕ → ℕ → ℕ) (m l s : ℕ) (run : List ℕ) → 1 ≤ m → length (grown_from d s (parts d m l run)) ≡ m
 parts_many d m l s run m1 =
     grown_many d s (parts d m l run) ∙ ap length (parts_is d m l run)
-    ∙ length-map (centres d m l run) (groupAmong d m l (centres d m l run) (others d m l run)) ∙ chosen-length d m m1 (early d m l run)
+    ∙ length-map (centres d m l run) (group_among d m l (centres d m l run) (others d m l run)) ∙ chosen-length d m m1 (early d m l run)
 
 -- a leaf of more than l rows has its mark
 marked_large : (b : Bool) {mark : ℕ} → mark ≡ cond b 0 4294967295 → b ≡ false → mark ≡ 4294967295

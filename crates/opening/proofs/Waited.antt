@@ -2,7 +2,7 @@
 use Prim.Native.Nat.{◌*◌, ◌+◌, ◌-◌, ◌≤◌, ℕ}
 use Rattle.appending.specs.Append.{orderly}
 use Rattle.dealing.proofs.Children.{stand_last}
-use Rattle.dealing.specs.Pending.{StandAll, pendOf, reach_of, size_of}
+use Rattle.dealing.specs.Pending.{StandAll, pend_of, reach_of, size_of}
 use Rattle.growing.proofs.Rooms.{child-set, nodes-added, read-child, read_count, read-start, room-long}
 use Rattle.growing.specs.Stages.{with_nodes}
 use Rattle.laws.proofs.Joins.{part-one, part-three, part-two}
@@ -68,7 +68,7 @@ module _ {t w : List ℕ} {n deep : ℕ} {q : Piece} {origin : List ℕ} {fore r
   pub room-wide : length room ≡ length origin
   room-wide =
       ap length g.nodes
-      ∙ room-long origin eight (fore ++ pendOf t w false q ∷ rear) (omega (arith, all-long (pendOf t w false q), g.there))
+      ∙ room-long origin eight (fore ++ pend_of t w false q ∷ rear) (omega (arith, all-long (pend_of t w false q), g.there))
 
   -- its words are there
   pub node-fits : node_at_lem k + 5 ≤ length room
@@ -143,7 +143,7 @@ module _ {t w : List ℕ} {n deep : ℕ} {q : Piece} {origin : List ℕ} {fore r
         nodes =
             r
             ∙ ap (λ (x : List Node). with_nodes origin (fore ++ waiting d w q made ∷ x))
-            (sym (ap (λ (x : List Piece). rear ++ map (pendOf t w last) x) none ∙ append-nil rear));
+            (sym (ap (λ (x : List Piece). rear ++ map (pend_of t w last) x) none ∙ append-nil rear));
         part = ws;
         stand =
             subst (λ (b : Bool). StandAll t w last (cond b (opens d w q) (q ∷ [])) ws) (sym e)
@@ -162,11 +162,11 @@ module _ {t w : List ℕ} {n deep : ℕ} {q : Piece} {origin : List ℕ} {fore r
       → PieceOpened t w n last q origin fore rear lead tail made room' work' (made + m# w)
   opens-done e same many {last} got =
       let x : Node = (start_of q, size_of w q, made, reach_of t w q) in
-      let new : List Node = map (pendOf t w last) (opens d w q) in
+      let new : List Node = map (pend_of t w last) (opens d w q) in
       record {
         count = ap (λ (i : ℕ). made + i) (sym many);
         nodes =
-            nodes-added origin eight (fore ++ x ∷ rear) new made (m# w) (all-long x) (length-map (opens d w q) (pendOf t w last) ∙ many)
+            nodes-added origin eight (fore ++ x ∷ rear) new made (m# w) (all-long x) (length-map (opens d w q) (pend_of t w last) ∙ many)
             (child-is made)
             got.nodes
             ∙ ap (with_nodes origin) (append_assoc fore (x ∷ rear) new ∙ ap (λ (y : Node). fore ++ y ∷ (rear ++ new)) (sym same));

@@ -1,7 +1,7 @@
 -- One piece opened: what is asked, and what is left in room and workspace. A working notion, on which no promise rests. Assumes nothing.
 use Rattle.std.specs.Prelude.{◌*◌, ◌+◌, ◌<◌, ◌≤◌, suc, ℕ, drop, length, take, Bool, false, true, List, ◌++◌, ◌∷◌, map, ◌≡◌}
-use Rattle.dealing.specs.Dealt.{kidPieces}
-use Rattle.dealing.specs.Pending.{StandAll, pendOf, size_of}
+use Rattle.dealing.specs.Dealt.{kid_pieces}
+use Rattle.dealing.specs.Pending.{StandAll, pend_of, size_of}
 use Rattle.growing.specs.Stages.{with_nodes}
 use Rattle.laws.specs.Lists.{each}
 use Rattle.lodging.specs.Standing.{New, Stands, new_rows}
@@ -19,7 +19,7 @@ use Rattle.words.specs.Words.{nodes#, c#, circles#, count#, m#}
 -- half is as it was
 pub record Replaced (t w : List ℕ) (n : ℕ) (last : Bool) (qs : List Piece) (room work : List ℕ) (s count made : ℕ) (room' work' : List ℕ) : Type 0
   where
-    pub nodes : room' ≡ take (node_at_lem made) room ++ (each (node_words 2) (map (pendOf t w last) qs) ++ drop (node_at_lem (made + m# w)) room)
+    pub nodes : room' ≡ take (node_at_lem made) room ++ (each (node_words 2) (map (pend_of t w last) qs) ++ drop (node_at_lem (made + m# w)) room)
     pub part : List ℕ
     pub stand : StandAll t w last qs part
     pub words : take (3 * n) work' ≡ take (3 * s) work ++ (part ++ stretch work (3 * s + 3 * count) (3 * n))
@@ -42,7 +42,7 @@ pub record OldAsk (t w : List ℕ) (n : ℕ) (room work : List ℕ) (o s count m
 -- its children stand in its place, whatever the rows
 abbrev pub OldOpens : List ℕ → List ℕ → ℕ → Bool → List ℕ → List ℕ → ℕ → ℕ → ℕ → ℕ → List ℕ → List ℕ → Type 0
 OldOpens t w n last room work o s count made room' work' =
-    (g : OldAsk t w n room work o s count made) → Replaced t w n last (kidPieces t w o g.zs s) room work s count made room' work'
+    (g : OldAsk t w n room work o s count made) → Replaced t w n last (kid_pieces t w o g.zs s) room work s count made room' work'
 
 -- ---- any piece
 -- piece q is node k of those made, behind `fore` and before `rear`, and stands in the first half between `lead` and `tail`; there is room for its
@@ -51,7 +51,7 @@ pub record Waiting (t w : List ℕ) (n deep : ℕ) (q : Piece) (origin : List �
     : Type 0 where
   pub task : Task t w n
   pub sound : Sound t w n (suc deep) q
-  pub nodes : room ≡ with_nodes origin (fore ++ pendOf t w false q ∷ rear)
+  pub nodes : room ≡ with_nodes origin (fore ++ pend_of t w false q ∷ rear)
   pub here : k ≡ length fore
   pub all : made ≡ length fore + (1 + length rear)
   pub there : node_at_lem made ≤ length origin
@@ -80,7 +80,7 @@ pub record PieceOpened (t w : List ℕ) (n : ℕ) (last : Bool) (q : Piece) (ori
     (room' work' : List ℕ) (r : ℕ) : Type 0 where
   pub count : r ≡ made + length (opens (between t (c# w) (circles# w)) w q)
   pub nodes : room'
-      ≡ with_nodes origin (fore ++ waiting (between t (c# w) (circles# w)) w q made ∷ (rear ++ map (pendOf t w last)
+      ≡ with_nodes origin (fore ++ waiting (between t (c# w) (circles# w)) w q made ∷ (rear ++ map (pend_of t w last)
       (opens (between t (c# w) (circles# w)) w q)))
   pub part : List ℕ
   pub stand : StandAll t w last (opened t w q) part

@@ -23,7 +23,7 @@ use Rattle.tree.specs.Check.{again}
 use Rattle.tree.specs.Encode.{broods, encode, family, level_nodes, nodes, numbered}
 use Rattle.tree.specs.Grove.{tree_at, tree_of}
 use Rattle.tree.specs.Nearest.{measured}
-use Rattle.tree.specs.Radius.{inside, marks, marksIn, radiusHow}
+use Rattle.tree.specs.Radius.{inside, marks, marks_in, radius_how}
 use Rattle.words.specs.Index.{fit_faults}
 use Rattle.words.specs.Shape.{born, level, node_ok_lem, shape_ok_lem, tile}
 use Rattle.words.specs.Words.{card_ok_lem, circles#, header_ok_lem, n#, whole_ok, words_ok_lem}
@@ -52,9 +52,9 @@ fit t o q =
 
 -- the definitions give these how-bytes and counts for the query q and r, the rows of the set s being withdrawn, and s is a set of the table's rows
 unfoldable shows : List ℕ → ℕ → ℕ → ℕ → List ℕ → List ℕ → ℕ → ℕ → Bool
-unfolding l1 between from tree_at tree_of family broods level_nodes nodes numbered encode choose split grow build marksIn marks radiusHow bit_of set_bad_lem
+unfolding l1 between from tree_at tree_of family broods level_nodes nodes numbered encode choose split grow build marks_in marks radius_how bit_of set_bad_lem
 shows t o q r s how i k =
-    let h = radiusHow (from t 1 o (q ∷ [])) r (is_in_lem s) (length t) (tree_of (build t 1 o 2 2 2)) in
+    let h = radius_how (from t 1 o (q ∷ [])) r (is_in_lem s) (length t) (tree_of (build t 1 o 2 2 2)) in
     same h how && eqb (inside h) i && eqb (measured h) k && not (set_bad_lem s (length t))
 
 module _ (t : List ℕ) (o q : ℕ) (f : T (fit t o q)) where
@@ -104,7 +104,7 @@ module _ (t : List ℕ) (o q : ℕ) (f : T (fit t o q)) where
 
     -- the how-bytes of the definition
     abbrev bytes : List ℕ
-    bytes = radiusHow x r (is_in_lem s) (length t) (tree_of w)
+    bytes = radius_how x r (is_in_lem s) (length t) (tree_of w)
 
     -- a case that is right is what the call gives
     gives : T (shows t o q r s how i k) → Gives t o q r s how i k
@@ -120,8 +120,8 @@ module _ (t : List ℕ) (o q : ℕ) (f : T (fit t o q)) where
         let ab = and_l (a && b) d f in
         let fine : set_bad_lem s (length t) ≡ false = not-true (set_bad_lem s (length t)) (is_true set (and_r (a && b && d) set ok)) in
         let z : number ≡ 0 = c.said ∙ sym (none_said t 1 w (q ∷ []) s (length before) (taken (length before) room) refl (sym ts.0) refl fine) in
-        let same_bytes : radiusHow (from t 1 (circles# w) (q ∷ [])) r (is_in_lem s) (n# w) (tree_of w) ≡ bytes =
-        ap₂ (λ (o n : ℕ). radiusHow (from t 1 o (q ∷ [])) r (is_in_lem s) n (tree_of w)) ts.2 ts.1 in
+        let same_bytes : radius_how (from t 1 (circles# w) (q ∷ [])) r (is_in_lem s) (n# w) (tree_of w) ≡ bytes =
+        ap₂ (λ (o n : ℕ). radius_how (from t 1 o (q ∷ [])) r (is_in_lem s) n (tree_of w)) ts.2 ts.1 in
         let first = first-bytes c z once ∙ same_bytes in (
           z,
           radius-call-marks c z once ∙ ap₂ (λ l n. l ++ drop n before) (same_bytes ∙ same-is bytes how (and_l a b ab)) ts.1,

@@ -13,7 +13,7 @@ use Rattle.tree.proofs.Marks.{how_at, marks-rows}
 use Rattle.tree.proofs.Rows.{full-tree, rows-low, rows-once}
 use Rattle.tree.proofs.Veiled.{look-veiled, veiled-never, veiled-rows}
 use Rattle.tree.specs.Grove.{rows_in, tree_of}
-use Rattle.tree.specs.Radius.{marks, radiusHow, veiled}
+use Rattle.tree.specs.Radius.{marks, radius_how, veiled}
 use Rattle.words.specs.InShape.{InShape}
 use Rattle.words.specs.Words.{n#}
 use borrow.Author.Tests.{eqb-false, eqb-true}
@@ -128,8 +128,8 @@ write-most (m ∷ ms) h i b k l = write-most ms (byte m.0 m.1 h) i b k.1 (go (�
     go (yes e) = byte-most m.0 m.1 h i b l (k.0 e)
 
 -- there is a how-byte for each row
-pub how_length : (x : ℕ → ℕ) (r : ℕ) (gone : ℕ → Bool) (w : List ℕ) → length (radiusHow x r gone (n# w) (tree_of w)) ≡ n# w
-unfolding radiusHow
+pub how_length : (x : ℕ → ℕ) (r : ℕ) (gone : ℕ → Bool) (w : List ℕ) → length (radius_how x r gone (n# w) (tree_of w)) ≡ n# w
+unfolding radius_how
 how_length x r gone w = simp (length-map, range_length)
 
 module _ (x : ℕ → ℕ) (r : ℕ) (gone : ℕ → Bool) (w : List ℕ) (S : InShape w) where
@@ -158,9 +158,9 @@ module _ (x : ℕ → ℕ) (r : ℕ) (gone : ℕ → Bool) (w : List ℕ) (S : I
       (subst (λ (n : ℕ). Every (λ m. m.0 < n) ms) (sym (length-replicate (n# w) 0)) marks-low)
 
   -- WHERE EACH ROW STANDS ONCE THE HOW-BYTES ARE THOSE OF THE DEFINITION
-  pub bytes-are : Once w → bytes ≡ radiusHow x r gone (n# w) (tree_of w)
+  pub bytes-are : Once w → bytes ≡ radius_how x r gone (n# w) (tree_of w)
   bytes-are o =
-      ext_get_or 0 bytes (radiusHow x r gone (n# w) (tree_of w)) (written-length ms (n# w) ∙ sym (how_length x r gone w))
+      ext_get_or 0 bytes (radius_how x r gone (n# w) (tree_of w)) (written-length ms (n# w) ∙ sym (how_length x r gone w))
       (λ i l.
       let low : i < n# w = subst (λ (n : ℕ). i < n) (written-length ms (n# w)) l in
       write-look ms (replicate (n# w) 0) i (omega (arith, rows i, rows-once w S o i))

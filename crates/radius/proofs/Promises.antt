@@ -17,7 +17,7 @@ use Rattle.tree.proofs.Veiled.{veiled-none}
 use Rattle.tree.specs.Check.{Accepted}
 use Rattle.tree.specs.Grove.{tree_of}
 use Rattle.tree.specs.Nearest.{is_measured, measured}
-use Rattle.tree.specs.Radius.{inside, marks, radiusHow, veiled}
+use Rattle.tree.specs.Radius.{inside, marks, radius_how, veiled}
 use Rattle.words.specs.Words.{circles#, n#}
 use lib.Dec.{T, leb}
 use lib.ListN.{get_or-append, drop, get_or, length, replicate, take}
@@ -43,7 +43,7 @@ module _ {t : List ℕ} {c : ℕ} {w q : List ℕ} {r : ℕ} {set before after :
       ap (drop (n# w)) (s.written done) ∙ drop_at (write ms (replicate (n# w) 0)) (drop (n# w) before) (n# w) (written-length ms (n# w))
 
   -- WHERE EACH ROW STANDS ONCE, THE HOW-BYTES ARE THOSE OF THE DESCENT OF THE INDEX'S TREE, BY ROW NUMBER
-  pub radius-call-marks : Once w → after ≡ radiusHow (from t c (circles# w) q) r (is_in_lem set) (n# w) (tree_of w) ++ drop (n# w) before
+  pub radius-call-marks : Once w → after ≡ radius_how (from t c (circles# w) q) r (is_in_lem set) (n# w) (tree_of w) ++ drop (n# w) before
   radius-call-marks once =
       s.written done
       ∙ ap (λ (l : List ℕ). l ++ drop (n# w) before) (bytes-are (from t c (circles# w) q) r (is_in_lem set) w (fits t c w q set before (sym s.said ∙ done)).tested.shape once)
@@ -67,16 +67,16 @@ module _ {t : List ℕ} {c : ℕ} {w q : List ℕ} {r : ℕ} {set before after :
 module _ {t : List ℕ} {c : ℕ} {w q : List ℕ} {r : ℕ} {set before after : List ℕ} {number in# met : ℕ}
     (s : Searched t c w q r set before after number in# met) (done : number ≡ 0) (once : Once w) where
   -- the how-bytes that are the rows'
-  pub first-bytes : take (n# w) after ≡ radiusHow (from t c (circles# w) q) r (is_in_lem set) (n# w) (tree_of w)
+  pub first-bytes : take (n# w) after ≡ radius_how (from t c (circles# w) q) r (is_in_lem set) (n# w) (tree_of w)
   first-bytes =
       ap (take (n# w)) (radius-call-marks s done once)
-      ∙ take_at (radiusHow (from t c (circles# w) q) r (is_in_lem set) (n# w) (tree_of w)) (drop (n# w) before) (n# w) (how_length (from t c (circles# w) q) r (is_in_lem set) w)
+      ∙ take_at (radius_how (from t c (circles# w) q) r (is_in_lem set) (n# w) (tree_of w)) (drop (n# w) before) (n# w) (how_length (from t c (circles# w) q) r (is_in_lem set) w)
 
   -- each of them is the definition's
-  byte_at : (i : ℕ) → i < n# w → get_or after i 0 ≡ get_or (radiusHow (from t c (circles# w) q) r (is_in_lem set) (n# w) (tree_of w)) i 0
+  byte_at : (i : ℕ) → i < n# w → get_or after i 0 ≡ get_or (radius_how (from t c (circles# w) q) r (is_in_lem set) (n# w) (tree_of w)) i 0
   byte_at i h =
       ap (λ l. get_or l i 0) (radius-call-marks s done once)
-      ∙ get_or-append (radiusHow (from t c (circles# w) q) r (is_in_lem set) (n# w) (tree_of w)) (drop (n# w) before) 0 i (subst (λ n. i < n) (sym (how_length (from t c (circles# w) q) r (is_in_lem set) w)) h)
+      ∙ get_or-append (radius_how (from t c (circles# w) q) r (is_in_lem set) (n# w) (tree_of w)) (drop (n# w) before) 0 i (subst (λ n. i < n) (sym (how_length (from t c (circles# w) q) r (is_in_lem set) w)) h)
 
 -- ---- a call that is not refused, on an accepted index
 module _ {t : List ℕ} {c : ℕ} {w q : List ℕ} {r : ℕ} {set before after : List ℕ} {number in# met : ℕ}

@@ -11,7 +11,7 @@ use tallies::tally;
 use words::places::rows;
 
 // What a call gives: 0 or why it was refused; on success how many rows are in, and how many were measured.
-#[derive(Drop)]
+#[derive(Clone, Copy)]
 pub struct Found {
     pub number: u32,
     pub inside: usize,

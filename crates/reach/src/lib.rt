@@ -15,7 +15,7 @@ use words::places::{node_count, node_first, node_start, row_at};
 pub mod radii;
 
 // The greatest distance of a member from a node's first, and the least of one other than the first, 0 where there is none.
-#[derive(Drop)]
+#[derive(Clone, Copy)]
 pub struct Reached {
     pub far: u32,
     pub near: u32,

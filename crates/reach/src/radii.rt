@@ -2,7 +2,7 @@
 ghost use Rattle.std.specs.Prelude.{◌<◌, ◌≡◌};
 ghost use Rattle.laws.specs.First.{First};
 ghost use Rattle.measure.specs.Table.{between};
-ghost use Rattle.tree.specs.Check.{wrongReach};
+ghost use Rattle.tree.specs.Check.{wrong_reach_lem};
 ghost use Rattle.tree.specs.Tested.{Tested};
 ghost use Rattle.words.specs.Words.{nodes#, circles#};
 
@@ -13,7 +13,7 @@ use words::places::{node_inner, node_radius, nodes};
 fn wrong_reach(table: &[u16], c: usize, index: &[u32], k: usize) -> bool
     requires tested { Tested index.now table.now c }
     requires k_bound { k < nodes# index.now }
-    ensures { result ≡ wrongReach (between table.now c (circles# index.now)) index.now k }
+    ensures { result ≡ wrong_reach_lem (between table.now c (circles# index.now)) index.now k }
 {
     let found = reaches(table, c, index, k);
     if node_radius(index, k) != found.far {
@@ -25,7 +25,7 @@ fn wrong_reach(table: &[u16], c: usize, index: &[u32], k: usize) -> bool
 // The lowest node with a wrong radius or a wrong inner reach, or the number of nodes.
 pub fn first_wrong_reach(table: &[u16], c: usize, index: &[u32]) -> usize
     requires { Tested index.now table.now c }
-    ensures { First (wrongReach (between table.now c (circles# index.now)) index.now) 0
+    ensures { First (wrong_reach_lem (between table.now c (circles# index.now)) index.now) 0
         (nodes# index.now) result }
 {
     let total = nodes(index);

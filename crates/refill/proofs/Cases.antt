@@ -2,7 +2,7 @@
 use Rattle.copies.specs.Copies.{new_reach}
 use Rattle.moved_runs.specs.Runs.{holds}
 use Rattle.laws.specs.Upto.{sum_to}
-use Rattle.leafward.specs.Changed.{changedAt}
+use Rattle.leafward.specs.Changed.{changed_at}
 use Rattle.measure.specs.Distance.{l1}
 use Rattle.measure.specs.Table.{between}
 use Rattle.refill.specs.Calls.{regrown_words}
@@ -22,7 +22,7 @@ pub stays_case : regrown_words (five ++ 6 ∷ []) five_words 4 1 2 (2 ∷ 5 ∷ 
     ∷ 0 ∷ 2 ∷ 0 ∷ 1 ∷ 1
     ∷ 2 ∷ 2 ∷ 0 ∷ 4 ∷ 4
     ∷ 0 ∷ 0 ∷ 1 ∷ 1 ∷ 2 ∷ 0 ∷ 5 ∷ 4 ∷ 4 ∷ 0 ∷ 3 ∷ 9 ∷ []
-unfolding sum_to l1 between family broods level_nodes nodes numbered encode choose split grow changedAt regrown_of holds new_reach
+unfolding sum_to l1 between family broods level_nodes nodes numbered encode choose split grow changed_at regrown_of holds new_reach
 stays_case = refl
 
 -- ROW 5 IS 12: NODE 2 IS SPLIT, ITS CHILDREN ARE 5 AND 6, AND ITS INNER REACH SHRINKS
@@ -36,7 +36,7 @@ pub splits_case : regrown_words (five ++ 12 ∷ []) five_words 2 1 2 (4 ∷ 3 �
     ∷ 3 ∷ 1 ∷ 0 ∷ 0 ∷ 0
     ∷ 4 ∷ 2 ∷ 0 ∷ 1 ∷ 1
     ∷ 0 ∷ 0 ∷ 1 ∷ 1 ∷ 2 ∷ 0 ∷ 4 ∷ 0 ∷ 3 ∷ 0 ∷ 5 ∷ 1 ∷ []
-unfolding sum_to l1 between family broods level_nodes nodes numbered encode choose split grow changedAt regrown_of holds new_reach
+unfolding sum_to l1 between family broods level_nodes nodes numbered encode choose split grow changed_at regrown_of holds new_reach
 splits_case = refl
 
 -- ROW 5 IS 12, AND THE LIMIT IS HIGHER: NODE 2 STAYS A LEAF OF THREE ROWS
@@ -48,5 +48,5 @@ pub longer_case : regrown_words (five ++ 12 ∷ []) five_words 2 1 1_048_576 (4 
     ∷ 0 ∷ 2 ∷ 0 ∷ 1 ∷ 1
     ∷ 2 ∷ 1 ∷ 0 ∷ 0 ∷ 0
     ∷ 0 ∷ 0 ∷ 1 ∷ 1 ∷ 2 ∷ 0 ∷ 4 ∷ 0 ∷ 3 ∷ 9 ∷ 5 ∷ 8 ∷ []
-unfolding sum_to l1 between family broods level_nodes nodes numbered encode choose split grow changedAt regrown_of holds new_reach
+unfolding sum_to l1 between family broods level_nodes nodes numbered encode choose split grow changed_at regrown_of holds new_reach
 longer_case = refl

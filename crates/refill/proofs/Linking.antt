@@ -3,8 +3,8 @@ use Rattle.copies.specs.Copies.{new_reach}
 use Prim.Native.Nat.{◌*◌, ◌+◌, ◌<◌, ◌≤◌, suc, zero, ℕ}
 use Rattle.appending.specs.Append.{appended, join, keep_own}
 use Rattle.laws.specs.Lists.{range, times}
-use Rattle.laying.proofs.Handing.{join-laid, leafAnew, ready-long, ready-rows, ready-run}
-use Rattle.leafward.specs.Changed.{changedAt}
+use Rattle.laying.proofs.Handing.{join-laid, leaf_anew, ready-long, ready-rows, ready-run}
+use Rattle.leafward.specs.Changed.{changed_at}
 use Rattle.laying.specs.Lay.{Lays, ready, unsplit}
 use Rattle.leafward.specs.Way.{LeafFound}
 use Rattle.limits.specs.Limits.{max_depth, max_rows}
@@ -14,7 +14,7 @@ use Rattle.regrow.proofs.Changes.{one-reaches}
 use Rattle.regrow.proofs.Trees.{small_grown}
 use Rattle.regrow.specs.Calls.{Regrowable, regrown_of}
 use Rattle.rounds.specs.Stretch.{stretch}
-use Rattle.tree.specs.Build.{build, grow, leafOf}
+use Rattle.tree.specs.Build.{build, grow, leaf_of}
 use Rattle.build_refusals.specs.Numbers.{room_of}
 use Rattle.tree.specs.Encode.{encode}
 use Rattle.tree.specs.Grove.{Grove, Reach, bare, fork, leaf, members#, tree_of}
@@ -31,17 +31,17 @@ use native.Mathlib.Omega.{arith}
 
 -- two ways to make a node anew that are the same make the same tree
 changed_same : (w : List ℕ) (R : ℕ → Reach) (v : ℕ) (A B : ℕ → Grove → Grove) → ((deep : ℕ) (g : Grove) → A deep g ≡ B deep g)
-    → (deep k : ℕ) (g : Grove) → changedAt w R v A deep k g ≡ changedAt w R v B deep k g
-unfolding changedAt
+    → (deep k : ℕ) (g : Grove) → changed_at w R v A deep k g ≡ changed_at w R v B deep k g
+unfolding changed_at
 changed_same w R v A B h zero k g = ap (λ (x : Grove). cond (eqb k v) x (leaf (R k) (members# w k) g)) (h zero g)
 changed_same w R v A B h (suc deep) k g =
     ap₂ (λ (x y : Grove). cond (eqb k v) x (cond (inner w k) (fork (R k) y g) (leaf (R k) (members# w k) g))) (h (suc deep) g)
     (all (λ i f. changed_same w R v A B h deep i f) (range (child# w k) (m# w)))
   where
-    all : ((i : ℕ) (f : Grove) → changedAt w R v A deep i f ≡ changedAt w R v B deep i f) → (ks : List ℕ)
-        → foldr (changedAt w R v A deep) bare ks ≡ foldr (changedAt w R v B deep) bare ks
+    all : ((i : ℕ) (f : Grove) → changed_at w R v A deep i f ≡ changed_at w R v B deep i f) → (ks : List ℕ)
+        → foldr (changed_at w R v A deep) bare ks ≡ foldr (changed_at w R v B deep) bare ks
     all ih [] = refl
-    all ih (i ∷ ks) = ih i (foldr (changedAt w R v A deep) bare ks) ∙ ap (changedAt w R v B deep i) (all ih ks)
+    all ih (i ∷ ks) = ih i (foldr (changed_at w R v A deep) bare ks) ∙ ap (changed_at w R v B deep i) (all ih ks)
 
 -- how many rows leaf v may have when row z has joined it: it is not split, or split by the index's own leaf size
 abbrev pub limit_of : List ℕ → ℕ → ℕ → ℕ → ℕ
@@ -62,11 +62,11 @@ module _ (t w : List ℕ) (S : InShape w) (v left : ℕ) (there : v < nodes# w) 
 
   -- leaf v, not split or grown from the run
   anew-same : (R : Reach) (deep : ℕ) (g : Grove)
-      → keep_own R (grow d (m# w) (limit_of w v left (n# w)) deep run g) ≡ leafAnew w S (n# w) v left there d R deep g
+      → keep_own R (grow d (m# w) (limit_of w v left (n# w)) deep run g) ≡ leaf_anew w S (n# w) v left there d R deep g
   anew-same R deep g = go (unsplit w v left (n# w))
     where
       go : (b : Bool) → keep_own R (grow d (m# w) (cond b max_rows (l# w)) deep run g)
-          ≡ keep_own R (cond b (leafOf d run g) (grow d (m# w) (l# w) deep run g))
+          ≡ keep_own R (cond b (leaf_of d run g) (grow d (m# w) (l# w) deep run g))
       go true = ap (keep_own R) (small_grown d (m# w) max_rows deep run g (le-leb (length run) max_rows run-few))
       go false = refl
 
@@ -93,7 +93,7 @@ module _ (t w : List ℕ) (S : InShape w) (v left : ℕ) (there : v < nodes# w) 
   unfolding regrown_of
   regrown-joined some F =
       let R : ℕ → Reach = new_reach d w v 1 in
-      changed_same w R v (λ deep g. keep_own (R v) (grow d (m# w) (limit_of w v left (n# w)) deep run g)) (leafAnew w S (n# w) v left there d (R v))
+      changed_same w R v (λ deep g. keep_own (R v) (grow d (m# w) (limit_of w v left (n# w)) deep run g)) (leaf_anew w S (n# w) v left there d (R v))
       (anew-same (R v)) max_depth 0 bare
       ∙ sym (join-laid w S (n# w) v left there d R (one-reaches d w v) some F)
 

@@ -4,12 +4,12 @@ use Rattle.copies.specs.Copies.{new_reach}
 use Rattle.moved_runs.specs.Runs.{end#}
 use Prim.Native.Nat.{◌+◌, ◌-◌, ◌<◌, ◌≤◌, suc, zero, ℕ}
 use Rattle.appending.specs.Append.{keep_own}
-use Rattle.filling.proofs.Positions.{entries-leaves, pairsOf}
+use Rattle.filling.proofs.Positions.{entries-leaves, pairs_of}
 use Rattle.growing.specs.Levels.{Able, Item, leaves}
 use Rattle.laws.proofs.Lists.{map-append}
 use Rattle.laws.proofs.Ranges.{range_append}
 use Rattle.laws.specs.Lists.{each, range}
-use Rattle.leafward.specs.Changed.{changedAt}
+use Rattle.leafward.specs.Changed.{changed_at}
 use Rattle.limits.specs.Limits.{max_depth}
 use Rattle.measure.specs.Table.{between}
 use Rattle.regrow.proofs.Around.{D, J, due-holds, inner-kids, kept-due, kept-last, which}
@@ -80,11 +80,11 @@ module _ (t w : List ℕ) (v added limit : ℕ) (run : List ℕ) (fits : T (tree
 
   -- node k's tree
   abbrev tree : ℕ → ℕ → Grove → Grove
-  tree deep k g = changedAt w R v anew deep k g
+  tree deep k g = changed_at w R v anew deep k g
 
   -- the trees of nodes side by side
   abbrev trees : ℕ → ℕ → ℕ → Grove
-  trees deep i n = foldr (changedAt w R v anew deep) bare (range i n)
+  trees deep i n = foldr (changed_at w R v anew deep) bare (range i n)
 
   -- ---- where nothing is due, the positions are as they were
   -- those of a node
@@ -109,7 +109,7 @@ module _ (t w : List ℕ) (v added limit : ℕ) (run : List ℕ) (fits : T (tree
 
   -- one node
   old-one : (deep : ℕ) → Old deep
-  unfolding changedAt
+  unfolding changed_at
   old-one zero k g h d = go (eqb k v) refl
     where
       go : (b : Bool) → eqb k v ≡ b
@@ -153,7 +153,7 @@ module _ (t w : List ℕ) (v added limit : ℕ) (run : List ℕ) (fits : T (tree
 
     -- its leaves' members
     abbrev mid : List (ℕ × ℕ)
-    mid = each (pairsOf j.d) (leaves j.d j.m limit left run)
+    mid = each (pairs_of j.d) (leaves j.d j.m limit left run)
 
     -- a node that comes to it
     abbrev Around : ℕ → Type 0
@@ -218,12 +218,12 @@ module _ (t w : List ℕ) (v added limit : ℕ) (run : List ℕ) (fits : T (tree
         sym (own-due t w v added limit run fits there deep) ∙ ap (λ (o : ℕ). due j deep (piece j o)) (sym e) ∙ d in
         let same : deep ≡ left = ap levels z in
         keep-entries (R v) (grow j.d j.m limit deep run g) ∙ entries-leaves j.d j.m limit deep run g
-        ∙ ap (λ (i : ℕ). each (pairsOf j.d) (leaves j.d j.m limit i run) ++ entries g) same
+        ∙ ap (λ (i : ℕ). each (pairs_of j.d) (leaves j.d j.m limit i run) ++ entries g) same
         ∙ sym (ap (λ (o : ℕ). held w (start# w o) (start# w v - start# w o) ++ (mid ++ (held w (end# w v) (end# w o - end# w v) ++ entries g))) e
         ∙ ap₂ (λ (a b : List (ℕ × ℕ)). a ++ (mid ++ (b ++ entries g))) (held_none w (start# w v)) (held_none w (end# w v)))
 
     new-one : (deep : ℕ) → Around deep
-    unfolding changedAt
+    unfolding changed_at
     new-one zero k g h d = go (eqb k v) refl
       where
         go : (b : Bool) → eqb k v ≡ b
@@ -263,7 +263,7 @@ module _ (t w : List ℕ) (v added limit : ℕ) (run : List ℕ) (fits : T (tree
     -- THE POSITIONS: THE OLD ONES BEFORE THE RUN, ITS LEAVES' MEMBERS, AND THE OLD ONES BEHIND IT
     pub regrown-entries : due j max_depth (piece j 0) ≡ (left, ((j.copy v).0, run)) ∷ []
         → entries (regrown_of t w v added limit run)
-        ≡ held w 0 (start# w v) ++ (each (pairsOf (between t (c# w) (circles# w))) (leaves (between t (c# w) (circles# w)) (m# w) limit left run)
+        ≡ held w 0 (start# w v) ++ (each (pairs_of (between t (c# w) (circles# w))) (leaves (between t (c# w) (circles# w)) (m# w) limit left run)
         ++ held w (end# w v) (n# w - end# w v))
     unfolding regrown_of
     regrown-entries d =

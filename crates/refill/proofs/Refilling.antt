@@ -2,7 +2,7 @@
 use Rattle.moved_runs.specs.Runs.{end#}
 use Prim.Native.Nat.{◌*◌, ◌+◌, ◌-◌, ◌≤◌, ℕ}
 use Rattle.filling.proofs.Framed.{framed}
-use Rattle.filling.proofs.Positions.{pairs-laid, pairsOf}
+use Rattle.filling.proofs.Positions.{pairs-laid, pairs_of}
 use Rattle.growing.proofs.Rooms.{room-long}
 use Rattle.filling.proofs.Whole.{encode-words}
 use Rattle.header_words.specs.Header.{header_of}
@@ -32,13 +32,13 @@ use mathlib.Core.Path.{◌∙◌, ◌≡◌, ap, ap₂, refl, sym}
 use native.Mathlib.Omega.{arith}
 
 -- a leaf's members are as many as its rows
-members_long : (d : ℕ → ℕ → ℕ) (ls : List (List ℕ)) → length (each (pairsOf d) ls) ≡ length (joined ls)
+members_long : (d : ℕ → ℕ → ℕ) (ls : List (List ℕ)) → length (each (pairs_of d) ls) ≡ length (joined ls)
 members_long d [] = refl
 members_long d (r ∷ ls) =
     let f : ℕ → ℕ × ℕ = λ i. (i, d (head r) i) in
     omega (
       arith,
-      length-append (pairsOf d r) (each (pairsOf d) ls),
+      length-append (pairs_of d r) (each (pairs_of d) ls),
       length-append r (joined ls),
       length-map r f,
       members_long d ls,
@@ -109,7 +109,7 @@ module _ {t w : List ℕ} {v added limit : ℕ} {room work room₁ work₁ : Lis
       (3 * start# w v) (3 * length g.run) r.entries fore-long mid_long
 
   -- the tree's positions
-  entries-are : entries tree ≡ held w 0 (start# w v) ++ (each (pairsOf d) ls ++ held w (end# w v) (n# w - end# w v))
+  entries-are : entries tree ≡ held w 0 (start# w v) ++ (each (pairs_of d) ls ++ held w (end# w v) (n# w - end# w v))
   entries-are =
       let S = g.change.shape in
       let at = own-start t w v added limit g.run g.tree g.change.there S g.count able g.change.leafy in
@@ -122,8 +122,8 @@ module _ {t w : List ℕ} {v added limit : ℕ} {room work room₁ work₁ : Lis
       omega (
         arith,
         ap length entries-are,
-        length-append (held w 0 (start# w v)) (each (pairsOf d) ls ++ held w (end# w v) (n# w - end# w v)),
-        length-append (each (pairsOf d) ls) (held w (end# w v) (n# w - end# w v)),
+        length-append (held w 0 (start# w v)) (each (pairs_of d) ls ++ held w (end# w v) (n# w - end# w v)),
+        length-append (each (pairs_of d) ls) (held w (end# w v) (n# w - end# w v)),
         held_long w 0 (start# w v),
         held_long w (end# w v) (n# w - end# w v),
         members_long d ls,
@@ -139,7 +139,7 @@ module _ {t w : List ℕ} {v added limit : ℕ} {room work room₁ work₁ : Lis
   words_are =
       let W = g.change.shape.whole.words in
       let A : List (ℕ × ℕ) = held w 0 (start# w v) in
-      let M : List (ℕ × ℕ) = each (pairsOf d) ls in
+      let M : List (ℕ × ℕ) = each (pairs_of d) ls in
       let B : List (ℕ × ℕ) = held w (end# w v) (n# w - end# w v) in
       ap₂ (λ (x y : List ℕ). x ++ y) (sym (held_words w (start# w v) 0 (omega (arith, W, lies))))
       (ap₂ (λ (x y : List ℕ). x ++ y) (ap pairs_in middle ∙ pairs-laid d ls)

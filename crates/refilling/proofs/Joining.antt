@@ -16,7 +16,7 @@ use Rattle.rounds.specs.Entries.{pairs_in}
 use Rattle.rounds.specs.Stretch.{stretch}
 use Rattle.split.specs.Places.{node_at_lem}
 use Rattle.swelling.proofs.Written.{shape_written}
-use Rattle.swelling.specs.Pieces.{levelsFrom, membersFrom, piece_of, written}
+use Rattle.swelling.specs.Pieces.{levels_from, members_from, piece_of, written}
 use Rattle.swelling.specs.Rows.{appended_rows}
 use Rattle.tree.proofs.Good.{pairs-length}
 use Rattle.tree.proofs.Written.{each_words}
@@ -82,21 +82,21 @@ module _ {t : List ℕ} {c : ℕ} {w room work : List ℕ} (J : RowsJoinable t c
       )
 
       -- the nodes and the members, over columns i and rows j
-      abbrev nodesOf : ℕ → ℕ → List Node
-      nodesOf i j =
-          levelsFrom (between t i (circles# w)) w max_depth 1 (piece_of (between t i (circles# w)) w 0 0 (range (n# w) (j - n# w)) ∷ [])
+      abbrev nodes_of : ℕ → ℕ → List Node
+      nodes_of i j =
+          levels_from (between t i (circles# w)) w max_depth 1 (piece_of (between t i (circles# w)) w 0 0 (range (n# w) (j - n# w)) ∷ [])
 
       abbrev members_of : ℕ → ℕ → List (ℕ × ℕ)
-      members_of i j = membersFrom (between t i (circles# w)) w max_depth (piece_of (between t i (circles# w)) w 0 0 (range (n# w) (j - n# w)))
+      members_of i j = members_from (between t i (circles# w)) w max_depth (piece_of (between t i (circles# w)) w 0 0 (range (n# w) (j - n# w)))
 
       -- header, nodes and pairs are the words of the index
-      words_are : header_of n c (circles# w) (m# w) (l# w) made ++ (each (node_words 2) (nodesOf (c# w) n) ++ each pair_words (members_of (c# w) n))
+      words_are : header_of n c (circles# w) (m# w) (l# w) made ++ (each (node_words 2) (nodes_of (c# w) n) ++ each pair_words (members_of (c# w) n))
           ≡ appended_rows t c w
       words_are =
           ap₂ (λ (i k : ℕ).
-          header_of i c (circles# w) (m# w) (l# w) k ++ (each (node_words 2) (nodesOf (c# w) n) ++ each pair_words (members_of (c# w) n)))
+          header_of i c (circles# w) (m# w) (l# w) k ++ (each (node_words 2) (nodes_of (c# w) n) ++ each pair_words (members_of (c# w) n)))
           (sym layered.many) layered.count
-          ∙ ap₂ (λ (i j : ℕ). written c (circles# w) (m# w) (l# w) (nodesOf i j) (members_of i j)) J.columns rows
+          ∙ ap₂ (λ (i j : ℕ). written c (circles# w) (m# w) (l# w) (nodes_of i j) (members_of i j)) J.columns rows
           ∙ sym (shape_written t c w J.shape J.tree J.some)
 
       -- how many words
@@ -105,8 +105,8 @@ module _ {t : List ℕ} {c : ℕ} {w room work : List ℕ} (J : RowsJoinable t c
           ap length (sym words_are)
           ∙ omega (
             arith,
-            length-append (each (node_words 2) (nodesOf (c# w) n)) (each pair_words (members_of (c# w) n)),
-            each_words 2 (nodesOf (c# w) n) (omega arith, omega arith),
+            length-append (each (node_words 2) (nodes_of (c# w) n)) (each pair_words (members_of (c# w) n)),
+            each_words 2 (nodes_of (c# w) n) (omega arith, omega arith),
             pairs-length (members_of (c# w) n),
             layered.count,
             layered.many,
@@ -120,7 +120,7 @@ module _ {t : List ℕ} {c : ℕ} {w room work : List ℕ} (J : RowsJoinable t c
           → RowsJoin t c w room work (put_mid at (length room₃ - at) room₃ ys) work' made
       rows-joined {o} {m} {l} {k} {at} {room₃} {ys} eo em el ek same head place f half cleared =
           let z : 3 * n - 0 ≡ 3 * n = omega arith in
-          let ns : List Node = nodesOf (c# w) n in
+          let ns : List Node = nodes_of (c# w) n in
           let ps : List ℕ = each pair_words (members_of (c# w) n) in
           let pairs : pairs_in (stretch work₂ 0 (3 * n)) ≡ ps = ap (λ (k : ℕ). pairs_in (take k work₂)) z ∙ layered.pairs in
           let header : header_of n c o m l k ≡ header_of n c (circles# w) (m# w) (l# w) made = rw (eo, em, el, ek) refl in

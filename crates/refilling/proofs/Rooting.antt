@@ -3,7 +3,7 @@ use Prim.Native.Nat.{◌*◌, ◌+◌, ◌-◌, ◌<◌, ◌≤◌, suc, zero, �
 use Rattle.appending.specs.Append.{Ascends}
 use Rattle.dealing.proofs.Children.{stand_last}
 use Rattle.dealing.proofs.Settling.{piece-reach, piece-size, piece-start}
-use Rattle.dealing.specs.Pending.{Settles, StandAll, pendOf, reach_of, size_of}
+use Rattle.dealing.specs.Pending.{Settles, StandAll, pend_of, reach_of, size_of}
 use Rattle.deepening.proofs.Sounding.{root-sounds}
 use Rattle.laws.proofs.Parts.{put_more}
 use Rattle.laws.proofs.Ranges.{range-every, range_length}
@@ -145,7 +145,7 @@ module _ {t w : List ℕ} {n : ℕ} {room work : List ℕ} (g : RootAsk t w n ro
       stands-there = subst (λ (x : List ℕ). Stands t (c# w) w false (piece_of d w 0 0 x) part') rows_are (laid.stands 0)
 
       -- its node's words
-      words_are : 0 ∷ n ∷ mark ∷ radius ∷ inner ∷ [] ≡ node_words 2 (pendOf t w false q)
+      words_are : 0 ∷ n ∷ mark ∷ radius ∷ inner ∷ [] ≡ node_words 2 (pend_of t w false q)
       words_are =
           let R : Reach = reach_taking (n# w) (reach# w 0) (map (d (first# w 0)) zs) in
           let eR : reach_of t w q ≡ R =

@@ -45,8 +45,8 @@ module _ (t w : List ℕ) (n : ℕ) (work₀ : List ℕ) where
   upto z = range (n# w) (z - n# w)
 
   -- how far the root reaches with them
-  abbrev reachTo : ℕ → Reach
-  reachTo z = reach_taking (n# w) (reach# w 0) (map far (upto z))
+  abbrev reach_to : ℕ → Reach
+  reach_to z = reach_taking (n# w) (reach# w 0) (map far (upto z))
 
   -- they are laid
   pub record Taking (work : List ℕ) (radius inner z : ℕ) : Type 0 where
@@ -54,8 +54,8 @@ module _ (t w : List ℕ) (n : ℕ) (work₀ : List ℕ) where
     pub most : z ≤ n
     pub long : length work ≡ length work₀
     pub wrote : work ≡ (take (3 * n# w) work₀ ++ each (new_entry t w) (upto z)) ++ drop (3 * z) work₀
-    pub wide : radius ≡ (reachTo z).outer
-    pub near : inner ≡ (reachTo z).inner
+    pub wide : radius ≡ (reach_to z).outer
+    pub near : inner ≡ (reach_to z).inner
 
   -- none is
   pub taking_start : {radius inner z : ℕ} → n# w ≤ n → z ≡ n# w → radius ≡ (reach# w 0).outer → inner ≡ (reach# w 0).inner
@@ -80,13 +80,13 @@ module _ (t w : List ℕ) (n : ℕ) (work₀ : List ℕ) where
       let at : n# w + (z - n# w) ≡ z = omega arith in
       ap (range (n# w)) up ∙ range_append (n# w) (z - n# w) 1 ∙ ap (λ (i : ℕ). upto z ++ i ∷ []) at
 
-  reach-more : (z : ℕ) → n# w ≤ z → reachTo (z + 1) ≡ reach_with z (reachTo z) (far z)
+  reach-more : (z : ℕ) → n# w ≤ z → reach_to (z + 1) ≡ reach_with z (reach_to z) (far z)
   reach-more z h =
       let many : n# w + length (map far (upto z)) ≡ z = omega (arith, length-map (upto z) far, range_length (n# w) (z - n# w)) in
       ap (λ (x : List ℕ). reach_taking (n# w) (reach# w 0) (map far x)) (upto-more z h)
       ∙ ap (reach_taking (n# w) (reach# w 0)) (map-append far (upto z) (z ∷ []))
       ∙ taking_snoc (n# w) (reach# w 0) (map far (upto z)) (far z)
-      ∙ ap (λ (i : ℕ). reach_with i (reachTo z) (far z)) many
+      ∙ ap (λ (i : ℕ). reach_with i (reach_to z) (far z)) many
 
   module _ {work : List ℕ} {radius inner z : ℕ} (inv : Taking work radius inner z) where
     -- the words before row z's
@@ -129,7 +129,7 @@ module _ (t w : List ℕ) (n : ℕ) (work₀ : List ℕ) where
           wide =
               g ∙ ap₂ max inv.wide q ∙ sym (ap (λ (R : Reach). R.outer) (reach-more z inv.some));
           near =
-              b ∙ ap₂ (lower z) inv.near q ∙ lower-is z (reachTo z).inner (far z) (omega (arith, inv.some))
+              b ∙ ap₂ (lower z) inv.near q ∙ lower-is z (reach_to z).inner (far z) (omega (arith, inv.some))
               ∙ sym (ap (λ (R : Reach). R.inner) (reach-more z inv.some));
         }
 
@@ -142,8 +142,8 @@ module _ (t w : List ℕ) (n : ℕ) (work₀ : List ℕ) where
               inv.wrote
               ∙ ap (λ (i : ℕ). (take (3 * n# w) work₀ ++ each (new_entry t w) (upto i)) ++ drop (3 * i) work₀) k
               ∙ append_assoc (take (3 * n# w) work₀) (each (new_entry t w) (new_ones w n)) (drop (3 * n) work₀);
-          far = inv.wide ∙ ap (λ (i : ℕ). (reachTo i).outer) k;
-          near = inv.near ∙ ap (λ (i : ℕ). (reachTo i).inner) k;
+          far = inv.wide ∙ ap (λ (i : ℕ). (reach_to i).outer) k;
+          near = inv.near ∙ ap (λ (i : ℕ). (reach_to i).inner) k;
         }
 
 -- ---- as the code names the columns, the circles and the root's first

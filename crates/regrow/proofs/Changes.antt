@@ -4,7 +4,7 @@ use Rattle.appending.specs.Append.{keep_own}
 use Rattle.copies.specs.Copies.{copied, new_reach}
 use Rattle.moved_runs.specs.Runs.{end#, holds}
 use Rattle.laws.specs.Lists.{range}
-use Rattle.leafward.specs.Changed.{Holds, NewReach, changedAt}
+use Rattle.leafward.specs.Changed.{Holds, NewReach, changed_at}
 use Rattle.measure.specs.Table.{between}
 use Rattle.regrow.proofs.Found.{child-same, j}
 use Rattle.regrow.proofs.Trees.{grove, grown}
@@ -34,8 +34,8 @@ module _ (t w : List ℕ) (v added limit : ℕ) (run : List ℕ) (fits : T (tree
   anew deep g = keep_own (R v) (grow (between t (c# w) (circles# w)) (m# w) limit deep run g)
 
   -- THE TREE WITH NODE V GROWN ANEW IS THAT OF THE PIECES
-  pub changed-pieces : (deep k : ℕ) (g : Grove) → changedAt w R v anew deep k g ≡ grown J (members# w) deep (piece J k) g
-  unfolding changedAt grown copied
+  pub changed-pieces : (deep k : ℕ) (g : Grove) → changed_at w R v anew deep k g ≡ grown J (members# w) deep (piece J k) g
+  unfolding changed_at grown copied
   changed-pieces zero k g = go (eqb k v)
     where
       go : (b : Bool) → cond b (anew zero g) (leaf (R k) (members# w k) g)
@@ -44,22 +44,22 @@ module _ (t w : List ℕ) (v added limit : ℕ) (run : List ℕ) (fits : T (tree
       go false = refl
   changed-pieces (suc deep) k g = go (eqb k v) refl (λ i h. changed-pieces deep i h)
     where
-      all : ((i : ℕ) (h : Grove) → changedAt w R v anew deep i h ≡ grown J (members# w) deep (piece J i) h) → (ks : List ℕ)
-          → foldr (changedAt w R v anew deep) bare ks ≡ grove J (members# w) deep (map (piece J) ks)
+      all : ((i : ℕ) (h : Grove) → changed_at w R v anew deep i h ≡ grown J (members# w) deep (piece J i) h) → (ks : List ℕ)
+          → foldr (changed_at w R v anew deep) bare ks ≡ grove J (members# w) deep (map (piece J) ks)
       all ih [] = refl
-      all ih (i ∷ ks) = ih i (foldr (changedAt w R v anew deep) bare ks) ∙ ap (grown J (members# w) deep (piece J i)) (all ih ks)
+      all ih (i ∷ ks) = ih i (foldr (changed_at w R v anew deep) bare ks) ∙ ap (grown J (members# w) deep (piece J i)) (all ih ks)
 
       inner-or : (b : Bool) (x y : Grove) → cond (not b) x y ≡ cond b y x
       inner-or true x y = refl
       inner-or false x y = refl
 
-      go : (b : Bool) → eqb k v ≡ b → ((i : ℕ) (h : Grove) → changedAt w R v anew deep i h ≡ grown J (members# w) deep (piece J i) h)
+      go : (b : Bool) → eqb k v ≡ b → ((i : ℕ) (h : Grove) → changed_at w R v anew deep i h ≡ grown J (members# w) deep (piece J i) h)
           → cond b (anew (suc deep) g) (cond (not (eqb (child# w k) 0))
-          (fork (R k) (foldr (changedAt w R v anew deep) bare (range (child# w k) (m# w))) g) (leaf (R k) (members# w k) g))
+          (fork (R k) (foldr (changed_at w R v anew deep) bare (range (child# w k) (m# w))) g) (leaf (R k) (members# w k) g))
           ≡ grown J (members# w) (suc deep) (cond b (fresh (J.copy v).0 (R v) run) (kept k)) g
       go true e ih = refl
       go false e ih =
-          inner-or (eqb (child# w k) 0) (fork (R k) (foldr (changedAt w R v anew deep) bare (range (child# w k) (m# w))) g)
+          inner-or (eqb (child# w k) 0) (fork (R k) (foldr (changed_at w R v anew deep) bare (range (child# w k) (m# w))) g)
           (leaf (R k) (members# w k) g)
           ∙ ap (λ (x : Grove). cond (eqb (child# w k) 0) (leaf (R k) (members# w k) g) (fork (R k) x g)) (all ih (range (child# w k) (m# w)))
           ∙ ap (λ (c : ℕ). cond (eqb c 0) (leaf (R k) (members# w k) g) (fork (R k) (grove J (members# w) deep (map (piece J) (range c (m# w)))) g))

@@ -31,12 +31,12 @@ module _ (j : Job) where
   due-fresh (suc deep) s R r = refl
 
   -- what the old nodes among the pieces come to
-  abbrev pub keptDue : ℕ → Piece → List Due
-  keptDue deep (kept o) = due j deep (kept o)
-  keptDue deep (fresh s R r) = []
+  abbrev pub kept_due : ℕ → Piece → List Due
+  kept_due deep (kept o) = due j deep (kept o)
+  kept_due deep (fresh s R r) = []
 
   -- where nothing is due, no run is among the pieces
-  due-none : (deep : ℕ) (qs : List Piece) → each (λ q. due j deep q) qs ≡ [] → (runs_of qs ≡ []) × (each (keptDue deep) qs ≡ [])
+  due-none : (deep : ℕ) (qs : List Piece) → each (λ q. due j deep q) qs ≡ [] → (runs_of qs ≡ []) × (each (kept_due deep) qs ≡ [])
   due-none deep [] e = (refl, refl)
   due-none deep (kept o ∷ qs) e =
       let b = both-none (due j deep (kept o)) (each (λ q. due j deep q) qs) e in
@@ -49,7 +49,7 @@ module _ (j : Job) where
   pub record Reached (deep : ℕ) (x : Due) (qs : List Piece) : Type 0 where
     pub level : x.0 ≡ deep
     pub runs : runs_of qs ≡ x.1 ∷ []
-    pub calm : each (keptDue deep) qs ≡ []
+    pub calm : each (kept_due deep) qs ≡ []
 
   -- where one run is due, it is among the pieces, or no run is
   pub due-one : (deep : ℕ) (x : Due) (qs : List Piece) → each (λ q. due j deep q) qs ≡ x ∷ [] → (runs_of qs ≡ []) ⊎ Reached deep x qs
@@ -105,7 +105,7 @@ module _ (j : Job) where
   fresh-runs (q ∷ qs) = ap (λ (x : List Item). q ∷ x) (fresh-runs qs)
 
   -- and come to nothing more
-  fresh-calm : (deep : ℕ) (qs : List Item) → each (keptDue deep) (map (fresh_of j.d) qs) ≡ []
+  fresh-calm : (deep : ℕ) (qs : List Item) → each (kept_due deep) (map (fresh_of j.d) qs) ≡ []
   fresh-calm deep [] = refl
   fresh-calm deep (q ∷ qs) = fresh-calm deep qs
 
@@ -117,29 +117,29 @@ module _ (j : Job) where
       go true = refl
       go false = fresh-runs (placed s (split j.d j.m r))
 
-  part-calm : (deep s : ℕ) (R : Reach) (r : List ℕ) → each (keptDue deep) (parts j (fresh s R r)) ≡ []
+  part-calm : (deep s : ℕ) (R : Reach) (r : List ℕ) → each (kept_due deep) (parts j (fresh s R r)) ≡ []
   part-calm deep s R r = go (leb (length r) j.limit)
     where
-      go : (b : Bool) → each (keptDue deep) (cond b [] (map (fresh_of j.d) (placed s (split j.d j.m r)))) ≡ []
+      go : (b : Bool) → each (kept_due deep) (cond b [] (map (fresh_of j.d) (placed s (split j.d j.m r)))) ≡ []
       go true = refl
       go false = fresh-calm deep (placed s (split j.d j.m r))
 
   -- THE RUNS OF THE LEVEL BELOW ARE THOSE THAT THE BUILD HAS THERE, and the old nodes come to no other
-  pub calm-down : (deep : ℕ) (qs : List Piece) → each (keptDue (suc deep)) qs ≡ []
-      → (each (keptDue deep) (next_level j qs) ≡ []) × (runs_of (next_level j qs) ≡ items.next_level j.d j.m j.limit (runs_of qs))
+  pub calm-down : (deep : ℕ) (qs : List Piece) → each (kept_due (suc deep)) qs ≡ []
+      → (each (kept_due deep) (next_level j qs) ≡ []) × (runs_of (next_level j qs) ≡ items.next_level j.d j.m j.limit (runs_of qs))
   unfolding due
   calm-down deep [] e = (refl, refl)
   calm-down deep (kept o ∷ qs) e =
       let ps : List Piece = parts j (kept o) in
-      let b = both-none (each (λ q. due j deep q) ps) (each (keptDue (suc deep)) qs) e in
+      let b = both-none (each (λ q. due j deep q) ps) (each (kept_due (suc deep)) qs) e in
       let n = due-none deep ps b.0 in
       let h = calm-down deep qs b.1 in (
-        each_append (keptDue deep) ps (next_level j qs) ∙ ap₂ (λ (x y : List Due). x ++ y) n.1 h.0,
+        each_append (kept_due deep) ps (next_level j qs) ∙ ap₂ (λ (x y : List Due). x ++ y) n.1 h.0,
         each_append run_of ps (next_level j qs) ∙ ap₂ (λ (x y : List Item). x ++ y) n.0 h.1,
       )
   calm-down deep (fresh s R r ∷ qs) e =
       let ps : List Piece = parts j (fresh s R r) in
       let h = calm-down deep qs e in (
-        each_append (keptDue deep) ps (next_level j qs) ∙ ap₂ (λ (x y : List Due). x ++ y) (part-calm deep s R r) h.0,
+        each_append (kept_due deep) ps (next_level j qs) ∙ ap₂ (λ (x y : List Due). x ++ y) (part-calm deep s R r) h.0,
         each_append run_of ps (next_level j qs) ∙ ap₂ (λ (x y : List Item). x ++ y) (part-runs s R r) h.1,
       )

@@ -8,7 +8,7 @@ use Rattle.laws.specs.Every.{Every}
 use Rattle.laws.specs.Lists.{each, keep}
 use Rattle.limits.specs.Limits.{max_depth}
 use Rattle.measure.specs.Table.{between}
-use Rattle.regrow.proofs.Dues.{Due, Reached, calm-down, due-bottom, due-down, due-one, keptDue}
+use Rattle.regrow.proofs.Dues.{Due, Reached, calm-down, due-bottom, due-down, due-one, kept_due}
 use Rattle.regrow.specs.Pieces.{Job, Piece, Sound, all_nodes, due, job_of, level_out_lem, next_level, pending, piece, runs_of}
 use Rattle.regrow.specs.Stages.{Layered, Level, Paved, Planted, Stage, Staged}
 use Rattle.split.specs.Runs.{laid}
@@ -59,7 +59,7 @@ module _ {t w : List ℕ} {v added limit : ℕ} {room₀ work₀ : List ℕ} (g 
   -- it is, or was
   pub record There (items : List Piece) (work : List ℕ) (deep : ℕ) : Type 0 where
     pub tiles : List (List ℕ)
-    pub calm : each (keptDue job deep) items ≡ []
+    pub calm : each (kept_due job deep) items ≡ []
     pub paved : Tiles work tiles
     pub wait : keep (waits limit) (runs_of items) ≡ keep (waits limit) (placed g.base tiles)
     pub below : each (leaves d (m# w) limit deep) tiles ≡ leaves d (m# w) limit g.left g.run

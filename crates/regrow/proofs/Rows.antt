@@ -1,6 +1,6 @@
 -- The pieces of a level: their nodes and the pieces of the level below, for one piece more. Assumes nothing.
 use Prim.Native.Nat.{◌+◌, ◌≤◌, suc, zero, ℕ}
-use Rattle.growing.specs.Levels.{Item, leafNode}
+use Rattle.growing.specs.Levels.{Item, leaf_node}
 use Rattle.laws.proofs.Joins.{each_append}
 use Rattle.laws.specs.Lists.{range}
 use Rattle.regrow.specs.Pieces.{Job, Piece, all_nodes, fresh, fresh_of, kept, level_out_lem, next_level, with_kids, parts, pending, piece}
@@ -21,9 +21,9 @@ kids-some next x [] h = absurd (omega arith)
 kids-some next x (k ∷ ks) h = refl
 
 -- the words of runs' pieces while they wait are those of the build's items
-pub fresh-nodes : (j : Job) (m l : ℕ) (qs : List Item) → map (leafNode j.d m l) qs ≡ map (pending j) (map (fresh_of j.d) qs)
+pub fresh-nodes : (j : Job) (m l : ℕ) (qs : List Item) → map (leaf_node j.d m l) qs ≡ map (pending j) (map (fresh_of j.d) qs)
 fresh-nodes j m l [] = refl
-fresh-nodes j m l (q ∷ qs) = ap (λ (ns : List Node). leafNode j.d m l q ∷ ns) (fresh-nodes j m l qs)
+fresh-nodes j m l (q ∷ qs) = ap (λ (ns : List Node). leaf_node j.d m l q ∷ ns) (fresh-nodes j m l qs)
 
 module _ (j : Job) where
   -- the words of an old node's piece while it waits are its copy

@@ -16,7 +16,7 @@ use Rattle.limits.specs.Limits.{max_depth}
 use Rattle.regrow.proofs.Rows.{kids-some}
 use Rattle.regrow.specs.Pieces.{Fitting, Follow, Job, Piece, Sound, all_nodes, fresh, fresh_of, kept, level_out_lem, next_level, parts, pending, piece, with_kids}
 use Rattle.tree.proofs.Grow.{grown-tally, split-length, split_runs}
-use Rattle.tree.specs.Build.{Run, grow, leafOf, reach, split}
+use Rattle.tree.specs.Build.{Run, grow, leaf_of, reach, split}
 use Rattle.tree.specs.Encode.{Node, numbered}
 use Rattle.tree.specs.Grove.{Grove, Reach, bare, entries, fork, leaf, rows_in}
 use borrow.Author.Tests.{eqb-false, eqb-true, leb-false}
@@ -34,11 +34,11 @@ keep-entries R (leaf S es g) = refl
 keep-entries R (fork S ks g) = refl
 
 -- a run of no more rows than the limit is a leaf at any depth
-pub small_grown : (d : ℕ → ℕ → ℕ) (m l deep : ℕ) (r : List ℕ) (g : Grove) → leb (length r) l ≡ true → grow d m l deep r g ≡ leafOf d r g
+pub small_grown : (d : ℕ → ℕ → ℕ) (m l deep : ℕ) (r : List ℕ) (g : Grove) → leb (length r) l ≡ true → grow d m l deep r g ≡ leaf_of d r g
 unfolding grow
 small_grown d m l zero r g e = refl
 small_grown d m l (suc deep) r g e =
-    ap (λ (b : Bool). cond b (leafOf d r g) (fork (reach d r) (foldr (grow d m l deep) bare (split d m r)) g)) e
+    ap (λ (b : Bool). cond b (leaf_of d r g) (fork (reach d r) (foldr (grow d m l deep) bare (split d m r)) g)) e
 
 -- of the runs that are split, each reaches as far as its own rows
 own-keep : (d : ℕ → ℕ → ℕ) (m l deep : ℕ) (r : List ℕ) (g : Grove) → keep_own (reach d r) (grow d m l deep r g) ≡ grow d m l deep r g
@@ -46,8 +46,8 @@ unfolding grow
 own-keep d m l zero r g = refl
 own-keep d m l (suc deep) r g = go (leb (length r) l)
   where
-    go : (b : Bool) → keep_own (reach d r) (cond b (leafOf d r g) (fork (reach d r) (foldr (grow d m l deep) bare (split d m r)) g))
-        ≡ cond b (leafOf d r g) (fork (reach d r) (foldr (grow d m l deep) bare (split d m r)) g)
+    go : (b : Bool) → keep_own (reach d r) (cond b (leaf_of d r g) (fork (reach d r) (foldr (grow d m l deep) bare (split d m r)) g))
+        ≡ cond b (leaf_of d r g) (fork (reach d r) (foldr (grow d m l deep) bare (split d m r)) g)
     go true = refl
     go false = refl
 
@@ -151,11 +151,11 @@ module _ (j : Job) (es : ℕ → List (ℕ × ℕ)) where
     grown-single (suc deep) s (fresh a R r) g h = go (leb (length r) j.limit) refl
       where
         go : (b : Bool) → leb (length r) j.limit ≡ b
-            → singles s (keep_own R (cond b (leafOf j.d r g)
+            → singles s (keep_own R (cond b (leaf_of j.d r g)
             (fork (reach j.d r) (forest j.d j.m j.limit m1 ml deep (split j.d j.m r)) g)))
             ≡ (
               s,
-              keep_own R (cond b (leafOf j.d r bare)
+              keep_own R (cond b (leaf_of j.d r bare)
                   (fork (reach j.d r) (forest j.d j.m j.limit m1 ml deep (split j.d j.m r)) bare)),
             )
             ∷ singles (s + length r) g
@@ -198,7 +198,7 @@ module _ (j : Job) (es : ℕ → List (ℕ × ℕ)) where
     piece-kids deep (fresh s R r) h = go (leb (length r) j.limit) refl
       where
         go : (b : Bool) → leb (length r) j.limit ≡ b
-            → kids_of s (keep_own R (cond b (leafOf j.d r bare)
+            → kids_of s (keep_own R (cond b (leaf_of j.d r bare)
             (fork (reach j.d r) (forest j.d j.m j.limit m1 ml deep (split j.d j.m r)) bare)))
             ≡ map (one deep) (cond b [] (map (fresh_of j.d) (placed s (split j.d j.m r))))
         go true e = refl
@@ -270,7 +270,7 @@ module _ (j : Job) (es : ℕ → List (ℕ × ℕ)) where
     piece-words deep next (fresh s R r) h = go (leb (length r) j.limit) refl
       where
         go : (b : Bool) → leb (length r) j.limit ≡ b
-            → words_at next s (keep_own R (cond b (leafOf j.d r bare)
+            → words_at next s (keep_own R (cond b (leaf_of j.d r bare)
             (fork (reach j.d r) (forest j.d j.m j.limit m1 ml deep (split j.d j.m r)) bare)))
             ≡ with_kids next (s, length r, 0, R) (cond b [] (map (fresh_of j.d) (placed s (split j.d j.m r))))
         go true e = rw length-map refl

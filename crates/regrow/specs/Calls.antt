@@ -7,7 +7,7 @@ use Rattle.growing.specs.Levels.{leaves}
 use Rattle.growing.specs.Stages.{with_nodes}
 use Rattle.laws.specs.Every.{Every}
 use Rattle.laws.specs.Lists.{each, times}
-use Rattle.leafward.specs.Changed.{changedAt}
+use Rattle.leafward.specs.Changed.{changed_at}
 use Rattle.limits.specs.Limits.{max_depth}
 use Rattle.measure.specs.Table.{between}
 use Rattle.regrow.specs.Pieces.{due, job_of, piece}
@@ -24,7 +24,7 @@ use Rattle.words.specs.Words.{c#, circles#, count#, m#, n#, start#}
 unfoldable pub regrown_of : List ℕ → List ℕ → ℕ → ℕ → ℕ → List ℕ → Grove
 regrown_of t w v added limit run =
     let R : ℕ → Reach = new_reach (between t (c# w) (circles# w)) w v added in
-    changedAt w R v (λ deep g. keep_own (R v) (grow (between t (c# w) (circles# w)) (m# w) limit deep run g)) max_depth 0 bare
+    changed_at w R v (λ deep g. keep_own (R v) (grow (between t (c# w) (circles# w)) (m# w) limit deep run g)) max_depth 0 bare
 
 -- A run stands in the workspace where node v's run is to stand: `added` rows more than node v has, and no row twice if it is to be split. Room and
 -- workspace are a build's

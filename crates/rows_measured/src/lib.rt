@@ -23,7 +23,7 @@ use rows_withdrawn::is_in;
 use words::places::{circles, node_first};
 
 // How many entries the answers have, and the word behind the list of rows measured.
-#[derive(Drop)]
+#[derive(Clone, Copy)]
 pub struct Seen {
     pub held: usize,
     pub next: usize,

@@ -12,7 +12,7 @@ use Rattle.measure.proofs.Rows.{row_ends}
 use Rattle.measure.specs.Table.{from, row, rows_of}
 use Rattle.radius.proofs.How.{written_is, written-length}
 use Rattle.rowset.specs.Sets.{is_in_lem}
-use Rattle.several_queries.specs.Searched.{Asked, Fit, howAfter, howOf, mark_of, measuredBy, some_to}
+use Rattle.several_queries.specs.Searched.{Asked, Fit, how_after, how_of, mark_of, measured_by, some_to}
 use Rattle.tree.specs.Grove.{tree_of}
 use Rattle.tree.specs.Nearest.{is_measured, measured}
 use Rattle.tree.specs.Radius.{marks as marksOf, veiled}
@@ -46,32 +46,32 @@ fresh_or false false = refl
 module _ (t : List ℕ) (c : ℕ) (w qs : List ℕ) (r : ℕ) (s : List ℕ) where
   -- ---- how-bytes
   -- those of a search are n
-  pub how-long : (k : ℕ) → length (howOf t c w qs r s k) ≡ n# w
-  unfolding howOf
+  pub how-long : (k : ℕ) → length (how_of t c w qs r s k) ≡ n# w
+  unfolding how_of
   how-long k = written-length (veiled (is_in_lem s) (marksOf (from t c (circles# w) (row qs c k)) r (tree_of w))) (n# w)
 
   -- beyond n they stay
-  how-behind : (k : ℕ) (how : List ℕ) → drop (n# w) (howAfter t c w qs r s k how) ≡ drop (n# w) how
-  unfolding howAfter
+  how-behind : (k : ℕ) (how : List ℕ) → drop (n# w) (how_after t c w qs r s k how) ≡ drop (n# w) how
+  unfolding how_after
   how-behind zero how = refl
-  how-behind (suc k) how = drop_at (howOf t c w qs r s k) (drop (n# w) how) (n# w) (how-long k)
+  how-behind (suc k) how = drop_at (how_of t c w qs r s k) (drop (n# w) how) (n# w) (how-long k)
 
   -- and there are as many as there were
-  pub after-long : (k : ℕ) (how : List ℕ) → n# w ≤ length how → length (howAfter t c w qs r s k how) ≡ length how
-  unfolding howAfter
+  pub after-long : (k : ℕ) (how : List ℕ) → n# w ≤ length how → length (how_after t c w qs r s k how) ≡ length how
+  unfolding how_after
   after-long zero how h = refl
   after-long (suc k) how h =
-      length-append (howOf t c w qs r s k) (drop (n# w) how) ∙ omega (arith, how-long k, length-drop (n# w) how)
+      length-append (how_of t c w qs r s k) (drop (n# w) how) ∙ omega (arith, how-long k, length-drop (n# w) how)
 
   -- behind k + 1 searches they are those of search k
-  after_next : (k : ℕ) (how : List ℕ) → howAfter t c w qs r s (k + 1) how ≡ howOf t c w qs r s k ++ drop (n# w) how
-  unfolding howAfter
+  after_next : (k : ℕ) (how : List ℕ) → how_after t c w qs r s (k + 1) how ≡ how_of t c w qs r s k ++ drop (n# w) how
+  unfolding how_after
   after_next k how = rw add-one refl
 
   -- one search more, of a query known by an equation
-  pub how-next : InShape w → {q how₁ how₂ : List ℕ} (how : List ℕ) (k : ℕ) → q ≡ row qs c k → how₁ ≡ howAfter t c w qs r s k how
-      → how₂ ≡ write (veiled (is_in_lem s) (marksOf (from t c (circles# w) q) r (tree_of w))) (wiped (n# w) how₁) → how₂ ≡ howAfter t c w qs r s (k + 1) how
-  unfolding howOf
+  pub how-next : InShape w → {q how₁ how₂ : List ℕ} (how : List ℕ) (k : ℕ) → q ≡ row qs c k → how₁ ≡ how_after t c w qs r s k how
+      → how₂ ≡ write (veiled (is_in_lem s) (marksOf (from t c (circles# w) q) r (tree_of w))) (wiped (n# w) how₁) → how₂ ≡ how_after t c w qs r s (k + 1) how
+  unfolding how_of
   how-next S {q} {how₁} how k eq e f =
       f ∙ written_is (from t c (circles# w) q) r (is_in_lem s) w S how₁
       ∙ ap₂ (λ (x y : List ℕ). write (veiled (is_in_lem s) (marksOf (from t c (circles# w) x) r (tree_of w))) (replicate (n# w) 0) ++ y) eq (ap (drop (n# w)) e ∙ how-behind k how)
@@ -84,44 +84,44 @@ module _ (t : List ℕ) (c : ℕ) (w qs : List ℕ) (r : ℕ) (s : List ℕ) whe
   mark-none i = refl
 
   -- one search more
-  mark-next : (k i : ℕ) → mark_of t c w qs r s (k + 1) i ≡ merged (mark_of t c w qs r s k i) (get_or (howOf t c w qs r s k) i 0)
+  mark-next : (k i : ℕ) → mark_of t c w qs r s (k + 1) i ≡ merged (mark_of t c w qs r s k i) (get_or (how_of t c w qs r s k) i 0)
   unfolding mark_of some_to merged
   mark-next k i =
       rw add-one
-      (merged_or (some_to (λ (j : ℕ). leb 2 (get_or (howOf t c w qs r s j) i 0)) k) (leb 2 (get_or (howOf t c w qs r s k) i 0)))
+      (merged_or (some_to (λ (j : ℕ). leb 2 (get_or (how_of t c w qs r s j) i 0)) k) (leb 2 (get_or (how_of t c w qs r s k) i 0)))
 
   -- adds those that are new
-  count_next : (k i : ℕ) → mark_of t c w qs r s (k + 1) i ≡ mark_of t c w qs r s k i + fresh (mark_of t c w qs r s k i) (get_or (howOf t c w qs r s k) i 0)
+  count_next : (k i : ℕ) → mark_of t c w qs r s (k + 1) i ≡ mark_of t c w qs r s k i + fresh (mark_of t c w qs r s k i) (get_or (how_of t c w qs r s k) i 0)
   unfolding mark_of some_to fresh
   count_next k i =
       rw add-one
-      (fresh_or (some_to (λ (j : ℕ). leb 2 (get_or (howOf t c w qs r s j) i 0)) k) (leb 2 (get_or (howOf t c w qs r s k) i 0)))
+      (fresh_or (some_to (λ (j : ℕ). leb 2 (get_or (how_of t c w qs r s j) i 0)) k) (leb 2 (get_or (how_of t c w qs r s k) i 0)))
 
   -- a search's how-bytes by row
-  how_at : (k i : ℕ) (how how₂ : List ℕ) → how₂ ≡ howAfter t c w qs r s (k + 1) how → i < n# w → get_or how₂ i 0 ≡ get_or (howOf t c w qs r s k) i 0
+  how_at : (k i : ℕ) (how how₂ : List ℕ) → how₂ ≡ how_after t c w qs r s (k + 1) how → i < n# w → get_or how₂ i 0 ≡ get_or (how_of t c w qs r s k) i 0
   how_at k i how how₂ e h =
       ap (λ (x : List ℕ). get_or x i 0) (e ∙ after_next k how)
-      ∙ get_or-append (howOf t c w qs r s k) (drop (n# w) how) 0 i (omega (arith, how-long k))
+      ∙ get_or-append (how_of t c w qs r s k) (drop (n# w) how) 0 i (omega (arith, how-long k))
 
   -- how many a search measured
-  pub measured-at : (k : ℕ) (how how₂ : List ℕ) → how₂ ≡ howAfter t c w qs r s (k + 1) how
-      → measured (take (n# w) how₂) ≡ measuredBy t c w qs r s k
-  unfolding measuredBy
+  pub measured-at : (k : ℕ) (how how₂ : List ℕ) → how₂ ≡ how_after t c w qs r s (k + 1) how
+      → measured (take (n# w) how₂) ≡ measured_by t c w qs r s k
+  unfolding measured_by
   measured-at k how how₂ e =
       ap (λ (x : List ℕ). measured (take (n# w) x)) (e ∙ after_next k how)
-      ∙ ap measured (take_at (howOf t c w qs r s k) (drop (n# w) how) (n# w) (how-long k))
+      ∙ ap measured (take_at (how_of t c w qs r s k) (drop (n# w) how) (n# w) (how-long k))
 
   -- ---- k searches
   module _ (how marks : List ℕ) where
     -- none
     pub asked-none : marks ≡ wiped (n# w) marks → Asked t c w qs r s 0 how how marks marks 0 0
-    unfolding howAfter
+    unfolding how_after
     asked-none z =
         record {
           bytes = refl;
           marked = z ∙ ap (λ (x : List ℕ). x ++ drop (n# w) marks) (sym (first_zeros (mark_of t c w qs r s 0) (n# w) mark-none));
           inside = sym (sum_below-zero (mark_of t c w qs r s 0) (n# w) (λ i l. mark-none i));
-          measures = sym (sum_none (measuredBy t c w qs r s));
+          measures = sym (sum_none (measured_by t c w qs r s));
         }
 
     module _ {k : ℕ} {how₁ marks₁ : List ℕ} {in# met : ℕ} (a : Asked t c w qs r s k how how₁ marks marks₁ in# met) where
@@ -149,11 +149,11 @@ module _ (t : List ℕ) (c : ℕ) (w qs : List ℕ) (r : ℕ) (s : List ℕ) whe
                 (ap (drop (n# w)) a.marked ∙ first-behind (mark_of t c w qs r s k) (n# w) (drop (n# w) marks));
             inside = ap₂ ◌+◌ a.inside
                 (f
-                ∙ sum_below-same (λ i. fresh (get_or marks₁ i 0) (get_or how₂ i 0)) (λ i. fresh (mark_of t c w qs r s k i) (get_or (howOf t c w qs r s k) i 0)) (n# w)
+                ∙ sum_below-same (λ i. fresh (get_or marks₁ i 0) (get_or how₂ i 0)) (λ i. fresh (mark_of t c w qs r s k i) (get_or (how_of t c w qs r s k) i 0)) (n# w)
                 (λ i l. ap₂ fresh (old i l) (how_at k i how how₂ bytes l)))
-                ∙ sym (sum_add (mark_of t c w qs r s k) (λ i. fresh (mark_of t c w qs r s k i) (get_or (howOf t c w qs r s k) i 0)) (n# w))
-                ∙ sym (sum_below-same (mark_of t c w qs r s (k + 1)) (λ i. mark_of t c w qs r s k i + fresh (mark_of t c w qs r s k i) (get_or (howOf t c w qs r s k) i 0)) (n# w) (λ i l. count_next k i));
-            measures = ap₂ ◌+◌ a.measures (m ∙ measured-at k how how₂ bytes) ∙ sym (sum_next (measuredBy t c w qs r s) k);
+                ∙ sym (sum_add (mark_of t c w qs r s k) (λ i. fresh (mark_of t c w qs r s k i) (get_or (how_of t c w qs r s k) i 0)) (n# w))
+                ∙ sym (sum_below-same (mark_of t c w qs r s (k + 1)) (λ i. mark_of t c w qs r s k i + fresh (mark_of t c w qs r s k i) (get_or (how_of t c w qs r s k) i 0)) (n# w) (λ i l. count_next k i));
+            measures = ap₂ ◌+◌ a.measures (m ∙ measured-at k how how₂ bytes) ∙ sym (sum_next (measured_by t c w qs r s) k);
           }
 
 -- ---- what one search measures and finds

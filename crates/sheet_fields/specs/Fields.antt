@@ -17,8 +17,8 @@ module _ {A : Type 0} where
   cut parts (x ∷ xs) = cut_at (parts x) x (cut parts xs)
 
   -- all its pieces: one more than there are items that part
-  abbrev pub cutUp : (A → Bool) → List A → List (List A)
-  cutUp parts xs = (cut parts xs).0 ∷ (cut parts xs).1
+  abbrev pub cut_up : (A → Bool) → List A → List (List A)
+  cut_up parts xs = (cut parts xs).0 ∷ (cut parts xs).1
 
 -- ---- a line's fields
 -- a comma, a semicolon or a tab
@@ -55,7 +55,7 @@ something (k ∷ p) = true
 
 -- what stands between blanks
 abbrev pub words : List Kind → List (List Kind)
-words p = keep something (cutUp is_blank_lem p)
+words p = keep something (cut_up is_blank_lem p)
 
 -- no words are one empty field
 abbrev pub or_empty : List (List Kind) → List (List Kind)
@@ -65,7 +65,7 @@ or_empty (w ∷ ws) = w ∷ ws
 -- the fields of a line: it is cut at its commas, semicolons and tabs, and what stands between two of these is cut at its blanks, or is an empty field
 -- if it has nothing but blanks
 unfoldable pub fields : List Kind → List (List Kind)
-fields l = each (λ (p : List Kind). or_empty (words p)) (cutUp is_parting l)
+fields l = each (λ (p : List Kind). or_empty (words p)) (cut_up is_parting l)
 
 -- ---- what a field says
 -- a digit behind the number v

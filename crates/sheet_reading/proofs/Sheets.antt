@@ -7,7 +7,7 @@ use Rattle.sheet_reading.proofs.Laying.{laid, laid-long, laid_more, laid_none}
 use Rattle.sheet_reading.proofs.Runs.{pieces}
 use Rattle.sheet_reading.proofs.Texts.{behind_mark, lines-run, mark-run, whole, wholes, wholes_stay}
 use Rattle.sheet_reading.specs.Closing.{counted, failed, first_blank_lem, onward}
-use Rattle.sheet_fields.specs.Fields.{as_names, as_row, cut, cut_at, cutUp}
+use Rattle.sheet_fields.specs.Fields.{as_names, as_row, cut, cut_at, cut_up}
 use Rattle.sheet_reading.specs.Lines.{blank_line, fields_of, is_newline_lem, kept, lines, named, numbers, onto, unmarked}
 use Rattle.sheet_reading.specs.Reading.{begun, ended, finished, inside, next, run}
 use Rattle.sheet_reading.specs.Reads.{Reads}
@@ -338,12 +338,12 @@ module _ (label : ℕ) (l : List ℕ) (ls : List (List ℕ)) (table : List ℕ) 
 
 -- ---- the whole text
 -- a text has no more lines than one more than its bytes
-cut_short : (t : List ℕ) → length (cutUp is_newline_lem t) ≤ length t + 1
+cut_short : (t : List ℕ) → length (cut_up is_newline_lem t) ≤ length t + 1
 unfolding cut
 cut_short [] = omega arith
 cut_short (b ∷ t) = go (eqb b 10) (cut_short t)
   where
-    go : (q : Bool) → length (cutUp is_newline_lem t) ≤ length t + 1
+    go : (q : Bool) → length (cut_up is_newline_lem t) ≤ length t + 1
         → length ((cut_at q b (cut is_newline_lem t)).0 ∷ (cut_at q b (cut is_newline_lem t)).1) ≤ length (b ∷ t) + 1
     go true h = omega (arith, h)
     go false h = omega (arith, h)
@@ -376,7 +376,7 @@ pub sheet_read : (label : ℕ) (t table : List ℕ) → length t + 2 ≤ 18_446_
 unfolding says lines kept wholes finished
 sheet_read label t table h =
     let s : Reader × List ℕ = next (run (begun label, table) t) 10 in
-    let e : s ≡ wholes (behind_mark label, table) (cutUp is_newline_lem (unmarked t)) =
+    let e : s ≡ wholes (behind_mark label, table) (cut_up is_newline_lem (unmarked t)) =
     sym (run-last t (begun label, table)) ∙ mark-run label table t ∙ lines-run (unmarked t) (behind_mark label) table (marked_past label) in
     let i : Stood 0 0 table (says label (length table) t) (done s) =
     swap refl (ap (λ (x : Reader × List ℕ). done x) (sym e))

@@ -4,7 +4,7 @@ use Rattle.sheet_reading.proofs.Closings.{closed-cases, decided-cases}
 use Rattle.line_reading.proofs.LineRuns.{through}
 use Rattle.sheet_reading.proofs.Runs.{next-read, next-stays, read-newline, read-other, read-return}
 use Rattle.sheet_reading.specs.Closing.{accepted, closed, decided, end_trouble, failed, judged, onward, titles}
-use Rattle.sheet_fields.specs.Fields.{cut, cut_at, cutUp}
+use Rattle.sheet_fields.specs.Fields.{cut, cut_at, cut_up}
 use Rattle.line_reading.specs.InLine.{along, emptied, moved, settled}
 use Rattle.sheet_fields.specs.Kinds.{kind_of, parting, quoting, signing}
 use Rattle.sheet_reading.specs.Lines.{body, is_newline_lem, kinds, unmarked}
@@ -131,7 +131,7 @@ module _ (r : Reader) (table : List ℕ) (b : ℕ) (z : r.fault ≡ 0) (m : 3 �
           )
 
 -- a text that begins behind the mark is read line by line
-pub lines-run : (t : List ℕ) (r : Reader) (table : List ℕ) → 3 ≤ r.mark → run (r, table) (t ++ 10 ∷ []) ≡ wholes (r, table) (cutUp is_newline_lem t)
+pub lines-run : (t : List ℕ) (r : Reader) (table : List ℕ) → 3 ≤ r.mark → run (r, table) (t ++ 10 ∷ []) ≡ wholes (r, table) (cut_up is_newline_lem t)
 unfolding run wholes cut
 lines-run [] r table m = go (eqb r.fault 0) refl
   where
@@ -143,7 +143,7 @@ lines-run [] r table m = go (eqb r.fault 0) refl
 lines-run (b ∷ t) r table m = go (eqb r.fault 0) (eqb b 10) refl refl (lines-run t)
   where
     go : (f n : Bool) → eqb r.fault 0 ≡ f → eqb b 10 ≡ n
-        → ((r : Reader) (table : List ℕ) → 3 ≤ r.mark → run (r, table) (t ++ 10 ∷ []) ≡ wholes (r, table) (cutUp is_newline_lem t))
+        → ((r : Reader) (table : List ℕ) → 3 ≤ r.mark → run (r, table) (t ++ 10 ∷ []) ≡ wholes (r, table) (cut_up is_newline_lem t))
         → run (next (r, table) b) (t ++ 10 ∷ [])
         ≡ wholes (r, table) ((cut_at n b (cut is_newline_lem t)).0 ∷ (cut_at n b (cut is_newline_lem t)).1)
     go true true p q i =
@@ -152,7 +152,7 @@ lines-run (b ∷ t) r table m = go (eqb r.fault 0) (eqb b 10) refl refl (lines-r
         let k : 3 ≤ (closed r table).0.mark = rw (closed-mark r table) m in
         ap (λ (x : Reader × List ℕ). run x (t ++ 10 ∷ [])) e
         ∙ i (closed r table).0 (closed r table).1 k
-        ∙ ap (λ (x : Reader × List ℕ). wholes x (cutUp is_newline_lem t)) (sym (whole_end r table z))
+        ∙ ap (λ (x : Reader × List ℕ). wholes x (cut_up is_newline_lem t)) (sym (whole_end r table z))
     go true false p q i =
         let z : r.fault ≡ 0 = eqb-true r.fault 0 p in
         let e = inside-next r table b z m (eqb-false b 10 q) (cut is_newline_lem t).0 in

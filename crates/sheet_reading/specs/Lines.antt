@@ -1,7 +1,7 @@
 -- The lines of a text. A text is a list of bytes. Assumes nothing.
 use Rattle.std.specs.Prelude.{ℕ, eqb, Bool, ◌&&◌, cond, false, not, true, List, [], ◌∷◌, map}
 use Rattle.laws.specs.Lists.{all, any}
-use Rattle.sheet_fields.specs.Fields.{cutUp, fields, figured, is_blank_lem, worths}
+use Rattle.sheet_fields.specs.Fields.{cut_up, fields, figured, is_blank_lem, worths}
 use Rattle.sheet_fields.specs.Kinds.{kind_of}
 use Rattle.sheet_fields.specs.declared.Kind.{Kind}
 
@@ -58,4 +58,4 @@ is_newline_lem b = eqb b 10
 
 -- the text is cut at its newlines; it may lack the last, and with it there is an empty line behind it, which is left off
 unfoldable pub lines : List ℕ → List (List ℕ)
-lines t = kept (cutUp is_newline_lem (unmarked t))
+lines t = kept (cut_up is_newline_lem (unmarked t))

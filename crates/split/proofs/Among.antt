@@ -30,11 +30,11 @@ module _ (d : ℕ → ℕ → ℕ) where
     other = unchosen d m fore ++ drop early run
 
     -- a centre's run
-    abbrev pub amongOf : ℕ → List ℕ
-    amongOf a = a ∷ keep (λ i. eqb (closest d among i) a) other
+    abbrev pub among_of : ℕ → List ℕ
+    among_of a = a ∷ keep (λ i. eqb (closest d among i) a) other
 
     -- the children's runs
-    pub among-is : split_among d m early run ≡ map amongOf among
+    pub among-is : split_among d m early run ≡ map among_of among
     unfolding split_among
     among-is = refl
 

@@ -144,14 +144,14 @@ module _ (d : ℕ → ℕ → ℕ) where
 
   -- its words where the centres are among its first `early` rows: the centres in their order, then the other rows, each with its closest centre and
   -- the distance
-  abbrev pub chosenWords : ℕ → ℕ → List ℕ → List ℕ
-  chosenWords m early run =
+  abbrev pub chosen_words : ℕ → ℕ → List ℕ → List ℕ
+  chosen_words m early run =
       let cs = chosen m (take early run) in
       each own cs ++ each (held d cs) (unchosen m (take early run) ++ drop early run)
 
   -- THE ROUNDS ON A RUN'S WORDS: the centres of 01, and the rows that wait
   pub chosen-words : (m early : ℕ) (run : List ℕ) → 1 ≤ m → m ≤ early → early ≤ length run → d (head run) (head run) ≡ 0
-      → take 3 (laid d run) ++ rounds_of d (m - 1) (3 * early - 3) (drop 3 (laid d run)) ≡ chosenWords m early run
+      → take 3 (laid d run) ++ rounds_of d (m - 1) (3 * early - 3) (drop 3 (laid d run)) ≡ chosen_words m early run
   chosen-words m zero run h s l z = absurd (omega arith)
   chosen-words m (suc e) [] h s l z = absurd (omega arith)
   chosen-words m (suc e) (a ∷ is) h s l z =

@@ -8,7 +8,7 @@ use Rattle.rounds.proofs.Parts.{stretch_front}
 use Rattle.rounds.specs.Entries.{Entries, InTable, rounds_of}
 use Rattle.rounds.specs.Stretch.{stretch}
 use Rattle.split.proofs.Among.{among, among-all, among-is, among-long, among-words-long, other}
-use Rattle.split.proofs.Held.{chosen-words, chosenWords}
+use Rattle.split.proofs.Held.{chosen-words, chosen_words}
 use Rattle.split.proofs.Laid.{laid-long, under_entries}
 use Rattle.split.proofs.SplitWords.{group-nodes, group-words}
 use Rattle.split.specs.Places.{node_at_lem}
@@ -85,13 +85,13 @@ module _ {t : List ℕ} {c o m n : ℕ} {room work : List ℕ} {s count made : �
     after = with_part work s count ys
 
     -- the run has its centres at its front
-    ys-are : ys ≡ chosenWords d m early run
+    ys-are : ys ≡ chosen_words d m early run
     ys-are =
         rounds ∙ ap (λ (l : List ℕ). take 3 l ++ rounds_of d (m - 1) (3 * early - 3) (drop 3 l)) asked.known
         ∙ chosen-words d m early run asked.share some (omega (arith, run_long, within)) (row_self t c o (head run))
 
     -- three words a row still
-    words_long : length (chosenWords d m early run) ≡ 3 * count
+    words_long : length (chosen_words d m early run) ≡ 3 * count
     words_long = ap length (sym ys-are) ∙ long ∙ part_long
 
     -- the workspace, cut before the run and behind it
@@ -103,7 +103,7 @@ module _ {t : List ℕ} {c o m n : ℕ} {room work : List ℕ} {s count made : �
     after-fore = ap (take lo) after-split ∙ take_at (take lo work) (ys ++ drop hi work) lo fore
 
     -- the run has its words after the rounds
-    after-here : drop lo after ≡ chosenWords d m early run ++ drop hi work
+    after-here : drop lo after ≡ chosen_words d m early run ++ drop hi work
     after-here = ap (drop lo) after-split ∙ drop_at (take lo work) (ys ++ drop hi work) lo fore ∙ ap (λ (l : List ℕ). l ++ drop hi work) ys-are
 
     -- behind the run it is as it was

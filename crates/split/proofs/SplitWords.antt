@@ -7,7 +7,7 @@ use Rattle.split.proofs.Closest.{held, nearness-closest}
 use Rattle.split.proofs.Laid.{under, under_distances, under_size, under_widest}
 use Rattle.split.specs.Runs.{laid, run_nodes}
 use Rattle.split.specs.Shares.{centres, group_nodes, group_words, shared, shared_nodes, waiting}
-use Rattle.tree.specs.Build.{closest, innerReach, nearness, radius}
+use Rattle.tree.specs.Build.{closest, inner_reach, nearness, radius}
 use borrow.Author.Tests.{eqb-true}
 use lib.Dec.{eqb}
 use lib.ListN.{drop, get_or, length, length-append, take}
@@ -60,7 +60,7 @@ module _ (d : ℕ → ℕ → ℕ) (zeroed : (i : ℕ) → d i i ≡ 0) (cs : Li
         let run : List ℕ = run_of d cs is a in
         let n : size (group a es) ≡ length run = ap size (group-laid a) ∙ under_size (d a) a run in
         let w : widest (group a es) ≡ radius d run = ap widest (group-laid a) ∙ under_widest (d a) a run in
-        let i : narrowest (picked a es) ≡ innerReach d run =
+        let i : narrowest (picked a es) ≡ inner_reach d run =
         ap (λ (x : List ℕ). lowest (distances x)) (picked-held a is) ∙ ap lowest (under_distances (d a) a (joining d cs a is)) in
         ap₂ (λ (x y : ℕ). at ∷ x ∷ 0 ∷ y ∷ narrowest (picked a es) ∷ shared_nodes (at + x) es bs) n w
         ∙ ap₂ (λ (z : ℕ) (l : List ℕ). at ∷ length run ∷ 0 ∷ radius d run ∷ z ∷ l) i (nodes-laid (at + length run) bs)

@@ -6,7 +6,7 @@ use Rattle.limits.specs.Limits.{max_columns, max_rows}
 use Rattle.measure.specs.Table.{between}
 use Rattle.rounds.specs.Stretch.{stretch}
 use Rattle.split.specs.Places.{node_at_lem}
-use Rattle.tree.specs.Build.{choose, closest, innerReach, radius, split}
+use Rattle.tree.specs.Build.{choose, closest, inner_reach, radius, split}
 
 -- a run's entries: each member with its distance from the run's first, which is its centre
 abbrev pub laid : (ℕ → ℕ → ℕ) → List ℕ → List ℕ
@@ -15,7 +15,7 @@ laid d run = each (λ i. i ∷ d (head run) i ∷ head run ∷ []) run
 -- the words of the nodes of runs that follow each other from position `at` on, no children yet
 unfoldable pub run_nodes : (ℕ → ℕ → ℕ) → ℕ → List (List ℕ) → List ℕ
 run_nodes d at [] = []
-run_nodes d at (r ∷ rs) = at ∷ length r ∷ 0 ∷ radius d r ∷ innerReach d r ∷ run_nodes d (at + length r) rs
+run_nodes d at (r ∷ rs) = at ∷ length r ∷ 0 ∷ radius d r ∷ inner_reach d r ∷ run_nodes d (at + length r) rs
 
 -- the rows of some entries
 unfoldable pub rows : List ℕ → List ℕ

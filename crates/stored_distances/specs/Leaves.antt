@@ -7,5 +7,5 @@ use Rattle.words.specs.Words.{dist#, first#, row#}
 
 module _ (d : ℕ → ℕ → ℕ) (w : List ℕ) where
   -- 11, of one node: it is a leaf with position p, whose stored distance is wrong
-  unfoldable pub leafWrong : ℕ → ℕ → Bool
-  leafWrong k p = not (inner w k) && in_run w p k && not (eqb (dist# w p) (d (first# w k) (row# w p)))
+  unfoldable pub leaf_wrong_lem : ℕ → ℕ → Bool
+  leaf_wrong_lem k p = not (inner w k) && in_run w p k && not (eqb (dist# w p) (d (first# w k) (row# w p)))

@@ -3,10 +3,10 @@
 #![tactic(auto)]
 
 ghost use Rattle.std.specs.Prelude.{◌<◌};
-ghost use Rattle.stored_distances.specs.Leaves.{leafWrong};
+ghost use Rattle.stored_distances.specs.Leaves.{leaf_wrong_lem};
 ghost use Rattle.laws.specs.First.{First};
 ghost use Rattle.measure.specs.Table.{between};
-ghost use Rattle.tree.specs.Check.{wrongDist};
+ghost use Rattle.tree.specs.Check.{wrong_dist};
 ghost use Rattle.tree.specs.Tested.{Tested};
 ghost use Rattle.words.specs.Words.{nodes#, circles#, n#};
 
@@ -17,7 +17,7 @@ use words::places::{node_child, node_first, node_start, nodes, rows, stored_at};
 fn leaf_wrong(table: &[u16], c: usize, index: &[u32], k: usize) -> usize
     requires tested { Tested index.now table.now c }
     requires k_bound { k < nodes# index.now }
-    ensures { First (leafWrong (between table.now c (circles# index.now)) index.now k) 0
+    ensures { First (leaf_wrong_lem (between table.now c (circles# index.now)) index.now k) 0
         (n# index.now) result }
 {
     let n = rows(index);
@@ -40,7 +40,7 @@ fn leaf_wrong(table: &[u16], c: usize, index: &[u32], k: usize) -> usize
 // The lowest position with a wrong stored distance, or n.
 pub fn first_wrong_distance(table: &[u16], c: usize, index: &[u32]) -> usize
     requires { Tested index.now table.now c }
-    ensures { First (wrongDist (between table.now c (circles# index.now)) index.now) 0
+    ensures { First (wrong_dist (between table.now c (circles# index.now)) index.now) 0
         (n# index.now) result }
 {
     let total = nodes(index);

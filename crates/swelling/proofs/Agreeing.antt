@@ -9,7 +9,7 @@ use Rattle.laws.proofs.Times.{every_same, lefts}
 use Rattle.laws.specs.Every.{Every}
 use Rattle.laws.specs.Lists.{greatest, head, keep, least, lowest, rest, without}
 use Rattle.tree.proofs.Full.{Full, firsts_rows, rows_left, rows_right}
-use Rattle.tree.specs.Build.{choose, closer, closest, farther, farthest, grow, leafOf, nearness, reach, split}
+use Rattle.tree.specs.Build.{choose, closer, closest, farther, farthest, grow, leaf_of, nearness, reach, split}
 use Rattle.tree.specs.Grove.{Grove, Reach, bare, entries, first, firsts, fork, leaf, reaching, rows_in}
 use lib.Dec.{eqb, leb, ltb}
 use lib.ListN.{length, length-append}
@@ -159,7 +159,7 @@ module _ (n : ℕ) (some : 1 ≤ n) where
         (ap lowest (from-agree (head run) (rest run) hd (every_rest (λ i. i < n) run low)))
 
     -- its leaf
-    leaf-same : (run : List ℕ) (g : Grove) → 1 ≤ length run → Low run → leafOf d run g ≡ leafOf d' run g
+    leaf-same : (run : List ℕ) (g : Grove) → 1 ≤ length run → Low run → leaf_of d run g ≡ leaf_of d' run g
     leaf-same run g s low = ap₂ (λ (R : Reach) (es : List (ℕ × ℕ)). leaf R es g) (reach-same run s low) (pairs-agree run s low)
 
     -- nodes side by side

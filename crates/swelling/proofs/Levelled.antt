@@ -14,8 +14,8 @@ use Rattle.swelling.proofs.Counted.{kids-counted, kids-long, members_long}
 use Rattle.swelling.proofs.Parting.{parts-runs}
 use Rattle.swelling.proofs.Routed.{keep-zero}
 use Rattle.swelling.proofs.Swelling.{forest, kids-count}
-use Rattle.swelling.specs.Pieces.{Piece, grown, grown_from, kidFor, kidsFrom, lastly, leafPiece, levelFrom, levelsFrom, old, openAll, opens, piece_of, settled, start_of, waiting}
-use Rattle.swelling.specs.Swell.{flat, lodges, parts, reach_taking, swell, swollen, swollenTree, towards}
+use Rattle.swelling.specs.Pieces.{Piece, grown, grown_from, kid_for, kids_from, lastly, leaf_piece, level_from, levels_from, old, open_all, opens, piece_of, settled, start_of, waiting}
+use Rattle.swelling.specs.Swell.{flat, lodges, parts, reach_taking, swell, swollen, swollen_tree, towards}
 use Rattle.tree.proofs.Forks.{as-fork, as-leaf}
 use Rattle.tree.proofs.Members.{firsts_at, kids-firsts}
 use Rattle.tree.specs.Build.{Run, reach}
@@ -103,12 +103,12 @@ module _ (d : ℕ → ℕ → ℕ) (w : List ℕ) (S : InShape w) where
 
   -- a leaf's
   lodges-single : (deep s o : ℕ) (zs : List ℕ) (g : Grove)
-      → singles s (lodges d m l deep (reach# w o) (members# w o) zs g) ≡ one deep (leafPiece d w s o zs) ∷ singles (s + (count# w o + length zs)) g
+      → singles s (lodges d m l deep (reach# w o) (members# w o) zs g) ≡ one deep (leaf_piece d w s o zs) ∷ singles (s + (count# w o + length zs)) g
   unfolding singles lodges node_of
   lodges-single deep s o [] g =
       ap (λ (k : ℕ). (s, leaf (reach# w o) (members# w o) bare) ∷ singles (s + k) g) (members_long d w S o ∙ sym (add-zero (count# w o)))
   lodges-single deep s o (z ∷ zs) g =
-      go (twice run) refl own ∙ ap (λ (k : ℕ). one deep (leafPiece d w s o (z ∷ zs)) ∷ singles (s + k) g) long
+      go (twice run) refl own ∙ ap (λ (k : ℕ). one deep (leaf_piece d w s o (z ∷ zs)) ∷ singles (s + k) g) long
     where
       run : List ℕ
       run = lefts (members# w o) ++ z ∷ zs
@@ -145,7 +145,7 @@ module _ (d : ℕ → ℕ → ℕ) (w : List ℕ) (S : InShape w) where
       leafy deep e =
           let t : Grove = swollen d m l deep place (suc k) zs g in
           ap (λ (x : Grove). singles s (swollen d m l deep place k zs x)) (as-leaf w deep o g e) ∙ lodges-single deep s o here t
-          ∙ ap (λ (b : Bool). one deep (cond b (old s o here) (leafPiece d w s o here)) ∷ singles (s + (count# w o + length here)) t) (sym e)
+          ∙ ap (λ (b : Bool). one deep (cond b (old s o here) (leaf_piece d w s o here)) ∷ singles (s + (count# w o + length here)) t) (sym e)
 
       go : (deep : ℕ) → Left w deep o → (b : Bool) → inner w o ≡ b → singles s (swollen d m l deep place k zs (tree_at w deep o g))
           ≡ one deep (piece_of d w s o here) ∷ singles (s + (count# w o + length here)) (swollen d m l deep place (suc k) zs g)
@@ -155,7 +155,7 @@ module _ (d : ℕ → ℕ → ℕ) (w : List ℕ) (S : InShape w) where
           let t : Grove = swollen d m l (suc deep) place (suc k) zs g in
           ap (λ (x : Grove). singles s (swollen d m l (suc deep) place k zs x)) (as-fork w deep o g e)
           ∙ ap (λ (n : ℕ). one (suc deep) (old s o here) ∷ singles (s + n) t) (kids-counted d w S deep o h e here)
-          ∙ ap (λ (b : Bool). one (suc deep) (cond b (old s o here) (leafPiece d w s o here)) ∷ singles (s + (count# w o + length here)) t) (sym e)
+          ∙ ap (λ (b : Bool). one (suc deep) (cond b (old s o here) (leaf_piece d w s o here)) ∷ singles (s + (count# w o + length here)) t) (sym e)
 
   -- so many levels below each of some nodes
   abbrev Lefts : ℕ → ℕ → ℕ → Type 0
@@ -173,7 +173,7 @@ module _ (d : ℕ → ℕ → ℕ) (w : List ℕ) (S : InShape w) where
 
   -- OLD NODES SIDE BY SIDE THAT TAKE ROWS
   trees-singles : (deep : ℕ) (place : ℕ → ℕ) (zs : List ℕ) (s o k j : ℕ) → o + j ≤ nodes# w → Lefts deep o j
-      → singles s (swollen d m l deep place k zs (trees deep o j)) ≡ map (one deep) (kidsFrom d w place zs s o k j)
+      → singles s (swollen d m l deep place k zs (trees deep o j)) ≡ map (one deep) (kids_from d w place zs s o k j)
   unfolding swollen singles
   trees-singles deep place zs s o k zero h f = refl
   trees-singles deep place zs s o k (suc j) h f =
@@ -204,7 +204,7 @@ module _ (d : ℕ → ℕ → ℕ) (w : List ℕ) (S : InShape w) where
   kids-are deep (old s o zs) h =
       let inside = ((S.node o h.0).kids h.1).inside in
       trees-singles deep (towards d (kids deep o)) zs s (child# w o) 0 (m# w) inside (kids-left deep o h.0 h.1 h.2)
-      ∙ ap (λ (fs : List ℕ). map (one deep) (kidsFrom d w (λ z. lowest_at (map (λ f. d f z) fs)) zs s (child# w o) 0 (m# w)))
+      ∙ ap (λ (fs : List ℕ). map (one deep) (kids_from d w (λ z. lowest_at (map (λ f. d f z) fs)) zs s (child# w o) 0 (m# w)))
       (kids-firsts w S deep (child# w o) (m# w) inside)
 
   -- a node's words
@@ -252,7 +252,7 @@ module _ (d : ℕ → ℕ → ℕ) (w : List ℕ) (S : InShape w) where
   grown-stand deep s (q ∷ gs) h = (h.0, grown-stand deep (s + length q) gs h.1)
 
   -- a leaf
-  leaf-stand : (deep s o : ℕ) (zs : List ℕ) → Stands deep (leafPiece d w s o zs)
+  leaf-stand : (deep s o : ℕ) (zs : List ℕ) → Stands deep (leaf_piece d w s o zs)
   leaf-stand deep s o [] = tt
   leaf-stand deep s o (z ∷ zs) =
       go (twice (lefts (members# w o) ++ z ∷ zs)) refl
@@ -268,14 +268,14 @@ module _ (d : ℕ → ℕ → ℕ) (w : List ℕ) (S : InShape w) where
   pub piece-stand : (deep s o : ℕ) (zs : List ℕ) → o < nodes# w → Left w deep o → Stands deep (piece_of d w s o zs)
   piece-stand deep s o zs h left = go deep left (inner w o) refl
     where
-      go : (deep : ℕ) → Left w deep o → (b : Bool) → inner w o ≡ b → Stands deep (cond b (old s o zs) (leafPiece d w s o zs))
+      go : (deep : ℕ) → Left w deep o → (b : Bool) → inner w o ≡ b → Stands deep (cond b (old s o zs) (leaf_piece d w s o zs))
       go deep left false e = leaf-stand deep s o zs
       go zero left true e = absurd (subst T (sym e ∙ (S.node o h).bottom left) tt)
       go (suc deep) left true e = (h, e, left)
 
   -- old nodes side by side
   trees-stand : (deep : ℕ) (place : ℕ → ℕ) (zs : List ℕ) (s o k j : ℕ) → o + j ≤ nodes# w → Lefts deep o j
-      → Every (Stands deep) (kidsFrom d w place zs s o k j)
+      → Every (Stands deep) (kids_from d w place zs s o k j)
   trees-stand deep place zs s o k zero h f = tt
   trees-stand deep place zs s o k (suc j) h f =
       let here : List ℕ = keep (λ z. eqb (place z) k) zs in (
@@ -293,12 +293,12 @@ module _ (d : ℕ → ℕ → ℕ) (w : List ℕ) (S : InShape w) where
       go false e =
           grown-stand deep s (parts d (m# w) (l# w) run) (parts-runs d (m# w) (l# w) m1 ml run r (leb-false (length run) (l# w) e))
   opens-stand deep (old s o zs) h =
-      trees-stand deep (kidFor d w o) zs s (child# w o) 0 (m# w) ((S.node o h.0).kids h.1).inside (kids-left deep o h.0 h.1 h.2)
+      trees-stand deep (kid_for d w o) zs s (child# w o) 0 (m# w) ((S.node o h.0).kids h.1).inside (kids-left deep o h.0 h.1 h.2)
 
   -- ---- levels
   -- the nodes of one
-  level-is : (deep next : ℕ) (qs : List Piece) → Every (Stands (suc deep)) qs → level_of next (map (one (suc deep)) qs) ≡ levelFrom d w next qs
-  unfolding level_of levelFrom
+  level-is : (deep next : ℕ) (qs : List Piece) → Every (Stands (suc deep)) qs → level_of next (map (one (suc deep)) qs) ≡ level_from d w next qs
+  unfolding level_of level_from
   level-is deep next [] h = refl
   level-is deep next (q ∷ qs) h =
       let many : length (kids_of (start_of q) (node_of (suc deep) q bare)) ≡ length (opens d w q) =
@@ -315,35 +315,35 @@ module _ (d : ℕ → ℕ → ℕ) (w : List ℕ) (S : InShape w) where
       (ap (λ (ks : List Single). level_of (next + length ks) (map (one zero) qs)) (last-kids q h.0) ∙ last-is (next + 0) qs h.1)
 
   -- the level below
-  lower-is : (deep : ℕ) (qs : List Piece) → Every (Stands (suc deep)) qs → lower (map (one (suc deep)) qs) ≡ map (one deep) (openAll d w qs)
+  lower-is : (deep : ℕ) (qs : List Piece) → Every (Stands (suc deep)) qs → lower (map (one (suc deep)) qs) ≡ map (one deep) (open_all d w qs)
   lower-is deep [] h = refl
   lower-is deep (q ∷ qs) h =
       ap₂ (λ (a b : List Single). a ++ b) (kids-are deep q h.0) (lower-is deep qs h.1)
-      ∙ sym (map-append (one deep) (opens d w q) (openAll d w qs))
+      ∙ sym (map-append (one deep) (opens d w q) (open_all d w qs))
 
   -- which can stand
-  lower-stand : (deep : ℕ) (qs : List Piece) → Every (Stands (suc deep)) qs → Every (Stands deep) (openAll d w qs)
+  lower-stand : (deep : ℕ) (qs : List Piece) → Every (Stands (suc deep)) qs → Every (Stands deep) (open_all d w qs)
   lower-stand deep [] h = tt
-  lower-stand deep (q ∷ qs) h = every_append (Stands deep) (opens d w q) (openAll d w qs) (opens-stand deep q h.0) (lower-stand deep qs h.1)
+  lower-stand deep (q ∷ qs) h = every_append (Stands deep) (opens d w q) (open_all d w qs) (opens-stand deep q h.0) (lower-stand deep qs h.1)
 
   -- all of them
-  levels-are : (deep next : ℕ) (qs : List Piece) → Every (Stands deep) qs → levels_of deep next (map (one deep) qs) ≡ levelsFrom d w deep next qs
-  unfolding levels_of levelsFrom
+  levels-are : (deep next : ℕ) (qs : List Piece) → Every (Stands deep) qs → levels_of deep next (map (one deep) qs) ≡ levels_from d w deep next qs
+  unfolding levels_of levels_from
   levels-are zero next qs h = last-is next qs h
   levels-are (suc deep) next qs h =
       ap₂ (λ (x y : List Node). x ++ y) (level-is deep next qs h)
       (ap (λ (x : List Single). levels_of deep (next + length x) x) (lower-is deep qs h)
-      ∙ ap (λ (k : ℕ). levels_of deep (next + k) (map (one deep) (openAll d w qs))) (length-map (openAll d w qs) (one deep))
-      ∙ levels-are deep (next + length (openAll d w qs)) (openAll d w qs) (lower-stand deep qs h))
+      ∙ ap (λ (k : ℕ). levels_of deep (next + k) (map (one deep) (open_all d w qs))) (length-map (open_all d w qs) (one deep))
+      ∙ levels-are deep (next + length (open_all d w qs)) (open_all d w qs) (lower-stand deep qs h))
 
   -- THE ROOT ALONE
   pub root-alone : (zs : List ℕ) → 1 ≤ n# w
-      → singles 0 (swollenTree d (m# w) (l# w) zs (tree_of w)) ≡ map (one max_depth) (piece_of d w 0 0 zs ∷ [])
+      → singles 0 (swollen_tree d (m# w) (l# w) zs (tree_of w)) ≡ map (one max_depth) (piece_of d w 0 0 zs ∷ [])
   unfolding tree_of
   root-alone zs h =
       let there : 1 ≤ nodes# w = S.whole.rooted h in
       let root : min (nodes# w) 1 ≡ 1 = omega arith in
-      ap (λ (j : ℕ). singles 0 (swollenTree d (m# w) (l# w) zs (trees max_depth 0 j))) root
+      ap (λ (j : ℕ). singles 0 (swollen_tree d (m# w) (l# w) zs (trees max_depth 0 j))) root
       ∙ trees-singles max_depth (λ z. 0) zs 0 0 0 1 there (λ i u. root-left i u)
       ∙ ap (λ (ys : List ℕ). map (one max_depth) (piece_of d w 0 0 ys ∷ [])) (keep-zero zs)
     where
@@ -357,9 +357,9 @@ module _ (d : ℕ → ℕ → ℕ) (w : List ℕ) (S : InShape w) where
 
   -- THE TREE THAT TAKES ALL ROWS AT ONCE IS NUMBERED AS ONE PASS OVER THE LEVELS MAKES ITS NODES
   pub rows-numbered : (zs : List ℕ) → 1 ≤ n# w
-      → numbered (swollenTree d (m# w) (l# w) zs (tree_of w)) ≡ levelsFrom d w max_depth 1 (piece_of d w 0 0 zs ∷ [])
+      → numbered (swollen_tree d (m# w) (l# w) zs (tree_of w)) ≡ levels_from d w max_depth 1 (piece_of d w 0 0 zs ∷ [])
   rows-numbered zs h =
-      let t : Grove = swollenTree d (m# w) (l# w) zs (tree_of w) in
+      let t : Grove = swollen_tree d (m# w) (l# w) zs (tree_of w) in
       let many : span t ≡ 1 = sym (singles-length 0 t) ∙ ap length (root-alone zs h) in
       numbered-items t ∙ ap₂ (λ (k : ℕ) (x : List Single). levels_of max_depth k x) many (root-alone zs h)
       ∙ levels-are max_depth 1 (piece_of d w 0 0 zs ∷ []) (root_stands zs h, tt)

@@ -91,11 +91,11 @@ module _ (d : ℕ → ℕ → ℕ) (m l : ℕ) where
   others run = left d m (early run) ++ drop (suc l) run
 
   -- a centre's group of some rows
-  abbrev pub groupAmong : List ℕ → List ℕ → ℕ → List ℕ
-  groupAmong cs is a = a ∷ keep (λ i. eqb (closest d cs i) a) is
+  abbrev pub group_among : List ℕ → List ℕ → ℕ → List ℕ
+  group_among cs is a = a ∷ keep (λ i. eqb (closest d cs i) a) is
 
   -- the parts are these
-  pub parts_is : (run : List ℕ) → parts d m l run ≡ map (groupAmong (centres run) (others run)) (centres run)
+  pub parts_is : (run : List ℕ) → parts d m l run ≡ map (group_among (centres run) (others run)) (centres run)
   unfolding parts chosen left
   parts_is run = refl
 
@@ -103,7 +103,7 @@ module _ (d : ℕ → ℕ → ℕ) (m l : ℕ) where
   pub parts-heads : (run : List ℕ) → map head (parts d m l run) ≡ centres run
   parts-heads run = ap (map head) (parts_is run) ∙ go (centres run)
     where
-      go : (cs : List ℕ) → map head (map (groupAmong (centres run) (others run)) cs) ≡ cs
+      go : (cs : List ℕ) → map head (map (group_among (centres run) (others run)) cs) ≡ cs
       go [] = refl
       go (c ∷ cs) = ap (λ (k : List ℕ). c ∷ k) (go cs)
 
@@ -123,12 +123,12 @@ module _ (d : ℕ → ℕ → ℕ) (m l : ℕ) where
       let none : drop (suc l) run ≡ [] = drop_of_length-le run {i = suc l} (omega arith) in
       let o : List ℕ = orderly run in
       parts_is run
-      ∙ ap₂ (λ (a b : List ℕ). map (groupAmong (chosen d m (orderly a)) (left d m (orderly a) ++ b)) (chosen d m (orderly a))) front none
-      ∙ ap (λ (b : List ℕ). map (groupAmong (chosen d m o) b) (chosen d m o)) (append-nil (left d m o)) ∙ sym (split-is d m o)
+      ∙ ap₂ (λ (a b : List ℕ). map (group_among (chosen d m (orderly a)) (left d m (orderly a) ++ b)) (chosen d m (orderly a))) front none
+      ∙ ap (λ (b : List ℕ). map (group_among (chosen d m o) b) (chosen d m o)) (append-nil (left d m o)) ∙ sym (split-is d m o)
 
   -- of a run with one row more the closest centre's part has it last
   pub parts_more : (run : List ℕ) (z : ℕ) → l < length run → parts d m l (run ++ z ∷ [])
-      ≡ map (λ a. groupAmong (centres run) (others run) a ++ cond (eqb (closest d (centres run) z) a) (z ∷ []) []) (centres run)
+      ≡ map (λ a. group_among (centres run) (others run) a ++ cond (eqb (closest d (centres run) z) a) (z ∷ []) []) (centres run)
   parts_more run z h =
       let front : early (run ++ z ∷ []) ≡ early run = ap orderly (take-append-le (suc l) run (z ∷ []) h) in
       let cs : List ℕ = centres run in
@@ -136,8 +136,8 @@ module _ (d : ℕ → ℕ → ℕ) (m l : ℕ) where
       ap₂ (λ (a b : List ℕ). left d m a ++ b) front (drop-append-le (suc l) run (z ∷ []) h)
       ∙ sym (append_assoc (left d m (early run)) (drop (suc l) run) (z ∷ [])) in
       parts_is (run ++ z ∷ [])
-      ∙ ap₂ (λ (a b : List ℕ). map (groupAmong (chosen d m a) b) (chosen d m a)) front behind
-      ∙ map_agree (groupAmong cs (others run ++ z ∷ [])) (λ a. groupAmong cs (others run) a ++ cond (eqb (closest d cs z) a) (z ∷ []) [])
+      ∙ ap₂ (λ (a b : List ℕ). map (group_among (chosen d m a) b) (chosen d m a)) front behind
+      ∙ map_agree (group_among cs (others run ++ z ∷ [])) (λ a. group_among cs (others run) a ++ cond (eqb (closest d cs z) a) (z ∷ []) [])
       (λ a. ap (λ (k : List ℕ). a ∷ k) (keep_append (λ i. eqb (closest d cs i) a) (others run) (z ∷ []))) cs
 
   module _ (m1 : 1 ≤ m) (ml : m ≤ l) (run : List ℕ) (r : Run run) (h : l < length run) where
@@ -170,8 +170,8 @@ module _ (d : ℕ → ℕ → ℕ) (m l : ℕ) where
     parts-runs =
         every-both (λ q. 1 ≤ length q) (λ q. (i : ℕ) → times i q ≤ 1) Run (λ q a b. (a, b)) (parts d m l run)
         (subst (Every (λ q. 1 ≤ length q)) (sym (parts_is run))
-        (every_map (λ q. 1 ≤ length q) (groupAmong (centres run) (others run)) (centres run)
-        (every-all (λ a. 1 ≤ length (groupAmong (centres run) (others run) a)) (λ a. omega arith) (centres run))))
+        (every_map (λ q. 1 ≤ length q) (group_among (centres run) (others run)) (centres run)
+        (every-all (λ a. 1 ≤ length (group_among (centres run) (others run) a)) (λ a. omega arith) (centres run))))
         (every_∀ (λ q i. times i q ≤ 1) (parts d m l run)
         (λ i. every_of (λ q. times i q ≤ times i (joined (parts d m l run))) (λ q. times i q ≤ 1)
         (λ q k. omega (arith, parts-tally (eqb i), r.1 i)) (parts d m l run) (part_times i (parts d m l run))))

@@ -7,7 +7,7 @@ use Rattle.measure.specs.Table.{between, rows_of}
 use Rattle.swelling.proofs.Swollen.{joins-swollen}
 use Rattle.swelling.proofs.Turns.{rows-some}
 use Rattle.swelling.specs.Rows.{appended_rows}
-use Rattle.swelling.specs.Swell.{swollenTree}
+use Rattle.swelling.specs.Swell.{swollen_tree}
 use Rattle.tree.proofs.Rows.{full-tree, rows-low}
 use Rattle.tree.specs.Encode.{encode}
 use Rattle.tree.specs.Grove.{tree_of}
@@ -23,7 +23,7 @@ use mathlib.Core.Path.{◌∙◌, ◌≡◌, ap}
 -- the same where the shape is read node by node
 pub shape_at_once : (T : List ℕ) (c : ℕ) (w : List ℕ) (S : InShape w) → dec.T (tree_fits_lem w) → 1 ≤ n# w
     → appended_rows T c w
-    ≡ encode 2 c (circles# w) (m# w) (l# w) (swollenTree (between T c (circles# w)) (m# w) (l# w) (range (n# w) (rows_of T c - n# w)) (tree_of w))
+    ≡ encode 2 c (circles# w) (m# w) (l# w) (swollen_tree (between T c (circles# w)) (m# w) (l# w) (range (n# w) (rows_of T c - n# w)) (tree_of w))
 shape_at_once T c w S fits h =
     rows-some T c w h
     ∙ ap (encode 2 c (circles# w) (m# w) (l# w)) (joins-swollen (between T c (circles# w)) (m# w) (l# w) S.whole.fan.0 S.whole.leaf.0
@@ -32,5 +32,5 @@ shape_at_once T c w S fits h =
 -- THE WORDS OF ALL ROWS, WHERE THE INDEX HAS A ROW, ARE THOSE OF THE TREE THAT TAKES THEM AT ONCE
 pub rows-at_once : (T : List ℕ) (c : ℕ) (w : List ℕ) → whole_ok w ≡ true → shape_ok_lem w ≡ true → 1 ≤ n# w
     → appended_rows T c w
-    ≡ encode 2 c (circles# w) (m# w) (l# w) (swollenTree (between T c (circles# w)) (m# w) (l# w) (range (n# w) (rows_of T c - n# w)) (tree_of w))
+    ≡ encode 2 c (circles# w) (m# w) (l# w) (swollen_tree (between T c (circles# w)) (m# w) (l# w) (range (n# w) (rows_of T c - n# w)) (tree_of w))
 rows-at_once T c w whole shape h = shape_at_once T c w (in_shape w whole shape) (tree-fits w shape) h

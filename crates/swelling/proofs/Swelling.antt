@@ -13,10 +13,10 @@ use Rattle.laws.proofs.Tests.{or_none}
 use Rattle.laws.proofs.Times.{lefts, tally_lefts}
 use Rattle.laws.specs.Every.{Every}
 use Rattle.laws.specs.Lists.{head, joined, tally, times}
-use Rattle.swelling.proofs.Parting.{centre-once, centres, centres-head, closest-place, early, groupAmong, others, parts-heads, parts_is, parts_more, parts-once, parts-runs, parts-tally, parts_within}
+use Rattle.swelling.proofs.Parting.{centre-once, centres, centres-head, closest-place, early, group_among, others, parts-heads, parts_is, parts_more, parts-once, parts-runs, parts-tally, parts_within}
 use Rattle.swelling.specs.Swell.{flat, parts, swell}
 use Rattle.tree.proofs.Centres.{chosen-length}
-use Rattle.tree.specs.Build.{Run, closest, grow, leafOf, reach, split}
+use Rattle.tree.specs.Build.{Run, closest, grow, leaf_of, reach, split}
 use Rattle.tree.specs.Grove.{Grove, Reach, bare, entries, first, firsts, fork, leaf, rows_in}
 use borrow.Author.Tests.{eq-eqb, eqb-true, le-leb, leb-false, leb-true, lt-leb, ne_eqb}
 use lib.Dec.{eqb, leb}
@@ -105,9 +105,9 @@ module _ (d : ℕ → ℕ → ℕ) (m l : ℕ) where
       go false e = long (leb-false (length run) l e)
 
   -- short runs are leaves side by side
-  forest-flat : (deep : ℕ) (gs : List (List ℕ)) → Every (λ q. length q ≤ l) gs → forest deep gs ≡ foldr (leafOf d) bare gs
+  forest-flat : (deep : ℕ) (gs : List (List ℕ)) → Every (λ q. length q ≤ l) gs → forest deep gs ≡ foldr (leaf_of d) bare gs
   forest-flat deep [] h = refl
-  forest-flat deep (q ∷ gs) h = swell-short deep (reach d q) q (forest deep gs) h.0 ∙ ap (leafOf d q) (forest-flat deep gs h.1)
+  forest-flat deep (q ∷ gs) h = swell-short deep (reach d q) q (forest deep gs) h.0 ∙ ap (leaf_of d q) (forest-flat deep gs h.1)
 
   -- ---- the firsts
   -- of nodes side by side they are the runs' heads
@@ -228,7 +228,7 @@ module _ (d : ℕ → ℕ → ℕ) (m l : ℕ) where
               let len : length (ordered z es) ≡ l + 1 = omega (arith, longer_length z es, ordered-length z es) in
               let r : Run (ordered z es) =
               (omega (arith, ordered-length z es), λ i. omega (arith, once i, ordered_tally z (eqb i) es, times_more i z (lefts es))) in
-              let kids : foldr (leafOf d) bare (split d m (ordered z es)) ≡ forest deep (parts d m l (longer z es)) =
+              let kids : foldr (leaf_of d) bare (split d m (ordered z es)) ≡ forest deep (parts d m l (longer z es)) =
               sym (forest-flat deep (split d m (ordered z es)) (split-short d m l m2 ml (ordered z es) r len))
               ∙ ap (forest deep) (sym (parts-once d m l (longer z es) (omega (arith, longer_length z es)))) in
               ap (λ (b : Bool). keep_own R' (grow d m l (suc deep) (cond b (longer z es) (ordered z es)) g))
@@ -296,7 +296,7 @@ module _ (d : ℕ → ℕ → ℕ) (m l : ℕ) where
       kids-snoc deep ih run F h =
           let r : Run run = fresh-run z run F in
           let cs : List ℕ = centres d m l run in
-          let f : ℕ → List ℕ = groupAmong d m l cs (others d m l run) in
+          let f : ℕ → List ℕ = group_among d m l cs (others d m l run) in
           let xs : List ℕ = map (λ f. d f z) cs in
           let len : length cs ≡ m = chosen-length d m m1 (early d m l run) in
           let n : length xs ≡ length cs = length-map cs (λ f. d f z) in

@@ -14,7 +14,7 @@ use Rattle.laws.specs.Lists.{head, keep, range, times}
 use Rattle.limits.specs.Limits.{max_depth}
 use Rattle.swelling.proofs.Swelling.{Fresh, flat-firsts, lodge-swell, pairs-rows, run-fresh, swell-after, swell-firsts, swell-snoc, swell-tally}
 use Rattle.swelling.specs.Rows.{joins}
-use Rattle.swelling.specs.Swell.{flat, lodges, reach_taking, swell, swollen, swollenTree, towards}
+use Rattle.swelling.specs.Swell.{flat, lodges, reach_taking, swell, swollen, swollen_tree, towards}
 use Rattle.tree.proofs.Full.{Full, rows_left, rows_right}
 use Rattle.tree.proofs.Shaped.{Fine}
 use Rattle.tree.specs.Grove.{Grove, Reach, bare, entries, first, firsts, fork, leaf, reaching, rows_in}
@@ -315,7 +315,7 @@ module _ (d : ℕ → ℕ → ℕ) (m l : ℕ) where
 
     -- ROWS JOINED ONE AFTER THE OTHER MAKE THE TREE THAT TAKES THEM ALL AT ONCE
     pub joins-swollen : (n k : ℕ) (t : Grove) → Fine l max_depth t → Full t → Every (λ i. i < n) (rows_in t)
-        → joins d m l (range n k) t ≡ swollenTree d m l (range n k) t
+        → joins d m l (range n k) t ≡ swollen_tree d m l (range n k) t
     unfolding joins
     joins-swollen n zero t fi f low = sym (swollen-none max_depth (λ z. 0) 0 t)
     joins-swollen n (suc k) t fi f low =
@@ -324,4 +324,4 @@ module _ (d : ℕ → ℕ → ℕ) (m l : ℕ) where
         ∙ ap (join d m l (n + k) max_depth 0) (joins-swollen n k t fi f low)
         ∙ join-swollen (n + k) max_depth (λ z. 0) 0 0 (range n k) t fi f (every_of (λ i. i < n) (λ i. i < n + k) (λ i h. omega arith) (rows_in t) low)
         (range-every (λ i. i < n + k) n k (λ i h. omega arith)) refl
-        ∙ ap (λ (zs : List ℕ). swollenTree d m l zs t) (sym more)
+        ∙ ap (λ (zs : List ℕ). swollen_tree d m l zs t) (sym more)

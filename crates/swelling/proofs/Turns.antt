@@ -1,7 +1,7 @@
 -- The words of all rows at once are those of one append after the other, for an index that the full check accepts. Assumes nothing.
 use Prim.Native.Nat.{◌*◌, ◌+◌, ◌-◌, ◌/◌, ◌<◌, ◌≤◌, max, suc, zero, ℕ}
 use Rattle.appending.proofs.Agree.{Agree}
-use Rattle.appending.proofs.Appending.{Longer, append_accepted, append_header, append_one, append_some, append_tree, newTree, row_front}
+use Rattle.appending.proofs.Appending.{Longer, append_accepted, append_header, append_one, append_some, append_tree, new_tree, row_front}
 use Rattle.appending.proofs.Back.{entries_tree}
 use Rattle.appending.proofs.Read.{encode_tree}
 use Rattle.appending.proofs.Wellmade.{accepted_good}
@@ -137,11 +137,11 @@ module _ {T : List ℕ} {c : ℕ} {w : List ℕ} (P : Part T c w) where
       }
 
   -- the row joined by the whole table's distance
-  abbrev joinedTree : Grove
-  joinedTree = join (between T c (circles# w)) (m# w) (l# w) (n# w) max_depth 0 (tree_of w)
+  abbrev joined_tree : Grove
+  joined_tree = join (between T c (circles# w)) (m# w) (l# w) (n# w) max_depth 0 (tree_of w)
 
   -- is that by the part's
-  same_tree : 1 ≤ n# w → newTree step ≡ joinedTree
+  same_tree : 1 ≤ n# w → new_tree step ≡ joined_tree
   same_tree h =
       let G = accepted_good (between (first_rows_lem T c (n# w)) c (circles# w)) w P.accepted P.edition h in
       join-agree (n# w + 1) (omega arith) (between next c (circles# w)) (between T c (circles# w))

@@ -10,9 +10,9 @@ use Rattle.swelling.proofs.Levelled.{Stands, forest-singles, grown-stand, kids, 
 use Rattle.swelling.proofs.Parting.{parts-runs}
 use Rattle.swelling.proofs.Swelled.{shape_at_once}
 use Rattle.swelling.proofs.Swelling.{forest}
-use Rattle.swelling.specs.Pieces.{Piece, by_levels, grown, grown_from, membersFrom, old, opens, piece_of, settled, written}
+use Rattle.swelling.specs.Pieces.{Piece, by_levels, grown, grown_from, members_from, old, opens, piece_of, settled, written}
 use Rattle.swelling.specs.Rows.{appended_rows}
-use Rattle.swelling.specs.Swell.{flat, parts, swell, swollen, swollenTree, towards}
+use Rattle.swelling.specs.Swell.{flat, parts, swell, swollen, swollen_tree, towards}
 use Rattle.tree.specs.Build.{Run}
 use Rattle.tree.specs.Encode.{Node, encode}
 use Rattle.tree.specs.Grove.{Grove, bare, entries, fork, leaf, tree_of}
@@ -44,14 +44,14 @@ singles-members s (fork R ks g) =
 
 module _ (d : ℕ → ℕ → ℕ) (w : List ℕ) (S : InShape w) where
   -- those of pieces' nodes, where each piece has its own
-  pieces-members : (deep : ℕ) → ((q : Piece) → Stands d w S deep q → entries (node_of d w S deep q bare) ≡ membersFrom d w deep q) → (qs : List Piece)
-      → Every (Stands d w S deep) qs → members_of (map (one d w S deep) qs) ≡ each (membersFrom d w deep) qs
+  pieces-members : (deep : ℕ) → ((q : Piece) → Stands d w S deep q → entries (node_of d w S deep q bare) ≡ members_from d w deep q) → (qs : List Piece)
+      → Every (Stands d w S deep) qs → members_of (map (one d w S deep) qs) ≡ each (members_from d w deep) qs
   pieces-members deep ih [] h = refl
   pieces-members deep ih (q ∷ qs) h = ap₂ (λ (a b : List (ℕ × ℕ)). a ++ b) (ih q h.0) (pieces-members deep ih qs h.1)
 
   -- A PIECE'S MEMBERS ARE THOSE OF ITS NODE
-  piece-members : (deep : ℕ) (q : Piece) → Stands d w S deep q → entries (node_of d w S deep q bare) ≡ membersFrom d w deep q
-  unfolding node_of membersFrom swell
+  piece-members : (deep : ℕ) (q : Piece) → Stands d w S deep q → entries (node_of d w S deep q bare) ≡ members_from d w deep q
+  unfolding node_of members_from swell
   piece-members zero (settled s R es) h = append-nil es
   piece-members zero (grown s R run) h = append-nil (map (λ i. (i, d (head run) i)) run)
   piece-members zero (old s o zs) h = absurd h
@@ -65,10 +65,10 @@ module _ (d : ℕ → ℕ → ℕ) (w : List ℕ) (S : InShape w) where
       gs : List (List ℕ)
       gs = parts d (m# w) (l# w) run
 
-      go : ((q : Piece) → Stands d w S deep q → entries (node_of d w S deep q bare) ≡ membersFrom d w deep q) → (b : Bool)
+      go : ((q : Piece) → Stands d w S deep q → entries (node_of d w S deep q bare) ≡ members_from d w deep q) → (b : Bool)
           → leb (length run) (l# w) ≡ b
           → entries (cond b (flat d R run bare) (fork R (forest d (m# w) (l# w) deep gs) bare))
-          ≡ cond b (map (λ i. (i, d (head run) i)) run) (each (λ q. membersFrom d w deep q) (grown_from d s gs))
+          ≡ cond b (map (λ i. (i, d (head run) i)) run) (each (λ q. members_from d w deep q) (grown_from d s gs))
       go ih true e = append-nil (map (λ i. (i, d (head run) i)) run)
       go ih false e =
           let two : 2 ≤ m# w = S.whole.fan.0 in
@@ -79,10 +79,10 @@ module _ (d : ℕ → ℕ → ℕ) (w : List ℕ) (S : InShape w) where
 
   -- THE MEMBERS OF THE TREE THAT TAKES ALL ROWS AT ONCE
   pub rows-members : (zs : List ℕ) → 1 ≤ n# w
-      → entries (swollenTree d (m# w) (l# w) zs (tree_of w)) ≡ membersFrom d w max_depth (piece_of d w 0 0 zs)
+      → entries (swollen_tree d (m# w) (l# w) zs (tree_of w)) ≡ members_from d w max_depth (piece_of d w 0 0 zs)
   rows-members zs h =
       let p : Piece = piece_of d w 0 0 zs in
-      singles-members 0 (swollenTree d (m# w) (l# w) zs (tree_of w)) ∙ ap members_of (root-alone d w S zs h)
+      singles-members 0 (swollen_tree d (m# w) (l# w) zs (tree_of w)) ∙ ap members_of (root-alone d w S zs h)
       ∙ append-nil (entries (node_of d w S max_depth p bare)) ∙ piece-members max_depth p (root_stands d w S zs h)
 
 -- the same where the shape is read node by node

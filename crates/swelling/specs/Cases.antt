@@ -5,9 +5,9 @@ use Rattle.laws.specs.Lists.{range, same}
 use Rattle.laws.specs.Upto.{sum_to}
 use Rattle.measure.specs.Distance.{l1}
 use Rattle.measure.specs.Table.{between, rows_of}
-use Rattle.swelling.specs.Pieces.{by_levels, levelFrom, levelsFrom, membersFrom}
+use Rattle.swelling.specs.Pieces.{by_levels, level_from, levels_from, members_from}
 use Rattle.swelling.specs.Rows.{appended_rows, in_turn, joins}
-use Rattle.swelling.specs.Swell.{lodges, parts, swell, swollen, swollenTree}
+use Rattle.swelling.specs.Swell.{lodges, parts, swell, swollen, swollen_tree}
 use Rattle.tree.specs.Build.{build, choose, grow, split}
 use Rattle.tree.specs.Cases.{five}
 use Rattle.tree.specs.Encode.{broods, encode, family, level_nodes, nodes, numbered}
@@ -27,7 +27,7 @@ pub data Case : Type 0 where
 -- the words of the tree that takes all rows at once
 abbrev pub at_once : List ℕ → List ℕ → List ℕ
 at_once T w =
-    encode 2 1 (circles# w) (m# w) (l# w) (swollenTree (between T 1 (circles# w)) (m# w) (l# w) (range (n# w) (rows_of T 1 - n# w)) (tree_of w))
+    encode 2 1 (circles# w) (m# w) (l# w) (swollen_tree (between T 1 (circles# w)) (m# w) (l# w) (range (n# w) (rows_of T 1 - n# w)) (tree_of w))
 
 -- the index of a table that is built
 unfoldable pub base : List ℕ → List ℕ
@@ -36,7 +36,7 @@ base us = build us 1 0 2 2 2
 
 -- a case comes out as it says
 unfoldable pub right : Case → Bool
-unfolding base appended join lodge lowest_at joins appended_rows in_turn parts swell lodges swollen levelFrom levelsFrom membersFrom
+unfolding base appended join lodge lowest_at joins appended_rows in_turn parts swell lodges swollen level_from levels_from members_from
 right (built us vs w) =
     let old = base us in
     same (appended_rows (us ++ vs) 1 old) w && same (in_turn (us ++ vs) 1 (length vs) old) w && same (at_once (us ++ vs) old) w

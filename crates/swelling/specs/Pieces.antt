@@ -32,31 +32,31 @@ grown_from d s (q ∷ qs) = grown s (reach d q) q ∷ grown_from d (s + length q
 
 module _ (d : ℕ → ℕ → ℕ) (w : List ℕ) where
   -- old leaf o at position s with the rows that it takes: where it takes one it is measured, and one in which a row stands twice is not split
-  abbrev pub leafPiece : ℕ → ℕ → List ℕ → Piece
-  leafPiece s o [] = settled s (reach# w o) (members# w o)
-  leafPiece s o (z ∷ zs) =
+  abbrev pub leaf_piece : ℕ → ℕ → List ℕ → Piece
+  leaf_piece s o [] = settled s (reach# w o) (members# w o)
+  leaf_piece s o (z ∷ zs) =
       let run : List ℕ = map (λ e. e.0) (members# w o) ++ z ∷ zs in
       let own : Reach = reach_taking (length (members# w o)) (reach# w o) (map (d (head run)) (z ∷ zs)) in
       cond (twice run) (settled s own (map (λ i. (i, d (head run) i)) run)) (grown s own run)
 
   -- any old node
   abbrev pub piece_of : ℕ → ℕ → List ℕ → Piece
-  piece_of s o zs = cond (inner w o) (old s o zs) (leafPiece s o zs)
+  piece_of s o zs = cond (inner w o) (old s o zs) (leaf_piece s o zs)
 
   -- which of old node o's children takes row z
-  abbrev pub kidFor : ℕ → ℕ → ℕ
-  kidFor o z = lowest_at (map (λ f. d f z) (map (first# w) (range (child# w o) (m# w))))
+  abbrev pub kid_for : ℕ → ℕ → ℕ
+  kid_for o z = lowest_at (map (λ f. d f z) (map (first# w) (range (child# w o) (m# w))))
 
   -- j old nodes from number o on, side by side from position s on; each takes the rows whose place is its own, and the first's is k
-  abbrev pub kidsFrom : (ℕ → ℕ) → List ℕ → ℕ → ℕ → ℕ → ℕ → List Piece
-  kidsFrom place zs s o k zero = []
-  kidsFrom place zs s o k (suc j) =
+  abbrev pub kids_from : (ℕ → ℕ) → List ℕ → ℕ → ℕ → ℕ → ℕ → List Piece
+  kids_from place zs s o k zero = []
+  kids_from place zs s o k (suc j) =
       let here : List ℕ = keep (λ z. eqb (place z) k) zs in
-      piece_of s o here ∷ kidsFrom place zs (s + (count# w o + length here)) (suc o) (suc k) j
+      piece_of s o here ∷ kids_from place zs (s + (count# w o + length here)) (suc o) (suc k) j
 
   -- the pieces that a piece is opened into
   abbrev pub opens : Piece → List Piece
-  opens (old s o zs) = kidsFrom (kidFor o) zs s (child# w o) 0 (m# w)
+  opens (old s o zs) = kids_from (kid_for o) zs s (child# w o) 0 (m# w)
   opens (grown s R run) = cond (leb (length run) (l# w)) [] (grown_from d s (parts d (m# w) (l# w) run))
   opens (settled s R es) = []
 
@@ -73,33 +73,33 @@ module _ (d : ℕ → ℕ → ℕ) (w : List ℕ) where
   lastly (settled s R es) = (s, length es, 0, R)
 
   -- the nodes of a level; `next` is the number of its first child
-  unfoldable pub levelFrom : ℕ → List Piece → List Node
-  levelFrom next [] = []
-  levelFrom next (q ∷ qs) = waiting q next ∷ levelFrom (next + length (opens q)) qs
+  unfoldable pub level_from : ℕ → List Piece → List Node
+  level_from next [] = []
+  level_from next (q ∷ qs) = waiting q next ∷ level_from (next + length (opens q)) qs
 
   -- the level below
-  abbrev pub openAll : List Piece → List Piece
-  openAll qs = each opens qs
+  abbrev pub open_all : List Piece → List Piece
+  open_all qs = each opens qs
 
   -- the nodes of a level and of the `deep` levels below it
-  unfoldable pub levelsFrom : ℕ → ℕ → List Piece → List Node
-  levelsFrom zero next qs = map lastly qs
-  levelsFrom (suc deep) next qs = levelFrom next qs ++ levelsFrom deep (next + length (openAll qs)) (openAll qs)
+  unfoldable pub levels_from : ℕ → ℕ → List Piece → List Node
+  levels_from zero next qs = map lastly qs
+  levels_from (suc deep) next qs = level_from next qs ++ levels_from deep (next + length (open_all qs)) (open_all qs)
 
   -- the members of a leaf
-  abbrev pub ownMembers : Piece → List (ℕ × ℕ)
-  ownMembers (old s o zs) = []
-  ownMembers (grown s R run) = map (λ i. (i, d (head run) i)) run
-  ownMembers (settled s R es) = es
+  abbrev pub own_members : Piece → List (ℕ × ℕ)
+  own_members (old s o zs) = []
+  own_members (grown s R run) = map (λ i. (i, d (head run) i)) run
+  own_members (settled s R es) = es
 
   -- the members of a piece with at most `deep` levels below it, in the order of their positions: its own, or those that it is opened into
-  unfoldable pub membersFrom : ℕ → Piece → List (ℕ × ℕ)
-  membersFrom zero q = ownMembers q
-  membersFrom (suc deep) (old s o zs) = each (λ q. membersFrom deep q) (opens (old s o zs))
-  membersFrom (suc deep) (settled s R es) = es
-  membersFrom (suc deep) (grown s R run) =
-      let below : List (ℕ × ℕ) = each (λ q. membersFrom deep q) (grown_from d s (parts d (m# w) (l# w) run)) in
-      cond (leb (length run) (l# w)) (ownMembers (grown s R run)) below
+  unfoldable pub members_from : ℕ → Piece → List (ℕ × ℕ)
+  members_from zero q = own_members q
+  members_from (suc deep) (old s o zs) = each (λ q. members_from deep q) (opens (old s o zs))
+  members_from (suc deep) (settled s R es) = es
+  members_from (suc deep) (grown s R run) =
+      let below : List (ℕ × ℕ) = each (λ q. members_from deep q) (grown_from d s (parts d (m# w) (l# w) run)) in
+      cond (leb (length run) (l# w)) (own_members (grown s R run)) below
 
 -- an index of c columns in edition 2, by its nodes and its members
 abbrev pub written : ℕ → ℕ → ℕ → ℕ → List Node → List (ℕ × ℕ) → List ℕ
@@ -110,5 +110,5 @@ written c o m l ns ms =
 abbrev pub by_levels : List ℕ → ℕ → List ℕ → List ℕ
 by_levels T c w =
     let root : Piece = piece_of (between T c (circles# w)) w 0 0 (range (n# w) (rows_of T c - n# w)) in
-    written c (circles# w) (m# w) (l# w) (levelsFrom (between T c (circles# w)) w max_depth 1 (root ∷ []))
-    (membersFrom (between T c (circles# w)) w max_depth root)
+    written c (circles# w) (m# w) (l# w) (levels_from (between T c (circles# w)) w max_depth 1 (root ∷ []))
+    (members_from (between T c (circles# w)) w max_depth root)

@@ -57,5 +57,5 @@ module _ (d : ℕ → ℕ → ℕ) (m l : ℕ) where
       fork own (swollen deep (towards d ks) 0 here ks) (swollen (suc deep) place (suc k) zs g)
 
   -- the whole tree: every row is the root's
-  abbrev pub swollenTree : List ℕ → Grove → Grove
-  swollenTree zs t = swollen max_depth (λ z. 0) 0 zs t
+  abbrev pub swollen_tree : List ℕ → Grove → Grove
+  swollen_tree zs t = swollen max_depth (λ z. 0) 0 zs t

@@ -6,14 +6,14 @@ ghost use Rattle.tree.specs.Nearest.{is_measured, measured};
 ghost use Rattle.tree.specs.Radius.{inside};
 
 // How many rows are in, and how many were measured.
-#[derive(Drop)]
+#[derive(Clone, Copy)]
 pub struct Counts {
     pub inside: usize,
     pub measured: usize,
 }
 
 // The same of so few rows that a byte holds each count.
-#[derive(Drop)]
+#[derive(Clone, Copy)]
 pub struct Few {
     pub inside: u8,
     pub measured: u8,

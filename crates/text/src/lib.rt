@@ -10,7 +10,7 @@ use text_bytes::{NEWLINE, ended, may_end, put_ended, step};
 use text_reading::Place;
 
 // What the reading says: the number, and how many numbers were read.
-#[derive(Drop)]
+#[derive(Clone, Copy)]
 pub struct Numbers {
     pub number: u32,
     pub count: usize,

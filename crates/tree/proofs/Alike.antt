@@ -15,7 +15,7 @@ use Rattle.tree.proofs.NoFaults.{NoFaults, fits, no_faults}
 use Rattle.tree.proofs.Right.{NearAll, Right, rest_map}
 use Rattle.tree.proofs.Rows.{once_to}
 use Rattle.tree.proofs.Shaped.{kept_le}
-use Rattle.tree.specs.Check.{Accepted, faults, nearest#, wrongInner, wrongRadius}
+use Rattle.tree.specs.Check.{Accepted, faults, nearest#, wrong_inner, wrong_radius}
 use Rattle.words.proofs.Levels.{born-le, inner-is}
 use Rattle.words.proofs.Nodes.{closed, node_ok, root_ok}
 use Rattle.words.specs.InShape.{InShape}
@@ -203,20 +203,20 @@ module _ {w v : List ℕ} (A : Alike w v) where
 -- ---- an accepted index's words
 module _ (d : ℕ → ℕ → ℕ) (w : List ℕ) (O : NoFaults d w) where
   -- neither the radius nor the inner reach is wrong
-  neither : (k : ℕ) → k < nodes# w → (wrongRadius d w k ≡ false) × (wrongInner d w k ≡ false)
+  neither : (k : ℕ) → k < nodes# w → (wrong_radius d w k ≡ false) × (wrong_inner d w k ≡ false)
   neither k h =
-      or_parts (wrongRadius d w k) (wrongInner d w k) (every-at (λ k. (wrongRadius d w k || wrongInner d w k) ≡ false) (nodes# w) k O.radii h)
+      or_parts (wrong_radius d w k) (wrong_inner d w k) (every-at (λ k. (wrong_radius d w k || wrong_inner d w k) ≡ false) (nodes# w) k O.radii h)
 
   -- its radii are exact
   pub radius-is : (k : ℕ) → k < nodes# w → radius# w k ≡ greatest (map (λ p. d (first# w k) (row# w p)) (run# w k))
-  unfolding wrongRadius
+  unfolding wrong_radius
   radius-is k h =
       let g : ℕ = greatest (map (λ p. d (first# w k) (row# w p)) (run# w k)) in
       eqb-true (radius# w k) g (not-false (eqb (radius# w k) g) (neither k h).0)
 
   -- in edition 2 its inner reaches are exact
   pub inner-is-nearest : edition# w ≡ 2 → (k : ℕ) → k < nodes# w → inner# w k ≡ nearest# d w k
-  unfolding wrongInner
+  unfolding wrong_inner
   inner-is-nearest e k h =
       eqb-true (inner# w k) (nearest# d w k) (not-false (eqb (inner# w k) (nearest# d w k))
       (and_second (eqb (edition# w) 2) (not (eqb (inner# w k) (nearest# d w k))) (neither k h).1 (eq-eqb (edition# w) 2 e)))

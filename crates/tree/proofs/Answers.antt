@@ -9,7 +9,7 @@ use Rattle.laws.specs.Every.{Every}
 use Rattle.laws.specs.Lists.{has, keep, look, range, tally}
 use Rattle.tree.specs.Grove.{Grove}
 use Rattle.tree.specs.Homes.{homes}
-use Rattle.tree.specs.Nearest.{answers, before, candidates, insert, last_distance, nearHow, passes, remaining, sort}
+use Rattle.tree.specs.Nearest.{answers, before, candidates, insert, last_distance, near_how, passes, remaining, sort}
 use borrow.Author.Tests.{le-leb, lt-ltb}
 use lib.Dec.{leb, ltb}
 use lib.ListN.{get_or, length, length-map, length-take, take}
@@ -30,8 +30,8 @@ keep-length p (i ∷ is) = go (p i) (keep-length p is)
 module _ (x : ℕ → ℕ) (gone : ℕ → Bool) (n : ℕ) where
   -- the how-byte of row i
   pub near-at : (t : Grove) (k i : ℕ) → i < n
-      → get_or (nearHow x gone n t k) i 0 ≡ cond (has i (lefts (answers x gone n k))) 3 (cond (passes x gone n k (look i (homes x t))) 1 0)
-  unfolding nearHow
+      → get_or (near_how x gone n t k) i 0 ≡ cond (has i (lefts (answers x gone n k))) 3 (cond (passes x gone n k (look i (homes x t))) 1 0)
+  unfolding near_how
   near-at t k i h =
       let how : ℕ → ℕ = λ i. cond (has i (lefts (answers x gone n k))) 3 (cond (passes x gone n k (look i (homes x t))) 1 0) in
       get_d_range how 0 n i h ∙ ap how (omega arith)

@@ -14,7 +14,7 @@ use Rattle.measure.specs.Table.{Rounded, between, rows_of}
 use Rattle.tree.proofs.Good.{Good, empty_accepted, encode-accepted}
 use Rattle.tree.proofs.Grow.{grown-even, grown-fine, grown-full, grown-span, grown-tally}
 use Rattle.tree.proofs.Grown.{grown-sound}
-use Rattle.tree.specs.Build.{Run, build, grow, leafOf, plant, reach, split}
+use Rattle.tree.specs.Build.{Run, build, grow, leaf_of, plant, reach, split}
 use Rattle.tree.specs.Check.{Accepted}
 use Rattle.tree.specs.Encode.{encode}
 use Rattle.tree.specs.Grove.{Grove, bare, entries, fork, rows_in}
@@ -32,7 +32,7 @@ module _ (d : ℕ → ℕ → ℕ) (S : Space d) (D : (i j : ℕ) → d i j ≤ 
   InRange g = Every (λ e. e.1 ≤ max_distance) (entries g)
 
   -- those of a leaf are
-  leaf-dists : (run : List ℕ) (g : Grove) → InRange g → InRange (leafOf d run g)
+  leaf-dists : (run : List ℕ) (g : Grove) → InRange g → InRange (leaf_of d run g)
   leaf-dists run g h =
       every_append (λ e. e.1 ≤ max_distance) (map (λ i. (i, d (head run) i)) run) (entries g)
       (every_map (λ e. e.1 ≤ max_distance) (λ i. (i, d (head run) i)) run
@@ -50,7 +50,7 @@ module _ (d : ℕ → ℕ → ℕ) (S : Space d) (D : (i j : ℕ) → d i j ≤ 
       forest ih (q ∷ gs) = ih q (foldr (grow d m l deep) bare gs) (forest ih gs)
 
       go : ((run : List ℕ) (g : Grove) → InRange g → InRange (grow d m l deep run g)) → (b : Bool)
-          → InRange (cond b (leafOf d run g) (fork (reach d run) (foldr (grow d m l deep) bare (split d m run)) g))
+          → InRange (cond b (leaf_of d run g) (fork (reach d run) (foldr (grow d m l deep) bare (split d m run)) g))
       go ih true = leaf-dists run g h
       go ih false =
           every_append (λ e. e.1 ≤ max_distance) (entries (foldr (grow d m l deep) bare (split d m run))) (entries g) (forest ih (split d m run)) h

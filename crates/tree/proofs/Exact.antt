@@ -9,8 +9,8 @@ use Rattle.measure.specs.Space.{Point}
 use Rattle.tree.proofs.Full.{Full}
 use Rattle.tree.proofs.Sound.{Sound, Valid, valid-under, valid-zero}
 use Rattle.tree.specs.Grove.{Grove, Reach, bare, first, firsts, fork, leaf, rows_in}
-use Rattle.tree.specs.Homes.{child_bound_lem, nearestOf}
-use Rattle.tree.specs.Radius.{byDistance, inLeaf, marks, marksIn, shown, visit}
+use Rattle.tree.specs.Homes.{child_bound_lem, nearest_of}
+use Rattle.tree.specs.Radius.{by_distance, in_leaf_lem, marks, marks_in, shown, visit}
 use borrow.Author.Tests.{leb-false, leb-true, ltb-true}
 use lib.Dec.{leb, ltb}
 use mathlib.Core.Bool.{Bool, cond, false, true, true≢false}
@@ -33,7 +33,7 @@ module _ (x : ℕ → ℕ) (r : ℕ) where
       go false = (λ k. (refl, h.0 k), λ k. h.1 k.1)
 
   -- of a measured row
-  distance-exact : (i : ℕ) → Exact (i, byDistance x r i)
+  distance-exact : (i : ℕ) → Exact (i, by_distance x r i)
   distance-exact i = go (leb (x i) r) refl
     where
       go : (b : Bool) → leb (x i) r ≡ b → Exact (i, cond b 3 1)
@@ -57,11 +57,11 @@ module _ (x : ℕ → ℕ) (r : ℕ) where
 
 module _ (d : ℕ → ℕ → ℕ) (x : ℕ → ℕ) (r : ℕ) (M : Point d x) where
   -- of a row in an opened leaf
-  leaf-exact : (f : ℕ) (e : ℕ × ℕ) → d f e.0 ≡ e.1 → Exact x r (e.0, inLeaf x r f e)
+  leaf-exact : (f : ℕ) (e : ℕ × ℕ) → d f e.0 ≡ e.1 → Exact x r (e.0, in_leaf_lem x r f e)
   leaf-exact f e h = go (ltb r (gap (x f) e.1)) (leb (x f + e.1) r) refl refl
     where
       go : (s t : Bool) → ltb r (gap (x f) e.1) ≡ s → leb (x f + e.1) r ≡ t
-          → Exact x r (e.0, cond s 0 (cond t 2 (byDistance x r e.0)))
+          → Exact x r (e.0, cond s 0 (cond t 2 (by_distance x r e.0)))
       go true t k q = omega (arith, ltb-true r (gap (x f) e.1) k, M.up f e.0, M.down f e.0, M.across f e.0)
       go false true k q = omega (arith, leb-true (x f + e.1) r q, M.up f e.0)
       go false false k q = distance-exact x r e.0
@@ -71,37 +71,37 @@ module _ (d : ℕ → ℕ → ℕ) (x : ℕ → ℕ) (r : ℕ) (M : Point d x) w
   reach-up f R is h = every_of (λ i. d f i ≤ R) (λ i. x i ≤ x f + R) (λ i k. omega (arith, M.up f i)) is h
 
   -- every mark below a node is right, where no row is closer than the node's bound
-  marksIn-exact : (β : ℕ → Reach → ℕ) (g : Grove) → Full g → Sound d g → Valid x β g → Every (Exact x r) (marksIn x r β g)
-  unfolding marksIn
+  marksIn-exact : (β : ℕ → Reach → ℕ) (g : Grove) → Full g → Sound d g → Valid x β g → Every (Exact x r) (marks_in x r β g)
+  unfolding marks_in
   marksIn-exact β bare w hs hv = tt
   marksIn-exact β (leaf R es g) w hs hv =
       let f : ℕ = head (lefts es) in
-      every_append (Exact x r) (visit x r (x f) R (β (x f) R) (rest (lefts es)) (map (λ e. (e.0, inLeaf x r f e)) (rest es))) (marksIn x r β g)
-      (visit-exact x r (x f) R (β (x f) R) (rest (lefts es)) (map (λ e. (e.0, inLeaf x r f e)) (rest es))
+      every_append (Exact x r) (visit x r (x f) R (β (x f) R) (rest (lefts es)) (map (λ e. (e.0, in_leaf_lem x r f e)) (rest es))) (marks_in x r β g)
+      (visit-exact x r (x f) R (β (x f) R) (rest (lefts es)) (map (λ e. (e.0, in_leaf_lem x r f e)) (rest es))
       (every_rest (λ i. x i ≤ x f + R.outer) (lefts es) (reach-up f R.outer (lefts es) hs.1.up))
       hv.0
-      (every_map (Exact x r) (λ e. (e.0, inLeaf x r f e)) (rest es)
-      (every_rest (λ e. Exact x r (e.0, inLeaf x r f e)) es
-      (every_of (λ e. d f e.0 ≡ e.1) (λ e. Exact x r (e.0, inLeaf x r f e)) (λ e h. leaf-exact f e h) es hs.0))))
+      (every_map (Exact x r) (λ e. (e.0, in_leaf_lem x r f e)) (rest es)
+      (every_rest (λ e. Exact x r (e.0, in_leaf_lem x r f e)) es
+      (every_of (λ e. d f e.0 ≡ e.1) (λ e. Exact x r (e.0, in_leaf_lem x r f e)) (λ e h. leaf-exact f e h) es hs.0))))
       (marksIn-exact β g w.1 hs.2 hv.1)
   marksIn-exact β (fork R ks g) w hs hv =
       let f : ℕ = first ks in
-      let opened : List (ℕ × ℕ) = map (λ i. (i, byDistance x r i)) (rest (firsts ks)) ++ marksIn x r (child_bound_lem (β (x f) R) (nearestOf x ks)) ks in
-      every_append (Exact x r) (visit x r (x f) R (β (x f) R) (rest (rows_in ks)) opened) (marksIn x r β g)
+      let opened : List (ℕ × ℕ) = map (λ i. (i, by_distance x r i)) (rest (firsts ks)) ++ marks_in x r (child_bound_lem (β (x f) R) (nearest_of x ks)) ks in
+      every_append (Exact x r) (visit x r (x f) R (β (x f) R) (rest (rows_in ks)) opened) (marks_in x r β g)
       (visit-exact x r (x f) R (β (x f) R) (rest (rows_in ks)) opened
       (every_rest (λ i. x i ≤ x f + R.outer) (rows_in ks) (reach-up f R.outer (rows_in ks) hs.1.up))
       hv.0
-      (every_append (Exact x r) (map (λ i. (i, byDistance x r i)) (rest (firsts ks))) (marksIn x r (child_bound_lem (β (x f) R) (nearestOf x ks)) ks)
-      (every_map (Exact x r) (λ i. (i, byDistance x r i)) (rest (firsts ks))
-      (every-all (λ i. Exact x r (i, byDistance x r i)) (distance-exact x r) (rest (firsts ks))))
-      (marksIn-exact (child_bound_lem (β (x f) R) (nearestOf x ks)) ks w.1 hs.2 (valid-under d x M (β (x f) R) ks w.1 hv.0 hs.0 hs.2))))
+      (every_append (Exact x r) (map (λ i. (i, by_distance x r i)) (rest (firsts ks))) (marks_in x r (child_bound_lem (β (x f) R) (nearest_of x ks)) ks)
+      (every_map (Exact x r) (λ i. (i, by_distance x r i)) (rest (firsts ks))
+      (every-all (λ i. Exact x r (i, by_distance x r i)) (distance-exact x r) (rest (firsts ks))))
+      (marksIn-exact (child_bound_lem (β (x f) R) (nearest_of x ks)) ks w.1 hs.2 (valid-under d x M (β (x f) R) ks w.1 hv.0 hs.0 hs.2))))
       (marksIn-exact β g w.2 hs.3 hv.1)
 
   -- every mark that the search makes is right
   pub marks-exact : (t : Grove) → Full t → Sound d t → Every (Exact x r) (marks x r t)
   unfolding marks
   marks-exact t w hs =
-      every_append (Exact x r) (map (λ f. (f, byDistance x r f)) (firsts t)) (marksIn x r (λ x R. 0) t)
-      (every_map (Exact x r) (λ i. (i, byDistance x r i)) (firsts t) (every-all (λ i. Exact x r (i, byDistance x r i)) (distance-exact x r)
+      every_append (Exact x r) (map (λ f. (f, by_distance x r f)) (firsts t)) (marks_in x r (λ x R. 0) t)
+      (every_map (Exact x r) (λ i. (i, by_distance x r i)) (firsts t) (every-all (λ i. Exact x r (i, by_distance x r i)) (distance-exact x r)
       (firsts t)))
       (marksIn-exact (λ x R. 0) t w hs (valid-zero x t))

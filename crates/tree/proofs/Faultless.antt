@@ -10,7 +10,7 @@ use Rattle.laws.specs.Every.{Every}
 use Rattle.laws.specs.Lists.{any, each, greatest, keep, range, times}
 use Rattle.limits.specs.Said.{Said}
 use Rattle.tree.proofs.Right.{Right}
-use Rattle.tree.specs.Check.{again, faults, in_run, nearest#, strays, wrongDist, wrongInner, wrongRadius}
+use Rattle.tree.specs.Check.{again, faults, in_run, nearest#, strays, wrong_dist, wrong_inner, wrong_radius}
 use Rattle.words.specs.Shape.{inner}
 use Rattle.words.specs.Words.{nodes#, at, child#, count#, dist#, edition#, first#, m#, n#, node_at_lem, radius#, row#, run#, start#}
 use borrow.Author.Tests.{eq-eqb, le-ltb}
@@ -60,8 +60,8 @@ module _ (d : ℕ → ℕ → ℕ) (w : List ℕ) (once : (i : ℕ) → times i 
   right k h = every-at (Right d w) (nodes# w) k R h
 
   -- 11
-  not-dist : (p : ℕ) → wrongDist d w p ≡ false
-  unfolding wrongDist
+  not-dist : (p : ℕ) → wrong_dist d w p ≡ false
+  unfolding wrong_dist
   not-dist p =
       any_none (λ k. not (inner w k) && in_run w p k && not (eqb (dist# w p) (d (first# w k) (row# w p)))) (range 0 (nodes# w))
       (every_of (Right d w) (λ k. (not (inner w k) && in_run w p k && not (eqb (dist# w p) (d (first# w k) (row# w p)))) ≡ false)
@@ -75,13 +75,13 @@ module _ (d : ℕ → ℕ → ℕ) (w : List ℕ) (once : (i : ℕ) → times i 
           ap not (eq-eqb (dist# w p) (d (first# w k) (row# w p)) (run_at (λ p. dist# w p ≡ d (first# w k) (row# w p)) w p k y (r.dists x)))
 
   -- 12
-  not-radius : (k : ℕ) → k < nodes# w → wrongRadius d w k ≡ false
-  unfolding wrongRadius
+  not-radius : (k : ℕ) → k < nodes# w → wrong_radius d w k ≡ false
+  unfolding wrong_radius
   not-radius k h = ap not (eq-eqb (radius# w k) (greatest (map (λ p. d (first# w k) (row# w p)) (run# w k))) (right k h).radius)
 
   -- nor the inner reach
-  not-inner : (k : ℕ) → k < nodes# w → wrongInner d w k ≡ false
-  unfolding wrongInner
+  not-inner : (k : ℕ) → k < nodes# w → wrong_inner d w k ≡ false
+  unfolding wrong_inner
   not-inner k h = go (eqb (edition# w) 2) (right k h).inner-reach
     where
       go : (b : Bool) → cond b (at w (node_at_lem w k + 4)) 0 ≡ cond b (nearest# d w k) 0
@@ -90,7 +90,7 @@ module _ (d : ℕ → ℕ → ℕ) (w : List ℕ) (once : (i : ℕ) → times i 
       go false e = refl
 
   -- neither
-  not-reach : (k : ℕ) → k < nodes# w → (wrongRadius d w k || wrongInner d w k) ≡ false
+  not-reach : (k : ℕ) → k < nodes# w → (wrong_radius d w k || wrong_inner d w k) ≡ false
   not-reach k h = rw (not-radius k h) (not-inner k h)
 
   -- 13
@@ -122,8 +122,8 @@ module _ (d : ℕ → ℕ → ℕ) (w : List ℕ) (once : (i : ℕ) → times i 
       let ps : List ℕ = range 0 (n# w) in
       let ns : List ℕ = range 0 (nodes# w) in
       let a = keep-none (again w) ps (at_every (λ p. again w p ≡ false) (n# w) (λ p h. not-again w once p h)) in
-      let b = keep-none (wrongDist d w) ps (at_every (λ p. wrongDist d w p ≡ false) (n# w) (λ p h. not-dist p)) in
-      let o : ℕ → Bool = λ k. wrongRadius d w k || wrongInner d w k in
+      let b = keep-none (wrong_dist d w) ps (at_every (λ p. wrong_dist d w p ≡ false) (n# w) (λ p h. not-dist p)) in
+      let o : ℕ → Bool = λ k. wrong_radius d w k || wrong_inner d w k in
       let c = keep-none o ns (at_every (λ k. o k ≡ false) (nodes# w) (λ k h. not-reach k h)) in
       let f : ℕ → List Said = λ k. map (λ p. (13, k, p)) (keep (strays d w k) (run# w k)) in
       let e : each f ns ≡ [] = each_none f ns (at_every (λ k. f k ≡ []) (nodes# w)
@@ -131,5 +131,5 @@ module _ (d : ℕ → ℕ → ℕ) (w : List ℕ) (once : (i : ℕ) → times i 
       (range-every (λ p. strays d w k p ≡ false) (start# w k) (count# w k) (λ i q. not-stray k (start# w k + i) h))))) in
       let g : List ℕ → List ℕ → List ℕ → List Said → List Said =
       λ x y z r. map (λ p. (10, p, 0)) x ++ map (λ p. (11, p, 0)) y ++ map (λ k. (12, k, 0)) z ++ r in
-      ap (λ x. g x (keep (wrongDist d w) ps) (keep o ns) (each f ns)) a ∙ ap (λ y. g [] y (keep o ns) (each f ns)) b
+      ap (λ x. g x (keep (wrong_dist d w) ps) (keep o ns) (each f ns)) a ∙ ap (λ y. g [] y (keep o ns) (each f ns)) b
       ∙ ap (λ z. g [] [] z (each f ns)) c ∙ e

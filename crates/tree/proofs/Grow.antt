@@ -12,7 +12,7 @@ use Rattle.tree.proofs.Centres.{chosen, chosen-length, group_of, groups-tally, l
 use Rattle.tree.proofs.Encode.{Even}
 use Rattle.tree.proofs.Full.{Full}
 use Rattle.tree.proofs.Shaped.{Fine, Small}
-use Rattle.tree.specs.Build.{Run, closest, grow, innerReach, leafOf, radius, reach, split}
+use Rattle.tree.specs.Build.{Run, closest, grow, inner_reach, leaf_of, radius, reach, split}
 use Rattle.tree.specs.Encode.{span}
 use Rattle.tree.specs.Grove.{Grove, bare, entries, fork, rows_in}
 use borrow.Author.Tests.{leb-false}
@@ -25,7 +25,7 @@ use native.Mathlib.Nat.{add-zero}
 use native.Mathlib.Omega.{arith}
 
 -- the rows of a leaf, and of the nodes after it
-leaf_tally : (d : ℕ → ℕ → ℕ) (f : ℕ → Bool) (run : List ℕ) (g : Grove) → tally f (rows_in (leafOf d run g)) ≡ tally f run + tally f (rows_in g)
+leaf_tally : (d : ℕ → ℕ → ℕ) (f : ℕ → Bool) (run : List ℕ) (g : Grove) → tally f (rows_in (leaf_of d run g)) ≡ tally f run + tally f (rows_in g)
 leaf_tally d f run g =
     tally_lefts f (map (λ i. (i, d (head run) i)) run) (entries g)
     ∙ ap (λ is. tally f is + tally f (rows_in g)) (paired (λ i. i) (d (head run)) run ∙ map_id run)
@@ -37,7 +37,7 @@ radius_fine d D run =
     (every_map (λ a. a ≤ max_distance) (d (head run)) run (every-all (λ i. d (head run) i ≤ max_distance) (λ i. D (head run) i) run))
 
 -- so is the inner reach
-inner_fine : (d : ℕ → ℕ → ℕ) → ((i j : ℕ) → d i j ≤ max_distance) → (run : List ℕ) → innerReach d run ≤ max_distance
+inner_fine : (d : ℕ → ℕ → ℕ) → ((i j : ℕ) → d i j ≤ max_distance) → (run : List ℕ) → inner_reach d run ≤ max_distance
 inner_fine d D run =
     lowest_under max_distance (map (d (head run)) (rest run))
     (every_map (λ a. a ≤ max_distance) (d (head run)) (rest run)
@@ -83,7 +83,7 @@ module _ (d : ℕ → ℕ → ℕ) (m l : ℕ) (m1 : 1 ≤ m) (ml : m ≤ l) whe
   grown-span zero run g = refl
   grown-span (suc deep) run g = go (leb (length run) l)
     where
-      go : (b : Bool) → span (cond b (leafOf d run g) (fork (reach d run) (foldr (grow d m l deep) bare (split d m run)) g)) ≡ suc (span g)
+      go : (b : Bool) → span (cond b (leaf_of d run g) (fork (reach d run) (foldr (grow d m l deep) bare (split d m run)) g)) ≡ suc (span g)
       go true = refl
       go false = refl
 
@@ -106,7 +106,7 @@ module _ (d : ℕ → ℕ → ℕ) (m l : ℕ) (m1 : 1 ≤ m) (ml : m ≤ l) whe
 
       go : ((f : ℕ → Bool) (run : List ℕ) (g : Grove) → Run run → tally f (rows_in (grow d m l deep run g)) ≡ tally f run + tally f (rows_in g))
           → (b : Bool) → leb (length run) l ≡ b
-          → tally f (rows_in (cond b (leafOf d run g) (fork (reach d run) (foldr (grow d m l deep) bare (split d m run)) g)))
+          → tally f (rows_in (cond b (leaf_of d run g) (fork (reach d run) (foldr (grow d m l deep) bare (split d m run)) g)))
           ≡ tally f run + tally f (rows_in g)
       go ih true e = leaf_tally d f run g
       go ih false e =
@@ -133,7 +133,7 @@ module _ (d : ℕ → ℕ → ℕ) (m l : ℕ) (m1 : 1 ≤ m) (ml : m ≤ l) whe
       forest ih (q ∷ gs) = ih q (foldr (grow d m l deep) bare gs) (forest ih gs)
 
       go : ((run : List ℕ) (g : Grove) → Even m g → Even m (grow d m l deep run g)) → (b : Bool)
-          → Even m (cond b (leafOf d run g) (fork (reach d run) (foldr (grow d m l deep) bare (split d m run)) g))
+          → Even m (cond b (leaf_of d run g) (fork (reach d run) (foldr (grow d m l deep) bare (split d m run)) g))
       go ih true = h
       go ih false = (forest-span deep (split d m run) ∙ split-length run, forest ih (split d m run), h)
 
@@ -150,7 +150,7 @@ module _ (d : ℕ → ℕ → ℕ) (m l : ℕ) (m1 : 1 ≤ m) (ml : m ≤ l) whe
       forest ih (q ∷ gs) h = ih q (foldr (grow d m l deep) bare gs) h.0 (forest ih gs h.1)
 
       go : ((run : List ℕ) (g : Grove) → Run run → Fine l deep g → Fine l deep (grow d m l deep run g)) → (b : Bool) → leb (length run) l ≡ b
-          → Fine l (suc deep) (cond b (leafOf d run g) (fork (reach d run) (foldr (grow d m l deep) bare (split d m run)) g))
+          → Fine l (suc deep) (cond b (leaf_of d run g) (fork (reach d run) (foldr (grow d m l deep) bare (split d m run)) g))
       go ih true e = (rw length-map r.0, reach_fine d D run, rw (length-map, e) tt, h)
       go ih false e =
           let k : m ≤ length run = omega (arith, leb-false (length run) l e) in
@@ -173,7 +173,7 @@ module _ (d : ℕ → ℕ → ℕ) (m l : ℕ) (m1 : 1 ≤ m) (ml : m ≤ l) whe
       forest ih (q ∷ gs) h = ih q (foldr (grow d m l deep) bare gs) h.0 (forest ih gs h.1)
 
       go : ((run : List ℕ) (g : Grove) → Run run → Full g → Full (grow d m l deep run g)) → (b : Bool) → leb (length run) l ≡ b
-          → Full (cond b (leafOf d run g) (fork (reach d run) (foldr (grow d m l deep) bare (split d m run)) g))
+          → Full (cond b (leaf_of d run g) (fork (reach d run) (foldr (grow d m l deep) bare (split d m run)) g))
       go ih true e = (rw length-map r.0, h)
       go ih false e =
           let k : m ≤ length run = omega (arith, leb-false (length run) l e) in (

@@ -9,7 +9,7 @@ use Rattle.tree.proofs.Centres.{chosen, closest-least, group_of, left, split-is}
 use Rattle.tree.proofs.Full.{first-row}
 use Rattle.tree.proofs.Grow.{forest-full, forest-span, forest-tally, split-length, split_runs, split-tally}
 use Rattle.tree.proofs.Sound.{Close, Reaches, Sound}
-use Rattle.tree.specs.Build.{Run, choose, closest, farthest, grow, innerReach, leafOf, radius, reach, split}
+use Rattle.tree.specs.Build.{Run, choose, closest, farthest, grow, inner_reach, leaf_of, radius, reach, split}
 use Rattle.tree.specs.Grove.{Grove, Reach, bare, first, firsts, fork, leaf, rows_in}
 use borrow.Author.Tests.{eqb-true, leb-false}
 use lib.Dec.{eqb, leb}
@@ -119,7 +119,7 @@ module _ (d : ℕ → ℕ → ℕ) (self : (i : ℕ) → d i i ≡ 0) (m l : ℕ
       forest ih (q ∷ gs) = ih q (foldr (grow d m l deep) bare gs) ∙ ap (λ k. head q ∷ k) (forest ih gs)
 
       go : ((run : List ℕ) (g : Grove) → firsts (grow d m l deep run g) ≡ head run ∷ firsts g) → (b : Bool)
-          → firsts (cond b (leafOf d run g) (fork (reach d run) (foldr (grow d m l deep) bare (split d m run)) g)) ≡ head run ∷ firsts g
+          → firsts (cond b (leaf_of d run g) (fork (reach d run) (foldr (grow d m l deep) bare (split d m run)) g)) ≡ head run ∷ firsts g
       go ih true = ap (λ is. head is ∷ firsts g) (rows_paired d run)
       go ih false = ap (λ i. i ∷ firsts g) (ap head (forest ih (split d m run) ∙ split-heads run) ∙ chosen-head run)
 
@@ -151,7 +151,7 @@ module _ (d : ℕ → ℕ → ℕ) (self : (i : ℕ) → d i i ≡ 0) (m l : ℕ
   reaches : (run : List ℕ) → Reaches d (reach d run) (head run) run
   reaches run = record {
     up = every-unmap (λ v. v ≤ radius d run) (d (head run)) run (greatest_le (map (d (head run)) run));
-    low = every-unmap (λ v. innerReach d run ≤ v) (d (head run)) (rest run) (lowest_le (map (d (head run)) (rest run)));
+    low = every-unmap (λ v. inner_reach d run ≤ v) (d (head run)) (rest run) (lowest_le (map (d (head run)) (rest run)));
   }
 
   -- a grown node's rows are as close to its first as its run's were
@@ -161,7 +161,7 @@ module _ (d : ℕ → ℕ → ℕ) (self : (i : ℕ) → d i i ≡ 0) (m l : ℕ
   grown-close cs (suc deep) run g r h c = go (leb (length run) l) refl
     where
       go : (b : Bool) → leb (length run) l ≡ b
-          → Close d cs (cond b (leafOf d run g) (fork (reach d run) (foldr (grow d m l deep) bare (split d m run)) g))
+          → Close d cs (cond b (leaf_of d run g) (fork (reach d run) (foldr (grow d m l deep) bare (split d m run)) g))
       go true e = (subst (λ is. Near cs is) (sym (rows_paired d run)) h, c)
       go false e =
           let k : m ≤ length run = omega (arith, leb-false (length run) l e) in
@@ -177,7 +177,7 @@ module _ (d : ℕ → ℕ → ℕ) (self : (i : ℕ) → d i i ≡ 0) (m l : ℕ
   forest-close cs deep (q ∷ gs) r h = grown-close cs deep q (foldr (grow d m l deep) bare gs) r.0 h.0 (forest-close cs deep gs r.1 h.1)
 
   -- a leaf's stored distances are right, and none is above its radius
-  leaf_sound : (run : List ℕ) (g : Grove) → Sound d g → Sound d (leafOf d run g)
+  leaf_sound : (run : List ℕ) (g : Grove) → Sound d g → Sound d (leaf_of d run g)
   leaf_sound run g h =
       let e = sym (rows_paired d run) in (
         subst (λ is. Every (λ (e : ℕ × ℕ). d (head is) e.0 ≡ e.1) (map (λ i. (i, d (head run) i)) run)) e
@@ -205,8 +205,8 @@ module _ (d : ℕ → ℕ → ℕ) (self : (i : ℕ) → d i i ≡ 0) (m l : ℕ
 
       go : ((run : List ℕ) (g : Grove) → Run run → Sound d g × Tight d g → Sound d (grow d m l deep run g) × Tight d (grow d m l deep run g))
           → (b : Bool) → leb (length run) l ≡ b
-          → Sound d (cond b (leafOf d run g) (fork (reach d run) (foldr (grow d m l deep) bare (split d m run)) g))
-          × Tight d (cond b (leafOf d run g) (fork (reach d run) (foldr (grow d m l deep) bare (split d m run)) g))
+          → Sound d (cond b (leaf_of d run g) (fork (reach d run) (foldr (grow d m l deep) bare (split d m run)) g))
+          × Tight d (cond b (leaf_of d run g) (fork (reach d run) (foldr (grow d m l deep) bare (split d m run)) g))
       go ih true e = (leaf_sound run g h.0, (leaf-spans run, h.1))
       go ih false e =
           let k : m ≤ length run = omega (arith, leb-false (length run) l e) in
@@ -221,7 +221,7 @@ module _ (d : ℕ → ℕ → ℕ) (self : (i : ℕ) → d i i ≡ 0) (m l : ℕ
               subst (λ f. Reaches d (reach d run) f (rows_in ks)) (sym (kids-head deep run))
                   (record {
                     up = every_same (λ i. d (head run) i ≤ radius d run) run (rows_in ks) same (reaches run).up;
-                    low = every_same (λ i. innerReach d run ≤ d (head run) i) (rest run) (rest (rows_in ks)) others (reaches run).low;
+                    low = every_same (λ i. inner_reach d run ≤ d (head run) i) (rest run) (rest (rows_in ks)) others (reaches run).low;
                   }),
               f.0,
               h.0,

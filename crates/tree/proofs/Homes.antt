@@ -5,7 +5,7 @@ use Rattle.laws.proofs.Times.{tally_lefts, times-split}
 use Rattle.laws.specs.Lists.{times}
 use Rattle.tree.proofs.Full.{Full}
 use Rattle.tree.specs.Grove.{Grove, Reach, bare, entries, first, firsts, fork, leaf, rows_in}
-use Rattle.tree.specs.Homes.{child_bound_lem, homes, homesIn, nearestOf}
+use Rattle.tree.specs.Homes.{child_bound_lem, homes, homes_in, nearest_of}
 use lib.Dec.{eqb}
 use mathlib.Core.List.{[], ◌∷◌, map}
 use mathlib.Core.Path.{◌≡◌, refl}
@@ -15,8 +15,8 @@ use native.Mathlib.Omega.{arith}
 module _ (x : ℕ → ℕ) where
   -- below the nodes of a grove, every row but their firsts is at home once
   homesIn-rows : (i : ℕ) (β : ℕ → Reach → ℕ) (g : Grove) → Full g
-      → times i (map (λ p. p.0) (homesIn x β g)) + times i (firsts g) ≡ times i (rows_in g)
-  unfolding homesIn
+      → times i (map (λ p. p.0) (homes_in x β g)) + times i (firsts g) ≡ times i (rows_in g)
+  unfolding homes_in
   homesIn-rows i β bare w = refl
   homesIn-rows i β (leaf R [] g) w = absurd (not-suc-le-zero w.0)
   homesIn-rows i β (leaf R (e ∷ es) g) w =
@@ -26,7 +26,7 @@ module _ (x : ℕ → ℕ) where
       (omega (
         arith,
         times-split i (firsts ks) w.0,
-        homesIn-rows i (child_bound_lem (β (x (first ks)) R) (nearestOf x ks)) ks w.1,
+        homesIn-rows i (child_bound_lem (β (x (first ks)) R) (nearest_of x ks)) ks w.1,
         homesIn-rows i β g w.2,
         tally_lefts (eqb i) (entries ks) (entries g),
       ))

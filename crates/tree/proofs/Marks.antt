@@ -7,8 +7,8 @@ use Rattle.laws.specs.Lists.{look, rest, times}
 use Rattle.tree.proofs.Full.{Full, first-row}
 use Rattle.tree.proofs.Veiled.{look-veiled}
 use Rattle.tree.specs.Grove.{Grove, Reach, bare, entries, first, firsts, fork, leaf, rows_in}
-use Rattle.tree.specs.Homes.{child_bound_lem, nearestOf}
-use Rattle.tree.specs.Radius.{byDistance, inLeaf, marks, marksIn, radiusHow, shown, veiled, visit}
+use Rattle.tree.specs.Homes.{child_bound_lem, nearest_of}
+use Rattle.tree.specs.Radius.{by_distance, in_leaf_lem, marks, marks_in, radius_how, shown, veiled, visit}
 use lib.Dec.{eqb, leb, ltb}
 use lib.ListN.{get_or}
 use mathlib.Core.Bool.{Bool, cond, false, true}
@@ -30,39 +30,39 @@ module _ (x : ℕ → ℕ) (r : ℕ) where
 
   -- below the nodes of a grove, every row but their firsts is marked once
   marksIn-rows : (i : ℕ) (β : ℕ → Reach → ℕ) (g : Grove) → Full g
-      → times i (map (λ p. p.0) (marksIn x r β g)) + times i (firsts g) ≡ times i (rows_in g)
-  unfolding marksIn
+      → times i (map (λ p. p.0) (marks_in x r β g)) + times i (firsts g) ≡ times i (rows_in g)
+  unfolding marks_in
   marksIn-rows i β bare w = refl
   marksIn-rows i β (leaf R [] g) w = absurd (not-suc-le-zero w.0)
   marksIn-rows i β (leaf R (e ∷ es) g) w =
       let f : ℕ = e.0 in
-      let opened : List (ℕ × ℕ) = map (λ e. (e.0, inLeaf x r f e)) es in
+      let opened : List (ℕ × ℕ) = map (λ e. (e.0, in_leaf_lem x r f e)) es in
       omega (
         arith,
-        tally_lefts (eqb i) (visit x r (x f) R (β (x f) R) (lefts es) opened) (marksIn x r β g),
-        visit-rows i (x f) R (β (x f) R) (lefts es) opened (ap (times i) (paired (λ e. e.0) (inLeaf x r f) es)),
+        tally_lefts (eqb i) (visit x r (x f) R (β (x f) R) (lefts es) opened) (marks_in x r β g),
+        visit-rows i (x f) R (β (x f) R) (lefts es) opened (ap (times i) (paired (λ e. e.0) (in_leaf_lem x r f) es)),
         marksIn-rows i β g w.1,
         tally_lefts (eqb i) es (entries g),
       )
   marksIn-rows i β (fork R ks g) w =
       let f : ℕ = first ks in
       let b : ℕ = β (x f) R in
-      let centres : List (ℕ × ℕ) = map (λ i. (i, byDistance x r i)) (rest (firsts ks)) in
-      let below : List (ℕ × ℕ) = marksIn x r (child_bound_lem b (nearestOf x ks)) ks in
+      let centres : List (ℕ × ℕ) = map (λ i. (i, by_distance x r i)) (rest (firsts ks)) in
+      let below : List (ℕ × ℕ) = marks_in x r (child_bound_lem b (nearest_of x ks)) ks in
       let s = first-row ks w.1 w.0 in
       let opens : times i (map (λ p. p.0) (centres ++ below)) ≡ times i (rest (rows_in ks)) =
       omega (
         arith,
         tally_lefts (eqb i) centres below,
-        ap (times i) (paired (λ i. i) (byDistance x r) (rest (firsts ks)) ∙ map_id (rest (firsts ks))),
-        marksIn-rows i (child_bound_lem b (nearestOf x ks)) ks w.1,
+        ap (times i) (paired (λ i. i) (by_distance x r) (rest (firsts ks)) ∙ map_id (rest (firsts ks))),
+        marksIn-rows i (child_bound_lem b (nearest_of x ks)) ks w.1,
         times-split i (firsts ks) w.0,
         times-split i (rows_in ks) s.0,
         ap (λ k. times i (k ∷ [])) s.1,
       ) in
       omega (
         arith,
-        tally_lefts (eqb i) (visit x r (x f) R b (rest (rows_in ks)) (centres ++ below)) (marksIn x r β g),
+        tally_lefts (eqb i) (visit x r (x f) R b (rest (rows_in ks)) (centres ++ below)) (marks_in x r β g),
         visit-rows i (x f) R b (rest (rows_in ks)) (centres ++ below) opens,
         marksIn-rows i β g w.2,
         tally_lefts (eqb i) (entries ks) (entries g),
@@ -77,8 +77,8 @@ module _ (x : ℕ → ℕ) (r : ℕ) where
 
 -- the how-byte of row i is its mark, as far as it is shown
 pub how_at : (x : ℕ → ℕ) (r : ℕ) (gone : ℕ → Bool) (n : ℕ) (t : Grove) (i : ℕ) → i < n
-    → get_or (radiusHow x r gone n t) i 0 ≡ (shown gone (i, look i (marks x r t))).1
-unfolding radiusHow
+    → get_or (radius_how x r gone n t) i 0 ≡ (shown gone (i, look i (marks x r t))).1
+unfolding radius_how
 how_at x r gone n t i h =
     get_d_range (λ i. look i (veiled gone (marks x r t))) 0 n i h ∙ ap (λ k. look k (veiled gone (marks x r t))) (omega arith)
     ∙ look-veiled gone i (marks x r t)

@@ -8,7 +8,7 @@ use Rattle.laws.specs.Every.{Every}
 use Rattle.laws.specs.Lists.{any, each, greatest, keep, lowest, range, rest}
 use Rattle.limits.specs.Said.{Said}
 use Rattle.tree.proofs.Fitting.{Fits}
-use Rattle.tree.specs.Check.{again, faults, in_run, kids, strays, wrongDist, wrongInner, wrongRadius}
+use Rattle.tree.specs.Check.{again, faults, in_run, kids, strays, wrong_dist, wrong_inner, wrong_radius}
 use Rattle.words.specs.Shape.{inner}
 use Rattle.words.specs.Words.{nodes#, child#, count#, at, dist#, edition#, first#, inner#, m#, n#, node_at_lem, radius#, row#, run#, start#}
 use borrow.Author.Tests.{eqb-true, le-leb, lt-ltb, ltb-false, not-false}
@@ -22,8 +22,8 @@ use native.Mathlib.Omega.{arith}
 -- the four parts
 pub record NoFaults (d : ℕ → ℕ → ℕ) (w : List ℕ) : Type 0 where
   pub once : Every (λ p. again w p ≡ false) (range 0 (n# w))
-  pub dists : Every (λ p. wrongDist d w p ≡ false) (range 0 (n# w))
-  pub radii : Every (λ k. (wrongRadius d w k || wrongInner d w k) ≡ false) (range 0 (nodes# w))
+  pub dists : Every (λ p. wrong_dist d w p ≡ false) (range 0 (n# w))
+  pub radii : Every (λ k. (wrong_radius d w k || wrong_inner d w k) ≡ false) (range 0 (nodes# w))
   pub near : Every (λ k. Every (λ p. strays d w k p ≡ false) (run# w k)) (range 0 (nodes# w))
 
 -- no fault at all is none of each kind
@@ -31,8 +31,8 @@ pub no_faults : (d : ℕ → ℕ → ℕ) (w : List ℕ) → faults d w ≡ [] �
 unfolding faults
 no_faults d w e =
     let a : List Said = map (λ p. (10, p, 0)) (keep (again w) (range 0 (n# w))) in
-    let b : List Said = map (λ p. (11, p, 0)) (keep (wrongDist d w) (range 0 (n# w))) in
-    let c : List Said = map (λ k. (12, k, 0)) (keep (λ k. wrongRadius d w k || wrongInner d w k) (range 0 (nodes# w))) in
+    let b : List Said = map (λ p. (11, p, 0)) (keep (wrong_dist d w) (range 0 (n# w))) in
+    let c : List Said = map (λ k. (12, k, 0)) (keep (λ k. wrong_radius d w k || wrong_inner d w k) (range 0 (nodes# w))) in
     let f : ℕ → List Said = λ k. map (λ p. (13, k, p)) (keep (strays d w k) (run# w k)) in
     let g : List Said = each f (range 0 (nodes# w)) in
     let e3 = append-nil-l (a ++ b ++ c) g e in
@@ -40,10 +40,10 @@ no_faults d w e =
     record {
       once = keep-nil (again w) (range 0 (n# w)) (map-nil {B = Said} (λ p. (10, p, 0)) (keep (again w) (range 0 (n# w))) (append-nil-l a b e2));
       dists =
-          keep-nil (wrongDist d w) (range 0 (n# w)) (map-nil {B = Said} (λ p. (11, p, 0)) (keep (wrongDist d w) (range 0 (n# w)))
+          keep-nil (wrong_dist d w) (range 0 (n# w)) (map-nil {B = Said} (λ p. (11, p, 0)) (keep (wrong_dist d w) (range 0 (n# w)))
           (append-nil-r a b e2));
       radii =
-          keep-nil (λ k. wrongRadius d w k || wrongInner d w k) (range 0 (nodes# w)) (map-nil {B = Said} (λ k. (12, k, 0)) (keep (λ k. wrongRadius d w k || wrongInner d w k) (range 0 (nodes# w)))
+          keep-nil (λ k. wrong_radius d w k || wrong_inner d w k) (range 0 (nodes# w)) (map-nil {B = Said} (λ k. (12, k, 0)) (keep (λ k. wrong_radius d w k || wrong_inner d w k) (range 0 (nodes# w)))
           (append-nil-r (a ++ b) c e3));
       near = every_of (λ k. f k ≡ []) (λ k. Every (λ p. strays d w k p ≡ false) (run# w k))
           (λ k q. keep-nil (strays d w k) (run# w k) (map-nil {B = Said} (λ p. (13, k, p)) (keep (strays d w k) (run# w k)) q))
@@ -64,9 +64,9 @@ or_second false b e = e
 or_second true b e = absurd (subst T e tt)
 
 -- a node's inner reach is no more than the distance of a member other than its first
-inner_low : (d : ℕ → ℕ → ℕ) (w : List ℕ) (k i : ℕ) → suc i < count# w k → (b : Bool) → eqb (edition# w) 2 ≡ b → wrongInner d w k ≡ false
+inner_low : (d : ℕ → ℕ → ℕ) (w : List ℕ) (k i : ℕ) → suc i < count# w k → (b : Bool) → eqb (edition# w) 2 ≡ b → wrong_inner d w k ≡ false
     → cond b (at w (node_at_lem w k + 4)) 0 ≤ d (first# w k) (row# w (start# w k + suc i))
-unfolding wrongInner
+unfolding wrong_inner
 inner_low d w k i u false e v = omega arith
 inner_low d w k i u true e v =
     let f : ℕ → ℕ = λ p. d (first# w k) (row# w p) in
@@ -88,26 +88,26 @@ inner_low d w k i u true e v =
 
 -- WITH NO FAULT, DISTANCES, RADII AND CENTRES ARE RIGHT
 pub fits : (d : ℕ → ℕ → ℕ) (w : List ℕ) → NoFaults d w → Fits d w
-unfolding wrongDist wrongRadius strays
+unfolding wrong_dist wrong_radius strays
 fits d w O =
     record {
       dists = λ k i h e u v.
           let p : ℕ = start# w k + i in
           let a = every-at (λ k. (not (inner w k) && in_run w p k && not (eqb (dist# w p) (d (first# w k) (row# w p)))) ≡ false) (nodes# w) k
           (any_false (λ k. not (inner w k) && in_run w p k && not (eqb (dist# w p) (d (first# w k) (row# w p)))) (range 0 (nodes# w))
-          (every-at (λ p. wrongDist d w p ≡ false) (n# w) p O.dists v)) h in
+          (every-at (λ p. wrong_dist d w p ≡ false) (n# w) p O.dists v)) h in
           sym (eqb-true (dist# w p) (d (first# w k) (row# w p)) (not-false (eqb (dist# w p) (d (first# w k) (row# w p)))
           (and_second (not (inner w k) && in_run w p k) (not (eqb (dist# w p) (d (first# w k) (row# w p)))) a
           (ap₂ (λ s t. s && t) (ap not e) (in_run_lem w p k (omega arith) (omega arith))))));
       radii = λ k i h u.
           let f : ℕ → ℕ = λ p. d (first# w k) (row# w p) in
           let a = eqb-true (radius# w k) (greatest (map f (run# w k))) (not-false (eqb (radius# w k) (greatest (map f (run# w k))))
-          (or_first (wrongRadius d w k) (wrongInner d w k) (every-at (λ k. (wrongRadius d w k || wrongInner d w k) ≡ false) (nodes# w) k O.radii h))) in
+          (or_first (wrong_radius d w k) (wrong_inner d w k) (every-at (λ k. (wrong_radius d w k || wrong_inner d w k) ≡ false) (nodes# w) k O.radii h))) in
           let b = every-range (λ p. f p ≤ greatest (map f (run# w k))) (start# w k) (count# w k) i
           (every-unmap (λ v. v ≤ greatest (map f (run# w k))) f (run# w k) (greatest_le (map f (run# w k)))) u in
           omega arith;
       inners = λ k i h u.
-          let v = or_second (wrongRadius d w k) (wrongInner d w k) (every-at (λ k. (wrongRadius d w k || wrongInner d w k) ≡ false) (nodes# w) k O.radii h) in
+          let v = or_second (wrong_radius d w k) (wrong_inner d w k) (every-at (λ k. (wrong_radius d w k || wrong_inner d w k) ≡ false) (nodes# w) k O.radii h) in
           inner_low d w k i u (eqb (edition# w) 2) refl v;
       near = λ k a b i h e qa qb u lo hi.
           let j : ℕ = child# w k + a in

@@ -7,7 +7,7 @@ use Rattle.laws.specs.Lists.{head, least, rest}
 use Rattle.measure.specs.Space.{Point}
 use Rattle.tree.proofs.Full.{Full, Others, firsts_rest, others_rest}
 use Rattle.tree.specs.Grove.{Grove, Reach, bare, first, firsts, fork, leaf, rows_in}
-use Rattle.tree.specs.Homes.{child_bound_lem, homes, homesIn, nearestOf, rowBound}
+use Rattle.tree.specs.Homes.{child_bound_lem, homes, homes_in, nearest_of, row_bound}
 use mathlib.Core.List.{List, [], ◌++◌, ◌∷◌, map}
 use mathlib.Core.Path.{◌≡◌}
 use native.Mathlib.Omega.{arith}
@@ -93,37 +93,37 @@ module _ (d : ℕ → ℕ → ℕ) (x : ℕ → ℕ) (M : Point d x) where
 
   -- the children of an inner node with bound b
   pub valid-under : (b : ℕ) (ks : Grove) → Full ks → Every (λ i. b ≤ x i) (rest (rows_in ks)) → Close d (firsts ks) ks → Sound d ks
-      → Valid x (child_bound_lem b (nearestOf x ks)) ks
+      → Valid x (child_bound_lem b (nearest_of x ks)) ks
   valid-under b bare w hb hc hs = tt
   valid-under b (leaf R es g) w hb hc hs = valid-kids b (head (lefts es)) (firsts g) (leaf R es g) (others_rest (λ i. b ≤ x i) (leaf R es g) w hb) hc hs
   valid-under b (fork R ks g) w hb hc hs = valid-kids b (first ks) (firsts g) (fork R ks g) (others_rest (λ i. b ≤ x i) (fork R ks g) w hb) hc hs
 
   -- no row is closer than its home bound
-  homesIn-below : (β : ℕ → Reach → ℕ) (g : Grove) → Full g → Sound d g → Valid x β g → Every (λ h. h.1 ≤ x h.0) (homesIn x β g)
-  unfolding homesIn
+  homesIn-below : (β : ℕ → Reach → ℕ) (g : Grove) → Full g → Sound d g → Valid x β g → Every (λ h. h.1 ≤ x h.0) (homes_in x β g)
+  unfolding homes_in
   homesIn-below β bare w hs hv = tt
   homesIn-below β (leaf R es g) w hs hv =
       let f : ℕ = head (lefts es) in
-      every_append (λ h. h.1 ≤ x h.0) (map (λ e. (e.0, rowBound x (β (x f) R) f e)) (rest es)) (homesIn x β g)
-      (every_map (λ h. h.1 ≤ x h.0) (λ e. (e.0, rowBound x (β (x f) R) f e)) (rest es)
-      (every-both (λ e. β (x f) R ≤ x e.0) (λ e. d f e.0 ≡ e.1) (λ e. rowBound x (β (x f) R) f e ≤ x e.0)
+      every_append (λ h. h.1 ≤ x h.0) (map (λ e. (e.0, row_bound x (β (x f) R) f e)) (rest es)) (homes_in x β g)
+      (every_map (λ h. h.1 ≤ x h.0) (λ e. (e.0, row_bound x (β (x f) R) f e)) (rest es)
+      (every-both (λ e. β (x f) R ≤ x e.0) (λ e. d f e.0 ≡ e.1) (λ e. row_bound x (β (x f) R) f e ≤ x e.0)
       (λ e h k. omega (arith, M.up f e.0, M.down f e.0, M.across f e.0)) (rest es)
       (every-unmap (λ i. β (x f) R ≤ x i) (λ e. e.0) (rest es) (rests (λ i. β (x f) R ≤ x i) es hv.0))
       (every_rest (λ e. d f e.0 ≡ e.1) es hs.0)))
       (homesIn-below β g w.1 hs.2 hv.1)
   homesIn-below β (fork R ks g) w hs hv =
       let b : ℕ = β (x (first ks)) R in
-      every_append (λ h. h.1 ≤ x h.0) (map (λ f. (f, b)) (rest (firsts ks)) ++ homesIn x (child_bound_lem b (nearestOf x ks)) ks) (homesIn x β g)
-      (every_append (λ h. h.1 ≤ x h.0) (map (λ f. (f, b)) (rest (firsts ks))) (homesIn x (child_bound_lem b (nearestOf x ks)) ks)
+      every_append (λ h. h.1 ≤ x h.0) (map (λ f. (f, b)) (rest (firsts ks)) ++ homes_in x (child_bound_lem b (nearest_of x ks)) ks) (homes_in x β g)
+      (every_append (λ h. h.1 ≤ x h.0) (map (λ f. (f, b)) (rest (firsts ks))) (homes_in x (child_bound_lem b (nearest_of x ks)) ks)
       (every_map (λ h. h.1 ≤ x h.0) (λ f. (f, b)) (rest (firsts ks))
       (firsts_rest (λ i. b ≤ x i) ks w.1 hv.0))
-      (homesIn-below (child_bound_lem b (nearestOf x ks)) ks w.1 hs.2 (valid-under b ks w.1 hv.0 hs.0 hs.2)))
+      (homesIn-below (child_bound_lem b (nearest_of x ks)) ks w.1 hs.2 (valid-under b ks w.1 hv.0 hs.0 hs.2)))
       (homesIn-below β g w.2 hs.3 hv.1)
 
   -- NO ROW OF THE TREE IS CLOSER THAN ITS HOME BOUND
   pub homes-below : (t : Grove) → Full t → Sound d t → Every (λ h. h.1 ≤ x h.0) (homes x t)
   unfolding homes
   homes-below t w hs =
-      every_append (λ h. h.1 ≤ x h.0) (map (λ f. (f, 0)) (firsts t)) (homesIn x (λ x R. 0) t)
+      every_append (λ h. h.1 ≤ x h.0) (map (λ f. (f, 0)) (firsts t)) (homes_in x (λ x R. 0) t)
       (every_map (λ h. h.1 ≤ x h.0) (λ f. (f, 0)) (firsts t) (every-all (λ f. 0 ≤ x f) (λ f. omega arith) (firsts t)))
       (homesIn-below (λ x R. 0) t w hs (valid-zero x t))

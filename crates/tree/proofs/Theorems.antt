@@ -22,8 +22,8 @@ use Rattle.tree.proofs.Veiled.{shown-measured}
 use Rattle.tree.specs.Check.{Accepted}
 use Rattle.tree.specs.Grove.{Grove, rows_in, tree_of}
 use Rattle.tree.specs.Homes.{homes}
-use Rattle.tree.specs.Nearest.{Own, answers, best, candidates, is_measured, last_distance, nearHow, passes, remaining, rows_up_to, sort}
-use Rattle.tree.specs.Radius.{marks, radiusHow, veiled}
+use Rattle.tree.specs.Nearest.{Own, answers, best, candidates, is_measured, last_distance, near_how, passes, remaining, rows_up_to, sort}
+use Rattle.tree.specs.Radius.{marks, radius_how, veiled}
 use Rattle.words.specs.Words.{n#}
 use lib.Dec.{T}
 use lib.ListN.{get_or, length, take}
@@ -60,7 +60,7 @@ module _ (d : ℕ → ℕ → ℕ) (w : List ℕ) (A : Accepted d w) where
 
     -- A RADIUS SEARCH MARKS A ROW IN EXACTLY IF IT IS NOT GONE AND ITS DISTANCE IS AT MOST r
     pub radius-exact : (r : ℕ) (gone : ℕ → Bool) (i : ℕ) → i < n# w
-        → (2 ≤ get_or (radiusHow x r gone (n# w) (tree_of w)) i 0) ↔ ((gone i ≡ false) × (x i ≤ r))
+        → (2 ≤ get_or (radius_how x r gone (n# w) (tree_of w)) i 0) ↔ ((gone i ≡ false) × (x i ≤ r))
     radius-exact r gone i h =
         let F = full-tree w (shape_of d w A) in
         rw (how_at x r gone (n# w) (tree_of w) i h)
@@ -86,9 +86,9 @@ module _ (d : ℕ → ℕ → ℕ) (w : List ℕ) (A : Accepted d w) where
   module _ (x y : ℕ → ℕ) where
     -- RADIUS: WHERE THE TABLES AGREE IN EVERY MEASURED ROW, ALL HOW-BYTES ARE THE SAME, the same rows being gone
     pub radius-two-tables : (r : ℕ) (gone : ℕ → Bool)
-        → ((i : ℕ) → i < n# w → T (is_measured (get_or (radiusHow x r gone (n# w) (tree_of w)) i 0)) → x i ≡ y i)
-        → radiusHow x r gone (n# w) (tree_of w) ≡ radiusHow y r gone (n# w) (tree_of w)
-    unfolding radiusHow
+        → ((i : ℕ) → i < n# w → T (is_measured (get_or (radius_how x r gone (n# w) (tree_of w)) i 0)) → x i ≡ y i)
+        → radius_how x r gone (n# w) (tree_of w) ≡ radius_how y r gone (n# w) (tree_of w)
+    unfolding radius_how
     radius-two-tables r gone agree =
         ap (λ ms. map (λ i. look i (veiled gone ms)) (range 0 (n# w)))
         (same-marks x y r (tree_of w)
@@ -100,7 +100,7 @@ module _ (d : ℕ → ℕ → ℕ) (w : List ℕ) (A : Accepted d w) where
 
     -- a row that passes is measured
     near-measured : (gone : ℕ → Bool) (k i : ℕ) → i < n# w → passes x gone (n# w) k (look i (homes x (tree_of w))) ≡ true
-        → T (is_measured (get_or (nearHow x gone (n# w) (tree_of w) k) i 0))
+        → T (is_measured (get_or (near_how x gone (n# w) (tree_of w) k) i 0))
     near-measured gone k i h e = subst (λ v. T (is_measured v)) (sym (near-at x gone (n# w) (tree_of w) k i h))
         (go (has i (lefts (answers x gone (n# w) k))))
       where
@@ -110,7 +110,7 @@ module _ (d : ℕ → ℕ → ℕ) (w : List ℕ) (A : Accepted d w) where
 
     -- NEAREST: WHERE THE TABLES AGREE IN EVERY MEASURED ROW, THE OTHER ONE'S FIRST k OF THE SAME ROWS ARE THE ANSWERS, AND D IS ITS OWN
     pub nearest-two-tables : Point d x → (gone : ℕ → Bool) (k : ℕ) → k ≤ remaining gone (n# w)
-        → ((i : ℕ) → i < n# w → T (is_measured (get_or (nearHow x gone (n# w) (tree_of w) k) i 0)) → x i ≡ y i)
+        → ((i : ℕ) → i < n# w → T (is_measured (get_or (near_how x gone (n# w) (tree_of w) k) i 0)) → x i ≡ y i)
         → (rows_up_to y (tree_of w) (last_distance (answers x gone (n# w) k)) ≡ rows_up_to x (tree_of w) (last_distance (answers x gone (n# w) k)))
         × (best y gone (n# w) (tree_of w) k (last_distance (answers x gone (n# w) k)) ≡ answers x gone (n# w) k)
         × Own y gone (n# w) (tree_of w) k (last_distance (answers x gone (n# w) k))
@@ -134,7 +134,7 @@ module _ (d : ℕ → ℕ → ℕ) (w : List ℕ) (A : Accepted d w) where
 
     -- with more wanted than rows remain every row is measured, and so the tables are one
     pub nearest-two-tables-all : (gone : ℕ → Bool) (k : ℕ) → remaining gone (n# w) < k
-        → ((i : ℕ) → i < n# w → T (is_measured (get_or (nearHow x gone (n# w) (tree_of w) k) i 0)) → x i ≡ y i)
+        → ((i : ℕ) → i < n# w → T (is_measured (get_or (near_how x gone (n# w) (tree_of w) k) i 0)) → x i ≡ y i)
         → answers x gone (n# w) k ≡ answers y gone (n# w) k
     nearest-two-tables-all gone k h agree =
         answers_same x y gone (n# w) k (at_every (λ i. x i ≡ y i) (n# w)

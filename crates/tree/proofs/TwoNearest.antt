@@ -9,7 +9,7 @@ use Rattle.laws.specs.Every.{Every}
 use Rattle.laws.specs.Lists.{gap, has, head, keep, least, look, range, rest, times}
 use Rattle.tree.proofs.TwoRadius.{all_firsts}
 use Rattle.tree.specs.Grove.{Grove, Reach, bare, first, firsts, fork, leaf}
-use Rattle.tree.specs.Homes.{child_bound_lem, homes, homesIn, nearestOf, rowBound}
+use Rattle.tree.specs.Homes.{child_bound_lem, homes, homes_in, nearest_of, row_bound}
 use Rattle.tree.specs.Nearest.{Own, best, candidates, last_distance, rows_up_to, sort, up_to}
 use borrow.Author.Tests.{leb-false, leb-true, lt-leb}
 use lib.Dec.{eqb, leb}
@@ -29,20 +29,20 @@ up_none : (D : ℕ) (hs : List (ℕ × ℕ)) → Every (λ h. D < h.1) hs → up
 up_none D hs k = keep-none (λ h. leb h.1 D) hs (every_of (λ h. D < h.1) (λ h. leb h.1 D ≡ false) (λ h q. lt-leb h.1 D q) hs k)
 
 -- no bound below a node is less than the node's
-bounds_up : (x : ℕ → ℕ) (b : ℕ) (β : ℕ → Reach → ℕ) (g : Grove) → ((u : ℕ) (R : Reach) → b ≤ β u R) → Every (λ h. b ≤ h.1) (homesIn x β g)
-unfolding homesIn
+bounds_up : (x : ℕ → ℕ) (b : ℕ) (β : ℕ → Reach → ℕ) (g : Grove) → ((u : ℕ) (R : Reach) → b ≤ β u R) → Every (λ h. b ≤ h.1) (homes_in x β g)
+unfolding homes_in
 bounds_up x b β bare k = tt
 bounds_up x b β (leaf R es g) k =
     let f : ℕ = head (map (λ e. e.0) es) in
-    every_append (λ h. b ≤ h.1) (map (λ e. (e.0, rowBound x (β (x f) R) f e)) (rest es)) (homesIn x β g)
-    (every_map (λ h. b ≤ h.1) (λ e. (e.0, rowBound x (β (x f) R) f e)) (rest es)
-    (every-all (λ e. b ≤ rowBound x (β (x f) R) f e) (λ e. omega (arith, k (x f) R)) (rest es)))
+    every_append (λ h. b ≤ h.1) (map (λ e. (e.0, row_bound x (β (x f) R) f e)) (rest es)) (homes_in x β g)
+    (every_map (λ h. b ≤ h.1) (λ e. (e.0, row_bound x (β (x f) R) f e)) (rest es)
+    (every-all (λ e. b ≤ row_bound x (β (x f) R) f e) (λ e. omega (arith, k (x f) R)) (rest es)))
     (bounds_up x b β g k)
 bounds_up x b β (fork R ks g) k =
     let c : ℕ = β (x (first ks)) R in
-    let y : ℕ = nearestOf x ks in
-    every_append (λ h. b ≤ h.1) (map (λ f. (f, c)) (rest (firsts ks)) ++ homesIn x (child_bound_lem c y) ks) (homesIn x β g)
-    (every_append (λ h. b ≤ h.1) (map (λ f. (f, c)) (rest (firsts ks))) (homesIn x (child_bound_lem c y) ks)
+    let y : ℕ = nearest_of x ks in
+    every_append (λ h. b ≤ h.1) (map (λ f. (f, c)) (rest (firsts ks)) ++ homes_in x (child_bound_lem c y) ks) (homes_in x β g)
+    (every_append (λ h. b ≤ h.1) (map (λ f. (f, c)) (rest (firsts ks))) (homes_in x (child_bound_lem c y) ks)
     (every_map (λ h. b ≤ h.1) (λ f. (f, c)) (rest (firsts ks)) (every-all (λ f. b ≤ c) (λ f. k (x (first ks)) R) (rest (firsts ks))))
     (bounds_up x b (child_bound_lem c y) ks (λ u R'. omega (arith, k (x (first ks)) R))))
     (bounds_up x b β g k)
@@ -59,46 +59,46 @@ module _ (x y : ℕ → ℕ) (D : ℕ) where
 
   -- below a node with bound b: opened, its centres are known; else nothing below it is up to D
   under_same : (b : ℕ) (ks : Grove) → x (first ks) ≡ y (first ks) → Every AgreeUpTo (map (λ f. (f, b)) (rest (firsts ks)))
-      → (Every (λ i. x i ≡ y i) (firsts ks) → up_to D (homesIn x (child_bound_lem b (nearestOf x ks)) ks) ≡ up_to D (homesIn y (child_bound_lem b (nearestOf x ks)) ks))
-      → up_to D (homesIn x (child_bound_lem b (nearestOf x ks)) ks) ≡ up_to D (homesIn y (child_bound_lem b (nearestOf y ks)) ks)
+      → (Every (λ i. x i ≡ y i) (firsts ks) → up_to D (homes_in x (child_bound_lem b (nearest_of x ks)) ks) ≡ up_to D (homes_in y (child_bound_lem b (nearest_of x ks)) ks))
+      → up_to D (homes_in x (child_bound_lem b (nearest_of x ks)) ks) ≡ up_to D (homes_in y (child_bound_lem b (nearest_of y ks)) ks)
   under_same b ks p h ih = go (leb b D) refl
     where
-      none : (z : ℕ → ℕ) (l : ℕ) → D < b → up_to D (homesIn z (child_bound_lem b l) ks) ≡ []
+      none : (z : ℕ → ℕ) (l : ℕ) → D < b → up_to D (homes_in z (child_bound_lem b l) ks) ≡ []
       none z l q =
-          up_none D (homesIn z (child_bound_lem b l) ks)
-          (every_of (λ h. b ≤ h.1) (λ h. D < h.1) (λ h k. omega arith) (homesIn z (child_bound_lem b l) ks)
+          up_none D (homes_in z (child_bound_lem b l) ks)
+          (every_of (λ h. b ≤ h.1) (λ h. D < h.1) (λ h k. omega arith) (homes_in z (child_bound_lem b l) ks)
           (bounds_up z b (child_bound_lem b l) ks (λ u R. omega arith)))
 
-      go : (s : Bool) → leb b D ≡ s → up_to D (homesIn x (child_bound_lem b (nearestOf x ks)) ks) ≡ up_to D (homesIn y (child_bound_lem b (nearestOf y ks)) ks)
+      go : (s : Bool) → leb b D ≡ s → up_to D (homes_in x (child_bound_lem b (nearest_of x ks)) ks) ≡ up_to D (homes_in y (child_bound_lem b (nearest_of y ks)) ks)
       go true e =
           let q = all_firsts x y (firsts ks) p (known b (rest (firsts ks)) (leb-true b D e) h) in
-          ih q ∙ ap (λ l. up_to D (homesIn y (child_bound_lem b l) ks)) (ap₂ least p (map_same x y (firsts ks) q))
-      go false e = none x (nearestOf x ks) (leb-false b D e) ∙ sym (none y (nearestOf y ks) (leb-false b D e))
+          ih q ∙ ap (λ l. up_to D (homes_in y (child_bound_lem b l) ks)) (ap₂ least p (map_same x y (firsts ks) q))
+      go false e = none x (nearest_of x ks) (leb-false b D e) ∙ sym (none y (nearest_of y ks) (leb-false b D e))
 
   -- below the nodes of a grove whose firsts agree, the homes up to D are the same
-  same-homesIn : (β : ℕ → Reach → ℕ) (g : Grove) → Every (λ i. x i ≡ y i) (firsts g) → Every AgreeUpTo (homesIn x β g)
-      → up_to D (homesIn x β g) ≡ up_to D (homesIn y β g)
-  unfolding homesIn
+  same-homesIn : (β : ℕ → Reach → ℕ) (g : Grove) → Every (λ i. x i ≡ y i) (firsts g) → Every AgreeUpTo (homes_in x β g)
+      → up_to D (homes_in x β g) ≡ up_to D (homes_in y β g)
+  unfolding homes_in
   same-homesIn β bare p h = refl
   same-homesIn β (leaf R es g) p h =
       let f : ℕ = head (map (λ e. e.0) es) in
       let row : ℕ → List (ℕ × ℕ) = λ k. map (λ e. (e.0, max (β k R) (gap k e.1))) (rest es) in
-      up_append D (row (x f)) (homesIn x β g)
+      up_append D (row (x f)) (homes_in x β g)
       ∙ ap₂ {C = List (ℕ × ℕ)} (λ a b. a ++ b) (ap (λ k. up_to D (row k)) p.0)
-      (same-homesIn β g p.1 (every-right AgreeUpTo (row (x f)) (homesIn x β g) h))
-      ∙ sym (up_append D (row (y f)) (homesIn y β g))
+      (same-homesIn β g p.1 (every-right AgreeUpTo (row (x f)) (homes_in x β g) h))
+      ∙ sym (up_append D (row (y f)) (homes_in y β g))
   same-homesIn β (fork R ks g) p h =
       let f : ℕ = first ks in
       let b : ℕ = β (x f) R in
       let top : ℕ → List (ℕ × ℕ) = λ k. map (λ f. (f, β k R)) (rest (firsts ks)) in
-      let u : List (ℕ × ℕ) = homesIn x (child_bound_lem b (nearestOf x ks)) ks in
-      let u' : ℕ → List (ℕ × ℕ) = λ k. homesIn y (child_bound_lem (β k R) (nearestOf y ks)) ks in
-      let v : List (ℕ × ℕ) = homesIn x β g in
-      let v' : List (ℕ × ℕ) = homesIn y β g in
+      let u : List (ℕ × ℕ) = homes_in x (child_bound_lem b (nearest_of x ks)) ks in
+      let u' : ℕ → List (ℕ × ℕ) = λ k. homes_in y (child_bound_lem (β k R) (nearest_of y ks)) ks in
+      let v : List (ℕ × ℕ) = homes_in x β g in
+      let v' : List (ℕ × ℕ) = homes_in y β g in
       let k = every-left AgreeUpTo (top (x f) ++ u) v h in
       let e : up_to D u ≡ up_to D (u' (x f)) =
       under_same b ks p.0 (every-left AgreeUpTo (top (x f)) u k)
-      (λ q. same-homesIn (child_bound_lem b (nearestOf x ks)) ks q (every-right AgreeUpTo (top (x f)) u k)) in
+      (λ q. same-homesIn (child_bound_lem b (nearest_of x ks)) ks q (every-right AgreeUpTo (top (x f)) u k)) in
       up_append D (top (x f) ++ u) v ∙ ap (λ l. l ++ up_to D v) (up_append D (top (x f)) u)
       ∙ ap₂ {C = List (ℕ × ℕ)} (λ a b. up_to D (top (x f)) ++ a ++ b) e (same-homesIn β g p.1 (every-right AgreeUpTo (top (x f) ++ u) v h))
       ∙ sym (ap (λ l. l ++ up_to D v') (up_append D (top (x f)) (u' (x f)))) ∙ sym (up_append D (top (x f) ++ u' (x f)) v')
@@ -109,10 +109,10 @@ module _ (x y : ℕ → ℕ) (D : ℕ) where
   unfolding homes
   same-homes t h =
       let c : List (ℕ × ℕ) = map (λ f. (f, 0)) (firsts t) in
-      let q = known 0 (firsts t) (omega arith) (every-left AgreeUpTo c (homesIn x (λ x R. 0) t) h) in
-      up_append D c (homesIn x (λ x R. 0) t)
-      ∙ ap (λ l. up_to D c ++ l) (same-homesIn (λ x R. 0) t q (every-right AgreeUpTo c (homesIn x (λ x R. 0) t) h))
-      ∙ sym (up_append D c (homesIn y (λ x R. 0) t))
+      let q = known 0 (firsts t) (omega arith) (every-left AgreeUpTo c (homes_in x (λ x R. 0) t) h) in
+      up_append D c (homes_in x (λ x R. 0) t)
+      ∙ ap (λ l. up_to D c ++ l) (same-homesIn (λ x R. 0) t q (every-right AgreeUpTo c (homes_in x (λ x R. 0) t) h))
+      ∙ sym (up_append D c (homes_in y (λ x R. 0) t))
 
 -- ---- the first w of these rows, and their D
 module _ (x y : ℕ → ℕ) (D : ℕ) where

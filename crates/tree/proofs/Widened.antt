@@ -16,7 +16,7 @@ use Rattle.tree.proofs.Written.{each_words, read-nodes}
 use Rattle.tree.specs.Check.{Accepted, nearest#}
 use Rattle.tree.specs.Encode.{Node, node_words, pair_words}
 use Rattle.tree.specs.Grove.{tree_of}
-use Rattle.tree.specs.Radius.{radiusHow}
+use Rattle.tree.specs.Radius.{radius_how}
 use Rattle.tree.specs.Widen.{widen, widened}
 use Rattle.words.specs.Words.{nodes#, at, c#, circles#, dist#, edition#, card_ok_lem, inner#, kept, kind#, l#, m#, n#, nodes_ok_lem, row#, words_of_lem, whole_ok}
 use lib.Dec.{T, eqb, leb, le→leb}
@@ -152,9 +152,9 @@ module _ (d : ℕ → ℕ → ℕ) (w : List ℕ) where
 
   -- A RADIUS SEARCH ON THE WIDENED INDEX MARKS THE SAME ROWS IN, whichever are gone. (A nearest search's answers do not depend on the index at all.)
   pub widen_in : (x : ℕ → ℕ) → Point d x → Accepted d w → (r : ℕ) (gone : ℕ → Bool) (i : ℕ) → i < n# w
-      → (2 ≤ get_or (radiusHow x r gone (n# w) (tree_of (widen d w))) i 0) ↔ (2 ≤ get_or (radiusHow x r gone (n# w) (tree_of w)) i 0)
+      → (2 ≤ get_or (radius_how x r gone (n# w) (tree_of (widen d w))) i 0) ↔ (2 ≤ get_or (radius_how x r gone (n# w) (tree_of w)) i 0)
   widen_in x P C r gone i h =
-      let new : (2 ≤ get_or (radiusHow x r gone (n# w) (tree_of (widen d w))) i 0) ↔ ((gone i ≡ false) × (x i ≤ r)) =
+      let new : (2 ≤ get_or (radius_how x r gone (n# w) (tree_of (widen d w))) i 0) ↔ ((gone i ≡ false) × (x i ≤ r)) =
       rw widen-reads.rows at (radius-exact d (widen d w) (widen-accepted C) x P r gone i (omega (arith, widen-reads.rows))) in
       let old = radius-exact d w C x P r gone i h in
       (λ a. old.1 (new.0 a), λ a. new.1 (old.0 a))

@@ -55,23 +55,23 @@ module _ (d : ℕ → ℕ → ℕ) where
   radius run = greatest (map (d (head run)) run)
 
   -- 02, R-4: how far the nearest member other than the first is, 0 for a run of one row
-  abbrev pub innerReach : List ℕ → ℕ
-  innerReach run = lowest (map (d (head run)) (rest run))
+  abbrev pub inner_reach : List ℕ → ℕ
+  inner_reach run = lowest (map (d (head run)) (rest run))
 
   -- how far a run reaches
   abbrev pub reach : List ℕ → Reach
-  reach run = record { outer = radius run; inner = innerReach run }
+  reach run = record { outer = radius run; inner = inner_reach run }
 
   -- a run's leaf, before the nodes g: each row with its distance from the first
-  abbrev pub leafOf : List ℕ → Grove → Grove
-  leafOf run g = leaf (reach run) (map (λ i. (i, d (head run) i)) run) g
+  abbrev pub leaf_of : List ℕ → Grove → Grove
+  leaf_of run g = leaf (reach run) (map (λ i. (i, d (head run) i)) run) g
 
   -- the node of a run with at most `deep` levels below it, before the nodes g: a leaf if it has at most l rows or no level is left
   unfoldable pub grow : ℕ → ℕ → ℕ → List ℕ → Grove → Grove
-  grow m l zero run g = leafOf run g
+  grow m l zero run g = leaf_of run g
   grow m l (suc deep) run g =
       let branch = fork (reach run) (foldr (grow m l deep) bare (split m run)) g in
-      cond (leb (length run) l) (leafOf run g) branch
+      cond (leb (length run) l) (leaf_of run g) branch
 
 -- the tree of n rows: the root's run is all of them, ascending
 abbrev pub plant : (ℕ → ℕ → ℕ) → ℕ → ℕ → ℕ → Grove

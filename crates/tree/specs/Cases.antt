@@ -7,12 +7,12 @@ use Rattle.limits.specs.Said.{said}
 use Rattle.measure.specs.Distance.{l1}
 use Rattle.measure.specs.Table.{between, from}
 use Rattle.tree.specs.Build.{build, choose, grow, split}
-use Rattle.tree.specs.Check.{again, faults, strays, wrongDist, wrongInner, wrongRadius}
+use Rattle.tree.specs.Check.{again, faults, strays, wrong_dist, wrong_inner, wrong_radius}
 use Rattle.tree.specs.Encode.{broods, encode, family, level_nodes, nodes, numbered, pair_words}
 use Rattle.tree.specs.Grove.{tree_at, tree_of}
-use Rattle.tree.specs.Homes.{homes, homesIn}
-use Rattle.tree.specs.Nearest.{answers, measured, nearHow, passes}
-use Rattle.tree.specs.Radius.{inside, marks, marksIn, radiusHow}
+use Rattle.tree.specs.Homes.{homes, homes_in}
+use Rattle.tree.specs.Nearest.{answers, measured, near_how, passes}
+use Rattle.tree.specs.Radius.{inside, marks, marks_in, radius_how}
 use Rattle.tree.specs.Widen.{widen}
 use Rattle.words.specs.Words.{nodes#, n#, row#}
 
@@ -80,25 +80,25 @@ none i = false
 
 -- a case comes out as it says
 unfoldable pub right : Case → Bool
-unfolding sum_to l1 between from again wrongDist wrongRadius wrongInner widen strays faults tree_at tree_of family broods level_nodes nodes
-    numbered encode choose split grow build homesIn homes answers passes nearHow marksIn marks radiusHow
+unfolding sum_to l1 between from again wrong_dist wrong_radius wrong_inner widen strays faults tree_at tree_of family broods level_nodes nodes
+    numbered encode choose split grow build homes_in homes answers passes near_how marks_in marks radius_how
 right (words T w) = same (build T 1 0 2 2 2) w && eqb (said (faults (between T 1 0) w)).0 0
 right (order T is N) = let w = build T 1 0 2 2 2 in same (map (row# w) (range 0 (n# w))) is && eqb (nodes# w) N
 right (radius T q r how i k) =
-    let h = radiusHow (from T 1 0 (q ∷ [])) r none (length T) (tree_of (build T 1 0 2 2 2)) in
+    let h = radius_how (from T 1 0 (q ∷ [])) r none (length T) (tree_of (build T 1 0 2 2 2)) in
     same h how && eqb (inside h) i && eqb (measured h) k
 right (nearest T q w as' k) =
     let x = from T 1 0 (q ∷ []) in
     same (each pair_words (answers x none (length T) w)) (each pair_words as')
-    && eqb (measured (nearHow x none (length T) (tree_of (build T 1 0 2 2 2)) w)) k
-right (near T q w how) = same (nearHow (from T 1 0 (q ∷ [])) none (length T) (tree_of (build T 1 0 2 2 2)) w) how
+    && eqb (measured (near_how x none (length T) (tree_of (build T 1 0 2 2 2)) w)) k
+right (near T q w how) = same (near_how (from T 1 0 (q ∷ [])) none (length T) (tree_of (build T 1 0 2 2 2)) w) how
 right (without T out q w as' how) =
     let x = from T 1 0 (q ∷ []) in
     same (each pair_words (answers x (λ i. has i out) (length T) w)) (each pair_words as')
-    && same (nearHow x (λ i. has i out) (length T) (tree_of (build T 1 0 2 2 2)) w) how
+    && same (near_how x (λ i. has i out) (length T) (tree_of (build T 1 0 2 2 2)) w) how
 right (round T q r how w as') =
     let x = from T 1 1 (q ∷ []) in
-    same (radiusHow x r none (length T) (tree_of (build T 1 1 2 2 2))) how && same (each pair_words (answers x none (length T) w)) (each pair_words as')
+    same (radius_how x r none (length T) (tree_of (build T 1 1 2 2 2))) how && same (each pair_words (answers x none (length T) w)) (each pair_words as')
 right (old T v w) = same (widen (between T 1 0) v) w && eqb (said (faults (between T 1 0) w)).0 0
 right (found w k p p') = let s = said (faults (between five 1 0) w) in eqb s.0 k && eqb s.1 p && eqb s.2 p'
 

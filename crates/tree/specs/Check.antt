@@ -19,24 +19,24 @@ again w p = has (row# w p) (map (row# w) (range 0 p))
 
 module _ (d : ℕ → ℕ → ℕ) where
   -- 11: the stored distance at position p is not that from the first of its leaf
-  unfoldable pub wrongDist : List ℕ → ℕ → Bool
-  wrongDist w p = any (λ k. not (inner w k) && in_run w p k && not (eqb (dist# w p) (d (first# w k) (row# w p)))) (range 0 (nodes# w))
+  unfoldable pub wrong_dist : List ℕ → ℕ → Bool
+  wrong_dist w p = any (λ k. not (inner w k) && in_run w p k && not (eqb (dist# w p) (d (first# w k) (row# w p)))) (range 0 (nodes# w))
 
   -- 12: node k's radius is not the greatest distance of a member from its first
-  unfoldable pub wrongRadius : List ℕ → ℕ → Bool
-  wrongRadius w k = not (eqb (radius# w k) (greatest (map (λ p. d (first# w k) (row# w p)) (run# w k))))
+  unfoldable pub wrong_radius : List ℕ → ℕ → Bool
+  wrong_radius w k = not (eqb (radius# w k) (greatest (map (λ p. d (first# w k) (row# w p)) (run# w k))))
 
   -- the least distance of a member other than the first from node k's first, 0 where there is none
   abbrev pub nearest# : List ℕ → ℕ → ℕ
   nearest# w k = lowest (map (λ p. d (first# w k) (row# w p)) (rest (run# w k)))
 
   -- 12, in edition 2: its inner reach is not that
-  unfoldable pub wrongInner : List ℕ → ℕ → Bool
-  wrongInner w k = eqb (edition# w) 2 && not (eqb (inner# w k) (nearest# w k))
+  unfoldable pub wrong_inner : List ℕ → ℕ → Bool
+  wrong_inner w k = eqb (edition# w) 2 && not (eqb (inner# w k) (nearest# w k))
 
   -- 12: one of the two
-  abbrev pub wrongReach : List ℕ → ℕ → Bool
-  wrongReach w k = wrongRadius w k || wrongInner w k
+  abbrev pub wrong_reach_lem : List ℕ → ℕ → Bool
+  wrong_reach_lem w k = wrong_radius w k || wrong_inner w k
 
   -- 13: the member at position p of node k's child j is closer to the centre of another child
   unfoldable pub strays : List ℕ → ℕ → ℕ → Bool
@@ -45,8 +45,8 @@ module _ (d : ℕ → ℕ → ℕ) where
   -- every fault with its two places, the lowest number first, then the lowest place
   unfoldable pub faults : List ℕ → List Said
   faults w =
-      map (λ p. (10, p, 0)) (keep (again w) (range 0 (n# w))) ++ map (λ p. (11, p, 0)) (keep (wrongDist w) (range 0 (n# w)))
-      ++ map (λ k. (12, k, 0)) (keep (wrongReach w) (range 0 (nodes# w)))
+      map (λ p. (10, p, 0)) (keep (again w) (range 0 (n# w))) ++ map (λ p. (11, p, 0)) (keep (wrong_dist w) (range 0 (n# w)))
+      ++ map (λ k. (12, k, 0)) (keep (wrong_reach_lem w) (range 0 (nodes# w)))
       ++ each (λ k. map (λ p. (13, k, p)) (keep (strays w k) (run# w k))) (range 0 (nodes# w))
 
   -- the full check accepts: words and header, shape, and no fault

@@ -49,8 +49,8 @@ module _ (x : ℕ → ℕ) (gone : ℕ → Bool) (n : ℕ) where
   passes w b = ltb (length candidates) w || leb b (last_distance (answers w))
 
   -- by row number: 3 an answer, else 1 measured, else 0
-  unfoldable pub nearHow : Grove → ℕ → List ℕ
-  nearHow t w = map (λ i. cond (has i (map (λ a. a.0) (answers w))) 3 (cond (passes w (look i (homes x t))) 1 0)) (range 0 n)
+  unfoldable pub near_how : Grove → ℕ → List ℕ
+  near_how t w = map (λ i. cond (has i (map (λ a. a.0) (answers w))) 3 (cond (passes w (look i (homes x t))) 1 0)) (range 0 n)
 
 -- ---- the same, told by D alone: what a search can know that has measured the rows with home bound at most D and no other
 -- the homes with a bound of at most D

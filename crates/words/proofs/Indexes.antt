@@ -22,13 +22,13 @@ module _ (whole : Bool) (w : List ℕ) (n c : ℕ) where
   fits = whole && eqb (n# w) n && eqb (c# w) c
 
   -- the fault after it
-  abbrev shapeFault : List Said
-  shapeFault = fault 9 (not (shape_ok_lem w))
+  abbrev shape_fault : List Said
+  shape_fault = fault 9 (not (shape_ok_lem w))
 
   -- one of the parts of 8 fails
   eight : fits ≡ false → 8 ≡ (said (fit_faults whole w n c)).0
   unfolding fit_faults
-  eight e = ap number_of (fault-first 8 shapeFault (ap not e))
+  eight e = ap number_of (fault-first 8 shape_fault (ap not e))
 
   -- words are missing or the header is impossible
   pub eight-words : whole ≡ false → 8 ≡ (said (fit_faults whole w n c)).0
@@ -48,13 +48,13 @@ module _ (whole : Bool) (w : List ℕ) (n c : ℕ) where
     unfolding fit_faults
     by_shape s =
         let f : fits ≡ true = rw (e, eq-eqb (n# w) n p, eq-eqb (c# w) c q) in
-        ap (λ b. (said (fault 9 (not b))).0) s ∙ ap number_of (fault-next 8 shapeFault (ap not f))
+        ap (λ b. (said (fault 9 (not b))).0) s ∙ ap number_of (fault-next 8 shape_fault (ap not f))
 
   -- 8 and 9 are early
   pub fit-early : Every Early (fit_faults whole w n c)
   unfolding fit_faults
   fit-early =
-      every_append Early (fault 8 (not fits)) shapeFault (fault_early 8 (not fits) (omega arith) refl)
+      every_append Early (fault 8 (not fits)) shape_fault (fault_early 8 (not fits) (omega arith) refl)
       (fault_early 9 (not (shape_ok_lem w)) (omega arith) refl)
 
   -- with 0 every test is passed
@@ -63,7 +63,7 @@ module _ (whole : Bool) (w : List ℕ) (n c : ℕ) where
   fit-tests z =
       let r = eqb (n# w) n in
       let k = eqb (c# w) c in
-      let p = fault-none 8 (not fits) shapeFault (omega arith) z in
+      let p = fault-none 8 (not fits) shape_fault (omega arith) z in
       let t = holds fits (not-false fits p.0) in
       let u = and_l (whole && r) k t in (
         is_true whole (and_l whole r u),

@@ -3,7 +3,7 @@
 use Prim.Native.Nat.{◌-◌, ◌<◌, ◌≤◌, ℕ}
 use Rattle.bare_leaf.proofs.open_bare.Statement.{statement}
 use Rattle.bare_leaf.proofs.open_bare.Tie as tie
-use Rattle.leaf_decision.specs.Decision.{leafAt}
+use Rattle.leaf_decision.specs.Decision.{leaf_at}
 use Rattle.limits.specs.Limits.{max_distance}
 use Rattle.marking.proofs.Fitted.{lent_same}
 use Rattle.marking.proofs.Written.{marked-end, marked_next, marked-none, write-plain}
@@ -20,7 +20,7 @@ use native.Mathlib.Omega.{arith}
 abbrev invariant-loop : tie.invariant-loop-p
 invariant-loop table c circles index query base lo hi x r how₀ p₀ how p =
     Lent index table c query how × (length how ≡ length how₀) × (0 < length how₀) × (lo ≤ p) × (p ≤ hi) × (hi ≤ n# index) × (x ≤ max_distance)
-    × (base ≡ pair_at index 0) × (how ≡ marked (λ (i : ℕ). false) (leafAt (from table c circles query) r index x) lo p how₀)
+    × (base ≡ pair_at index 0) × (how ≡ marked (λ (i : ℕ). false) (leaf_at (from table c circles query) r index x) lo p how₀)
 
 abbrev decreases-loop : tie.decreases-loop-p
 decreases-loop table c circles index query base lo hi x r how₀ p₀ how p = hi - p

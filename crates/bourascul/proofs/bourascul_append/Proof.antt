@@ -5,14 +5,20 @@ use Rattle.bourascul.proofs.bourascul_append.Tie as tie
 use borrow.Author.Rules.{rules}
 use native.Mathlib.Omega.{arith}
 
-cast-t12 : tie.Need-overflow-cast-t12
+cast-t12 : tie.Need-overflow_cast-result
 cast-t12 c =
-    omega (arith, c.before.before.before.before.before.append.ensures.small.0)
+    omega (arith, c.append-built.ensures.small.0)
 
-cast-t13 : tie.Need-overflow-cast-t13
+cast-t13 : tie.Need-overflow_cast-result-2
 cast-t13 c =
-    omega (arith, c.before.before.before.before.before.before.append.ensures.small.1)
+    omega (arith, c.append-built.ensures.small.1)
 
-pub bourascul-append-spec : {M : Type 1} → statement M
-bourascul-append-spec =
-    tie.close (tie.spec (λ c κs. search rules) cast-t12 cast-t13 (λ c. search rules) (λ c. search rules) (λ c. search rules))
+pub bourascul_append_spec : {M : Type 1} → statement M
+bourascul_append_spec =
+    tie.close (tie.spec
+    (λ c κs. search rules)
+    cast-t12
+    cast-t13
+    (λ c. search rules)
+    (λ c. search rules)
+    (λ c. search rules))

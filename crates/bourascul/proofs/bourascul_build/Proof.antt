@@ -6,16 +6,22 @@ use Rattle.build.proofs.Small.{build_small}
 use borrow.Author.Rules.{rules}
 use native.Mathlib.Omega.{arith}
 
-cast-t18 : tie.Need-overflow-cast-t18
+cast-t18 : tie.Need-overflow_cast-result
 cast-t18 c =
-    let build = c.before.before.before.before.before.build in
+    let build = c.build-built in
     let small = build_small build.ensures in omega (arith, small.0, small.1)
 
-cast-t19 : tie.Need-overflow-cast-t19
+cast-t19 : tie.Need-overflow_cast-result-2
 cast-t19 c =
-    let build = c.before.before.before.before.before.before.build in
+    let build = c.build-built in
     let small = build_small build.ensures in omega (arith, small.0, small.1)
 
-pub bourascul-build-spec : {M : Type 1} → statement M
-bourascul-build-spec =
-    tie.close (tie.spec (λ c κs. search rules) cast-t18 cast-t19 (λ c. search rules) (λ c. search rules) (λ c. search rules))
+pub bourascul_build_spec : {M : Type 1} → statement M
+bourascul_build_spec =
+    tie.close (tie.spec
+    (λ c κs. search rules)
+    cast-t18
+    cast-t19
+    (λ c. search rules)
+    (λ c. search rules)
+    (λ c. search rules))

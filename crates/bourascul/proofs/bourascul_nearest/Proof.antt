@@ -6,18 +6,18 @@ use Rattle.nearest.proofs.Promises.{nearest_small}
 use borrow.Author.Rules.{rules}
 use native.Mathlib.Omega.{arith}
 
-cast-t22 : tie.Need-overflow-cast-t22
+cast-t22 : tie.Need-overflow_cast-result
 cast-t22 c =
-    let nearest = c.before.before.before.before.before.before.before.before.before.nearest in
+    let nearest = c.nearest-near in
     let small = nearest_small nearest.ensures in omega (arith, small.0, small.1)
 
-cast-t23 : tie.Need-overflow-cast-t23
+cast-t23 : tie.Need-overflow_cast-result-2
 cast-t23 c =
-    let nearest = c.before.before.before.before.before.before.before.before.before.before.nearest in
+    let nearest = c.nearest-near in
     let small = nearest_small nearest.ensures in omega (arith, small.0, small.1)
 
-pub bourascul-nearest-spec : {M : Type 1} → statement M
-bourascul-nearest-spec =
+pub bourascul_nearest_spec : {M : Type 1} → statement M
+bourascul_nearest_spec =
     tie.close
     (tie.spec
     (λ c κs. search rules)

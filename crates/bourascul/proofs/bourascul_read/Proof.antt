@@ -6,17 +6,22 @@ use Rattle.card.proofs.Theorems.{read_small}
 use borrow.Author.Rules.{rules}
 use native.Mathlib.Omega.{arith}
 
-cast-t10 : tie.Need-overflow-cast-t10
+cast-t10 : tie.Need-overflow_cast-result
 cast-t10 c =
-    let read-image = c.before.before.before.before.read-image in
+    let read-image = c.read_image-read in
     omega (arith, read_small read-image.ensures)
 
 returns : tie.Need-returns
 returns c =
-    let read-image = c.before.before.before.before.read-image in
-    let block-number = c.before.block-number in
+    let read-image = c.read_image-read in
+    let block-number = c.block_number in
     record { block = read-image.result.place; reads = read-image.ensures; named = block-number.ensures }
 
-pub bourascul-read-spec : {M : Type 1} → statement M
-bourascul-read-spec =
-    tie.close (tie.spec (λ c κs. search rules) (λ c κs. search rules) cast-t10 (λ c. search rules) returns)
+pub bourascul_read_spec : {M : Type 1} → statement M
+bourascul_read_spec =
+    tie.close (tie.spec
+    (λ c κs. search rules)
+    (λ c κs. search rules)
+    cast-t10
+    (λ c. search rules)
+    returns)

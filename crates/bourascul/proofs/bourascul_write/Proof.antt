@@ -6,10 +6,14 @@ use Rattle.image.proofs.Small.{write_small}
 use borrow.Author.Rules.{rules}
 use native.Mathlib.Omega.{arith}
 
-cast-t6 : tie.Need-overflow-cast-t6
+cast-t6 : tie.Need-overflow_cast-result
 cast-t6 c =
-    let write-image = c.before.before.before.write-image in
+    let write-image = c.write_image-written in
     omega (arith, write_small write-image.ensures)
 
-pub bourascul-write-spec : {M : Type 1} → statement M
-bourascul-write-spec = tie.close (tie.spec (λ c κs. search rules) cast-t6 (λ c. search rules) (λ c. search rules))
+pub bourascul_write_spec : {M : Type 1} → statement M
+bourascul_write_spec = tie.close (tie.spec
+    (λ c κs. search rules)
+    cast-t6
+    (λ c. search rules)
+    (λ c. search rules))

@@ -6,18 +6,18 @@ use Rattle.nearest.proofs.Promises.{nearest_small}
 use borrow.Author.Rules.{rules}
 use native.Mathlib.Omega.{arith}
 
-cast-t23 : tie.Need-overflow-cast-t23
+cast-t23 : tie.Need-overflow_cast-result
 cast-t23 c =
-    let k = nearest_small c.before.before.before.before.before.before.before.before.before.within.ensures in
+    let k = nearest_small c.within-near.ensures in
     omega (arith, k.0, k.1)
 
-cast-t24 : tie.Need-overflow-cast-t24
+cast-t24 : tie.Need-overflow_cast-result-2
 cast-t24 c =
-    let k = nearest_small c.before.before.before.before.before.before.before.before.before.before.within.ensures in
+    let k = nearest_small c.within-near.ensures in
     omega (arith, k.0, k.1)
 
-pub within-spec : {M : Type 1} → statement M
-within-spec =
+pub within_spec : {M : Type 1} → statement M
+within_spec =
     tie.close
     (tie.spec
     (λ c κs. search rules)

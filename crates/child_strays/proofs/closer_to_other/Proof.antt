@@ -4,7 +4,7 @@ use Prim.Native.Nat.{◌+◌, ◌-◌, ◌≤◌, ℕ}
 use Rattle.child_strays.proofs.Strays.{closer-is}
 use Rattle.child_strays.proofs.closer_to_other.Statement.{statement}
 use Rattle.child_strays.proofs.closer_to_other.Tie as tie
-use Rattle.child_strays.specs.Strays.{closerThan}
+use Rattle.child_strays.specs.Strays.{closer_than}
 use Rattle.laws.proofs.First.{any-first, any-lost, search-on, search-start, search-stop}
 use Rattle.laws.specs.First.{First}
 use Rattle.measure.specs.Table.{between}
@@ -17,7 +17,7 @@ use native.Mathlib.Omega.{arith}
 
 abbrev invariant-loop : tie.invariant-loop-i
 invariant-loop table c circles index child fs g x p m i₀ i =
-    (i ≤ m) × (m ≡ m# index) × First (closerThan (between table c (circles# index)) index p x) child (child + i) (child + i)
+    (i ≤ m) × (m ≡ m# index) × First (closer_than (between table c (circles# index)) index p x) child (child + i) (child + i)
 
 abbrev decreases-loop : tie.decreases-loop-i
 decreases-loop table c circles index child fs g x p m i₀ i = m - i
@@ -32,7 +32,7 @@ dist s = between s.args.table.now s.args.c (circles# s.args.index.now)
 
 -- the test of one centre: the row at p is closer to it
 abbrev test : tie.Start invariant-loop decreases-loop → ℕ → Bool
-test s = closerThan (dist s) s.args.index.now s.args.p s.args.x
+test s = closer_than (dist s) s.args.index.now s.args.p s.args.x
 
 -- the test of the i-th centre is that of its node
 tested : (c : tie.After-is_closer invariant-loop decreases-loop)

@@ -1,4 +1,4 @@
--- `copies::copy_children` meets its contract: i old nodes are copied (`withCopies`).
+-- `copies::copy_children` meets its contract: i old nodes are copied (`with_copies`).
 -- Assumes nothing.
 use Prim.Native.Nat.{◌-◌, ◌≤◌}
 use Rattle.copies.proofs.Copies.{copies-done, copies-start, copies-step}

@@ -11,10 +11,10 @@ use Rattle.marking.proofs.Did.{centre-did}
 use Rattle.marking.proofs.Fitted.{lent_same, measurable}
 use Rattle.marking.proofs.Listed.{leaves-as, leaves_by, leaves-full, leaves_none, leaves-then}
 use Rattle.marking.specs.Listed.{Leaves}
-use Rattle.marking.specs.Marks.{centreAt, first_at}
+use Rattle.marking.specs.Marks.{centre_at, first_at}
 use Rattle.measure.specs.Table.{from}
 use Rattle.rowset.specs.Sets.{is_in_lem}
-use Rattle.tree.specs.Radius.{byDistance}
+use Rattle.tree.specs.Radius.{by_distance}
 use Rattle.words.proofs.InShape.{left_root}
 use Rattle.words.specs.Words.{nodes#, circles#, radius#}
 use borrow.Author.Rules.{rules}
@@ -67,12 +67,12 @@ at-root m =
 
 -- and marked
 root-marked : (m : tie.After-mark_measured)
-    → Leaves (gone m) (x m) (centreAt (x m) (start m).args.r (w m) 0) (start m).args.how.now m.mark_measured.new.how
+    → Leaves (gone m) (x m) (centre_at (x m) (start m).args.r (w m) 0) (start m).args.how.now m.mark_measured.new.how
     (start m).args.list.now m.mark_measured.new.list
 root-marked m =
     let i = m.node_first-first.result in
     leaves-as (gone m) (x m) (centre-did (x m) (start m).args.r (w m) 0 m.node_first-first.ensures.0)
-    (leaves_by (gone m) (by m) (λ x. (i, byDistance x (start m).args.r i) ∷ []) m.circles.ensures
+    (leaves_by (gone m) (by m) (λ x. (i, by_distance x (start m).args.r i) ∷ []) m.circles.ensures
     (leaves-full (gone m) (by m m.circles.result) (start m).args.r i m.query_distance-x.ensures.0 m.mark_measured.ensures))
 
 node-radius-requires : tie.Need-node_radius-requires

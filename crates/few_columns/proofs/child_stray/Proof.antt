@@ -7,7 +7,7 @@ use Rattle.child_strays.proofs.Strays.{kid-end, kid-named, kid-on, kid-stop}
 use Rattle.few_columns.proofs.child_stray.Statement.{statement}
 use Rattle.few_columns.proofs.child_stray.Tie as tie
 use Rattle.spared_rows.specs.Safe.{SafeTo}
-use Rattle.child_strays.specs.Strays.{Firsts, kidStrays}
+use Rattle.child_strays.specs.Strays.{Firsts, kid_strays}
 use Rattle.laws.proofs.First.{search-start}
 use Rattle.laws.specs.First.{First}
 use Rattle.measure.specs.Table.{between}
@@ -18,7 +18,7 @@ use mathlib.Core.Path.{◌∙◌, ap, subst, sym}
 use native.Mathlib.Omega.{arith}
 
 abbrev invariant-loop : tie.invariant-loop-p
-invariant-loop table c index fs k a child j f end p₀ safe p = (p ≤ end) × First (kidStrays (between table c (circles# index)) index k j) (start# index j) p p
+invariant-loop table c index fs k a child j f end p₀ safe p = (p ≤ end) × First (kid_strays (between table c (circles# index)) index k j) (start# index j) p p
 
 abbrev decreases-loop : tie.decreases-loop-p
 decreases-loop table c index fs k a child j f end p₀ safe p = end - p

@@ -4,7 +4,7 @@ use Rattle.std.proofs.lemmas.Bool.{not_from_false, not_from_true}
 use Prim.Native.Nat.{◌*◌, ◌+◌, ◌<◌, ℕ}
 use Rattle.leaf_decision.proofs.Did.{leaf-did}
 use Rattle.leaf_decision.proofs.Verdicts.{out_only}
-use Rattle.leaf_decision.specs.Decision.{leafAt, verdict_byte}
+use Rattle.leaf_decision.specs.Decision.{leaf_at, verdict_byte}
 use Rattle.leaf_decision.specs.declared.Verdict.TheVariants.{In, Measure, Out}
 use Rattle.leaf_decision.specs.declared.Verdict.{Verdict}
 use Rattle.leaf_rows.proofs.leaf_row.Statement.{statement}
@@ -12,7 +12,7 @@ use Rattle.leaf_rows.proofs.leaf_row.Tie as tie
 use Rattle.marking.proofs.Fitted.{measurable}
 use Rattle.marking.proofs.Listed.{leaves-as, leaves-gone, leaves_in, leaves-out}
 use Rattle.measure.specs.Table.{from}
-use Rattle.tree.specs.Radius.{byDistance}
+use Rattle.tree.specs.Radius.{by_distance}
 use Rattle.words.proofs.Positions.{dist-word, row_word}
 use Rattle.words.specs.Words.{at, dist#, n#, row#}
 use borrow.Author.Rules.{rules}
@@ -51,8 +51,8 @@ decide-requires c κs =
 
 -- what is left for the row in the case v of the verdict is right
 did : (c : tie.After-decide-verdict) (v : Verdict) → c.decide-verdict.result ≡ v
-    → (c.before.before.word-row.result, verdict_byte (byDistance (x (start c.before.before)) (start c.before.before).args.r c.before.before.word-row.result) v) ∷ []
-    ≡ leafAt (x (start c.before.before)) (start c.before.before).args.r (start c.before.before).args.index.now (start c.before.before).args.x
+    → (c.before.before.word-row.result, verdict_byte (by_distance (x (start c.before.before)) (start c.before.before).args.r c.before.before.word-row.result) v) ∷ []
+    ≡ leaf_at (x (start c.before.before)) (start c.before.before).args.r (start c.before.before).args.index.now (start c.before.before).args.x
     (start c.before.before).args.p
 did c v e =
     let w = c.before.before in

@@ -2,10 +2,10 @@
 -- the nodes.
 -- Assumes nothing.
 use Prim.Native.Nat.{◌-◌, ◌≤◌, ℕ}
-use Rattle.nearness.proofs.Strays.{nodes-on, nodes-over, nodes-start, nodes-stop, saidFrom}
+use Rattle.nearness.proofs.Strays.{nodes-on, nodes-over, nodes-start, nodes-stop, said_from}
 use Rattle.nearness.proofs.closeness.Statement.{statement}
 use Rattle.nearness.proofs.closeness.Tie as tie
-use Rattle.nearness.specs.Strays.{allStrays}
+use Rattle.nearness.specs.Strays.{all_strays}
 use Rattle.limits.specs.Said.{said}
 use Rattle.measure.specs.Table.{between}
 use Rattle.words.specs.Words.{nodes#, circles#}
@@ -16,7 +16,7 @@ use native.Mathlib.Omega.{arith}
 abbrev invariant-loop : tie.invariant-loop-k
 invariant-loop table c index total k₀ k =
     (total ≡ nodes# index) × (k ≤ total)
-    × (said (allStrays (between table c (circles# index)) index) ≡ saidFrom (between table c (circles# index)) index k)
+    × (said (all_strays (between table c (circles# index)) index) ≡ said_from (between table c (circles# index)) index k)
 
 abbrev decreases-loop : tie.decreases-loop-k
 decreases-loop table c index total k₀ k = total - k

@@ -3,7 +3,7 @@
 -- Assumes nothing.
 use Prim.Native.Nat.{◌-◌, ◌≤◌, ℕ}
 use Rattle.reach.proofs.Pairing.{inner_no, inner-yes}
-use Rattle.nearness.proofs.Strays.{near-done, near-leaf, near-more, near-start, straysTo}
+use Rattle.nearness.proofs.Strays.{near-done, near-leaf, near-more, near-start, strays_to}
 use Rattle.nearness.proofs.first_stray.Statement.{statement}
 use Rattle.nearness.proofs.first_stray.Tie as tie
 use Rattle.child_strays.specs.Strays.{FirstIn, Firsts}
@@ -17,7 +17,7 @@ use native.Mathlib.Omega.{arith}
 
 abbrev invariant-loop : tie.invariant-loop-a
 invariant-loop table c index k low₀ child m fs a₀ low a =
-    (m ≡ m# index) × (a ≤ m) × FirstIn index k (straysTo (between table c (circles# index)) index k a) low
+    (m ≡ m# index) × (a ≤ m) × FirstIn index k (strays_to (between table c (circles# index)) index k a) low
 
 abbrev decreases-loop : tie.decreases-loop-a
 decreases-loop table c index k low₀ child m fs a₀ low a = m - a

@@ -1,4 +1,4 @@
--- `rounds::nearer_one` meets its contract: both words are what an entry keeps of a new centre (`near-entry`).
+-- `rounds::nearer_one` meets its contract: both words are what an entry keeps of a new centre (`near_entry`).
 -- Assumes nothing.
 
 use Prim.Native.Nat.{ℕ}

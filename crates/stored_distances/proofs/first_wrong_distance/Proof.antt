@@ -2,7 +2,7 @@
 -- left of the nodes.
 -- Assumes nothing.
 use Prim.Native.Nat.{◌-◌, ◌≤◌, ℕ}
-use Rattle.stored_distances.proofs.Distances.{distances-done, distances_more, distances-start, wrongTo}
+use Rattle.stored_distances.proofs.Distances.{distances-done, distances_more, distances-start, wrong_to}
 use Rattle.stored_distances.proofs.first_wrong_distance.Statement.{statement}
 use Rattle.stored_distances.proofs.first_wrong_distance.Tie as tie
 use Rattle.laws.specs.First.{First}
@@ -14,7 +14,7 @@ use native.Mathlib.Omega.{arith}
 
 abbrev invariant-loop : tie.invariant-loop-k
 invariant-loop table c index total n low₀ k₀ low k =
-    (total ≡ nodes# index) × (k ≤ total) × First (wrongTo (between table c (circles# index)) index k) 0 (n# index) low
+    (total ≡ nodes# index) × (k ≤ total) × First (wrong_to (between table c (circles# index)) index k) 0 (n# index) low
 
 abbrev decreases-loop : tie.decreases-loop-k
 decreases-loop table c index total n low₀ k₀ low k = total - k

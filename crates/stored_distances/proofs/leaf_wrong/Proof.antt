@@ -5,7 +5,7 @@ use Rattle.stored_distances.proofs.Distances.{leaf-end, leaf-on, leaf-stop, none
 use Rattle.reach.proofs.Pairing.{inner_no, inner-yes}
 use Rattle.stored_distances.proofs.leaf_wrong.Statement.{statement}
 use Rattle.stored_distances.proofs.leaf_wrong.Tie as tie
-use Rattle.stored_distances.specs.Leaves.{leafWrong}
+use Rattle.stored_distances.specs.Leaves.{leaf_wrong_lem}
 use Rattle.laws.proofs.First.{first-none, search-start}
 use Rattle.laws.specs.First.{First}
 use Rattle.measure.specs.Table.{between}
@@ -17,7 +17,7 @@ use mathlib.Core.Path.{◌≡◌}
 use native.Mathlib.Omega.{arith}
 
 abbrev invariant-loop : tie.invariant-loop-p
-invariant-loop table c index k n f end circles p₀ p = (p ≤ end) × First (leafWrong (between table c (circles# index)) index k) (start# index k) p p
+invariant-loop table c index k n f end circles p₀ p = (p ≤ end) × First (leaf_wrong_lem (between table c (circles# index)) index k) (start# index k) p p
 
 abbrev decreases-loop : tie.decreases-loop-p
 decreases-loop table c index k n f end circles p₀ p = end - p

@@ -8,12 +8,12 @@ use Rattle.marking.proofs.Fitted.{lent_same, measurable}
 use Rattle.marking.proofs.Listed.{leaves-as, leaves_by, span-end, span-next, span_none}
 use Rattle.marking.specs.Lent.{Lent}
 use Rattle.marking.specs.Listed.{Leaves, span}
-use Rattle.marking.specs.Marks.{centreAt, first_at}
+use Rattle.marking.specs.Marks.{centre_at, first_at}
 use Rattle.measure.specs.Table.{from}
 use Rattle.opened.proofs.centres.open_inner.Statement.{statement}
 use Rattle.opened.proofs.centres.open_inner.Tie as tie
 use Rattle.rowset.specs.Sets.{is_in_lem}
-use Rattle.tree.specs.Radius.{byDistance}
+use Rattle.tree.specs.Radius.{by_distance}
 use Rattle.words.proofs.Positions.{row_word}
 use Rattle.words.specs.Words.{nodes#, circles#, first#, m#, n#, row#, start#}
 use borrow.Author.Rules.{rules}
@@ -28,7 +28,7 @@ invariant-loop table c index query ch x r withdrawn how₀ list₀ m base round 
     Lent index table c query how × (length how ≡ length how₀) × (length list ≡ length list₀)
     × (1 ≤ j) × (j ≤ m) × (m ≡ m# index) × (ch + m# index ≤ nodes# index) × (length ds ≡ 64)
     × Holds (λ (i : ℕ). first_at (from table c (circles# index) query) index (ch + i)) max_distance ds j
-    × Leaves (is_in_lem withdrawn) (from table c (circles# index) query) (span (λ (i : ℕ). centreAt (from table c (circles# index) query) r index (ch + i)) 1 j)
+    × Leaves (is_in_lem withdrawn) (from table c (circles# index) query) (span (λ (i : ℕ). centre_at (from table c (circles# index) query) r index (ch + i)) 1 j)
     how₀ how list₀ list
 
 abbrev decreases-loop : tie.decreases-loop-j
@@ -119,7 +119,7 @@ loop-again c =
       holds_more _ max_distance l.ds l.j (omega arith) (row.ensures.0.0 ∙ ap (λ (o : ℕ). full o i) round ∙ ap x (first read.before.before.before.before.before.before.before)) row.ensures.0.1 l.invariant.8,
       span-next _ x _ 1 l.j l.invariant.3 l.invariant.9
           (leaves-as _ x (centre-did x s.args.r w _ (first read.before.before.before.before.before.before.before))
-          (leaves_by (is_in_lem s.args.withdrawn.now) full (λ x. (i, byDistance x s.args.r i) ∷ []) round row.ensures.1)),
+          (leaves_by (is_in_lem s.args.withdrawn.now) full (λ x. (i, by_distance x s.args.r i) ∷ []) round row.ensures.1)),
     )
 
 returns : tie.Need-returns invariant-loop decreases-loop

@@ -1,7 +1,7 @@
 -- `opened::leaf::open_leaf` meets its contract: after the turn for position p the rows of the run up to p are marked as an opened leaf's.
 -- Assumes nothing.
 use Prim.Native.Nat.{◌+◌, ◌-◌, ◌≤◌, ℕ}
-use Rattle.leaf_decision.specs.Decision.{leafAt}
+use Rattle.leaf_decision.specs.Decision.{leaf_at}
 use Rattle.limits.specs.Limits.{max_distance}
 use Rattle.marking.proofs.Fitted.{lent_same}
 use Rattle.marking.proofs.Listed.{leaves-as, leaves_bare, leaves_by, span-end, span-next, span_none}
@@ -23,7 +23,7 @@ abbrev invariant-loop : tie.invariant-loop-p
 invariant-loop table c index query k x r withdrawn how₀ list₀ start end base round p₀ how list p =
     Lent index table c query how × Node index k × (length how ≡ length how₀) × (length list ≡ length list₀)
     × (start# index k + 1 ≤ p) × (p ≤ end) × (end ≡ start# index k + count# index k) × (x ≤ max_distance)
-    × Leaves (is_in_lem withdrawn) (from table c (circles# index) query) (span (leafAt (from table c (circles# index) query) r index x) (start# index k + 1) p)
+    × Leaves (is_in_lem withdrawn) (from table c (circles# index) query) (span (leaf_at (from table c (circles# index) query) r index x) (start# index k + 1) p)
     how₀ how list₀ list
 
 abbrev decreases-loop : tie.decreases-loop-p
@@ -57,7 +57,7 @@ loop-again c =
       l.invariant.6,
       l.invariant.7,
       span-next _ (x (circles# w)) _ _ l.p l.invariant.4 l.invariant.8
-          (leaves_by (is_in_lem s.args.withdrawn.now) x (λ x. leafAt x s.args.r w s.args.x l.p) c.circles-round.ensures lr.ensures),
+          (leaves_by (is_in_lem s.args.withdrawn.now) x (λ x. leaf_at x s.args.r w s.args.x l.p) c.circles-round.ensures lr.ensures),
     )
 
 -- the start, seen from the test for a bare leaf
@@ -83,9 +83,9 @@ returns c =
     let first = b.node_start-start in
     let count = b.node_count in
     leaves_by (is_in_lem set) x
-    (λ x. span (leafAt x s.args.r w s.args.x) (start# w s.args.k + 1) (start# w s.args.k + count# w s.args.k)) b.circles-round.ensures
+    (λ x. span (leaf_at x s.args.r w s.args.x) (start# w s.args.k + 1) (start# w s.args.k + count# w s.args.k)) b.circles-round.ensures
     (leaves-as (is_in_lem set) (x b.circles-round.result)
-    (ap₂ (λ (i n : ℕ). span (leafAt (x b.circles-round.result) s.args.r w s.args.x) (i + 1) (i + n)) first.ensures.0 count.ensures.0)
+    (ap₂ (λ (i n : ℕ). span (leaf_at (x b.circles-round.result) s.args.r w s.args.x) (i + 1) (i + n)) first.ensures.0 count.ensures.0)
     (leaves_bare (is_in_lem set) (x b.circles-round.result) _ _ _ s.args.how.now (λ i. beyond set i (omega (arith, bare.1))) bare.2
     c.open_bare.ensures))
 

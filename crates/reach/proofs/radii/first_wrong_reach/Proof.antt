@@ -6,14 +6,14 @@ use Rattle.reach.proofs.radii.first_wrong_reach.Tie as tie
 use Rattle.laws.proofs.First.{search-end, search-on, search-start, search-stop}
 use Rattle.laws.specs.First.{First}
 use Rattle.measure.specs.Table.{between}
-use Rattle.tree.specs.Check.{wrongReach}
+use Rattle.tree.specs.Check.{wrong_reach_lem}
 use Rattle.words.specs.Words.{nodes#, circles#}
 use borrow.Author.Rules.{rules}
 use mathlib.Core.Path.{◌∙◌, ◌≡◌, sym}
 use native.Mathlib.Omega.{arith}
 
 abbrev invariant-loop : tie.invariant-loop-k
-invariant-loop table c index total k₀ k = First (wrongReach (between table c (circles# index)) index) 0 k k × (total ≡ nodes# index) × (k ≤ total)
+invariant-loop table c index total k₀ k = First (wrong_reach_lem (between table c (circles# index)) index) 0 k k × (total ≡ nodes# index) × (k ≤ total)
 
 abbrev decreases-loop : tie.decreases-loop-k
 decreases-loop table c index total k₀ k = total - k
