@@ -18,9 +18,9 @@
    at the same time; what a call may change (room, work, how, rows, distances, answers, an image that is written, a set that rows are
    struck from or restored to) each thread lends of its own.
 
-   STACK. Nothing else is taken. Bytes of stack that a call takes at most, measured on x86-64 code of the older kit rattle-kit-5b
-   (target/host/stack): strike and restore 8, write 32, list 128, read 344, build 680, append 728, nearest 976, nearest_answers 976,
-   append_rows 984, check 1,680, radius 23,096 (25 levels). A loader that binds late takes about 3,500 more in the first call that
+   STACK. Nothing else is taken. Bytes of stack that a call takes at most, measured on x86-64 code of the kit rattle-kit-13f
+   (target/host/stack): strike and restore 8, write 40, list 112, read 260, build 600, append 648, nearest 736, nearest_answers 784,
+   append_rows 1,208, check 1,504, radius 24,280 (25 levels). A loader that binds late may take about 3,500 more in the first call that
    needs memcpy, memmove or memset.
 
    NUMBERS. Each call but bourascul_list gives a number, first or alone. 0 is done; any other is a refusal, and of several the lowest
@@ -80,8 +80,8 @@
 #ifndef BOURASCUL_H
 #define BOURASCUL_H
 
-/* The archive that host/archive.sh makes is x86-64 code for Linux, called as the System V ABI says. Who compiles the library's code himself
-   for another processor defines BOURASCUL_ANY_PROCESSOR; the calls and structures are the same there, with 64-bit lengths. */
+/* The archive that host/archive.sh makes is x86-64 code for Linux, called as the System V ABI says. Who compiles the library's code
+   himself for another processor defines BOURASCUL_ANY_PROCESSOR; the calls and structures are the same there, with 64-bit lengths. */
 #if !(defined(__x86_64__) && defined(__LP64__)) && !defined(BOURASCUL_ANY_PROCESSOR)
 #error "libbourascul.a is x86-64 code for Linux: define BOURASCUL_ANY_PROCESSOR only where the library was compiled for this processor"
 #endif
