@@ -16,7 +16,7 @@ pub struct Came {
 }
 
 // What is read: standard input, or a file, which is closed where it is dropped.
-#[derive(Clone, Copy)]
+#[derive(Drop)]
 pub enum Source<I, F> {
     Input(I),
     File(F),
