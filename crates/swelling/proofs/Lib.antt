@@ -1,3 +1,4 @@
+pub mod Early
 pub mod Parting
 pub mod Swelling
 pub mod Swollen

@@ -1,6 +1,6 @@
 -- The children's runs of a run that has grown row by row: they have its rows, and a row more goes to the closest centre's. Assumes nothing.
 use Prim.Native.Nat.{◌+◌, ◌-◌, ◌<◌, ◌≤◌, suc, zero, ℕ}
-use Rattle.appending.proofs.Lowest.{orderly-length, orderly_tally}
+use Rattle.appending.proofs.Lowest.{orderly_tally}
 use Rattle.appending.specs.Append.{lowest_at, orderly}
 use Rattle.laws.proofs.Every.{every-all, every-both, every_map, every_of}
 use Rattle.laws.proofs.Joins.{keep_append}
@@ -9,6 +9,7 @@ use Rattle.laws.proofs.Maps.{map_agree}
 use Rattle.laws.proofs.Shares.{every_∀, part_times}
 use Rattle.laws.specs.Every.{Every}
 use Rattle.laws.specs.Lists.{all, head, joined, keep, rest, tally, times, without}
+use Rattle.swelling.proofs.Early.{earliest, earliest_long}
 use Rattle.swelling.specs.Swell.{parts}
 use Rattle.tree.proofs.Centres.{chosen, groups-tally, left, one-centre, split-is}
 use Rattle.tree.specs.Build.{Run, choose, closest, farthest, split}
@@ -80,7 +81,7 @@ choose_first d (suc k) c cs is =
 module _ (d : ℕ → ℕ → ℕ) (m l : ℕ) where
   -- the rows among which the centres are
   abbrev pub early : List ℕ → List ℕ
-  early run = orderly (take (suc l) run)
+  early run = earliest l run
 
   -- the centres
   abbrev pub centres : List ℕ → List ℕ
@@ -143,8 +144,7 @@ module _ (d : ℕ → ℕ → ℕ) (m l : ℕ) where
   module _ (m1 : 1 ≤ m) (ml : m ≤ l) (run : List ℕ) (r : Run run) (h : l < length run) where
     -- as many as it had when it was split
     early-length : length (early run) ≡ suc l
-    early-length =
-        orderly-length (take (suc l) run) (omega (arith, length-take-le (suc l) run h)) ∙ length-take-le (suc l) run h
+    early-length = earliest_long l run h
 
     -- its rows
     early-tally : (f : ℕ → Bool) → tally f (early run) + tally f (drop (suc l) run) ≡ tally f run

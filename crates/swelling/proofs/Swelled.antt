@@ -1,5 +1,5 @@
 -- The words of all rows are those of the tree that takes them at once, for every index in shape. Assumes nothing.
-use Prim.Native.Nat.{◌-◌, ◌<◌, ◌≤◌, ℕ}
+use Prim.Native.Nat.{◌-◌, ◌≤◌, ℕ}
 use Rattle.appending.proofs.Back.{tree-fits}
 use Rattle.appending.proofs.Wellmade.{fine-tree}
 use Rattle.laws.specs.Lists.{range}

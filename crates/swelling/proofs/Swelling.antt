@@ -17,7 +17,7 @@ use Rattle.swelling.proofs.Parting.{centre-once, centres, centres-head, closest-
 use Rattle.swelling.specs.Swell.{flat, parts, swell}
 use Rattle.tree.proofs.Centres.{chosen-length}
 use Rattle.tree.specs.Build.{Run, closest, grow, leaf_of, reach, split}
-use Rattle.tree.specs.Grove.{Grove, Reach, bare, entries, first, firsts, fork, leaf, rows_in}
+use Rattle.tree.specs.Grove.{Grove, Reach, bare, entries, firsts, fork, rows_in}
 use borrow.Author.Tests.{eq-eqb, eqb-true, le-leb, leb-false, leb-true, lt-leb, ne_eqb}
 use lib.Dec.{eqb, leb}
 use lib.ListN.{get_or, length, length-append, length-map}

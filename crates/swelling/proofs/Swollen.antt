@@ -1,9 +1,9 @@
 -- A tree with several rows more, made in one pass, is the tree with one joined after the other. Assumes nothing.
 use Prim.Native.Nat.{◌+◌, ◌<◌, ◌≤◌, max, min, suc, zero, ℕ}
 use Rattle.appending.proofs.Lodge.{lodge-twice, longer}
-use Rattle.appending.proofs.Lowest.{head_more, lowest_there, not-twice, once_each, times_more, times_none}
+use Rattle.appending.proofs.Lowest.{head_more, not-twice, once_each, times_more, times_none}
 use Rattle.appending.specs.Append.{join, lodge, lowest_at, reach_with, twice}
-use Rattle.laws.proofs.Every.{every_append, every-keep, every-left, every_of, every-right}
+use Rattle.laws.proofs.Every.{every_append, every-keep, every_of}
 use Rattle.laws.proofs.Joins.{keep_append}
 use Rattle.laws.proofs.Lists.{map-append, tally_length}
 use Rattle.laws.proofs.Ranges.{range_append, range-every}
@@ -12,7 +12,7 @@ use Rattle.laws.proofs.Times.{lefts}
 use Rattle.laws.specs.Every.{Every}
 use Rattle.laws.specs.Lists.{head, keep, range, times}
 use Rattle.limits.specs.Limits.{max_depth}
-use Rattle.swelling.proofs.Swelling.{Fresh, flat-firsts, lodge-swell, pairs-rows, run-fresh, swell-after, swell-firsts, swell-snoc, swell-tally}
+use Rattle.swelling.proofs.Swelling.{flat-firsts, lodge-swell, pairs-rows, run-fresh, swell-after, swell-firsts, swell-snoc, swell-tally}
 use Rattle.swelling.specs.Rows.{joins}
 use Rattle.swelling.specs.Swell.{flat, lodges, reach_taking, swell, swollen, swollen_tree, towards}
 use Rattle.tree.proofs.Full.{Full, rows_left, rows_right}

@@ -12,7 +12,6 @@ use Rattle.laws.specs.Every.{Every}
 use Rattle.laws.specs.Lists.{range}
 use Rattle.limits.specs.Limits.{max_depth, max_distance, max_rows}
 use Rattle.measure.proofs.Metric.{between-most, metric}
-use Rattle.measure.proofs.Rows.{row_ends}
 use Rattle.measure.specs.Distance.{circle, l1}
 use Rattle.measure.specs.Table.{Rounded, between, row, rows_of}
 use Rattle.swelling.proofs.Agreeing.{grow-agree, join-agree}
@@ -30,7 +29,7 @@ use borrow.Author.Tests.{eq-eqb, ne_eqb}
 use lib.ListN.{get_or-eq_default, drop, get_or, length, length-drop, length-map, length-take, take, take-append-drop}
 use lib.Seq.{length-take-le, take_all}
 use mathlib.Core.Bool.{Bool, cond}
-use mathlib.Core.List.{List, [], ◌++◌, ◌∷◌}
+use mathlib.Core.List.{List}
 use mathlib.Core.Path.{◌∙◌, ◌≡◌, ap, ap₂, refl, subst, sym}
 use native.Mathlib.Decide.{dec_lt}
 use native.Mathlib.Nat.{div_self, le_trans, mul-add-div, mul-div-le, mul-le-mul_left, mul-suc}

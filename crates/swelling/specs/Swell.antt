@@ -1,5 +1,5 @@
 -- A tree with several rows more, made in one pass. A working notion, on which no promise rests. Over the distance d between rows. Assumes nothing.
-use Rattle.std.specs.Prelude.{◌-◌, suc, zero, ℕ, eqb, leb, drop, length, take, Bool, cond}
+use Rattle.std.specs.Prelude.{◌-◌, suc, zero, ℕ, eqb, leb, drop, length, take, cond}
 use Rattle.appending.specs.Append.{lowest_at, orderly, reach_with, twice}
 use Rattle.laws.specs.Lists.{head, keep, rest}
 use Rattle.limits.specs.Limits.{max_depth}

@@ -3,7 +3,6 @@ use Prim.Native.Nat.{◌<◌, ◌≤◌, ℕ}
 use Rattle.laws.proofs.Tests.{and_l, and_r, holds, is_true}
 use Rattle.limits.proofs.Ranges.{within_both}
 use Rattle.limits.specs.Limits.{within}
-use Rattle.limits.specs.Said.{said}
 use Rattle.text_reading.specs.Calls.{Reads, said_read_lem}
 use Rattle.text_reading.specs.Reading.{behind, ends, how_many, numbers, readable}
 use Rattle.text_reading.specs.declared.Place.TheVariants.{Start}

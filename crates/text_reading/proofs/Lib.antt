@@ -2,4 +2,5 @@ pub mod Bytes
 pub mod Answers
 pub mod Readings
 pub mod Lengths
+pub mod Said
 pub mod Outcome

@@ -3,11 +3,11 @@ use Prim.Native.Nat.{◌<◌, ◌≤◌, ℕ}
 use Rattle.laws.proofs.Never.{never}
 use Rattle.text_reading.proofs.Answers.{done, refused-room, refused-text}
 use Rattle.text_reading.proofs.Readings.{reads_what_is-said, said_what_is-read}
-use Rattle.text_reading.specs.Calls.{Reads, said_read_lem}
+use Rattle.text_reading.proofs.Said.{five-said, not-read, zero-said}
+use Rattle.text_reading.specs.Calls.{Reads}
 use Rattle.text_reading.specs.Reading.{numbers, readable}
 use Rattle.text_reading.specs.Text.{Readable, ReadInto, TooMany}
-use borrow.Author.Tests.{ltb-false, ltb-true}
-use lib.Dec.{eqb, ltb}
+use lib.Dec.{eqb}
 use lib.ListN.{drop, length, length-append, take}
 use lib.Seq.{take_at}
 use mathlib.Core.Bool.{Bool, cond, false, true}
@@ -24,36 +24,6 @@ read_only t room r s a b j k h g =
       h.counted ∙ ap (λ (x : ℕ). cond (eqb x 0) (length (numbers t)) 0) e ∙ sym g.counted,
       h.filled ∙ ap (λ (x : ℕ). cond (eqb x 0) (numbers t ++ drop (length (numbers t)) room) room) e ∙ sym g.filled,
     )
-
--- what 0 says of the text and the room
-zero-said : (t : List ℕ) (n : ℕ) → said_read_lem t n ≡ 0 → (readable t ≡ true) × (length (numbers t) ≤ n)
-unfolding said_read_lem
-zero-said t n e = go (readable t) (ltb n (length (numbers t))) refl e
-  where
-    go : (b s : Bool) → ltb n (length (numbers t)) ≡ s → ◌≡◌ {A = ℕ} (cond b (cond s 5 0) 18) 0 → (b ≡ true) × (length (numbers t) ≤ n)
-    go true true q z = absurd (omega (arith, z))
-    go true false q z = (refl, ltb-false n (length (numbers t)) q)
-    go false s q z = absurd (omega (arith, z))
-
--- what 5 says of the text and the room
-five-said : (t : List ℕ) (n : ℕ) → said_read_lem t n ≡ 5 → (readable t ≡ true) × (n < length (numbers t))
-unfolding said_read_lem
-five-said t n e = go (readable t) (ltb n (length (numbers t))) refl e
-  where
-    go : (b s : Bool) → ltb n (length (numbers t)) ≡ s → ◌≡◌ {A = ℕ} (cond b (cond s 5 0) 18) 5 → (b ≡ true) × (n < length (numbers t))
-    go true true q z = (refl, ltb-true n (length (numbers t)) q)
-    go true false q z = absurd (omega (arith, z))
-    go false s q z = absurd (omega (arith, z))
-
--- what 18 says of the text
-not-read : (t : List ℕ) (n : ℕ) → said_read_lem t n ≡ 18 → readable t ≡ false
-unfolding said_read_lem
-not-read t n e = go (readable t) (ltb n (length (numbers t))) e
-  where
-    go : (b s : Bool) → ◌≡◌ {A = ℕ} (cond b (cond s 5 0) 18) 18 → b ≡ false
-    go true true z = absurd (omega (arith, z))
-    go true false z = absurd (omega (arith, z))
-    go false s z = refl
 
 module _ (t room room' : List ℕ) (number count : ℕ) (h : Reads t room room' number count) where
   -- ON 0 THE TEXT SAYS WHAT STANDS AT THE FRONT OF THE ROOM
