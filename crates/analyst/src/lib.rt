@@ -1,26 +1,29 @@
 // The analyst's program: a text of rows is read into a table, the columns that count are chosen, an index is built over it, and one question is
-// answered. Answers go to one file, all else to another; the number given back is the status that the program ends with.
+// answered. Answers go to one file, all else to another; what is given back is how the program ends.
 #![tactic(auto)]
 
-ghost use Rattle.std.specs.Prelude.{◌≡◌, ◌≤◌, length};
+ghost use Rattle.statuses.specs.Statuses.{Known};
+ghost use Rattle.std.specs.Prelude.{◌≤◌, length, IfSome, ◌≡◌};
 
 use answer_lines::plan::Plan;
 use answer_lines::write_given;
-use asked_queries::query_room;
 use asked_texts::none_struck;
-use asking::pieces::{least, part};
-use finding::{Outcome, find_rows};
+use asking::pieces::part;
+use finding::find_rows;
+use limits::Refusal;
 use lines::put_bytes;
+use nearest::Given;
 use planning::plan_question;
+use queries::QUERY_ROOM;
 use saying::{STDERR_FILENO, say};
-use statuses::asked_wrongly;
+use statuses::Status;
 use std::env::FillError;
 use std::io::Input;
 use std::rt::{Env, Files};
 use telling::refuse;
 
 // The descriptor at which the launcher listens for the status, since a program of the kit has no exit status; where nobody does, nothing is written.
-pub const STATUS_FILE: i32 = 3;
+const STATUS_FILE: i32 = 3;
 
 // Where answers go, and where all else.
 #[derive(Clone, Copy)]
@@ -29,31 +32,34 @@ pub struct Ends {
     pub err: i32,
 }
 
+// A room of so many equal numbers, with its length alone, which lending it as a slice needs.
+pub fn filled<T: Copy, const N: usize>(number: T) -> [T; N]
+    ensures { N ≡ length result }
+{
+    [number; N]
+}
+
 // Writes what was found, or that the library refused. Gives the status.
 fn write_found(
     plan: Plan,
-    found: Outcome,
+    found: Result<Given, Refusal>,
     text: &[u8],
     starts: &mut [u32],
     rows: &[u32],
     distances: &[u32],
-) -> u32
-    ensures { result ≤ 4 }
-{
-    let number = found.number;
-    if number != 0 {
-        return refuse(plan.err, number);
+) -> Status {
+    match found {
+        Ok(found) => write_given(
+            plan,
+            part(text, 0, plan.length),
+            starts,
+            rows,
+            distances,
+            found.given.min(rows.len()).min(distances.len()),
+            found.measured,
+        ),
+        Err(refusal) => refuse(plan.err, refusal.number()),
     }
-    let given = least(found.given, least(rows.len(), distances.len()));
-    write_given(
-        plan,
-        part(text, 0, plan.length),
-        starts,
-        rows,
-        distances,
-        given,
-        found.measured,
-    )
 }
 
 // The whole program: the words of its arguments, each ended by a zero byte; the rooms that it works in; and where answers and all else go.
@@ -70,12 +76,10 @@ pub fn run<R: Files + Input>(
     marks: &mut [u8],
     rows: &mut [u32],
     distances: &mut [u32],
-) -> u32
-    ensures { result ≤ 4 }
-{
-    let mut queries = query_room();
+) -> Status {
+    let mut queries: [u16; QUERY_ROOM] = filled(0);
     let mut struck = none_struck();
-    let plan = plan_question(
+    let plan = match plan_question(
         rt,
         words,
         ends.out,
@@ -85,36 +89,19 @@ pub fn run<R: Files + Input>(
         room,
         &mut queries,
         &mut struck,
-    );
-    if !plan.ready {
-        return plan.status;
-    }
+    ) {
+        Ok(plan) => plan,
+        Err(status) => return status,
+    };
     let found = find_rows(
         plan, table, &queries, &struck, room, work, how, marks, rows, distances,
     );
     write_found(plan, found, text, room, rows, distances)
 }
 
-// The words of the program's arguments: whether all of them fit, and how many bytes they are.
-#[derive(Clone, Copy)]
-pub struct Words {
-    pub whole: bool,
-    pub length: usize,
-}
-
-// Not all arguments fit.
-fn too_long() -> Words
-    ensures { result.length ≡ 0 }
-{
-    Words {
-        whole: false,
-        length: 0,
-    }
-}
-
-// Puts the arguments behind the program's name into a room, each ended by a zero byte.
-pub fn arguments<R: Env>(rt: &R, room: &mut [u8]) -> Words
-    ensures { result.length ≤ length room.new }
+// Puts the arguments behind the program's name into a room, each ended by a zero byte. Gives how many bytes they are, if all of them fit.
+pub fn arguments<R: Env>(rt: &R, room: &mut [u8]) -> Option<usize>
+    ensures { IfSome result (λ count. count ≤ length room.new) }
 {
     let mut length = 0;
     for i in 1..usize::MAX {
@@ -122,23 +109,30 @@ pub fn arguments<R: Env>(rt: &R, room: &mut [u8]) -> Words
         let k = match rt.arg(i, &mut word) {
             Ok(k) => k,
             Err(FillError::NotPresent) => break,
-            Err(FillError::TooLong) => return too_long(),
+            Err(FillError::TooLong) => return None,
         };
         if room.len() - length <= k {
-            return too_long();
+            return None;
         }
         length = put_bytes(STDERR_FILENO, room, length, &word[..k], 0);
     }
-    Words {
-        whole: true,
-        length,
-    }
+    Some(length)
+}
+
+// Tells the launcher a status that it knows.
+fn tell_launcher(number: u32)
+    requires { Known number }
+{
+    io::print_decimal(STATUS_FILE, u64::from(number));
+}
+
+// The program ends so: the launcher is told the number.
+pub fn end_with(status: Status) {
+    tell_launcher(status.number());
 }
 
 // The arguments are longer than their room.
-pub fn refuse_words(err: i32) -> u32
-    ensures { result ≤ 4 }
-{
+pub fn refuse_words(err: i32) -> Status {
     say(err, b"the arguments are too long\n");
-    asked_wrongly()
+    Status::AskedWrongly
 }

@@ -7,17 +7,16 @@ mod showing;
 ghost use Rattle.std.specs.Prelude.{◌≤◌, length};
 
 use asked_table::reading::names_of;
-use plan::{Plan, shows_text};
+use plan::Plan;
 use saying::{say, say_found, say_number};
 use showing::{say_answers, say_head};
-use statuses::{answered, nothing_found};
+use statuses::Status;
 
 // Keeps where the rows' lines start, if these are to be shown.
 fn keep_starts(plan: Plan, text: &[u8], starts: &mut [u32]) {
-    if !shows_text(plan) {
-        return;
+    if plan.shows_text() {
+        text_lines::keep_lines(text, plan.from, starts, plan.n);
     }
-    text_lines::keep_lines(text, plan.from, starts, plan.n);
 }
 
 // Writes the answers that were given, or their count.
@@ -50,15 +49,14 @@ pub fn write_given(
     distances: &[u32],
     given: usize,
     measured: usize,
-) -> u32
+) -> Status
     requires { (given ≤ length rows.now) × (given ≤ length distances.now) }
-    ensures { result ≤ 4 }
 {
     write_rows(plan, text, starts, rows, distances, given);
     say_found(plan.err, given, measured, plan.n);
     if given == 0 {
-        nothing_found()
+        Status::NothingFound
     } else {
-        answered()
+        Status::Answered
     }
 }

@@ -1,16 +1,14 @@
 // What is to be done once the text is read and the question is understood.
+use asking::Way;
 
-// Whether there is anything to be done, and the status where there is not; where answers go and where all else; what is asked for and its number;
-// how answers are shown; how long the text is, where the first row's line starts, and whether names stand before it; the column of labels (0: none);
-// which places of the chosen columns are circles; the chosen columns, the rows, how many numbers of the table these are; how many queries there are,
-// and how many numbers these are.
+// Where answers go and where all else; what is asked for and its number; how answers are shown; how long the text is, where the first row's line
+// starts, and whether names stand before it; the column of labels (0: none); which places of the chosen columns are circles; the chosen columns, the
+// rows, how many numbers of the table these are; how many queries there are, and how many numbers these are.
 #[derive(Clone, Copy)]
 pub struct Plan {
-    pub ready: bool,
-    pub status: u32,
     pub out: i32,
     pub err: i32,
-    pub asks: u32,
+    pub way: Way,
     pub number: u32,
     pub by_distance: bool,
     pub count: bool,
@@ -28,15 +26,14 @@ pub struct Plan {
     pub asked: usize,
 }
 
-// Answers show something of the text: their lines, or their labels.
-pub(crate) fn shows_text(plan: Plan) -> bool {
-    if plan.lines {
-        return true;
+impl Plan {
+    // Answers show something of the text: their lines, or their labels.
+    pub(crate) fn shows_text(&self) -> bool {
+        self.lines || self.label != 0
     }
-    plan.label != 0
-}
 
-// What stands between two fields of an answer.
-pub(crate) fn parting(plan: Plan) -> u8 {
-    if plan.csv { b',' } else { b' ' }
+    // What stands between two fields of an answer.
+    pub(crate) fn parting(&self) -> u8 {
+        if self.csv { b',' } else { b' ' }
+    }
 }

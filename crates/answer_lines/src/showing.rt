@@ -1,7 +1,7 @@
 // The answers, written a line each.
 ghost use Rattle.std.specs.Prelude.{◌≤◌, length};
 
-use crate::plan::{Plan, parting, shows_text};
+use crate::plan::Plan;
 use labels::label_in;
 use lines::{make_room, put_bytes, put_number};
 use saying::say;
@@ -24,17 +24,17 @@ fn put_answer(
     ensures { result ≤ length out.old }
 {
     let from = make_room(plan.out, out, at, NUMBERS);
-    let middle = put_number(out, from, row as u64, parting(plan));
-    if !shows_text(plan) {
-        return put_number(out, middle, distance as u64, b'\n');
+    let middle = put_number(out, from, u64::from(row), plan.parting());
+    if !plan.shows_text() {
+        return put_number(out, middle, u64::from(distance), b'\n');
     }
-    let end = put_number(out, middle, distance as u64, parting(plan));
+    let end = put_number(out, middle, u64::from(distance), plan.parting());
     put_text(plan, line_from(text, start), out, end)
 }
 
 // What stands behind a label: the line, or the end.
 fn behind_label(plan: Plan) -> u8 {
-    if plan.lines { parting(plan) } else { b'\n' }
+    if plan.lines { plan.parting() } else { b'\n' }
 }
 
 // Puts the label of a line, if answers show it. Gives where that ends.
@@ -72,16 +72,15 @@ fn say_label_name(plan: Plan, names: &[u8]) {
         return;
     }
     say(plan.out, b",");
-    if names.len() == 0 {
+    if names.is_empty() {
         say(plan.out, b"label");
     }
     say(plan.out, label_in(names, plan.label));
 }
 
-// Where the line of a row starts, if it was kept.
+// Where the line of a row starts, if it was kept; else 0.
 fn start_of(starts: &[u32], row: u32) -> u32 {
-    let at = row as usize;
-    if at < starts.len() { starts[at] } else { 0 }
+    starts.get(row as usize).copied().unwrap_or(0)
 }
 
 // The first line of an answer that commas part: what each field is.
@@ -111,19 +110,9 @@ pub(crate) fn say_answers(
 {
     let mut out = io::buffer();
     let mut at = 0;
-    let mut i = 0;
-    while i < given {
-        let row = rows[i];
-        at = put_answer(
-            plan,
-            text,
-            start_of(starts, row),
-            row,
-            distances[i],
-            &mut out,
-            at,
-        );
-        i += 1;
+    for (row, distance) in rows[..given].iter().zip(&distances[..given]) {
+        let start = start_of(starts, *row);
+        at = put_answer(plan, text, start, *row, *distance, &mut out, at);
     }
     io::write_all(plan.out, &out[..at]);
 }

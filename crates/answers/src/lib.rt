@@ -17,12 +17,10 @@ pub fn fill_answers(answers: &mut [Answer], rows: &[u32], distances: &[u32], cou
     requires { (count ≤ length answers.old) × (count ≤ length rows.now) × (count ≤ length distances.now) }
     ensures { answers.new ≡ records rows.now distances.now count ++ drop count answers.old }
 {
-    let mut i = 0;
-    while i < count {
+    for i in 0..count {
         answers[i] = Answer {
             row: rows[i],
             distance: distances[i],
         };
-        i += 1;
     }
 }

@@ -46,17 +46,16 @@ free_builds {T} {c} {w} {room} {work} F =
 
 module _ {says : List ℕ → ℕ → List ℕ → ℕ → ℕ → Said} {grown : List ℕ → ℕ → List ℕ → List ℕ} where
   -- a refusal: both rooms are as they were, and the counts are 0
-  pub refused-grows : {T : List ℕ} {c : ℕ} {w room work : List ℕ} {k number words nodes : ℕ} → ((i : ℕ) → get_or T i 0 ≤ 65535)
-      → k ≡ (says T c w (length room) (length work)).0 → k ≢ 0 → (number ≡ k) × (words ≡ 0) × (nodes ≡ 0)
-      → Grows says grown T c w room work room work number words nodes
-  refused-grows {T} {number = number} narrow q h r =
-      let f : eqb number 0 ≡ false = ne_eqb number 0 (λ z. h (sym r.0 ∙ z)) in
+  pub refused-grows : {T : List ℕ} {c : ℕ} {w room work : List ℕ} {number : ℕ} → ((i : ℕ) → get_or T i 0 ≤ 65535)
+      → number ≡ (says T c w (length room) (length work)).0 → number ≢ 0 → Grows says grown T c w room work room work number 0 0
+  refused-grows {T} {number = number} narrow q h =
+      let f : eqb number 0 ≡ false = ne_eqb number 0 h in
       record {
-        said = r.0 ∙ q;
-        counted = (rw f r.1, rw f r.2);
+        said = q;
+        counted = (rw f, rw f);
         index = rw f;
         narrow = sixteen T narrow;
-        small = (omega (arith, r.1), omega (arith, r.2));
+        small = (omega arith, omega arith);
         cleared = rw f;
       }
 

@@ -9,6 +9,7 @@ use Rattle.append.specs.Calls.{Appends}
 use Rattle.build.specs.Calls.{Builds}
 use Rattle.build_refusals.specs.Numbers.{room_of}
 use Rattle.limits.specs.Limits.{max_rows}
+use Rattle.limits.specs.Said.{Said}
 use Rattle.measure.specs.Table.{rows_of}
 use Rattle.row_joined.specs.Joining.{Joinable, Joins}
 use Rattle.words.proofs.Headers.{words-whole}
@@ -19,12 +20,19 @@ use lib.ListN.{drop, get_or, length, take}
 use lib.Seq.{length-take-le}
 use mathlib.Core.List.{List, ◌++◌}
 use mathlib.Core.Path.{◌∙◌, ◌≡◌, ap, subst, sym}
+use mir.Syntax.{w16}
+use mir.Val.{Fits}
 use native.Mathlib.Omega.{arith}
 
 -- ---- nothing is refused
 pub record Passed (T : List ℕ) (c : ℕ) (w room work : List ℕ) : Type 0 where
   pub narrow : (i : ℕ) → get_or T i 0 ≤ 65535
   pub none : (said_append T c w (length room) (length work)).0 ≡ 0
+
+-- the test has passed
+pub passed : {T : List ℕ} {c : ℕ} {w : List ℕ} (room work : List ℕ) → ((i : ℕ) → Fits w16 (get_or T i 0))
+    → ◌≡◌ {A = Said} (0, 0, 0) (said_append T c w (length room) (length work)) → Passed T c w room work
+passed room work narrow e = record { narrow = λ i. omega (arith, narrow i); none = sym (ap (λ (v : Said). v.0) e) }
 
 module _ {T : List ℕ} {c : ℕ} {w room work : List ℕ} (passed : Passed T c w room work) where
   -- every test is passed
@@ -77,10 +85,10 @@ module _ {T : List ℕ} {c : ℕ} {w room work : List ℕ} (passed : Passed T c 
       more h = omega arith
 
   -- the row has joined: the contract is met
-  pub joined_appends : {k nodes number words made : ℕ} {room' part' work' : List ℕ} → k ≡ n# w + 1 → Joins T c w room (take (6 * k) work) room' part' nodes
-      → work' ≡ part' ++ drop (6 * k) work → (number ≡ 0) × (words ≡ 8 + 5 * nodes + 2 * k) × (made ≡ nodes)
-      → Appends T c w room work room' work' number words made
+  pub joined_appends : {k nodes words made : ℕ} {room' part' work' : List ℕ} → k ≡ n# w + 1 → Joins T c w room (take (6 * k) work) room' part' nodes
+      → work' ≡ part' ++ drop (6 * k) work → (words ≡ 8 + 5 * nodes + 2 * k) × (made ≡ nodes)
+      → Appends T c w room work room' work' 0 words made
   joined_appends {k} e j h q =
-      rw (q.0, q.2)
+      rw q.1
       (passed-grows passed.narrow passed.none (e ∙ cleared.rows) (omega (arith, rows_are.1)) (work_long e) j.index j.count
-      (omega (arith, j.few)) (omega (arith, j.long)) j.cleared h q.1)
+      (omega (arith, j.few)) (omega (arith, j.long)) j.cleared h q.0)

@@ -7,6 +7,9 @@ use Rattle.laws.proofs.Tests.{or_parts}
 use Rattle.limits.proofs.Faults.{Numbered, early_numbered, fault-first, fault-next, fault-none, fault-not, number_of, says_first, says-next, says_none}
 use Rattle.limits.proofs.Numbers.{Passed, Sized, numbers-numbered, passed, passed_none}
 use Rattle.limits.specs.Limits.{max_columns}
+use Rattle.limits.proofs.Outcomes.{refused_first}
+use Rattle.limits.specs.Refusal.{said_by}
+use Rattle.limits.specs.declared.refusal.Refusal.{Refusal}
 use Rattle.limits.specs.Said.{Said, fault, number_faults, said}
 use Rattle.limits.specs.declared.Asked.{Asked}
 use Rattle.measure.proofs.OnCircle.{empty_on}
@@ -104,6 +107,43 @@ module _ (T : List ℕ) (c : ℕ) (w : List ℕ) (room work : ℕ) (none : Bool)
         of-circles g r =
             r ∙ ap (λ (o : ℕ). (said (circle_faults c o T [])).0) g
             ∙ ap number_of (says-next fits last fits-numbered (sym fit ∙ y) ∙ after-eight)
+
+  -- ---- the same, return by return of the code
+  -- what numbers refuse is what the call says
+  pub numbers-say : (r : Refusal) → said_by r ≡ said (number_faults asks) → said_by r ≡ says
+  numbers-say r e = refused_first r (number_faults asks) next e
+
+  module _ (z : (0, 0, 0) ≡ said (number_faults asks)) where
+    -- past the numbers
+    numbers-past : {s : Said} → s ≡ said next → s ≡ says
+    numbers-past h = h ∙ says-next (number_faults asks) next (numbers-numbered asks) (sym (ap number_of z))
+
+    -- the columns are few then
+    pub columns-few : c ≤ max_columns
+    columns-few = (passed asks (sym (ap number_of z))).table.few
+
+    -- no row is new
+    pub none-says : none ≡ true → (8, 0, 0) ≡ says
+    none-says q = numbers-past (fault-first 8 (fits ++ last) q)
+
+    module _ {k : ℕ} (h : none ≡ false) (q : k ≡ had) where
+      -- what the index refuses
+      pub index_says : (r : Refusal) → said_by r ≡ said (index_faults w k c) → said_by r ≡ says
+      index_says r f =
+          numbers-past (refused_first r fits last (f ∙ ap (λ (k : ℕ). said (index_faults w k c)) q) ∙ fault-next 8 (fits ++ last) h)
+
+      module _ (y : (0, 0, 0) ≡ said (index_faults w k c)) where
+        -- past the index its header is there
+        pub header : 8 ≤ length w
+        header = header_there w (fit-tests (words_ok_lem w) w k c (sym (ap number_of y))).0
+
+        -- and what the circles say is said
+        pub circles-last : {o : ℕ} {s : Said} → o ≡ circles# w → s ≡ said (circle_faults c o T []) → s ≡ says
+        circles-last g r =
+            numbers-past
+            (r ∙ ap (λ (o : ℕ). said (circle_faults c o T [])) g
+            ∙ says-next fits last fits-numbered (sym (ap number_of (y ∙ ap (λ (k : ℕ). said (index_faults w k c)) q)))
+            ∙ fault-next 8 (fits ++ last) h)
 
   -- WITH 0 NOTHING IS WRONG
   pub free : says.0 ≡ 0 → Free T c w room work none had

@@ -140,13 +140,17 @@ module _ {t : List ℕ} {c : ℕ} {w room work : List ℕ} (J : Puttable t c w r
           built_appends passed e
           (subst (λ (U : List ℕ). Builds U c (circles# w) 2 (m# w) (l# w) first spare first' spare' number words nodes) one-row b)
 
-      -- its words
+      -- its words are those of the append
       pub made : take words first' ≡ then' part
       made = append-writes part appends enough lasting
 
-      -- stand in the room
+      -- nothing refuses it
+      pub first-built : number ≡ 0
+      first-built = appends.said ∙ sym (append-none part enough lasting)
+
+      -- its words stand in the room
       pub words_there : words ≤ length first'
-      words_there = grows-fits appends (appends.said ∙ sym (append-none part enough lasting))
+      words_there = grows-fits appends first-built
 
       -- all other rows can join it
       pub first-joinable : RowsJoinable t c (take words first') room work

@@ -3,11 +3,13 @@
 
 ghost use Rattle.append_rows.specs.Calls.{AppendsRows};
 ghost use Rattle.append_rows.specs.Putting.{Puttable};
+ghost use Rattle.build.specs.Calls.{nodes_of, words_of};
+ghost use Rattle.limits.specs.Refusal.{outcome};
 ghost use Rattle.refilling.specs.Joining.{RowsJoin};
 
-use append_rows_refusals::append_rows_number;
-use build::{Built, refused, written};
-use limits::rows_in;
+use append_rows_refusals::test_append_rows;
+use build::{Built, written};
+use limits::{Refusal, rows_in};
 use rebuild::rebuild;
 use refilling::fill_rows;
 use words::places::rows;
@@ -23,7 +25,9 @@ fn put_rows(table: &[u16], c: usize, index: &[u32], room: &mut [u32], work: &mut
     }
     let mut first = [0u32; 20];
     let mut spare = [0u32; 6];
-    let built = rebuild(&table[..c], c, index, &mut first, &mut spare);
+    let Ok(built) = rebuild(&table[..c], c, index, &mut first, &mut spare) else {
+        unreachable!()
+    };
     fill_rows(table, c, &first[..built.words], room, work)
 }
 
@@ -34,19 +38,16 @@ pub fn append_rows(
     index: &[u32],
     room: &mut [u32],
     work: &mut [u32],
-) -> Built
+) -> Result<Built, Refusal>
     ensures { AppendsRows table.now c index.now room.old work.old room.new work.new
-        result.number result.words result.nodes }
+        (outcome result).0 (words_of result) (nodes_of result) }
 {
-    let number = append_rows_number(table, c, index, room.len(), work.len());
-    if number != 0 {
-        return refused(number);
-    }
+    test_append_rows(table, c, index, room.len(), work.len())?;
     let n = rows_in(table.len(), c);
     if n == 1 {
         return rebuild(table, c, index, room, work);
     }
     let used = 6 * n;
     let nodes = put_rows(table, c, index, room, &mut work[..used]);
-    written(n, nodes)
+    Ok(written(n, nodes))
 }

@@ -3,32 +3,34 @@
 
 ghost use Rattle.append_rows_refusals.specs.Numbers.{said_append_rows};
 ghost use Rattle.std.specs.Prelude.{◌≡◌};
+ghost use Rattle.limits.specs.Refusal.{outcome};
 
-use build_refusals::writer_number;
-use index_test::index_number;
-use limits::rows_in;
-use refusals::circle_number;
+use build_refusals::test_writer;
+use index_test::test_index;
+use limits::{Refusal, rows_in};
+use refusals::test_circles;
 use words::places::{HEADER, circles, rows};
 
-// What refuses the call that appends several rows, or 0. `room` and `work` are the lengths of what is lent. There is no query: an empty part stands for it.
-pub fn append_rows_number(table: &[u16], c: usize, index: &[u32], room: usize, work: usize) -> u32
-    ensures { result ≡ (said_append_rows table.now c index.now room work).0 }
+// Why the call that appends several rows is refused, if it is. `room` and `work` are the lengths of what is lent. There is no query: an empty part stands
+// for it.
+pub fn test_append_rows(
+    table: &[u16],
+    c: usize,
+    index: &[u32],
+    room: usize,
+    work: usize,
+) -> Result<(), Refusal>
+    ensures { outcome result ≡ said_append_rows table.now c index.now room work }
 {
-    let number = writer_number(table.len(), c, false, room, work);
-    if number != 0 {
-        return number;
-    }
+    test_writer(table.len(), c, false, room, work)?;
     if index.len() < HEADER {
-        return 8;
+        return Err(Refusal::OtherTable);
     }
     let had = rows(index);
     let n = rows_in(table.len(), c);
     if n <= had {
-        return 8;
+        return Err(Refusal::OtherTable);
     }
-    let unfit = index_number(index, had, c);
-    if unfit != 0 {
-        return unfit;
-    }
-    circle_number(table, c, circles(index), &table[..0])
+    test_index(index, had, c)?;
+    test_circles(table, c, circles(index), &table[..0])
 }

@@ -4,115 +4,90 @@
 mod choosing;
 pub mod reading;
 
-ghost use Rattle.std.specs.Prelude.{◌≤◌};
+ghost use Rattle.std.specs.Prelude.{◌≤◌, IfOk};
 
 use asking::Question;
 use asking::pieces::bytes_of;
-use choosing::{choice_of, choose_columns, circles_asked, say_choice, say_circles};
+use choosing::{choice_asked, choose_columns, circles_asked};
 use column_choice::Choice;
+use column_names::NameFault;
 use reading::{Sheet, label_said, names_of, read_rows};
-use statuses::{answered, asked_wrongly};
+use statuses::Status;
 use telling::faults::{say_fault, status_of};
-use telling::say_columns_wrong;
+use telling::say_name_wrong;
+use text_lines::first_line;
 
-// The status, 0 where the rows were read, and what was read.
-#[derive(Clone, Copy)]
-pub struct Rows {
-    pub status: u32,
-    pub sheet: Sheet,
-}
-
-// The status, 0 where the columns are chosen; the circles among them, and the columns.
+// The columns that are chosen, and the circles among them.
 #[derive(Clone, Copy)]
 pub struct Chosen {
-    pub status: u32,
     pub circles: u32,
     pub choice: Choice,
 }
 
-// The column of labels, if one is asked for.
-fn label_of(words: &[u8], q: Question, text: &[u8], table: &mut [u16]) -> usize
-    ensures { result ≤ 17 }
-{
-    if !q.label.there {
-        return 0;
-    }
-    label_said(text, bytes_of(words, q.label), table)
+// Says what is wrong with the name of the column of labels. Gives the status.
+fn say_label(err: i32, fault: NameFault, name: &[u8], text: &[u8]) -> Status {
+    say_name_wrong(err, fault, name, first_line(text));
+    Status::AskedWrongly
 }
 
-// What is wrong with the column of labels, or 0.
-fn label_trouble(there: bool, label: usize) -> u32 {
-    if !there {
-        return 0;
-    }
-    if label == 0 {
-        return column_names::NO_COLUMN;
-    }
-    if column_names::MOST_COLUMNS < label {
-        return column_names::TWO_COLUMNS;
-    }
-    0
-}
-
-// Says what is wrong with the column of labels. Gives the status, 0 where nothing is.
-fn say_label(file: i32, wrong: u32, words: &[u8], q: Question, text: &[u8]) -> u32
-    ensures { result ≤ 4 }
-{
-    if wrong == 0 {
-        return answered();
-    }
-    say_columns_wrong(
-        file,
-        wrong,
-        bytes_of(words, q.label),
-        text_lines::first_line(text),
-    );
-    asked_wrongly()
-}
-
-// A text of which nothing was read.
-fn unread() -> Sheet {
-    Sheet {
-        reader: sheet::start(0),
-        names: false,
-        from: 0,
+// The column of labels, from 1 on, or 0 where none is asked for. Else gives the status.
+fn label_of(
+    words: &[u8],
+    q: Question,
+    err: i32,
+    text: &[u8],
+    table: &mut [u16],
+) -> Result<usize, Status> {
+    let Some(label) = q.label else {
+        return Ok(0);
+    };
+    let name = bytes_of(words, label);
+    match label_said(text, name, table) {
+        Ok(column) => Ok(column),
+        Err(fault) => Err(say_label(err, fault, name, text)),
     }
 }
 
-// Says what is wrong with a text that was read, whose column `label` holds labels (0: none does). Gives the status, 0 where nothing is.
-fn say_sheet(file: i32, sheet: Sheet, label: usize, words: &[u8], q: Question, text: &[u8]) -> u32
-    ensures { result ≤ 4 }
-{
+// Says what is wrong with a text that was read, whose column `label` holds labels (0: none does). Gives the status where something is.
+fn test_sheet(
+    err: i32,
+    sheet: Sheet,
+    label: usize,
+    words: &[u8],
+    q: Question,
+    text: &[u8],
+) -> Result<(), Status> {
     let reader = sheet.reader;
-    let fault = reader.fault;
-    if fault != 0 {
-        say_fault(file, reader);
-        return status_of(fault);
+    if reader.fault != 0 {
+        say_fault(err, reader);
+        return Err(status_of(reader.fault));
     }
-    if reader.columns < label {
-        return say_label(file, column_names::NO_COLUMN, words, q, text);
+    match q.label {
+        Some(name) if reader.columns < label => Err(say_label(
+            err,
+            NameFault::NoColumn,
+            bytes_of(words, name),
+            text,
+        )),
+        _ => Ok(()),
     }
-    answered()
 }
 
-// Reads the text of the rows into the table.
-pub fn read_text(words: &[u8], q: Question, err: i32, text: &[u8], table: &mut [u16]) -> Rows
-    ensures { result.status ≤ 4 }
-{
-    let label = label_of(words, q, text, table);
-    let wrong = say_label(err, label_trouble(q.label.there, label), words, q, text);
-    if wrong != 0 {
-        return Rows {
-            status: wrong,
-            sheet: unread(),
-        };
-    }
+// Reads the text of the rows into the table. Else gives the status.
+pub fn read_text(
+    words: &[u8],
+    q: Question,
+    err: i32,
+    text: &[u8],
+    table: &mut [u16],
+) -> Result<Sheet, Status> {
+    let label = label_of(words, q, err, text, table)?;
     let sheet = read_rows(text, label, table);
-    let status = say_sheet(err, sheet, label, words, q, text);
-    Rows { status, sheet }
+    test_sheet(err, sheet, label, words, q, text)?;
+    Ok(sheet)
 }
 
-// Chooses the columns that count, and makes the table of them in place.
+// Chooses the columns that count, and makes the table of them in place. Else gives the status.
 pub fn choose_said(
     words: &[u8],
     q: Question,
@@ -120,45 +95,13 @@ pub fn choose_said(
     sheet: Sheet,
     text: &[u8],
     table: &mut [u16],
-) -> Chosen
-    ensures { (result.status ≤ 4) × (result.choice.k ≤ 16) }
+) -> Result<Chosen, Status>
+    ensures { IfOk result (λ chosen. chosen.choice.k ≤ 16) }
 {
     let reader = sheet.reader;
-    let choice = choice_of(
-        words,
-        q,
-        names_of(text, sheet.names),
-        reader.columns,
-        reader.label,
-    );
-    let wrong = say_choice(err, choice, bytes_of(words, q.columns), text);
-    if wrong != 0 {
-        return Chosen {
-            status: wrong,
-            circles: 0,
-            choice,
-        };
-    }
-    let circled = circles_asked(
-        words,
-        q,
-        names_of(text, sheet.names),
-        reader.columns,
-        choice,
-    );
-    let unround = say_circles(err, circled, bytes_of(words, q.circle), text);
-    if unround != 0 {
-        return Chosen {
-            status: unround,
-            circles: 0,
-            choice,
-        };
-    }
-    let circles = circled.set;
-    let status = choose_columns(err, sheet, circles, choice, table);
-    Chosen {
-        status,
-        circles,
-        choice,
-    }
+    let names = names_of(text, sheet.names);
+    let choice = choice_asked(words, q, err, names, reader.columns, reader.label, text)?;
+    let circles = circles_asked(words, q, err, names, reader.columns, choice, text)?;
+    choose_columns(err, sheet, circles, choice, table)?;
+    Ok(Chosen { circles, choice })
 }

@@ -1,8 +1,9 @@
 // The text, read into the table.
-ghost use Rattle.std.specs.Prelude.{◌≤◌};
+ghost use Rattle.std.specs.Prelude.{IfOk};
+ghost use Rattle.column_names.specs.Names.{InLine};
 
 use asking::pieces::part;
-use column_names::{MOST_COLUMNS, column_said};
+use column_names::{MOST_COLUMNS, NameFault, column_said};
 use sheet_reading::Reader;
 use text_lines::{first_line, next_line, text_start};
 
@@ -16,10 +17,7 @@ pub struct Sheet {
 
 // The first line gave no row, and there is text behind it.
 fn is_names(rows: usize, second: usize, length: usize) -> bool {
-    if rows != 0 {
-        return false;
-    }
-    second < length
+    rows == 0 && second < length
 }
 
 // The first row's line is the second line where the first is names.
@@ -29,26 +27,25 @@ fn first_row(names: bool, second: usize, top: usize) -> usize {
 
 // The names of a text whose first line was read so, or nothing.
 fn names_in(t: &[u8], first: Reader) -> &[u8] {
-    if first.fault != 0 {
-        return part(t, 0, 0);
+    if first.fault == 0 && first.rows == 0 {
+        first_line(t)
+    } else {
+        part(t, 0, 0)
     }
-    if first.rows != 0 {
-        return part(t, 0, 0);
-    }
-    first_line(t)
 }
 
 // The names of a text, or nothing.
 pub fn names_of(text: &[u8], names: bool) -> &[u8] {
     if names {
-        return first_line(text);
+        first_line(text)
+    } else {
+        part(text, 0, 0)
     }
-    part(text, 0, 0)
 }
 
-// The column that a word says, before the rows are read: by its number from 1 or by its name; 0 if there is none, 17 if there are two of this name.
-pub(crate) fn label_said(t: &[u8], word: &[u8], table: &mut [u16]) -> usize
-    ensures { result ≤ 17 }
+// The column that a word says, before the rows are read: by its number from 1 or by its name.
+pub(crate) fn label_said(t: &[u8], word: &[u8], table: &mut [u16]) -> Result<usize, NameFault>
+    ensures { IfOk result InLine }
 {
     let second = next_line(t, 0);
     let first = sheet::feed(sheet::start(0), part(t, 0, second), table);

@@ -2,7 +2,7 @@
 use Prim.Native.Nat.{◌+◌, ◌-◌, ◌<◌, ◌≤◌, suc, zero, ℕ}
 use Rattle.asking.specs.Pieces.{before, begin_of, end_at, has_piece, place_from}
 use borrow.Author.Tests.{le-leb, lt-leb}
-use lib.ListN.{drop, drop_of_length-le, get_or, length}
+use lib.ListN.{drop_of_length-le, get_or, length}
 use lib.Seq.{drop-cons}
 use mathlib.Core.Bool.{Bool, false, true}
 use mathlib.Core.List.{List}

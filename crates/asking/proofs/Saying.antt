@@ -1,15 +1,18 @@
 -- Whether a word is this one, and the parts of a text that its pieces are. Assumes nothing.
-use Prim.Native.Nat.{◌+◌, ◌≤◌, min, ℕ}
-use Rattle.asking.specs.Pieces.{Found, begin_of, end_at, has_piece, part_of, piece_of}
+use Prim.Native.Nat.{◌+◌, ◌<◌, ◌≤◌, min, suc, zero, ℕ}
+use Rattle.asking.specs.declared.pieces.Piece.{Piece}
+use Rattle.asking.specs.Pieces.{Stands, has_piece, part_of, piece_of}
 use Rattle.asking.specs.Words.{has_word_lem, way_of, word_is}
 use Rattle.laws.proofs.Never.{never}
 use Rattle.laws.specs.Lists.{same}
 use borrow.Author.Tests.{eq-eqb, eqb-true}
 use lib.Dec.{eqb}
+use lib.Pointwise.{pointwise}
 use lib.ListN.{length}
-use mathlib.Core.Bool.{Bool, ◌&&◌, ◌||◌, cond, false, true}
+use mathlib.Core.Bool.{Bool, ◌&&◌, ◌||◌, false, true}
 use mathlib.Core.List.{List, [], ◌∷◌}
 use mathlib.Core.Path.{◌∙◌, ◌≡◌, ap, ap₂, refl, sym}
+use native.Mathlib.Decide.{ℕ_discrete}
 use native.Mathlib.Numerals.{add-one}
 use native.Mathlib.Omega.{arith}
 
@@ -39,56 +42,84 @@ same-told r xs ys h = go r (same xs ys) refl refl
     go false true p q = never (sym p ∙ h.1 (same_equal xs ys q))
     go false false p q = p ∙ sym q
 
+-- as the library's test does
+pub same-pointwise : (xs ys : List ℕ) → pointwise eqb xs ys ≡ same xs ys
+same-pointwise [] [] = refl
+same-pointwise [] (y ∷ ys) = refl
+same-pointwise (x ∷ xs) [] = refl
+same-pointwise (x ∷ xs) (y ∷ ys) = ap (λ (b : Bool). eqb x y && b) (same-pointwise xs ys)
+
 -- ---- pieces
-module _ (b : ℕ) (t : List ℕ) (i : ℕ) (there : Bool) (start end : ℕ) (f : Found b t i there start end) where
+module _ {b : ℕ} {t : List ℕ} {i : ℕ} {p : Piece} (f : Stands b t i p) where
   -- a piece that is there is a part of the text
-  pub part-piece : there ≡ true → part_of t start end ≡ piece_of b t i
+  pub part-piece : part_of t p.start p.end ≡ piece_of b t i
   unfolding part_of piece_of
-  part-piece e =
-      let x : min end (length t) ≡ end = omega (arith, f.inside.1) in
-      let y : min start end ≡ start = omega (arith, f.inside.0) in
-      rw (x, y, (f.spot e).1, (f.spot e).0)
+  part-piece =
+      let x : min p.end (length t) ≡ p.end = omega (arith, f.inside) in
+      let y : min p.start p.end ≡ p.start = omega (arith, f.ordered) in
+      rw (x, y, f.ends, f.starts)
 
 -- ---- one of the words
-module _ (t w : List ℕ) (i : ℕ) (there : Bool) (start end : ℕ) (f : Found 0 t i there start end) where
+module _ (t w : List ℕ) (i : ℕ) where
   -- there is no such word
-  pub word_none : there ≡ false → false ≡ word_is t w i
+  pub word_none : has_piece 0 t i ≡ false → false ≡ word_is t w i
   unfolding word_is
-  word_none e = rw (sym f.has ∙ e)
+  word_none e = rw e
 
   -- there is, and it is compared
-  pub word_some : (p : List ℕ) (r : Bool) → p ≡ part_of t start end → there ≡ true → (r ≡ true → p ≡ w) × (p ≡ w → r ≡ true) → r ≡ word_is t w i
+  pub word_some : {p : Piece} → Stands 0 t i p → (s : List ℕ) (r : Bool) → s ≡ part_of t p.start p.end → r ≡ pointwise eqb s w → r ≡ word_is t w i
   unfolding word_is
-  word_some p r q e h = rw (sym f.has ∙ e) (same-told r p w h ∙ ap (λ (x : List ℕ). same x w) (q ∙ part-piece 0 t i there start end f e))
+  word_some f s r q h = rw f.has (h ∙ same-pointwise s w ∙ ap (λ (x : List ℕ). same x w) (q ∙ part-piece f))
 
--- one word more
-pub has-next : (t w : List ℕ) (i : ℕ) (r found : Bool) → r ≡ word_is t w i → found ≡ has_word_lem t w i → (r || found) ≡ has_word_lem t w (i + 1)
-unfolding has_word_lem
-has-next t w i r found e f = rw (add-one, e, f)
+-- ---- one of the words
+module _ (t w : List ℕ) (i : ℕ) where
+  -- none so far, and one word more that is another
+  pub has-next : false ≡ word_is t w i → false ≡ has_word_lem t w i → false ≡ has_word_lem t w (i + 1)
+  unfolding has_word_lem
+  has-next e f = rw (add-one, ← e, ← f)
 
--- none
+  -- or is it
+  pub has-found : (k : ℕ) → true ≡ word_is t w i → i < k → true ≡ has_word_lem t w k
+  unfolding has_word_lem
+  has-found zero e l = absurd (omega arith)
+  has-found (suc k) e l = go (ℕ_discrete i k) (has-found k e)
+    where
+      or-true : (a : Bool) → true ≡ (a || true)
+      or-true true = refl
+      or-true false = refl
+
+      go : Dec (i ≡ k) → (i < k → true ≡ has_word_lem t w k) → true ≡ (word_is t w k || has_word_lem t w k)
+      go (yes q) f = rw (ap (word_is t w) (sym q) ∙ sym e)
+      go (no q) f = rw (sym (f (omega (arith, q)))) (or-true (word_is t w k))
+
+-- none of no words
 pub has-none : (t w : List ℕ) → false ≡ has_word_lem t w 0
 unfolding has_word_lem
 has-none t w = refl
 
 -- all
-pub has_all : (t w : List ℕ) (i : ℕ) (found : Bool) → found ≡ has_word_lem t w i → i ≤ 32 → 32 ≤ i → found ≡ has_word_lem t w 32
-has_all t w i found e l h = e ∙ ap (has_word_lem t w) (omega arith)
+pub has_all : (t w : List ℕ) (i : ℕ) → false ≡ has_word_lem t w i → i ≤ 32 → 32 ≤ i → false ≡ has_word_lem t w 32
+has_all t w i e l h = e ∙ ap (has_word_lem t w) (omega arith)
 
 -- ---- the way
-module _ (w : List ℕ) (r : Bool) where
-  -- like
-  pub way-like : (r ≡ true → w ≡ 108 ∷ 105 ∷ 107 ∷ 101 ∷ []) × (w ≡ 108 ∷ 105 ∷ 107 ∷ 101 ∷ [] → r ≡ true) → r ≡ true → 1 ≡ way_of w
-  unfolding way_of
-  way-like h e = rw (sym (same-told r w (108 ∷ 105 ∷ 107 ∷ 101 ∷ []) h) ∙ e)
+module _ (w : List ℕ) where
+  -- a word that is, or is not, one of the two
+  told : (r : Bool) (l m : List ℕ) → l ≡ m → r ≡ pointwise eqb w l → same w m ≡ r
+  told r l m e h = sym (h ∙ same-pointwise w l ∙ ap (same w) e)
 
-  module _ (l : Bool) (h : (l ≡ true → w ≡ 108 ∷ 105 ∷ 107 ∷ 101 ∷ []) × (w ≡ 108 ∷ 105 ∷ 107 ∷ 101 ∷ [] → l ≡ true)) (z : l ≡ false) where
-    -- nearest
-    pub way-nearest : (r ≡ true → w ≡ 110 ∷ 101 ∷ 97 ∷ 114 ∷ 101 ∷ 115 ∷ 116 ∷ []) × (w ≡ 110 ∷ 101 ∷ 97 ∷ 114 ∷ 101 ∷ 115 ∷ 116 ∷ [] → r ≡ true) → r ≡ true → 2 ≡ way_of w
+  module _ {l : List ℕ} (e : l ≡ 108 ∷ 105 ∷ 107 ∷ 101 ∷ []) where
+    -- like
+    pub way-like : true ≡ pointwise eqb w l → 1 ≡ way_of w
     unfolding way_of
-    way-nearest g e = rw (sym (same-told l w (108 ∷ 105 ∷ 107 ∷ 101 ∷ []) h) ∙ z, sym (same-told r w (110 ∷ 101 ∷ 97 ∷ 114 ∷ 101 ∷ 115 ∷ 116 ∷ []) g) ∙ e)
+    way-like h = rw (told true l _ e h)
 
-    -- neither
-    pub way-none : (r ≡ true → w ≡ 110 ∷ 101 ∷ 97 ∷ 114 ∷ 101 ∷ 115 ∷ 116 ∷ []) × (w ≡ 110 ∷ 101 ∷ 97 ∷ 114 ∷ 101 ∷ 115 ∷ 116 ∷ [] → r ≡ true) → r ≡ false → 0 ≡ way_of w
-    unfolding way_of
-    way-none g e = rw (sym (same-told l w (108 ∷ 105 ∷ 107 ∷ 101 ∷ []) h) ∙ z, sym (same-told r w (110 ∷ 101 ∷ 97 ∷ 114 ∷ 101 ∷ 115 ∷ 116 ∷ []) g) ∙ e)
+    module _ (o : false ≡ pointwise eqb w l) {n : List ℕ} (f : n ≡ 110 ∷ 101 ∷ 97 ∷ 114 ∷ 101 ∷ 115 ∷ 116 ∷ []) where
+      -- nearest
+      pub way-nearest : true ≡ pointwise eqb w n → 2 ≡ way_of w
+      unfolding way_of
+      way-nearest h = rw (told false l _ e o, told true n _ f h)
+
+      -- neither
+      pub way-none : false ≡ pointwise eqb w n → 0 ≡ way_of w
+      unfolding way_of
+      way-none h = rw (told false l _ e o, told false n _ f h)

@@ -1,5 +1,6 @@
 -- The pieces of a text that one byte parts: the items of a list, the words of the arguments. Assumes nothing.
-use Rattle.std.specs.Prelude.{◌+◌, ◌-◌, ◌≤◌, min, suc, zero, ℕ, eqb, leb, drop, length, take, Bool, cond, true, List, [], ◌∷◌, ◌≡◌}
+use Rattle.std.specs.Prelude.{◌+◌, ◌-◌, ◌≤◌, min, suc, zero, ℕ, eqb, leb, drop, length, take, Bool, cond, false, true, List, [], ◌∷◌, Option, None, Some, ◌≡◌}
+use Rattle.asking.specs.declared.pieces.Piece.{Piece}
 
 -- how many bytes stand before the first that passes a test
 unfoldable pub before : (ℕ → Bool) → List ℕ → ℕ
@@ -35,8 +36,15 @@ part_of t start end = cut t (min start (min end (length t))) (min end (length t)
 unfoldable pub piece_of : ℕ → List ℕ → ℕ → List ℕ
 piece_of b t i = cut t (begin_of b t i) (end_at b t (begin_of b t i))
 
--- piece i was looked for: whether it is there, and then where
-pub record Found (b : ℕ) (t : List ℕ) (i : ℕ) (there : Bool) (start end : ℕ) : Type 0 where
-  pub has : there ≡ has_piece b t i
-  pub spot : there ≡ true → (start ≡ begin_of b t i) × (end ≡ end_at b t start)
-  pub inside : (start ≤ end) × (end ≤ length t)
+-- p is piece i of the text
+pub record Stands (b : ℕ) (t : List ℕ) (i : ℕ) (p : Piece) : Type 0 where
+  pub has : has_piece b t i ≡ true
+  pub starts : p.start ≡ begin_of b t i
+  pub ends : p.end ≡ end_at b t p.start
+  pub ordered : p.start ≤ p.end
+  pub inside : p.end ≤ length t
+
+-- piece i was looked for: there is none, or this is it
+abbrev pub Found : (b : ℕ) (t : List ℕ) (i : ℕ) (found : Option Piece) → Type 0
+Found b t i None = has_piece b t i ≡ false
+Found b t i (Some p) = Stands b t i p

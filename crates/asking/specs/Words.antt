@@ -1,8 +1,10 @@
 -- The words of the arguments, and the question that they ask. Each word is ended by a zero byte. Assumes nothing.
-use Rattle.std.specs.Prelude.{◌<◌, ◌≤◌, suc, zero, ℕ, Bool, ◌&&◌, ◌||◌, cond, false, List, [], ◌∷◌, ◌≡◌}
+use Rattle.std.specs.Prelude.{◌<◌, suc, zero, ℕ, Bool, ◌&&◌, ◌||◌, cond, false, List, [], ◌∷◌, Option, None, Some, ◌≡◌}
 use Rattle.asking.specs.Pieces.{has_piece, part_of, piece_of}
 use Rattle.asking.specs.Worth.{worth}
 use Rattle.asking.specs.declared.Question.{Question}
+use Rattle.asking.specs.declared.Way.{Way}
+use Rattle.asking.specs.declared.Way.TheVariants.{Like, Nearest}
 use Rattle.asking.specs.declared.pieces.Piece.{Piece}
 use Rattle.laws.specs.Lists.{same}
 
@@ -19,17 +21,24 @@ has_word_lem t w (suc i) = word_is t w i || has_word_lem t w i
 unfoldable pub way_of : List ℕ → ℕ
 way_of w = cond (same w (108 ∷ 105 ∷ 107 ∷ 101 ∷ [])) 1 (cond (same w (110 ∷ 101 ∷ 97 ∷ 114 ∷ 101 ∷ 115 ∷ 116 ∷ [])) 2 0)
 
+-- a way as that number
+abbrev pub code : Way → ℕ
+code Like = 1
+code Nearest = 2
+
+-- a way, if it is one
+abbrev pub asked : Option Way → ℕ
+asked None = 0
+asked (Some w) = code w
+
 -- the bytes of a word that was found
 abbrev pub said : List ℕ → Piece → List ℕ
 said t p = part_of t p.start p.end
 
--- a question that can be answered: its four words and the values of its options are there; it asks for rows that are like, or for the nearest, by its
--- second word; its number is what its fourth word says, below 10,000,000, and of the nearest at least one
+-- a question that can be answered (its four words and the values of its options are there, by its type): it asks for rows that are like, or for the
+-- nearest, by its second word; its number is what its fourth word says, below 10,000,000, and of the nearest at least one
 pub record Answerable (t : List ℕ) (q : Question) : Type 0 where
-  pub four : 4 ≤ q.plain
-  pub valued : q.awaits ≡ 0
-  pub way : q.asks ≡ way_of (said t q.way)
-  pub some : q.asks ≡ 0 → ⊥
-  pub amount : q.number ≡ worth (said t q.amount)
+  pub way : code q.way ≡ way_of (said t q.way_said)
+  pub amount : q.number ≡ worth (said t q.number_said)
   pub below : q.number < 10_000_000
-  pub wanted : q.asks ≡ 2 → q.number ≡ 0 → ⊥
+  pub wanted : code q.way ≡ 2 → q.number ≡ 0 → ⊥

@@ -6,7 +6,7 @@ use Rattle.audit.specs.Calls.{Checks}
 use Rattle.audit_refusals.specs.Workspace.{clears}
 use Rattle.buffers.specs.Wiped.{wiped}
 use Rattle.laws.specs.Every.{Every}
-use Rattle.limits.proofs.Faults.{Early, early_numbered, early_placeless, early_unfound, number_of, says_first, says-next}
+use Rattle.limits.proofs.Faults.{Early, early_numbered, early_unfound, number_of, says_first, says-next}
 use Rattle.limits.specs.Limits.{within}
 use Rattle.limits.specs.Said.{Said, said}
 use Rattle.measure.specs.Table.{between, rows_of}
@@ -52,23 +52,23 @@ module _ (T : List ℕ) (c : ℕ) (w work : List ℕ) where
   abbrev late : List Said
   late = faults (between T c (circles# w)) w
 
-  -- a refusal with number r ends it: no place, and the workspace as it was
-  pub refused : {r : ℕ} → r ≡ (said early).0 → (r ≡ 0 → ⊥) → Checks T c w work work r 0 0
-  refused {r} e h =
-      let s : said early ≡ said_check T c w (length work) = says_first early late (λ z. h (e ∙ z)) ∙ sym (said_check_lem T c w (length work)) in
+  -- a refusal ends it, and the workspace is as it was
+  pub refused : (r : Said) → r ≡ said early → (r.0 ≡ 0 → ⊥) → Checks T c w work work r.0 r.1 r.2
+  refused r e h =
+      let n : r.0 ≡ (said early).0 = ap number_of e in
+      let s : r ≡ said_check T c w (length work) = e ∙ says_first early late (λ z. h (n ∙ z)) ∙ sym (said_check_lem T c w (length work)) in
       let all : Every Early early = call_early (check_asks T c (length work)) T w [] in
-      let p = early_placeless early all in
       record {
-        said = e ∙ ap number_of s;
-        placed = (sym p.0 ∙ ap (λ (s : Said). s.1) s, sym p.1 ∙ ap (λ (s : Said). s.2) s);
-        cleared = sym (ap (λ b. cond b (wiped (6 * rows_of T c) work) work) (early_keeps r h (rw e (early_unfound early all))));
+        said = ap number_of s;
+        placed = (ap (λ (s : Said). s.1) s, ap (λ (s : Said). s.2) s);
+        cleared = sym (ap (λ b. cond b (wiped (6 * rows_of T c) work) work) (early_keeps r.0 h (rw n (early_unfound early all))));
       }
 
   -- with no refusal it says its first fault, and the first 6n words of the workspace are zero
-  pub taken : {number place second : ℕ} {work' : List ℕ} → (said early).0 ≡ 0 → n# w ≡ rows_of T c → (number, place, second) ≡ said late
-      → work' ≡ wiped (6 * n# w) work → Checks T c w work work' number place second
-  taken {number} {place} {second} z e says leaves =
-      let s : (number, place, second) ≡ said_check T c w (length work) =
+  pub taken : (r : Said) {work' : List ℕ} → (said early).0 ≡ 0 → n# w ≡ rows_of T c → r ≡ said late
+      → work' ≡ wiped (6 * n# w) work → Checks T c w work work' r.0 r.1 r.2
+  taken r z e says leaves =
+      let s : r ≡ said_check T c w (length work) =
       says ∙ says-next early late (early_numbered early (call_early (check_asks T c (length work)) T w [])) z ∙ sym (said_check_lem T c w (length work)) in
       record {
         said = ap number_of s;

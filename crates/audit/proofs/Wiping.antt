@@ -2,21 +2,15 @@
 use Prim.Native.Nat.{◌*◌, ◌+◌, ◌-◌, ◌<◌, ◌≤◌, ℕ}
 use Rattle.repeated_rows.specs.Zeros.{Clear}
 use Rattle.buffers.specs.Wiped.{wiped}
-use lib.ListN.{get_or-append, drop, get_or-replicate, length, length-append, length-drop, length-replicate, replicate}
-use lib.Seq.{drop_at, drop-drop}
+use lib.ListN.{get_or-append, drop, get_or-replicate, length, length-append, length-drop, length-replicate, replicate, take}
+use lib.Seq.{drop_at, drop-drop, length-take-le}
 use mathlib.Core.List.{List, ◌++◌}
 use mathlib.Core.Path.{◌∙◌, ◌≡◌, ap, sym}
 use native.Mathlib.Omega.{arith}
 
--- after a wipe of n words, the first n are there and zero
-pub wiped_clear : (n : ℕ) (work : List ℕ) → n ≤ length work → Clear n (wiped n work)
-wiped_clear n work h =
-    record {
-      long = simp (length-append, length-replicate, length-drop) (omega arith);
-      zeros = λ i q.
-          let l : i < length {A = ℕ} (replicate n 0) = simp length-replicate q in
-          rw (get_or-append (replicate n 0) (drop n work) 0 i l) (get_or-replicate n i 0 0 q);
-    }
+-- a front of n words that was filled with 0, and what is behind it
+pub filled : (n : ℕ) (work front : List ℕ) → n ≤ length work → front ≡ replicate (length (take n work)) 0 → front ++ drop n work ≡ wiped n work
+filled n work front h e = rw (e, length-take-le n work h)
 
 -- lists that agree from n on agree from any later place on
 drop-later : (n k : ℕ) (a b : List ℕ) → n ≤ k → drop n a ≡ drop n b → drop k a ≡ drop k b

@@ -1,16 +1,11 @@
 -- What the passes of the full check find, one after the other. Over the distance d between rows. A working notion, on which no promise
 -- rests. Assumes nothing.
 use Rattle.std.specs.Prelude.{ℕ, List, ◌++◌, map}
-use Rattle.audit.specs.declared.Checked.{Checked}
 use Rattle.laws.specs.Lists.{keep, range}
 use Rattle.limits.specs.Said.{Said}
 use Rattle.nearness.specs.Strays.{all_strays}
 use Rattle.tree.specs.Check.{wrong_dist, wrong_reach_lem}
 use Rattle.words.specs.Words.{nodes#, n#}
-
--- what the code hands back, as a number and two places
-abbrev pub told : Checked → Said
-told r = (r.number, r.place, r.second)
 
 module _ (d : ℕ → ℕ → ℕ) (w : List ℕ) where
   -- 11 to 13: the faults that distances show

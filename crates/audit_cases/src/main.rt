@@ -6,10 +6,6 @@ ghost use Rattle.std.specs.Prelude.{◌≡◌, length};
 
 use samples::{FIVE_ROWS as ROWS, five_index, put};
 
-fn wide(x: u32) -> u64 {
-    x as u64
-}
-
 fn number(x: u64) {
     io::print_decimal(1, x);
     io::write_all(1, b" ");
@@ -17,20 +13,18 @@ fn number(x: u64) {
 
 // The words' sum.
 fn sum(work: &[u32]) -> u64 {
-    let mut all = 0;
-    let mut i = 0;
-    while i < work.len() {
-        all = std::num::wrapping_add_u64(all, wide(work[i]));
-        i += 1;
-    }
-    all
+    work.iter()
+        .fold(0u64, |all, word| all.wrapping_add(u64::from(*word)))
 }
 
 fn show(table: &[u16], c: usize, index: &[u32], work: &mut [u32]) {
-    let r = audit::check(table, c, index, work);
-    number(wide(r.number));
-    number(r.place as u64);
-    number(r.second as u64);
+    let (k, place, second) = match audit::check(table, c, index, work) {
+        Ok(()) => (0, 0, 0),
+        Err(refusal) => (refusal.number(), refusal.place(), refusal.second()),
+    };
+    number(u64::from(k));
+    number(place as u64);
+    number(second as u64);
     io::print_decimal(1, sum(work));
     io::write_all(1, b"\n");
 }

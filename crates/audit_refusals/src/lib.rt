@@ -4,13 +4,14 @@
 ghost use Rattle.audit_refusals.specs.Numbers.{refusals};
 ghost use Rattle.limits.specs.Said.{said};
 ghost use Rattle.std.specs.Prelude.{◌≡◌};
+ghost use Rattle.limits.specs.Refusal.{outcome};
 
-use limits::{Asked, is_short, rows_in};
-use refusals::refusal;
+use limits::{Asked, Refusal, is_short, rows_in};
+use refusals::test_call;
 
-// 1 to 9 and 19: what refuses the call before the passes, or 0. `room` is the workspace's length. A check has no query: an empty part stands for it.
-pub fn check_number(table: &[u16], c: usize, index: &[u32], room: usize) -> u32
-    ensures { result ≡ (said (refusals table.now c index.now room)).0 }
+// What refuses the call before the passes, if anything does. `room` is the workspace's length. A check has no query: an empty part stands for it.
+pub fn test_audit(table: &[u16], c: usize, index: &[u32], room: usize) -> Result<(), Refusal>
+    ensures { outcome result ≡ said (refusals table.now c index.now room) }
 {
     let n = rows_in(table.len(), c);
     let asked = Asked {
@@ -21,5 +22,5 @@ pub fn check_number(table: &[u16], c: usize, index: &[u32], room: usize) -> u32
         unlike: false,
         none: false,
     };
-    refusal(asked, table, index, &table[..0])
+    test_call(asked, table, index, &table[..0])
 }

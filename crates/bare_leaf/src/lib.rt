@@ -14,20 +14,13 @@ ghost use Rattle.words.specs.Words.{n#, pair_at, row#};
 use ceilings::query_distance_to;
 use leaf_decision::{Verdict, decide};
 use limits::Params;
-use numbers::smaller;
 use words::places::word;
 
 // How-bytes are lent, and neither a set nor a list; of each its length is given.
 pub fn is_bare(how: usize, withdrawn: usize, list: usize) -> bool
     ensures { Bare result how withdrawn list }
 {
-    if how == 0 {
-        return false;
-    }
-    if withdrawn != 0 {
-        return false;
-    }
-    list == 0
+    how != 0 && withdrawn == 0 && list == 0
 }
 
 // The how-byte of a row that is measured, as far as r. It is told by one more than the ceiling, with which measuring compares as well: so the compiler
@@ -36,7 +29,7 @@ fn measured_byte(table: &[u16], c: usize, circles: u32, query: &[u16], row: usiz
     requires { (c ≤ max_columns) × (c * row + c ≤ length table.now) × (length query.now ≡ c) }
     ensures { result ≡ by_distance (from table.now c circles query.now) r row }
 {
-    let over = smaller(r, Params::MOST_DISTANCE) + 1;
+    let over = r.min(Params::MOST_DISTANCE) + 1;
     let d = query_distance_to(table, c, circles, query, row, r);
     if d < over { 3 } else { 1 }
 }
@@ -60,15 +53,11 @@ fn bare_row(
         (leaf_mark (from table.now c circles query.now) r index.now x p) how.old }
 {
     let row = word(index, base + 2 * p);
-    let verdict = decide(x, index[base + 2 * p + 1], r);
-    let Verdict::Measure = verdict else {
-        if let Verdict::In = verdict {
-            how[row] = 2;
-        }
-        return;
-    };
-    let byte = measured_byte(table, c, circles, query, row, r);
-    how[row] = byte;
+    match decide(x, index[base + 2 * p + 1], r) {
+        Verdict::Out => {}
+        Verdict::In => how[row] = 2,
+        Verdict::Measure => how[row] = measured_byte(table, c, circles, query, row, r),
+    }
 }
 
 // The rows at the positions from lo up to hi of an opened leaf whose first is at x.
@@ -90,9 +79,7 @@ pub fn open_bare(
     ensures { how.new ≡ marked (λ (i : ℕ). false)
         (leaf_at (from table.now c circles query.now) r index.now x) lo hi how.old }
 {
-    let mut p = lo;
-    while p < hi {
+    for p in lo..hi {
         bare_row(table, c, circles, index, query, base, p, x, r, how);
-        p += 1;
     }
 }

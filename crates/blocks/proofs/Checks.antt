@@ -1,8 +1,17 @@
 -- The check word: each of its steps is one-to-one, so that what it starts at and each of its words show in it. Assumes nothing.
-use Rattle.std.proofs.Common.{◌≡◌, ℕ, ◌+◌, ◌%◌, ◌^◌, ◌<◌, List, [], ◌∷◌, ◌++◌, refl, arith}
+use Rattle.std.proofs.Common.{◌≡◌, ℕ, ◌+◌, ◌*◌, ◌/◌, ◌%◌, ◌^◌, ◌<◌, List, [], ◌∷◌, ◌++◌, bit_or, w32, refl, ap, ◌∙◌, arith}
+use Rattle.std.proofs.lemmas.Nat.{or_shifted}
+use Rattle.std.specs.Int.{rotate_left}
 use Rattle.blocks.specs.Blocks.{check_from, check_word, rotate, step}
 
 -- ---- one step
+-- `s.rotate_left(1)` is s, rotated
+pub rotate_left-is : (s : ℕ) → s < 2 ^ 32 → rotate_left w32 s 1 ≡ rotate s
+unfolding rotate
+rotate_left-is s h =
+    let low : s * 2 % 2 ^ 32 ≡ s % 2 ^ 31 * 2 = omega arith in
+    ap (λ (n : ℕ). bit_or n (s / 2 ^ 31)) low ∙ or_shifted (s % 2 ^ 31) 1 (s / 2 ^ 31) (omega arith)
+
 -- a rotated word fits 32 bits
 rotate_lt : (s : ℕ) → s < 2 ^ 32 → rotate s < 2 ^ 32
 unfolding rotate

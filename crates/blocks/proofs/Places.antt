@@ -17,6 +17,12 @@ pub words_more : (i : List ℕ) (p k : ℕ) → words_at i p (k + 1) ≡ words_a
 unfolding words_at
 words_more i p k = ap (words_at i p) (add-one k)
 
+-- k words are k
+pub words-length : (i : List ℕ) (p k : ℕ) → length (words_at i p k) ≡ k
+unfolding words_at
+words-length i p zero = refl
+words-length i p (suc k) = simp (length-append, words-length i p k) (add-one k)
+
 -- the check of the first k of them, one word further: s is that check from s₀ on, x the next word, and r the check one step further
 pub words_check : (i : List ℕ) (p s₀ s k x r : ℕ) → s ≡ check_from s₀ (words_at i p k) → x ≡ word_at i (p + 4 * k) → r ≡ step s x
     → r ≡ check_from s₀ (words_at i p (k + 1))

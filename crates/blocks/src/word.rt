@@ -24,7 +24,7 @@ pub fn blocks_for(t: usize) -> usize
     requires { t < 34359738368 }
     ensures { (result ≡ blocks_for_lem t) × (result < 4294967296) }
 {
-    (t + 126) / HELD
+    t.div_ceil(HELD)
 }
 
 // The word's four bytes to the front of the part.
@@ -32,17 +32,7 @@ pub fn put_word(part: &mut [u8], x: u32)
     requires { 4 ≤ length part.old }
     ensures { part.new ≡ bytes x ++ drop 4 part.old }
 {
-    part[0] = (x % 256) as u8;
-    part[1] = (x / 256 % 256) as u8;
-    part[2] = (x / 65536 % 256) as u8;
-    part[3] = (x / 16777216 % 256) as u8;
-}
-
-// A byte as a word.
-fn wide(x: u8) -> u32
-    ensures { (result ≡ x) × (result < 256) }
-{
-    x as u32
+    part[..4].copy_from_slice(&x.to_le_bytes());
 }
 
 // The word that the four bytes from place p on are.
@@ -50,17 +40,14 @@ pub fn get_word(image: &[u8], p: usize) -> u32
     requires { p + 4 ≤ length image.now }
     ensures { result ≡ word_at image.now p }
 {
-    wide(image[p])
-        + 256 * wide(image[p + 1])
-        + 65536 * wide(image[p + 2])
-        + 16777216 * wide(image[p + 3])
+    u32::from_le_bytes([image[p], image[p + 1], image[p + 2], image[p + 3]])
 }
 
 // Word j of these, zero after the last.
 pub fn word_or_zero(index: &[u32], j: usize) -> u32
     ensures { result ≡ at index.now j }
 {
-    if j < index.len() { index[j] } else { 0 }
+    index.get(j).copied().unwrap_or(0)
 }
 
 // Index word j of the image.

@@ -4,7 +4,7 @@ use Prim.Native.Nat.{◌*◌, ◌/◌, ◌≤◌, min, ℕ}
 use Rattle.audit.proofs.Theorems.{check-exact}
 use Rattle.audit.specs.Calls.{Checks, Passed}
 use Rattle.laws.specs.Lists.{last}
-use Rattle.limits.proofs.Faults.{early_numbered, number_of, says_first, says-next, says_none}
+use Rattle.limits.proofs.Faults.{early_numbered, none-listed, number_of, says_first, says-next, says_none}
 use Rattle.limits.proofs.Numbers.{passed_none, sized_of}
 use Rattle.limits.specs.Said.{Said, fault, said, tabled}
 use Rattle.limits.specs.declared.Asked.{Asked}
@@ -83,7 +83,10 @@ module _ {t : List ℕ} {c : ℕ} {w work₀ work₁ : List ℕ} {place second :
         table = R.table;
         query = R.query;
       }) in
-      s.said ∙ sym (within-radius.none_said t c w q set (length before) none refl n (sym right-set) refl)
+      let early : List Said = call_faults (radius_asks t c q (length before)) t w q in
+      let nothing : (0, 0, 0) ≡ said early =
+      ap said (sym (none-listed early (early_numbered early (call_early (radius_asks t c q (length before)) t w q)) (sym none))) in
+      s.said ∙ sym (ap number_of (within-radius.set-says t c w q set (length before) nothing n right-set))
 
   -- NOR IS A NEAREST SEARCH WHERE SOME ARE WANTED AND THERE IS ROOM FOR THE ANSWERS, THE HOW-BYTES AND 6n WORDS
   pub nearest-taken : {q set : List ℕ} {wanted room : ℕ} {lent lent' : NearestLent} {number given met : ℕ}

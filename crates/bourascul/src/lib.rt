@@ -2,7 +2,7 @@
 // says what is lent. The crate bourascul_c exports them from an archive.
 #![tactic(auto)]
 
-ghost use Rattle.std.specs.Prelude.{min, length, ◌≡◌};
+ghost use Rattle.std.specs.Prelude.{min, length, ◌≡◌, ◌<◌};
 ghost use Rattle.append.specs.Calls.{Appends};
 ghost use Rattle.append_rows.specs.Calls.{AppendsRows};
 ghost use Rattle.audit.specs.Calls.{Checks};
@@ -15,8 +15,12 @@ ghost use Rattle.nearest.specs.Calls.{Answered};
 ghost use Rattle.nearest_steps.specs.Asked.{asks, lends};
 ghost use Rattle.orders.specs.Orders.{Orders, restoring, striking};
 ghost use Rattle.radius.specs.Calls.{Searched};
+ghost use Rattle.build.specs.Calls.{nodes_of, words_of};
+ghost use Rattle.limits.specs.Refusal.{outcome};
+ghost use Rattle.nearest.specs.Given.{given_of, measured_of};
 
 use answers::Answer;
+use limits::Refusal;
 
 #[repr(C)]
 #[derive(Clone, Copy)]
@@ -72,14 +76,59 @@ pub struct Part {
     pub length: u32,
 }
 
-// The greatest number of 32 bits.
-const MOST: usize = 4_294_967_295;
-
 // A block's number in 32 bits: those of an image beyond two terabytes may not fit.
 fn block_number(x: usize) -> u32
     ensures { result ≡ min x 4294967295 }
 {
-    if x < MOST { x as u32 } else { 4_294_967_295 }
+    x.min(0xffff_ffff) as u32
+}
+
+// The number of an outcome, for C: 0 where the call is done.
+fn number_of<T: Copy>(called: Result<T, Refusal>) -> u32
+    ensures { result ≡ (outcome called).0 }
+{
+    match called {
+        Ok(_) => 0,
+        Err(refusal) => refusal.number(),
+    }
+}
+
+// What a call that writes an index gives, for C: a refusal has zero counts.
+fn built_for_c(called: Result<build::Built, Refusal>) -> Built
+    requires { (words_of called < 4294967296) × (nodes_of called < 4294967296) }
+    ensures { (result.number ≡ (outcome called).0) × (result.words ≡ words_of called) × (result.nodes ≡ nodes_of called) }
+{
+    match called {
+        Ok(built) => Built {
+            number: 0,
+            words: built.words as u32,
+            nodes: built.nodes as u32,
+        },
+        Err(refusal) => Built {
+            number: refusal.number(),
+            words: 0,
+            nodes: 0,
+        },
+    }
+}
+
+// What a nearest search gives, for C: a refusal has zero counts.
+fn near_for_c(called: Result<nearest::Given, Refusal>) -> Near
+    requires { (given_of called < 4294967296) × (measured_of called < 4294967296) }
+    ensures { (result.number ≡ (outcome called).0) × (result.given ≡ given_of called) × (result.measured ≡ measured_of called) }
+{
+    match called {
+        Ok(found) => Near {
+            number: 0,
+            given: found.given as u32,
+            measured: found.measured as u32,
+        },
+        Err(refusal) => Near {
+            number: refusal.number(),
+            given: 0,
+            measured: 0,
+        },
+    }
 }
 
 pub fn bourascul_build(
@@ -95,7 +144,7 @@ pub fn bourascul_build(
     ensures { Builds table.now c circles edition m l room.old work.old room.new work.new
         result.number result.words result.nodes }
 {
-    let built = build::build(
+    built_for_c(build::build(
         table,
         c as usize,
         m as usize,
@@ -104,12 +153,7 @@ pub fn bourascul_build(
         edition as usize,
         room,
         work,
-    );
-    Built {
-        number: built.number,
-        words: built.words as u32,
-        nodes: built.nodes as u32,
-    }
+    ))
 }
 
 // The table's last row goes into the index, which has all the others.
@@ -123,12 +167,7 @@ pub fn bourascul_append(
     ensures { Appends table.now c index.now room.old work.old room.new work.new
         result.number result.words result.nodes }
 {
-    let built = append::append(table, c as usize, index, room, work);
-    Built {
-        number: built.number,
-        words: built.words as u32,
-        nodes: built.nodes as u32,
-    }
+    built_for_c(append::append(table, c as usize, index, room, work))
 }
 
 // All of the table's rows that the index has not go into it.
@@ -142,22 +181,23 @@ pub fn bourascul_append_rows(
     ensures { AppendsRows table.now c index.now room.old work.old room.new work.new
         result.number result.words result.nodes }
 {
-    let built = append_rows::append_rows(table, c as usize, index, room, work);
-    Built {
-        number: built.number,
-        words: built.words as u32,
-        nodes: built.nodes as u32,
-    }
+    built_for_c(append_rows::append_rows(table, c as usize, index, room, work))
 }
 
 pub fn bourascul_check(table: &[u16], c: u32, index: &[u32], work: &mut [u32]) -> Checked
     ensures { Checks table.now c index.now work.old work.new result.number result.place result.second }
 {
-    let checked = audit::check(table, c as usize, index, work);
-    Checked {
-        number: checked.number,
-        place: checked.place as u32,
-        second: checked.second as u32,
+    match audit::check(table, c as usize, index, work) {
+        Ok(()) => Checked {
+            number: 0,
+            place: 0,
+            second: 0,
+        },
+        Err(refusal) => Checked {
+            number: refusal.number(),
+            place: refusal.place() as u32,
+            second: refusal.second() as u32,
+        },
     }
 }
 
@@ -173,11 +213,17 @@ pub fn bourascul_radius(
     ensures { Searched table.now c index.now query.now r withdrawn.now how.old how.new
         result.number result.inside result.measured }
 {
-    let found = radius::radius(table, c as usize, index, query, r, withdrawn, how);
-    Found {
-        number: found.number,
-        inside: found.inside as u32,
-        measured: found.measured as u32,
+    match radius::radius(table, c as usize, index, query, r, withdrawn, how) {
+        Ok(found) => Found {
+            number: 0,
+            inside: found.inside as u32,
+            measured: found.measured as u32,
+        },
+        Err(refusal) => Found {
+            number: refusal.number(),
+            inside: 0,
+            measured: 0,
+        },
     }
 }
 
@@ -198,14 +244,9 @@ pub fn bourascul_nearest(
         (lends rows.old distances.old how.old work.old)
         (lends rows.new distances.new how.new work.new) result.number result.given result.measured }
 {
-    let near = nearest::nearest(
+    near_for_c(nearest::nearest(
         table, c as usize, index, query, w as usize, withdrawn, rows, distances, how, work,
-    );
-    Near {
-        number: near.number,
-        given: near.given as u32,
-        measured: near.measured as u32,
-    }
+    ))
 }
 
 // The nearest search of crate nearest, for a caller who has room of his own for so many answers.
@@ -227,14 +268,9 @@ fn within(
         (lends rows.old distances.old how.old work.old)
         (lends rows.new distances.new how.new work.new) result.number result.given result.measured }
 {
-    let near = nearest::within(
+    near_for_c(nearest::within(
         table, c as usize, index, query, w as usize, withdrawn, own, rows, distances, how, work,
-    );
-    Near {
-        number: near.number,
-        given: near.given as u32,
-        measured: near.measured as u32,
-    }
+    ))
 }
 
 // The rows nearest to the query, each with its distance as a record, in a row of answers that the caller lends. The two slices of numbers that the
@@ -269,31 +305,47 @@ pub fn bourascul_nearest_answers(
 pub fn bourascul_write(index: &[u32], image: &mut [u8]) -> Written
     ensures { Writes index.now image.old image.new result.number result.blocks }
 {
-    let written = image::write_image(index, image);
-    Written {
-        number: written.number,
-        blocks: written.blocks as u32,
+    match image::write_image(index, image) {
+        Ok(blocks) => Written {
+            number: 0,
+            blocks: blocks as u32,
+        },
+        Err(refusal) => Written {
+            number: refusal.number(),
+            blocks: 0,
+        },
     }
 }
 
 pub fn bourascul_read(image: &[u8], table: &[u16], c: u32, room: &mut [u32]) -> Read
     ensures { ReadsBlock table.now c image.now room.old room.new result.number result.place result.words }
 {
-    let read = card::read_image(image, table, c as usize, room);
-    Read {
-        number: read.number,
-        place: block_number(read.place),
-        words: read.words as u32,
+    match card::read_image(image, table, c as usize, room) {
+        Ok(words) => Read {
+            number: 0,
+            place: 0,
+            words: words as u32,
+        },
+        Err(refusal) => Read {
+            number: refusal.number(),
+            place: block_number(refusal.place()),
+            words: 0,
+        },
     }
 }
 
 pub fn bourascul_list(index: &[u32], node: u32) -> Part
     ensures { Lists index.now node result.start result.length }
 {
-    let part = listing::part_of(index, node as usize);
-    Part {
-        start: part.start as u32,
-        length: part.length as u32,
+    match listing::part_of(index, node as usize) {
+        Some(part) => Part {
+            start: part.start as u32,
+            length: part.length as u32,
+        },
+        None => Part {
+            start: 0,
+            length: 0,
+        },
     }
 }
 
@@ -301,12 +353,12 @@ pub fn bourascul_list(index: &[u32], node: u32) -> Part
 pub fn bourascul_strike(withdrawn: &mut [u32], n: u32, row: u32) -> u32
     ensures { Orders withdrawn.old withdrawn.new n (striking row) result }
 {
-    orders::strike(withdrawn, n as usize, row as usize)
+    number_of(orders::strike(withdrawn, n as usize, row as usize))
 }
 
 // Restores a row of n: it is withdrawn no longer.
 pub fn bourascul_restore(withdrawn: &mut [u32], n: u32, row: u32) -> u32
     ensures { Orders withdrawn.old withdrawn.new n (restoring row) result }
 {
-    orders::restore(withdrawn, n as usize, row as usize)
+    number_of(orders::restore(withdrawn, n as usize, row as usize))
 }

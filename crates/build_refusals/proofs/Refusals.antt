@@ -6,6 +6,9 @@ use Rattle.limits.proofs.Faults.{fault-not, number_of, says_first, says-next, sa
 use Rattle.limits.proofs.Numbers.{Passed, Sized, numbers-numbered, passed, passed_none}
 use Rattle.limits.specs.Chosen.{choice_ok}
 use Rattle.limits.specs.Limits.{circles_ok_lem, max_columns, share_ok_lem}
+use Rattle.limits.proofs.Outcomes.{refused_first}
+use Rattle.limits.specs.Refusal.{said_by}
+use Rattle.limits.specs.declared.refusal.Refusal.{Refusal}
 use Rattle.limits.specs.Said.{Said, number_faults, said}
 use Rattle.limits.specs.declared.Asked.{Asked}
 use Rattle.measure.proofs.OnCircle.{empty_on, round_rows}
@@ -43,11 +46,11 @@ rooms_of n room work a b = or_none (ltb room (room_of n)) (ltb work (6 * n)) (le
 abbrev asks_short : ℕ → ℕ → Bool → Bool → Asked
 asks_short long c unfit short = record { length = long; columns = c; unfit = unfit; short = short; unlike = false; none = false }
 
--- its number, by the rows and the rooms
-pub writer_says : (long c room work : ℕ) (unfit : Bool) {n v : ℕ} {short : Bool} → n ≡ long / c → short ≡ short_of n room work
-    → v ≡ (said (number_faults (asks_short long c unfit short))).0 → v ≡ (said (number_faults (writer_asks long c unfit room work))).0
+-- what is said of it, by the rows and the rooms
+pub writer_says : (long c room work : ℕ) (unfit : Bool) {n : ℕ} {v : Said} {short : Bool} → n ≡ long / c → short ≡ short_of n room work
+    → v ≡ said (number_faults (asks_short long c unfit short)) → v ≡ said (number_faults (writer_asks long c unfit room work))
 writer_says long c room work unfit e f g =
-    g ∙ ap (λ (s : Bool). (said (number_faults (asks_short long c unfit s))).0) (f ∙ ap (λ (k : ℕ). short_of k room work) e)
+    g ∙ ap (λ (s : Bool). said (number_faults (asks_short long c unfit s))) (f ∙ ap (λ (k : ℕ). short_of k room work) e)
 
 -- ---- the number, by what decides it
 module _ (T : List ℕ) (c o : ℕ) (unfit : Bool) (room work : ℕ) where
@@ -66,6 +69,15 @@ module _ (T : List ℕ) (c o : ℕ) (unfit : Bool) (room work : ℕ) where
   -- they do not, and the circles decide
   pub by-circles : {v k : ℕ} → v ≡ (said first).0 → v ≡ 0 → k ≡ (said second).0 → k ≡ (said (build_faults T c o unfit room work)).0
   by-circles e z h = h ∙ ap number_of (says-next first second (numbers-numbered (writer_asks (length T) c unfit room work)) (sym e ∙ z))
+
+  -- ---- the same, return by return of the code
+  -- what numbers refuse is what the call says
+  pub numbers-say : (r : Refusal) → said_by r ≡ said first → said_by r ≡ said (build_faults T c o unfit room work)
+  numbers-say r e = refused_first r first second e
+
+  -- and past them, what the circles say
+  pub circles-last : {s : Said} → (0, 0, 0) ≡ said first → s ≡ said second → s ≡ said (build_faults T c o unfit room work)
+  circles-last z h = h ∙ says-next first second (numbers-numbered (writer_asks (length T) c unfit room work)) (sym (ap number_of z))
 
   -- where they do not, there are few columns
   pub few-columns : {v : ℕ} → v ≡ (said first).0 → v ≡ 0 → c ≤ max_columns

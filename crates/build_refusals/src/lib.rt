@@ -4,9 +4,10 @@
 ghost use Rattle.build_refusals.specs.Numbers.{build_faults, short_of, writer_asks};
 ghost use Rattle.limits.specs.Said.{number_faults, said};
 ghost use Rattle.std.specs.Prelude.{length, ◌≡◌};
+ghost use Rattle.limits.specs.Refusal.{outcome};
 
-use limits::{Asked, is_short, number_of, rows_in};
-use refusals::circle_number;
+use limits::{Asked, Refusal, is_short, rows_in, test_numbers};
+use refusals::test_circles;
 use words::places::HEADER;
 
 // The room or the workspace is too short for n rows.
@@ -19,13 +20,18 @@ fn too_short(n: usize, room: usize, work: usize) -> bool
     is_short(room - HEADER, 12, n) | is_short(work, 6, n)
 }
 
-// What numbers refuse of a call that writes an index over a table of this length and c columns, or 0. `room` and `work` are the lengths of what is
-// lent.
-pub fn writer_number(length: usize, c: usize, unfit: bool, room: usize, work: usize) -> u32
-    ensures { result ≡ (said (number_faults (writer_asks length c unfit room work))).0 }
+// What numbers refuse of a call that writes an index over a table of this length and c columns. `room` and `work` are the lengths of what is lent.
+pub fn test_writer(
+    length: usize,
+    c: usize,
+    unfit: bool,
+    room: usize,
+    work: usize,
+) -> Result<(), Refusal>
+    ensures { outcome result ≡ said (number_faults (writer_asks length c unfit room work)) }
 {
     let n = rows_in(length, c);
-    number_of(Asked {
+    test_numbers(Asked {
         length,
         columns: c,
         unfit,
@@ -35,20 +41,17 @@ pub fn writer_number(length: usize, c: usize, unfit: bool, room: usize, work: us
     })
 }
 
-// Why a build is refused, or 0: what numbers refuse, and then 19. `unfit` is whether the parameters were refused.
-pub fn build_number(
+// Why a build is refused, if it is: what numbers refuse, and then the circles. `unfit` is whether the parameters were refused.
+pub fn test_build(
     table: &[u16],
     c: usize,
     circles: u32,
     unfit: bool,
     room: usize,
     work: usize,
-) -> u32
-    ensures { result ≡ (said (build_faults table.now c circles unfit room work)).0 }
+) -> Result<(), Refusal>
+    ensures { outcome result ≡ said (build_faults table.now c circles unfit room work) }
 {
-    let number = writer_number(table.len(), c, unfit, room, work);
-    if number != 0 {
-        return number;
-    }
-    circle_number(table, c, circles, &table[..0])
+    test_writer(table.len(), c, unfit, room, work)?;
+    test_circles(table, c, circles, &table[..0])
 }

@@ -3,31 +3,29 @@ use Prim.Native.Nat.{ℕ}
 use Rattle.card_refusals.proofs.Refusals.{Clear, clear}
 use Rattle.card_refusals.specs.Tests.{CardTested, read_total}
 use Rattle.card.specs.Calls.{Reads, read_words}
-use borrow.Author.Tests.{eq-eqb, ne_eqb}
+use Rattle.limits.proofs.Outcomes.{said_by-some}
+use Rattle.limits.specs.Refusal.{said_by}
+use Rattle.limits.specs.declared.refusal.Refusal.{Refusal}
+use borrow.Author.Tests.{ne_eqb}
 use lib.Dec.{eqb}
 use lib.ListN.{drop, length}
-use mathlib.Core.Bool.{Bool, cond, false, true}
+use mathlib.Core.Bool.{false}
 use mathlib.Core.List.{List, ◌++◌}
-use mathlib.Core.Path.{◌∙◌, ◌≡◌, ap, sym}
+use mathlib.Core.Path.{◌≡◌, sym}
 
--- the tests gave number, place and words
-module _ {T : List ℕ} {c : ℕ} {i : List ℕ} {number place words : ℕ} (before : List ℕ) (S : CardTested T c i (length before) number place words) where
-  -- a refusal ends it: the room as it was
-  pub refused : (number ≡ 0 → ⊥) → Reads T c i before before number place words
-  refused h =
-      let f : eqb number 0 ≡ false = ne_eqb number 0 h in
-      record { said = S.said; placed = S.placed; counted = S.counted; lent = rw f }
+-- the tests refused the call: the room is as it was
+pub refused : {T : List ℕ} {c : ℕ} {i : List ℕ} (before : List ℕ) (r : Refusal) → CardTested T c i (length before) (said_by r).0 (said_by r).1 0
+    → Reads T c i before before (said_by r).0 (said_by r).1 0
+refused before r S =
+    let some : eqb (said_by r).0 0 ≡ false = ne_eqb (said_by r).0 0 (said_by-some r) in
+    record { said = S.said; placed = S.placed; counted = S.counted; lent = rw some }
 
-  -- with no refusal nothing is wrong
-  pub passed : number ≡ 0 → Clear T c i (length before)
-  passed z = clear T c i (length before) (sym S.said ∙ z)
-
-  -- the words are counted
-  pub counts : number ≡ 0 → words ≡ read_total i
-  counts z = S.counted ∙ ap (λ (b : Bool). cond b (read_total i) 0) (eq-eqb number 0 z)
+-- the tests refused nothing, and counted the words
+module _ {T : List ℕ} {c : ℕ} {i : List ℕ} {words : ℕ} (before : List ℕ) (S : CardTested T c i (length before) 0 0 words) where
+  -- nothing is wrong
+  pub passed : Clear T c i (length before)
+  passed = clear T c i (length before) (sym S.said)
 
   -- and the index is put into the room
-  pub taken : {after : List ℕ} → number ≡ 0 → after ≡ read_words T c i ++ drop (read_total i) before → Reads T c i before after number place words
-  taken {after} z q =
-      let f : eqb number 0 ≡ true = eq-eqb number 0 z in
-      record { said = S.said; placed = S.placed; counted = S.counted; lent = rw f q }
+  pub taken : {after : List ℕ} → after ≡ read_words T c i ++ drop (read_total i) before → Reads T c i before after 0 0 words
+  taken q = record { said = S.said; placed = S.placed; counted = S.counted; lent = q }

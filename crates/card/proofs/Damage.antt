@@ -34,7 +34,7 @@ module _ (T : List ℕ) (c : ℕ) (fine : Sized (length T) c) where
         let q = found-said i (length before) _ (wrong-said i b whole inside wrong) in
         let e = r.said ∙ ap (λ (t : Said). t.0) q in
         let d = read_refused r (λ z. omega arith) in
-        (e, rw (r.placed ∙ ap (λ (t : Said). t.1) q) (lowest_le i (length i / 512) b wrong), d.0, d.1)
+        (e, rw (r.placed ∙ ap (λ (t : Said). t.1) q) (lowest_le i (length i / 512) b inside wrong).1, d.0, d.1)
 
     -- WRONG-NAMED: WHERE EVERY LOWER BLOCK IS GOOD, IT IS THE BLOCK NAMED
     pub wrong-named : ((a : ℕ) → a < b → block_good_lem i a ≡ true) → (room : ℕ) → said_read_lem T c i room ≡ (15, b, 0)

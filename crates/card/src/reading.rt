@@ -17,7 +17,7 @@ pub fn put_index(table: &[u16], c: usize, image: &[u8], words: usize, room: &mut
 {
     if card_word(image, 0) == 1 {
         widen_card(table, c, image, room);
-        return;
+    } else {
+        get_words(image, words, room);
     }
-    get_words(image, words, room);
 }

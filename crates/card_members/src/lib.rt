@@ -9,7 +9,6 @@ ghost use Rattle.tree.specs.Check.{nearest#};
 ghost use Rattle.words.specs.Words.{nodes#, circles#, n#, row#};
 
 use card_words::places::{card_circles, card_count, card_row, card_start};
-use numbers::smaller;
 use row_distances::row_distance;
 
 // The distance of row f from the row at position p. The card's circles are handed in, so that a loop over positions reads them once.
@@ -36,10 +35,8 @@ pub fn card_nearest(table: &[u16], c: usize, image: &[u8], k: usize) -> u32
     let f = card_row(image, start);
     let circles = card_circles(image);
     let mut near = card_apart(table, c, circles, image, f, second);
-    let mut p = second + 1;
-    while p < end {
-        near = smaller(near, card_apart(table, c, circles, image, f, p));
-        p += 1;
+    for p in second + 1..end {
+        near = near.min(card_apart(table, c, circles, image, f, p));
     }
     near
 }

@@ -12,6 +12,10 @@ use Rattle.laws.proofs.Every.{every_append}
 use Rattle.laws.specs.Every.{Every}
 use Rattle.limits.proofs.Faults.{Early, early_numbered, early_placeless, fault_early, fault-not, number_of, says_first, says-next, says_none}
 use Rattle.limits.proofs.Numbers.{Sized, numbers_early, numbers-numbered, passed, passed_none}
+use Rattle.limits.proofs.Outcomes.{refused_first, said_by-some}
+use Rattle.limits.specs.Refusal.{said_by}
+use Rattle.limits.specs.declared.refusal.Refusal.TheVariants.{Room}
+use Rattle.limits.specs.declared.refusal.Refusal.{Refusal}
 use Rattle.limits.specs.Said.{Said, fault, number_faults, said, tabled}
 use Rattle.limits.specs.declared.Asked.{Asked}
 use Rattle.measure.proofs.OnCircle.{empty_on}
@@ -25,15 +29,15 @@ use Rattle.words.specs.Words.{c#, circles#, n#}
 use borrow.Author.Tests.{eqb-false, eqb-true, le-ltb, lt-ltb, ltb-false, ne_eqb}
 use lib.Dec.{eqb, ltb}
 use lib.ListN.{length}
-use mathlib.Core.Bool.{Bool, cond, false, true}
+use mathlib.Core.Bool.{Bool, false, true}
 use mathlib.Core.List.{List, [], ◌++◌}
 use mathlib.Core.Path.{◌∙◌, ◌≡◌, ap, refl, sym}
 use native.Mathlib.Omega.{arith}
 
 -- ---- the image
 -- where nothing is wrong with it its header and blocks are right
-pub image-right : (i : List ℕ) {found at count : ℕ} → Sound i (image_faults i) found at count → found ≡ 0 → Carded i
-image-right i S z = carded i (sym S.found ∙ z)
+pub image-right : (i : List ℕ) {count : ℕ} → Sound i (image_faults i) 0 0 count → Carded i
+image-right i S = carded i (sym S.found)
 
 -- ---- the card
 module _ (T : List ℕ) (c : ℕ) (i : List ℕ) where
@@ -53,12 +57,12 @@ module _ (T : List ℕ) (c : ℕ) (i : List ℕ) where
   card-early = every_append Early fit off fits-early (circle-early c (circles# (card_words_lem i)) T [])
 
   -- header or shape refuses it
-  pub by-fit : {k : ℕ} → k ≡ (said fit).0 → (k ≡ 0 → ⊥) → k ≡ (said (card_faults T c i)).0
-  by-fit e h = e ∙ ap number_of (says_first fit off (λ z. h (e ∙ z)))
+  pub by-fit : (r : Refusal) → said_by r ≡ said fit → said_by r ≡ said (card_faults T c i)
+  by-fit r e = refused_first r fit off e
 
   -- they do not, and the circles decide
-  pub by-off : {k o : ℕ} → 0 ≡ (said fit).0 → o ≡ circles# (card_words_lem i) → k ≡ (said (circle_faults c o T [])).0 → k ≡ (said (card_faults T c i)).0
-  by-off z e h = h ∙ ap (λ (o : ℕ). (said (circle_faults c o T [])).0) e ∙ ap number_of (says-next fit off (early_numbered fit fits-early) (sym z))
+  pub by-off : {o : ℕ} {s : Said} → (said fit).0 ≡ 0 → o ≡ circles# (card_words_lem i) → s ≡ said (circle_faults c o T []) → s ≡ said (card_faults T c i)
+  by-off z e h = h ∙ ap (λ (o : ℕ). said (circle_faults c o T [])) e ∙ says-next fit off (early_numbered fit fits-early) z
 
 -- ---- all of them
 -- WITH 0 NOTHING IS WRONG: the table, the image, the card's header and shape, the table's circular columns, and the room of `room` words
@@ -97,72 +101,57 @@ module _ (T : List ℕ) (c : ℕ) (i : List ℕ) (room : ℕ) where
   unfolding said_read_lem
   in_turn_lem = refl
 
-  -- a refusal counts no word
-  none-counted : {number : ℕ} → (number ≡ 0 → ⊥) → 0 ≡ cond (eqb number 0) (read_total i) 0
-  none-counted {number} h = rw (ne_eqb number 0 h)
-
-  -- a refusal that is known with its place
-  pub refuses : {s : Said} {number place words : ℕ} → s ≡ says → (s.0 ≡ 0 → ⊥) → number ≡ s.0 → place ≡ s.1 → words ≡ 0
-      → CardTested T c i room number place words
-  refuses e h en ep ew =
-      record {
-        said = en ∙ ap (λ (t : Said). t.0) e;
-        placed = ep ∙ ap (λ (t : Said). t.1) e;
-        counted = ew ∙ none-counted (λ z. h (sym en ∙ z));
-      }
+  -- a refusal whose number and place are said ends it
+  refuses : (r : Refusal) → (said_by r).0 ≡ says.0 → (said_by r).1 ≡ says.1 → CardTested T c i room (said_by r).0 (said_by r).1 0
+  refuses r e p = record { said = e; placed = p; counted = rw (ne_eqb (said_by r).0 0 (said_by-some r)) }
 
   -- ---- the returns in the code's order
   -- the table is refused
-  pub by-table : {v number place words : ℕ} → v ≡ (said first).0 → (v ≡ 0 → ⊥) → number ≡ v → place ≡ 0 → words ≡ 0
-      → CardTested T c i room number place words
-  by-table e h en ep ew =
-      let n : (said first).0 ≡ 0 → ⊥ = λ z. h (e ∙ z) in
-      refuses (says_first first next n ∙ in_turn_lem) n (en ∙ e) (ep ∙ sym (early_placeless first (numbers_early asks)).0) ew
+  pub by-table : (r : Refusal) → said_by r ≡ said first → CardTested T c i room (said_by r).0 (said_by r).1 0
+  by-table r e =
+      let all = refused_first r first next e ∙ in_turn_lem in
+      refuses r (ap (λ (t : Said). t.0) all) (ap (λ (t : Said). t.1) all)
 
-  module _ {v : ℕ} (e : v ≡ (said first).0) (z : v ≡ 0) where
+  module _ (z : (said first).0 ≡ 0) where
     -- past the table the others decide
     after_table : said next ≡ says
-    after_table = says-next first next (numbers-numbered asks) (sym e ∙ z) ∙ in_turn_lem
+    after_table = says-next first next (numbers-numbered asks) z ∙ in_turn_lem
 
-    module _ {found at count : ℕ} (S : Sound i (image_faults i) found at count) where
-      -- the image is wrong
-      pub by-image : {number place words : ℕ} → (found ≡ 0 → ⊥) → number ≡ found → place ≡ at → words ≡ 0
-          → CardTested T c i room number place words
-      by-image h en ep ew =
-          let n : (said (image_faults i)).0 ≡ 0 → ⊥ = λ z. h (S.found ∙ z) in
-          refuses (says_first (image_faults i) last n ∙ after_table) n (en ∙ S.found) (ep ∙ S.placed) ew
+    -- the image is wrong
+    pub by-image : (r : Refusal) → Sound i (image_faults i) (said_by r).0 (said_by r).1 0 → CardTested T c i room (said_by r).0 (said_by r).1 0
+    by-image r S =
+        let all = says_first (image_faults i) last (λ e. said_by-some r (S.found ∙ e)) ∙ after_table in
+        refuses r (S.found ∙ ap (λ (t : Said). t.0) all) (S.placed ∙ ap (λ (t : Said). t.1) all)
 
-      module _ (none : found ≡ 0) where
-        -- past the image the card and the room decide
-        after-image : said last ≡ says
-        after-image = says-next (image_faults i) last (faults_numbered i) (sym S.found ∙ none) ∙ after_table
+    module _ {count : ℕ} (S : Sound i (image_faults i) 0 0 count) where
+      -- past the image the card and the room decide
+      after-image : said last ≡ says
+      after-image = says-next (image_faults i) last (faults_numbered i) (sym S.found) ∙ after_table
 
-        module _ {k : ℕ} (f : k ≡ (said (card_faults T c i)).0) where
-          -- the card is refused
-          pub by-card : {number place words : ℕ} → (k ≡ 0 → ⊥) → number ≡ k → place ≡ 0 → words ≡ 0 → CardTested T c i room number place words
-          by-card h en ep ew =
-              let n : (said (card_faults T c i)).0 ≡ 0 → ⊥ = λ z. h (f ∙ z) in
-              refuses (says_first (card_faults T c i) (fault 5 (ltb room (read_total i))) n ∙ after-image) n (en ∙ f)
-              (ep ∙ sym (early_placeless (card_faults T c i) (card-early T c i)).0) ew
+      -- the card is refused
+      pub by-card : (r : Refusal) → said_by r ≡ said (card_faults T c i) → CardTested T c i room (said_by r).0 (said_by r).1 0
+      by-card r e =
+          let all = refused_first r (card_faults T c i) (fault 5 (ltb room (read_total i))) e ∙ after-image in
+          refuses r (ap (λ (t : Said). t.0) all) (ap (λ (t : Said). t.1) all)
 
-          module _ (g : k ≡ 0) where
-            -- past the card the room decides
-            by-room : {b : Bool} → ltb room (read_total i) ≡ b → said (fault 5 b) ≡ says
-            by-room q =
-                ap (λ b. said (fault 5 b)) (sym q)
-                ∙ says-next (card_faults T c i) (fault 5 (ltb room (read_total i))) (early_numbered (card_faults T c i) (card-early T c i)) (sym f ∙ g)
-                ∙ after-image
+      module _ (k : (said (card_faults T c i)).0 ≡ 0) where
+        -- past the card the room decides
+        by-room : {b : Bool} → ltb room (read_total i) ≡ b → said (fault 5 b) ≡ says
+        by-room q =
+            ap (λ b. said (fault 5 b)) (sym q)
+            ∙ says-next (card_faults T c i) (fault 5 (ltb room (read_total i))) (early_numbered (card_faults T c i) (card-early T c i)) k ∙ after-image
 
-            -- it is too short
-            pub five : {number place words t : ℕ} → t ≡ read_total i → room < t → number ≡ 5 → place ≡ 0 → words ≡ 0
-                → CardTested T c i room number place words
-            five et h en ep ew = refuses (by-room (lt-ltb room (read_total i) (rw (← et) h))) (λ q. omega arith) en ep ew
+        -- it is too short
+        pub five : {t : ℕ} → t ≡ read_total i → room < t → CardTested T c i room 5 0 0
+        five et h =
+            let all = by-room (lt-ltb room (read_total i) (rw (← et) h)) in
+            refuses Room (ap (λ (t : Said). t.0) all) (ap (λ (t : Said). t.1) all)
 
-            -- nothing is wrong
-            pub none-refused : {t : ℕ} → t ≡ read_total i → t ≤ room → CardTested T c i room 0 0 t
-            none-refused et h =
-                let e = by-room (le-ltb room (read_total i) (rw (← et) h)) in
-                record { said = ap (λ (t : Said). t.0) e; placed = ap (λ (t : Said). t.1) e; counted = et }
+        -- nothing is wrong
+        pub none-refused : {t : ℕ} → t ≡ read_total i → t ≤ room → CardTested T c i room 0 0 t
+        none-refused et h =
+            let all = by-room (le-ltb room (read_total i) (rw (← et) h)) in
+            record { said = ap (λ (t : Said). t.0) all; placed = ap (λ (t : Said). t.1) all; counted = et }
 
   -- a right table says nothing
   right : Sized (length T) c → 0 ≡ (said first).0
@@ -191,15 +180,15 @@ module _ (T : List ℕ) (c : ℕ) (i : List ℕ) (room : ℕ) where
   pub clear_none : Clear T c i room → (0, 0, 0) ≡ says
   clear_none C =
       let o : ℕ = circles# (card_words_lem i) in
-      let k = by-off T c i (by_shape true (card_words_lem i) (rows_of T c) c refl C.rows C.columns (sym C.shape)) refl
-      (circle-none c o T [] C.circled (empty_on c o)) in
+      let k = circle-none c o T [] C.circled (empty_on c o)
+      ∙ ap number_of (by-off T c i (sym (by_shape true (card_words_lem i) (rows_of T c) c refl C.rows C.columns (sym C.shape))) refl refl) in
       ap (λ b. said (fault 5 b)) (sym (le-ltb room (read_total i) C.space))
       ∙ says-next (card_faults T c i) (fault 5 (ltb room (read_total i))) (early_numbered (card_faults T c i) (card-early T c i)) (sym k)
-      ∙ says-next (image_faults i) last (faults_numbered i) C.image ∙ after_table (right C.table) refl
+      ∙ says-next (image_faults i) last (faults_numbered i) C.image ∙ after_table (sym (right C.table))
 
   -- over a right table a fault of the image is what is said
   pub said-image : Sized (length T) c → ((said (image_faults i)).0 ≡ 0 → ⊥) → says ≡ said (image_faults i)
-  said-image S h = sym (says_first (image_faults i) last h ∙ after_table (right S) refl)
+  said-image S h = sym (says_first (image_faults i) last h ∙ after_table (sym (right S)))
 
   -- the card's index is in shape and the table's
   pub clear_tabled : Clear T c i room → Tabled T c i
@@ -228,7 +217,7 @@ module _ (T : List ℕ) (c : ℕ) (i : List ℕ) (room : ℕ) where
       -- by whether the table is
       by_first : (b : Bool) → eqb (said first).0 0 ≡ b → says.1 ≡ 0
       by_first true q =
-          by_next (after_table refl (eqb-true (said first).0 0 q)) (eqb (said (image_faults i)).0 0) refl
+          by_next (after_table (eqb-true (said first).0 0 q)) (eqb (said (image_faults i)).0 0) refl
       by_first false q =
           ap (λ (t : Said). t.1) (sym (says_first first next (eqb-false (said first).0 0 q) ∙ in_turn_lem))
           ∙ (early_placeless first (numbers_early asks)).0

@@ -1,7 +1,7 @@
 // The shape test of an index on a card: one pass over the nodes, one over the positions, in the image's bytes and with no workspace.
 // In the bytes, since reading is lent no workspace and a refusal changes no lent memory. A function of the kit can't take words from two kinds of
 // slices, so that the functions of shape_test stand here once more; both cite the same laws, which are over a list of words.
-ghost use Rattle.std.specs.Prelude.{◌*◌, ◌+◌, ◌<◌, ◌≤◌, ◌≡◌};
+ghost use Rattle.std.specs.Prelude.{◌*◌, ◌+◌, ◌<◌, ◌≤◌, ◌≡◌, max};
 ghost use Rattle.card_shape.specs.Sweep.{GreatestTo, InBlock};
 ghost use Rattle.card_words.specs.Cards.{Carded, Held, card_words_lem};
 ghost use Rattle.laws.specs.Lists.{all, range};
@@ -16,7 +16,6 @@ use card_words::places::{
     card_radius, card_rows, card_start, held_word,
 };
 use limits::Params;
-use numbers::larger;
 
 // The runs of m nodes from number j on tile the positions s up to e, in order.
 fn tiles(image: &[u8], j: usize, m: usize, s: usize, e: usize) -> bool
@@ -25,13 +24,11 @@ fn tiles(image: &[u8], j: usize, m: usize, s: usize, e: usize) -> bool
     ensures { result ≡ tile (card_words_lem image.now) j m s e }
 {
     let mut at = s;
-    let mut i = 0;
-    while i < m {
+    for i in 0..m {
         if card_start(image, j + i) != at {
             return false;
         }
         at += card_count(image, j + i);
-        i += 1;
     }
     at == e
 }
@@ -42,10 +39,7 @@ fn has_room(image: &[u8], k: usize, next: usize) -> bool
     requires k_bound { (k < nodes# (card_words_lem image.now)) × (next ≤ max_centres * k + 1) }
     ensures { result ≡ roomy (card_words_lem image.now) k next }
 {
-    if card_child(image, k) == 0 {
-        return true;
-    }
-    next + card_centres(image) <= card_nodes(image)
+    card_child(image, k) == 0 || next + card_centres(image) <= card_nodes(image)
 }
 
 // Node k fits, at the given depth, if `next` is the number that its first child must have.
@@ -60,25 +54,16 @@ fn node_fits(image: &[u8], k: usize, next: usize, depth: usize) -> bool
     let start = card_start(image, k);
     let count = card_count(image, k);
     let child = card_child(image, k);
-    if count < 1 {
+    if count < 1
+        || Params::MOST_DISTANCE < card_radius(image, k)
+        || Params::MOST_DISTANCE < card_inner(image, k)
+    {
         return false;
     }
-    if Params::MOST_DISTANCE < card_radius(image, k) {
-        return false;
-    }
-    if Params::MOST_DISTANCE < card_inner(image, k) {
-        return false;
-    }
-    if count <= card_leaf_size(image) {
+    if count <= card_leaf_size(image) || Params::MOST_DEPTH <= depth {
         return child == 0;
     }
-    if Params::MOST_DEPTH <= depth {
-        return child == 0;
-    }
-    if child != next {
-        return false;
-    }
-    tiles(image, child, card_centres(image), start, start + count)
+    child == next && tiles(image, child, card_centres(image), start, start + count)
 }
 
 // How many children node k has.
@@ -88,9 +73,10 @@ fn brood_of(image: &[u8], k: usize) -> usize
     ensures { result ≡ brood (card_words_lem image.now) k }
 {
     if card_child(image, k) == 0 {
-        return 0;
+        0
+    } else {
+        card_centres(image)
     }
-    card_centres(image)
 }
 
 // The root's run is everything.
@@ -99,10 +85,7 @@ fn root_fits(image: &[u8]) -> bool
     requires bound { 1 ≤ nodes# (card_words_lem image.now) }
     ensures { result ≡ root_fits_lem (card_words_lem image.now) }
 {
-    if card_start(image, 0) != 0 {
-        return false;
-    }
-    card_count(image, 0) == card_rows(image)
+    card_start(image, 0) == 0 && card_count(image, 0) == card_rows(image)
 }
 
 // The nodes in number order: `next` is the number that the next first child must have, `edge` where the next level starts.
@@ -120,17 +103,12 @@ fn tree_fits(image: &[u8]) -> bool
     let mut next: usize = 1;
     let mut edge: usize = 1;
     let mut depth: usize = 0;
-    let mut k: usize = 0;
-    while k < total {
-        if next <= k {
-            return false;
-        }
-        if !node_fits(image, k, next, depth) {
+    for k in 0..total {
+        if next <= k || !node_fits(image, k, next, depth) {
             return false;
         }
         next += brood_of(image, k);
-        k += 1;
-        if k == edge {
+        if k + 1 == edge {
             edge = next;
             depth += 1;
         }
@@ -145,13 +123,25 @@ struct Greatest {
     far: u32,
 }
 
+impl Greatest {
+    // With one position more, of this row number and distance.
+    fn with(self, row: u32, far: u32) -> Greatest
+        ensures { (result.row ≡ max self.row row) × (result.far ≡ max self.far far) }
+    {
+        Greatest {
+            row: self.row.max(row),
+            far: self.far.max(far),
+        }
+    }
+}
+
 // The position after those from p on, of n, whose words stand in block b, where position p's first does.
 fn block_stop(base: usize, b: usize, p: usize, n: usize) -> usize
     requires { (127 * b ≤ base + 2 * p) × (base + 2 * p < 127 * b + 127) × (p ≤ n) × (base + 2 * n < 4294967296) }
     ensures { (p ≤ result) × (result ≤ n) × (base + 2 * result ≤ 127 * b + 127) }
 {
     let stop = p + (HELD * b + HELD - base - 2 * p) / 2;
-    if stop < n { stop } else { n }
+    stop.min(n)
 }
 
 // The greatest of the positions before `end`, given those of the positions before p: from p on they stand in block b, so that a word's place
@@ -170,15 +160,13 @@ fn block_greatest(
     ensures { GreatestTo (card_words_lem image.now) end result.row result.far }
 {
     let from = 4 * base + 4 * b;
-    let mut row = found.row;
-    let mut far = found.far;
-    let mut q = p;
-    while q < end {
-        row = larger(row, get_word(image, from + 8 * q));
-        far = larger(far, get_word(image, from + 8 * q + 4));
-        q += 1;
+    let mut found = found;
+    for q in p..end {
+        let row = get_word(image, from + 8 * q);
+        let far = get_word(image, from + 8 * q + 4);
+        found = found.with(row, far);
     }
-    Greatest { row, far }
+    found
 }
 
 // The positions, block by block: the first by itself, since its two words may stand in two blocks, and then those that stand in one.
@@ -192,24 +180,19 @@ fn positions_fit(image: &[u8]) -> bool
         return true;
     }
     let base = card_pair_at(image, 0);
-    let mut row: u32 = 0;
-    let mut far: u32 = 0;
+    let mut found = Greatest { row: 0, far: 0 };
     let mut p = 0;
     while p < n {
-        row = larger(row, held_word(image, base + 2 * p));
-        far = larger(far, held_word(image, base + 2 * p + 1));
+        let row = held_word(image, base + 2 * p);
+        let far = held_word(image, base + 2 * p + 1);
+        found = found.with(row, far);
         p += 1;
         let b = (base + 2 * p) / HELD;
         let stop = block_stop(base, b, p, n);
-        let found = block_greatest(image, b, base, p, stop, Greatest { row, far });
-        row = found.row;
-        far = found.far;
+        found = block_greatest(image, b, base, p, stop, found);
         p = stop;
     }
-    if n as u32 <= row {
-        return false;
-    }
-    far <= Params::MOST_DISTANCE
+    found.row < n as u32 && found.far <= Params::MOST_DISTANCE
 }
 
 // The shape of the index on a card is right.
@@ -217,8 +200,5 @@ pub fn card_shape_ok(image: &[u8]) -> bool
     requires { Carded image.now }
     ensures { result ≡ shape_ok_lem (card_words_lem image.now) }
 {
-    if !tree_fits(image) {
-        return false;
-    }
-    positions_fit(image)
+    tree_fits(image) && positions_fit(image)
 }

@@ -1,5 +1,5 @@
 -- The widened header, as it is put into the room. Assumes nothing.
-use Prim.Native.Nat.{◌+◌, ◌<◌, ℕ}
+use Prim.Native.Nat.{◌<◌, ℕ}
 use Rattle.blocks.specs.Blocks.{image_word_lem, image_words}
 use Rattle.card_top.specs.Header.{top_of}
 use Rattle.card_words.proofs.Cards.{card-at}

@@ -24,17 +24,13 @@ fn put_nodes(table: &[u16], c: usize, image: &[u8], part: &mut [u32])
     ensures { part.new ≡ with_nodes (between table.now c (circles# (card_words_lem image.now)))
         (card_words_lem image.now) part.old }
 {
-    let total = card_nodes(image);
-    let mut k = 0;
-    while k < total {
+    for k in 0..card_nodes(image) {
         let start = card_start(image, k) as u32;
         let count = card_count(image, k) as u32;
         let child = card_child(image, k) as u32;
         let radius = card_radius(image, k);
         let near = card_nearest(table, c, image, k);
-        let at = WIDE * k;
-        put_node(&mut part[at..], start, count, child, radius, near);
-        k += 1;
+        put_node(&mut part[WIDE * k..], start, count, child, radius, near);
     }
 }
 
@@ -44,16 +40,11 @@ fn put_pairs(image: &[u8], part: &mut [u32])
     requires image_in_bounds { 2 * n# (card_words_lem image.now) ≤ length part.old }
     ensures { part.new ≡ with_pairs (card_words_lem image.now) part.old }
 {
-    let n = card_rows(image);
     let base = card_pair_at(image, 0);
-    let mut p = 0;
-    while p < n {
+    for p in 0..card_rows(image) {
         let at = 2 * p;
-        let row = held_word(image, base + at);
-        let stored = held_word(image, base + at + 1);
-        part[at] = row;
-        part[at + 1] = stored;
-        p += 1;
+        part[at] = held_word(image, base + at);
+        part[at + 1] = held_word(image, base + at + 1);
     }
 }
 
@@ -65,8 +56,7 @@ pub fn widen_card(table: &[u16], c: usize, image: &[u8], room: &mut [u32])
         (card_words_lem image.now) room.old }
 {
     put_top(image, room);
-    let first = HEADER;
-    put_nodes(table, c, image, &mut room[first..]);
+    put_nodes(table, c, image, &mut room[HEADER..]);
     let at = HEADER + WIDE * card_nodes(image);
     put_pairs(image, &mut room[at..]);
 }

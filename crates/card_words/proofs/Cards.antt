@@ -1,5 +1,5 @@
 -- The index words that a card holds: each is the image's, their header is the image's, and they are whole. Assumes nothing.
-use Prim.Native.Nat.{◌%◌, ◌+◌, ◌/◌, ◌<◌, ◌≤◌, suc, zero, ℕ}
+use Prim.Native.Nat.{◌%◌, ◌/◌, ◌<◌, ◌≤◌, suc, zero, ℕ}
 use Rattle.blocks.proofs.Places.{blocks_hold, image-length}
 use Rattle.blocks.specs.Blocks.{blocks_for_lem, image_word_lem, image_words}
 use Rattle.blocks.specs.Lowest.{wrong_blocks}

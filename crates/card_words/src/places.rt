@@ -132,10 +132,11 @@ pub fn card_inner(image: &[u8], k: usize) -> u32
     requires k_bound { k < nodes# (card_words_lem image.now) }
     ensures { result ≡ inner# (card_words_lem image.now) k }
 {
-    if card_word(image, 0) != 2 {
-        return 0;
+    if card_word(image, 0) == 2 {
+        held_word(image, card_node_at(image, k) + 4)
+    } else {
+        0
     }
-    held_word(image, card_node_at(image, k) + 4)
 }
 
 // Which index word position p's first is.

@@ -1,4 +1,4 @@
-// The distance of two rows as far as a ceiling: 02, R-8.
+// The distance of two rows as far as a ceiling.
 #![tactic(auto)]
 
 ghost use Rattle.std.specs.Prelude.{◌*◌, ◌+◌, ◌<◌, ◌≤◌, min, length, ◌≡◌};
@@ -7,14 +7,13 @@ ghost use Rattle.measure.specs.Distance.{capped, l1};
 ghost use Rattle.measure.specs.Table.{from};
 
 use limits::Params;
-use numbers::smaller;
 use row_distances::{columns, many, plain, round_columns, rounded, row_of};
 
 // One more than a ceiling, which counts as the greatest distance where it is above that.
 fn one_over(ceiling: u32) -> u32
     ensures { result ≡ min ceiling max_distance + 1 }
 {
-    smaller(ceiling, Params::MOST_DISTANCE) + 1
+    ceiling.min(Params::MOST_DISTANCE) + 1
 }
 
 // The distance of two rows with circles as far as the ceiling. After eight columns it looks whether they are too far apart already, and then adds no
@@ -26,13 +25,13 @@ fn rounded_to(a: &[u16], b: &[u16], circles: u32, ceiling: u32) -> u32
     let over = one_over(ceiling);
     let c = a.len();
     if c <= 8 {
-        return smaller(rounded(a, b, circles), over);
+        return rounded(a, b, circles).min(over);
     }
     let eight = round_columns(a, b, circles, 0, 0, 8);
     if over <= eight {
         return over;
     }
-    smaller(round_columns(a, b, circles, eight, 8, c), over)
+    round_columns(a, b, circles, eight, 8, c).min(over)
 }
 
 // The same for two rows of more than eight columns that have no circle. It is called from two places, so that it stays apart and is not in the way
@@ -48,9 +47,9 @@ fn many_to(a: &[u16], b: &[u16], ceiling: u32) -> u32
         return over;
     }
     if c == 16 {
-        return smaller(columns(a, b, eight, 8, 16), over);
+        return columns(a, b, eight, 8, 16).min(over);
     }
-    smaller(columns(a, b, eight, 8, c), over)
+    columns(a, b, eight, 8, c).min(over)
 }
 
 // The distance of two rows where it is at most the ceiling, else one more than the ceiling; a ceiling above the greatest distance counts as that. With
@@ -68,9 +67,9 @@ pub fn distance_to(a: &[u16], b: &[u16], circles: u32, ceiling: u32) -> u32
         return many_to(a, b, ceiling);
     }
     if 6 < c {
-        return smaller(many(a, b), one_over(ceiling));
+        return many(a, b).min(one_over(ceiling));
     }
-    smaller(plain(a, b), one_over(ceiling))
+    plain(a, b).min(one_over(ceiling))
 }
 
 // The same for a query and row i.
@@ -94,7 +93,7 @@ pub fn query_distance_to(
         return many_to(query, b, ceiling);
     }
     if 6 < c {
-        return smaller(many(query, b), one_over(ceiling));
+        return many(query, b).min(one_over(ceiling));
     }
-    smaller(plain(query, b), one_over(ceiling))
+    plain(query, b).min(one_over(ceiling))
 }

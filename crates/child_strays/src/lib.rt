@@ -1,4 +1,4 @@
-// 13 of the full check, in one child of a node: the members that are closer to the centre of another child.
+// The full check, in one child of a node: the members that are closer to the centre of another child.
 #![tactic(auto)]
 
 ghost use Rattle.std.specs.Prelude.{◌+◌, ◌<◌, ltb, true, ◌≡◌};
@@ -29,10 +29,7 @@ fn is_closer(
         × (circles ≡ circles# index.now) }
     ensures { result ≡ ltb (between table.now c (circles# index.now) f (row# index.now p)) x }
 {
-    if f == g {
-        return false;
-    }
-    apart(table, c, circles, index, f, p) < x
+    f != g && apart(table, c, circles, index, f, p) < x
 }
 
 // The row at p, which is x away from row g, is closer to the first of one of the m nodes from number `child` on: fs are these.
@@ -53,19 +50,16 @@ fn closer_to_other(
     ensures { result ≡ any (closer_than (between table.now c (circles# index.now)) index.now p x)
         (range child (m# index.now)) }
 {
-    let m = centres(index);
-    let mut i = 0;
-    while i < m {
-        if is_closer(table, c, circles, index, fs[i], g, x, p) {
+    for f in &fs[..centres(index)] {
+        if is_closer(table, c, circles, index, *f, g, x, p) {
             return true;
         }
-        i += 1;
     }
     false
 }
 
 // In child a of inner node k, whose children's firsts are fs: the lowest position whose row is closer to another child's centre, or the end of k's
-// run.
+// run, which no position of it reaches: no `Option`, since the least of all children is taken.
 pub fn child_stray(
     table: &[u16],
     c: usize,
@@ -84,13 +78,11 @@ pub fn child_stray(
     let f = node_first(index, j);
     let end = node_end(index, j);
     let circles = words::places::circles(index);
-    let mut p = node_start(index, j);
-    while p < end {
+    for p in node_start(index, j)..end {
         let x = apart(table, c, circles, index, f, p);
         if closer_to_other(table, c, circles, index, child, fs, f, x, p) {
             return p;
         }
-        p += 1;
     }
     node_end(index, k)
 }

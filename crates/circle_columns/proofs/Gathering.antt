@@ -1,5 +1,5 @@
 -- The set of circles, gathered place by place. Assumes nothing.
-use Prim.Native.Nat.{◌%◌, ◌*◌, ◌+◌, ◌-◌, ◌<◌, ◌^◌, ◌≤◌, suc, ℕ}
+use Prim.Native.Nat.{◌%◌, ◌*◌, ◌+◌, ◌-◌, ◌<◌, ◌^◌, ◌≤◌, suc, zero, ℕ}
 use Rattle.circle_columns.proofs.Items.{one_more}
 use Rattle.circle_columns.specs.Circles.{Bits, counts, is_said_lem, says}
 use Rattle.laws.specs.Lists.{any, range}
@@ -9,7 +9,10 @@ use Rattle.rowset.proofs.Digits.{digit, on_digit, one_shifted, zero_digit}
 use borrow.Author.Tests.{eq-eqb, le-ltb, lt-ltb, ne_eqb}
 use lib.Bits.{bit_or}
 use lib.Dec.{eqb, ltb}
-use lib.ListN.{get_or}
+use Rattle.std.proofs.lemmas.List.Folds.{list_any_more}
+use Rattle.std.specs.List.{list_any}
+use lib.ListN.{get_or, length, take}
+use native.Mathlib.Numerals.{add-one}
 use mathlib.Core.Bool.{Bool, ◌&&◌, ◌||◌, and-false, cond, false, true}
 use mathlib.Core.List.{List}
 use mathlib.Core.Logic.{by_cases}
@@ -40,8 +43,23 @@ unfolding counts
 chosen-next chosen column j found f h =
     off_next (λ i. eqb column (suc (get_or chosen i 0))) j found (eqb (column - 1) (get_or chosen j 0)) f (one_more column (get_or chosen j 0) h)
 
-pub chosen_all : (chosen : List ℕ) (column j k : ℕ) (found : Bool) → found ≡ counts chosen j column → j ≤ k → k ≤ j → found ≡ counts chosen k column
-chosen_all chosen column j k found f h g = let e : j ≡ k = omega arith in f ∙ ap (λ (x : ℕ). counts chosen x column) e
+-- equal either way round
+pub eqb_turn : (a b : ℕ) → eqb a b ≡ eqb b a
+eqb_turn a b = go (ℕ_discrete a b)
+  where
+    go : Dec (a ≡ b) → eqb a b ≡ eqb b a
+    go (yes e) = eq-eqb a b e ∙ sym (eq-eqb b a (sym e))
+    go (no n) = ne_eqb a b n ∙ sym (ne_eqb b a (λ e. n (sym e)))
+
+-- the first k are looked through
+pub chosen-told : (chosen : List ℕ) (column : ℕ) → 1 ≤ column → (k : ℕ) → k ≤ length chosen
+    → list_any (λ y. eqb y (column - 1)) (take k chosen) ≡ counts chosen k column
+chosen-told chosen column h zero l = chosen_none chosen column
+chosen-told chosen column h (suc k) l =
+    rw add-one at
+    (list_any_more (λ y. eqb y (column - 1)) chosen k 0 (omega arith)
+    ∙ ap (λ (b : Bool). list_any (λ y. eqb y (column - 1)) (take k chosen) || b) (eqb_turn (get_or chosen k 0) (column - 1))
+    ∙ chosen-next chosen column k _ (chosen-told chosen column h k (omega arith)) h)
 
 -- ---- the set
 -- whether a number other than j is below j, or below the next

@@ -5,7 +5,7 @@ use Rattle.limits.specs.Limits.{circles_ok_lem}
 use Rattle.measure.specs.Distance.{is_circle_lem}
 use Rattle.rowset.proofs.Digits.{digit, low_word, same_digits}
 use borrow.Author.Tests.{eqb-false, eqb-true, le-ltb, lt-ltb}
-use lib.Dec.{eqb, ltb}
+use lib.Dec.{eqb}
 use lib.ListN.{get_or}
 use mathlib.Core.Bool.{Bool, false, true}
 use mathlib.Core.List.{List}

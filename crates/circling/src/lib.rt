@@ -2,37 +2,40 @@
 #![tactic(auto)]
 
 ghost use Rattle.std.specs.Prelude.{◌≤◌, ◌≡◌};
-ghost use Rattle.circle_columns.specs.Circles.{Bits, Circled, is_said_lem, item_trouble_lem, says, wrong_item_lem};
+ghost use Rattle.asking.specs.Pieces.{Stands};
+ghost use Rattle.circle_columns.specs.Circles.{Bits, Circled, is_said_lem, item_trouble_lem, says};
+ghost use Rattle.circle_columns.specs.Faults.{trouble_of};
+ghost use Rattle.circling.specs.Wrong.{end_of, set_of_lem, start_of, wrong_of};
 
-use asking::pieces::{bytes_of, piece_at};
-use circle_columns::{column_trouble, with_bit};
-use column_names::{MOST_COLUMNS, TOO_MANY, column_said};
+use asking::pieces::{Piece, bytes_of, piece_at};
+use circle_columns::{CircleFault, test_circle, with_bit};
+use column_names::{MOST_COLUMNS, NameFault, column_said};
 
 // A list has at most this many items.
 const MOST_ITEMS: usize = 16;
 
-// The set of circles; or what is wrong with an item, and where that stands in the list.
+// What is wrong with an item, and where that stands in the list.
 #[derive(Clone, Copy)]
-pub struct Circles {
-    pub wrong: u32,
-    pub start: usize,
-    pub end: usize,
-    pub set: u32,
+pub struct WrongItem {
+    pub fault: CircleFault,
+    pub item: Piece,
 }
 
 // Item i says column j, from 0 on.
 fn item_says(names: &[u8], c: usize, list: &[u8], j: usize, i: usize) -> bool
     ensures { result ≡ says names.now c list.now j i }
 {
-    let item = piece_at(list, b',', i);
-    if !item.there {
+    let Some(item) = piece_at(list, b',', i) else {
         return false;
+    };
+    match column_said(names, bytes_of(list, item), c) {
+        Ok(column) => column - 1 == j,
+        Err(fault) => match fault {
+            NameFault::NoColumn => false,
+            // As in the definition, it says the column behind the last that there can be.
+            NameFault::TwoColumns => j == MOST_COLUMNS,
+        },
     }
-    let column = column_said(names, bytes_of(list, item), c);
-    if column == 0 {
-        return false;
-    }
-    column - 1 == j
 }
 
 // One of the items says column j, from 0 on.
@@ -40,49 +43,30 @@ fn is_said(names: &[u8], c: usize, list: &[u8], j: usize) -> bool
     ensures { result ≡ is_said_lem names.now c list.now j }
 {
     let mut found = false;
-    let mut i = 0;
-    while i < MOST_ITEMS {
-        found = found | item_says(names, c, list, j, i);
-        i += 1;
+    for i in 0..MOST_ITEMS {
+        found |= item_says(names, c, list, j, i);
     }
     found
 }
 
-// What is wrong with item i, or 0.
-fn item_trouble(
+// Nothing is wrong with item i, which stands there, or what is.
+fn test_item(
     names: &[u8],
     c: usize,
     list: &[u8],
     chosen: [usize; MOST_COLUMNS],
     k: usize,
     i: usize,
-) -> u32
-    requires { k ≤ 16 }
-    ensures { result ≡ item_trouble_lem names.now c list.now chosen k i }
+    item: Piece,
+) -> Result<(), CircleFault>
+    requires few { k ≤ 16 }
+    requires there { Stands 44 list.now i item }
+    ensures { trouble_of result ≡ item_trouble_lem names.now c list.now chosen k i }
 {
-    let item = piece_at(list, b',', i);
-    if !item.there {
-        return 0;
-    }
     if MOST_ITEMS <= i {
-        return TOO_MANY;
+        return Err(CircleFault::TooMany);
     }
-    column_trouble(chosen, k, column_said(names, bytes_of(list, item), c))
-}
-
-// The first item with which something is wrong, or one more than there can be.
-fn wrong_item(names: &[u8], c: usize, list: &[u8], chosen: [usize; MOST_COLUMNS], k: usize) -> usize
-    requires { k ≤ 16 }
-    ensures { result ≡ wrong_item_lem names.now c list.now chosen k }
-{
-    let mut i = 0;
-    while i <= MOST_ITEMS {
-        if item_trouble(names, c, list, chosen, k, i) != 0 {
-            return i;
-        }
-        i += 1;
-    }
-    i
+    test_circle(chosen, k, column_said(names, bytes_of(list, item), c))
 }
 
 // The places whose columns an item says.
@@ -91,39 +75,30 @@ fn set_of(names: &[u8], c: usize, list: &[u8], chosen: [usize; MOST_COLUMNS], k:
     ensures { Bits names.now c list.now chosen k result }
 {
     let mut set = 0;
-    let mut j = 0;
-    while j < k {
+    for j in 0..k {
         set = with_bit(set, is_said(names, c, list, chosen[j]), j);
-        j += 1;
     }
     set
 }
 
-// The circles that a list names, by names or by numbers from 1 that commas part, among the k chosen columns of a text with c.
+// The circles that a list names, by names or by numbers from 1 that commas part, among the k chosen columns of a text with c. Or the first item that is
+// wrong.
 pub fn circles_of(
     names: &[u8],
     c: usize,
     list: &[u8],
     chosen: [usize; MOST_COLUMNS],
     k: usize,
-) -> Circles
+) -> Result<u32, WrongItem>
     requires { k ≤ 16 }
-    ensures { Circled names.now c list.now chosen k result.wrong result.start result.end result.set }
+    ensures { Circled names.now c list.now chosen k (wrong_of result) (start_of result) (end_of result) (set_of_lem result) }
 {
-    let first = wrong_item(names, c, list, chosen, k);
-    if MOST_ITEMS < first {
-        return Circles {
-            wrong: 0,
-            start: 0,
-            end: 0,
-            set: set_of(names, c, list, chosen, k),
-        };
+    for i in 0..MOST_ITEMS + 1 {
+        if let Some(item) = piece_at(list, b',', i) {
+            if let Err(fault) = test_item(names, c, list, chosen, k, i, item) {
+                return Err(WrongItem { fault, item });
+            }
+        }
     }
-    let item = piece_at(list, b',', first);
-    Circles {
-        wrong: item_trouble(names, c, list, chosen, k, first),
-        start: item.start,
-        end: item.end,
-        set: 0,
-    }
+    Ok(set_of(names, c, list, chosen, k))
 }

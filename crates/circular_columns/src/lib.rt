@@ -19,14 +19,9 @@ fn column_off(table: &[u16], c: usize, j: usize) -> bool
     requires { j < c }
     ensures { result ≡ column_off_lem table.now c (rows_of table.now c) j }
 {
-    let n = table.len() / c;
     let mut off = false;
-    let mut at = j;
-    let mut i = 0;
-    while i < n {
-        off = off | (3_600 <= table[at]);
-        at += c;
-        i += 1;
+    for i in 0..table.len() / c {
+        off |= 3_600 <= table[c * i + j];
     }
     off
 }
@@ -36,10 +31,7 @@ fn circle_off(table: &[u16], c: usize, circles: u32, j: usize) -> bool
     requires { (j < c) × (c ≤ max_columns) }
     ensures { result ≡ (is_circle_lem circles j && column_off_lem table.now c (rows_of table.now c) j) }
 {
-    if is_circle(circles, j) {
-        return column_off(table, c, j);
-    }
-    false
+    is_circle(circles, j) && column_off(table, c, j)
 }
 
 // A column that is a circle holds 3,600 or more. Where none is a circle there is nothing to look at.
@@ -51,10 +43,8 @@ pub fn off_circle(table: &[u16], c: usize, circles: u32) -> bool
         return false;
     }
     let mut off = false;
-    let mut j = 0;
-    while j < c {
-        off = off | circle_off(table, c, circles, j);
-        j += 1;
+    for j in 0..c {
+        off |= circle_off(table, c, circles, j);
     }
     off
 }

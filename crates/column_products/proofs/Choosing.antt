@@ -1,23 +1,23 @@
 -- A choice of columns, tested: which of them are none, and which products are too great. Assumes nothing.
-use Prim.Native.Nat.{◌*◌, ◌+◌, ◌-◌, ◌/◌, ◌<◌, ◌≤◌, suc, zero, ℕ}
+use Prim.Native.Nat.{◌*◌, ◌+◌, ◌/◌, ◌<◌, ◌≤◌, suc, zero, ℕ}
 use Rattle.column_products.proofs.Firsts.{first_below, first-here, first-none, first_on}
+use Rattle.std.specs.Prelude.{EachIndex, IsTrue, ◌↔◌}
 use Rattle.column_products.specs.Chosen.{Choice, Chooses, SmallRows, chosen_table, fitting, most, outside, over_in, over_row, times_factor}
 use Rattle.limits.specs.Limits.{columns_ok_lem, max_columns, within}
 use Rattle.measure.proofs.Rows.{row_ends}
 use Rattle.measure.specs.Distance.{is_circle_lem}
 use Rattle.measure.specs.Table.{row}
 use borrow.Author.Tests.{le-leb, le-ltb, leb-false, leb-true, lt-leb, lt-ltb, ltb-false}
-use lib.Dec.{T, eqb, leb, ltb}
-use lib.ListN.{drop, get_or, length}
+use lib.Dec.{T, leb, ltb}
+use lib.ListN.{drop, get_or, length, take}
+use lib.Seq.{length-take-le}
+use Rattle.std.proofs.lemmas.List.{get_or-take}
 use mathlib.Core.Bool.{Bool, ◌&&◌, cond, false, true}
 use mathlib.Core.List.{List, ◌++◌}
 use mathlib.Core.Path.{◌∙◌, ◌≡◌, ap, refl, subst, sym}
-use native.Mathlib.Nat.{div-lt_iff_lt-mul, mul_comm, mul-div-le, mul-le-mul_left, mul-le-mul_right}
+use native.Mathlib.Nat.{div-lt_iff_lt-mul, mul_comm, mul-div-le, mul-le-mul_left}
+use native.Mathlib.Numerals.{add-one}
 use native.Mathlib.Omega.{arith}
-
--- a product of 16 and 32 bits has 48
-pub product_fits : (x f : ℕ) → x ≤ 65535 → f ≤ 4294967295 → x * f ≤ 281470681677825
-product_fits x f a b = omega (arith, mul-le-mul_right f a)
 
 -- ---- chosen columns that are none
 module _ (c : ℕ) (chosen : List ℕ) where
@@ -31,34 +31,44 @@ module _ (c : ℕ) (chosen : List ℕ) where
   unfolding outside
   outside-on {j} e h = first_on (λ (i : ℕ). leb c (get_or chosen i 0)) e (lt-leb c (get_or chosen j 0) h)
 
-  -- the first that is not
-  pub outside-here : {j : ℕ} (k : ℕ) → outside c chosen j ≡ j → c ≤ get_or chosen j 0 → j < k → j ≡ outside c chosen k
-  unfolding outside
-  outside-here {j} k e h l = sym (first-here (λ (i : ℕ). leb c (get_or chosen i 0)) k e (le-leb c (get_or chosen j 0) h) l)
+  -- all of k are
+  outside-all : (k : ℕ) → ((j : ℕ) → j < k → get_or chosen j 0 < c) → outside c chosen k ≡ k
+  outside-all zero h = outside-none
+  outside-all (suc k) h = rw add-one at (outside-on (outside-all k (λ j l. h j (omega arith))) (h k (omega arith)))
 
-  -- all are
-  pub outside-end : {j : ℕ} (k : ℕ) → outside c chosen j ≡ j → j ≤ k → k ≤ j → k ≡ outside c chosen k
-  outside-end {j} k e a b =
-      let q : j ≡ k = omega arith in
-      subst (λ (x : ℕ). x ≡ outside c chosen x) q (sym e)
+  -- up to k each is below c where none before it is not
+  inside-each : (k : ℕ) → k ≤ outside c chosen k → (j : ℕ) → j < k → get_or chosen j 0 < c
+  unfolding outside
+  inside-each k h j l = leb-false c (get_or chosen j 0) (first_below (λ (i : ℕ). leb c (get_or chosen i 0)) k j (omega arith))
+
+  -- a test that tells whether each of the k chosen is below c
+  pub inside-told : (k : ℕ) → k ≤ length chosen → {r : Bool} → IsTrue r ↔ EachIndex (take k chosen) (λ j. get_or (take k chosen) j 0 < c)
+      → r ≡ leb k (outside c chosen k)
+  inside-told k f {r} h = go r (leb k (outside c chosen k)) refl refl
+    where
+      long : length (take k chosen) ≡ k
+      long = length-take-le k chosen f
+
+      all : r ≡ true → outside c chosen k ≡ k
+      all e = outside-all k (λ j l. subst (λ (x : ℕ). x < c) (get_or-take k chosen j 0 l) (h.0 e j (omega (arith, long))))
+
+      each : k ≤ outside c chosen k → r ≡ true
+      each l = h.1 (λ j m. subst (λ (x : ℕ). x < c) (sym (get_or-take k chosen j 0 (omega (arith, long)))) (inside-each k l j (omega (arith, long))))
+
+      go : (a b : Bool) → r ≡ a → leb k (outside c chosen k) ≡ b → r ≡ leb k (outside c chosen k)
+      go true b p q = p ∙ sym (le-leb k (outside c chosen k) (omega (arith, all p)))
+      go false true p q = each (leb-true k (outside c chosen k) q) ∙ sym q
+      go false false p q = p ∙ sym q
 
   -- so each is below c
   pub inside_of : (k : ℕ) → k ≤ max_columns → k ≤ outside c chosen k → Choice c chosen k
-  unfolding outside
-  inside_of k f h =
-      record { few = f; inside = λ j l. leb-false c (get_or chosen j 0) (first_below (λ (i : ℕ). leb c (get_or chosen i 0)) k j (omega arith)) }
+  inside_of k f h = record { few = f; inside = inside-each k h }
 
 -- the same of a row of that length
 pub choice_of : {c : ℕ} {chosen : List ℕ} {k : ℕ} (r : List ℕ) → Choice c chosen k → length r ≡ c → Choice (length r) chosen k
 choice_of {chosen = chosen} {k} r C e = subst (λ (x : ℕ). Choice x chosen k) (sym e) C
 
 -- ---- products that are too great
--- the greatest product, from the column's bit
-pub most_of : (b v : ℕ) → b < 2 → v ≡ 65_535 - 61_936 * b → v ≡ cond (eqb b 1) 3_599 65_535
-most_of zero v h e = e
-most_of (suc zero) v h e = e
-most_of (suc (suc b)) v h e = absurd (omega arith)
-
 module _ (r : List ℕ) (o : ℕ) (chosen factors : List ℕ) where
   -- before the first
   pub over_none : over_in r o chosen factors 0 ≡ 0

@@ -17,5 +17,5 @@ pub fn most(circles: u32, j: usize) -> u32
 pub fn product(x: u16, factor: u32) -> u64
     ensures { result ≡ x * factor }
 {
-    x as u64 * factor as u64
+    u64::from(x) * u64::from(factor)
 }

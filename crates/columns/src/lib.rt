@@ -3,19 +3,19 @@
 #![tactic(auto)]
 
 ghost use Rattle.column_products.specs.Chosen.{Chooses};
+ghost use Rattle.columns.specs.Unchosen.{outcome};
 
-use crate::choice::{choose_rows, first_over, first_row_over, fits};
-use row_distances::row_of;
+use crate::choice::{choose_rows, fits, test_products};
 
 pub mod choice;
 
-// What came of a choice: 0 done, 1 it is none (row and column 0), 2 a product above 65,535, or above 3,599 in a circle, with the first such row and
-// the place of its first such column among the chosen.
-#[derive(Clone, Copy)]
-pub struct Chose {
-    pub number: u32,
-    pub row: usize,
-    pub column: usize,
+// Why no columns are chosen.
+#[derive(Clone, Copy, PartialEq, Eq)]
+pub enum Unchosen {
+    // The choice is none: as many columns can be chosen as there are, and one at least.
+    NoChoice,
+    // A product is above 65,535, or above 3,599 in a circle: the first such row, and the place of its first such column among the chosen.
+    TooGreat { row: usize, column: usize },
 }
 
 // In place, row after row: of each of the n rows the k chosen columns, in the order chosen, each times its factor. The set of circles
@@ -28,28 +28,13 @@ pub fn choose(
     chosen: [usize; 16],
     factors: [u32; 16],
     k: usize,
-) -> Chose
-    ensures { Chooses table.old table.new c n circles chosen factors k result.number result.row result.column }
+) -> Result<(), Unchosen>
+    ensures { Chooses table.old table.new c n circles chosen factors k (outcome result).0 (outcome result).1 (outcome result).2 }
 {
     if !fits(table.len(), c, n, chosen, k) {
-        return Chose {
-            number: 1,
-            row: 0,
-            column: 0,
-        };
+        return Err(Unchosen::NoChoice);
     }
-    let row = first_row_over(table, c, n, circles, chosen, factors, k);
-    if row < n {
-        return Chose {
-            number: 2,
-            row,
-            column: first_over(row_of(table, c, row), circles, chosen, factors, k),
-        };
-    }
+    test_products(table, c, n, circles, chosen, factors, k)?;
     choose_rows(table, c, n, chosen, factors, k);
-    Chose {
-        number: 0,
-        row: 0,
-        column: 0,
-    }
+    Ok(())
 }

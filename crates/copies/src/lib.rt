@@ -10,7 +10,6 @@ ghost use Rattle.words.specs.Words.{nodes#, c#, circles#, m#};
 use groups::least_of;
 use growing::Reach;
 use moved_runs::{child_of, count_of, holds_run, start_of};
-use numbers::larger;
 use row_distances::row_distance;
 use split::WIDTH;
 use words::places::{
@@ -36,10 +35,7 @@ fn reach_of(table: &[u16], index: &[u32], p: Growth, k: usize) -> Reach
 {
     let radius = node_radius(index, k);
     let inner = node_inner(index, k);
-    if !holds_run(index, p.node, k) {
-        return Reach { radius, inner };
-    }
-    if p.added == 0 {
+    if !holds_run(index, p.node, k) || p.added == 0 {
         return Reach { radius, inner };
     }
     let d = row_distance(
@@ -50,7 +46,7 @@ fn reach_of(table: &[u16], index: &[u32], p: Growth, k: usize) -> Reach
         rows(index),
     );
     Reach {
-        radius: larger(radius, d),
+        radius: radius.max(d),
         inner: least_of(node_count(index, k), inner, d),
     }
 }
@@ -95,9 +91,7 @@ pub fn copy_children(
         child (m# index.now) room.old made }
 {
     let m = centres(index);
-    let mut i = 0;
-    while i < m {
+    for i in 0..m {
         copied_node(table, index, p, room, child + i, made + i);
-        i += 1;
     }
 }

@@ -6,6 +6,7 @@ ghost use Rattle.std.specs.Prelude.{◌*◌, ◌+◌, ◌<◌, ◌≤◌, ◌≡
 ghost use Rattle.dealing.specs.Dealt.{ChildAsk, ChildDeals, KidsAsk, KidsDeal};
 ghost use Rattle.dealing.specs.Marked.{Marks, Reaching, marked};
 ghost use Rattle.dealing.specs.Pending.{Settles};
+ghost use Rattle.lodging.specs.Marks.{word_of};
 ghost use Rattle.lodging.specs.Standing.{Takes};
 ghost use Rattle.measure.specs.Table.{between};
 ghost use Rattle.split.specs.Runs.{rows};
@@ -15,8 +16,7 @@ ghost use Rattle.words.specs.Words.{nodes#, c#, circles#, edition#};
 use groups::{Group, least_of, pick};
 use growing::Reach;
 use leafward::closest_child;
-use lodging::lodge;
-use numbers::larger;
+use lodging::{Mark, lodge};
 use rounds::put_entry;
 use row_distances::row_distance;
 use split::WIDTH;
@@ -67,18 +67,19 @@ fn reach_with(index: &[u32], q: usize, g: Group) -> Reach
         return Reach { radius, inner };
     }
     Reach {
-        radius: larger(radius, g.radius),
+        radius: radius.max(g.radius),
         inner: least_of(node_count(index, q), inner, g.inner),
     }
 }
 
 // Lays node q, behind whose own entries its new rows stand: a leaf whole, and of an inner node nothing. Gives its mark while it waits.
-pub fn settle(table: &[u16], index: &[u32], q: usize, last: bool, part: &mut [u32]) -> u32
+pub fn settle(table: &[u16], index: &[u32], q: usize, last: bool, part: &mut [u32]) -> Mark
     requires { Takes table.now (c# index.now) index.now q part.old }
-    ensures { Settles table.now index.now q last part.old part.new result }
+    ensures settles { Settles table.now index.now q last part.old part.new (word_of result) }
+    ensures fits { word_of result < 4294967296 }
 {
     if node_child(index, q) != 0 {
-        return (q + 1) as u32;
+        return Mark::Old(q);
     }
     lodge(table, columns(index), index, q, last, part)
 }
@@ -112,7 +113,7 @@ fn deal_child(
         &mut room[node..],
         at as u32,
         count as u32,
-        mark,
+        mark.word(),
         reach.radius,
         reach.inner,
     );
@@ -135,10 +136,7 @@ pub fn deal_out(
 {
     let m = centres(index);
     let mut at = s;
-    let mut k = 0;
-    while k < m {
-        let count = deal_child(table, index, p, room, work, k, at, made);
-        at += count;
-        k += 1;
+    for k in 0..m {
+        at += deal_child(table, index, p, room, work, k, at, made);
     }
 }

@@ -23,10 +23,8 @@ fn level(
         room.new work.new result }
 {
     let mut made = hi;
-    let mut k = lo;
-    while k < hi {
+    for k in lo..hi {
         made = open_piece(table, index, n, last, room, work, k, made);
-        k += 1;
     }
     made
 }
@@ -37,16 +35,14 @@ pub fn deepen(table: &[u16], index: &[u32], n: usize, room: &mut [u32], work: &m
     ensures { Leveled table.now index.now n room.old work.old
         room.new work.new result }
 {
-    let mut lo: usize = 0;
-    let mut hi: usize = 1;
-    let mut depth = 0;
-    while depth < Params::MOST_DEPTH {
-        depth += 1;
+    let mut lo = 0;
+    let mut hi = 1;
+    for depth in 0..Params::MOST_DEPTH {
         let made = level(
             table,
             index,
             n,
-            depth == Params::MOST_DEPTH,
+            depth + 1 == Params::MOST_DEPTH,
             room,
             work,
             lo,

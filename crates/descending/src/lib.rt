@@ -52,13 +52,11 @@ pub fn descend(
     let m = centres(index);
     let ds = open_inner(table, c, index, query, ch, x, r, withdrawn, how, list);
     let y = least_of(ds, m);
-    let mut j = 0;
-    while j < m {
+    for j in 0..m {
         let d = ds[j];
         let kid = ch + j;
         let b = kid_bound(index, kid, bound, y, d);
         let fate = settle(index, kid, d, b, r, withdrawn, how, list);
-        j += 1;
         if let Fate::Opened = fate {
             descend(
                 table,

@@ -13,12 +13,6 @@ use mathlib.Core.List.{List}
 use mathlib.Core.Path.{◌≡◌, refl, subst, sym}
 use native.Mathlib.Omega.{arith}
 
--- where the code's `let` failed: it is not `Swept`, and nothing was stored
-pub unswept : (gone : ℕ → Bool) (w : List ℕ) (k : ℕ) (h l : List ℕ) (v : Fate) → (v ≡ Swept → ⊥) → Settled gone w k v h h l l
-unswept gone w k h l Swept p = absurd (p refl)
-unswept gone w k h l Closed p = (refl, refl)
-unswept gone w k h l Opened p = (refl, refl)
-
 -- the root has the bound 0 and is not closed: it is not swept, so it is opened
 pub root_opened : (d R r : ℕ) (v : Fate) → v ≡ fate_of_lem d R 0 r → (v ≡ Swept → ⊥) → Opened ≡ fate_of_lem d R 0 r
 unfolding fate_of_lem

@@ -21,14 +21,14 @@ pub enum Fate {
 }
 
 // Which of them, in this order: x is the distance of the node's first.
+#[tactic(auto, unfolding(crate::specs::Settling::fate_of_lem))]
 pub fn fate_of(x: u32, radius: u32, bound: u32, r: u32) -> Fate
     requires { (x ≤ max_distance) × (radius ≤ max_distance) }
     ensures { result ≡ fate_of_lem x radius bound r }
 {
     if x + radius <= r {
-        return Fate::Swept;
-    }
-    if r < bound {
+        Fate::Swept
+    } else if r < bound {
         Fate::Closed
     } else {
         Fate::Opened
@@ -53,9 +53,8 @@ pub fn settle(
         list.new }
 {
     let fate = fate_of(x, node_radius(index, k), bound, r);
-    let Fate::Swept = fate else {
-        return fate;
-    };
-    sweep(index, k, withdrawn, how, list);
+    if let Fate::Swept = fate {
+        sweep(index, k, withdrawn, how, list);
+    }
     fate
 }

@@ -1,6 +1,7 @@
-// 13 of the full check in one child of a node, for rows of at most six columns with no circle, which questions about a minute have: the loop over a
-// child's positions then knows which way of measuring it is, and a row that is no farther from its own centre than half the way to the nearest other
-// is not measured from the others. (With more columns or with circles that was found to cost more than it saved.)
+// The full check in one child of a node, for rows of at most six columns with no circle, which questions about a minute have: the loop over a child's
+// positions then knows which way of measuring it is, and a row that is no farther from its own centre than half the way to the nearest other is not
+// measured from the others. (With more columns or with circles that was found to cost more than it saved.) The machine's code for the two loops is
+// what this crate is for, so that what `child_strays` has stands here once more.
 #![tactic(auto)]
 
 ghost use Rattle.std.specs.Prelude.{◌+◌, ◌<◌, ltb, true, ◌≡◌};
@@ -50,13 +51,10 @@ fn closer_to_other(
     if x <= safe {
         return false;
     }
-    let m = centres(index);
-    let mut i = 0;
-    while i < m {
-        if is_closer(table, c, index, fs[i], x, p) {
+    for f in &fs[..centres(index)] {
+        if is_closer(table, c, index, *f, x, p) {
             return true;
         }
-        i += 1;
     }
     false
 }
@@ -80,14 +78,13 @@ pub fn child_stray(
     let j = child + a;
     let f = node_first(index, j);
     let end = node_end(index, j);
-    let mut p = node_start(index, j);
-    let safe = safe_within(table, c, index, fs, a, end - p);
-    while p < end {
+    let start = node_start(index, j);
+    let safe = safe_within(table, c, index, fs, a, end - start);
+    for p in start..end {
         let x = apart(table, c, 0, index, f, p);
         if closer_to_other(table, c, index, child, fs, f, safe, x, p) {
             return p;
         }
-        p += 1;
     }
     node_end(index, k)
 }

@@ -1,7 +1,5 @@
 -- The tree that the levels make, and the words of the whole index. Assumes nothing.
 use Prim.Native.Nat.{◌*◌, ◌+◌, ◌-◌, ◌≤◌, suc, zero, ℕ}
-use Rattle.buffers.proofs.Whole.{wiped-whole}
-use Rattle.buffers.specs.Wiped.{wiped}
 use Rattle.filling.proofs.Framed.{framed}
 use Rattle.filling.proofs.Numbering.{numbered-levels}
 use Rattle.filling.proofs.Positions.{entries-leaves, pairs-laid, pairs_of}
@@ -128,7 +126,7 @@ module _ {t : List ℕ} {c o m l n : ℕ} {origin work₀ : List ℕ} (asked : R
   -- THE WHOLE INDEX STANDS IN THE ROOM
   pub filled : {room₂ ys work' : List ℕ} {at : ℕ} → length room₂ ≡ length origin → room₂ ≡ header_of n c o m l made ++ drop 8 room → at ≡ node_at_lem made
       → ys ≡ pairs_in (stretch work 0 (3 * n)) ++ drop (2 * n) (mid_of at (length room₂ - at) room₂)
-      → length work ≡ 6 * n → work' ≡ wiped (length work) work
+      → length work ≡ 6 * n → work' ≡ replicate (length work) 0
       → Filled t c o m l n origin (put_mid at (length room₂ - at) room₂ ys) work' made
   filled {room₂} {ys} {at = at} same q place f half cleared =
       let z : 3 * n - 0 ≡ 3 * n = omega arith in
@@ -141,5 +139,5 @@ module _ {t : List ℕ} {c o m l n : ℕ} {origin work₀ : List ℕ} (asked : R
             ∙ ap₂ (λ (x : List ℕ) (k : ℕ). x ++ drop k origin) words_are (sym (encode-long fit o grown.count));
         count = grown.count;
         few = grown.few;
-        cleared = cleared ∙ wiped-whole work ∙ ap (λ (k : ℕ). replicate k 0) half;
+        cleared = cleared ∙ ap (λ (k : ℕ). replicate k 0) half;
       }

@@ -7,7 +7,6 @@ ghost use Rattle.growing.specs.Rooted.{Room};
 ghost use Rattle.rounds.specs.Entries.{pairs_in};
 ghost use Rattle.rounds.specs.Stretch.{stretch};
 
-use buffers::clear_words;
 use growing::{levels, root};
 use header_words::put_header;
 use limits::Params;
@@ -40,12 +39,10 @@ pub fn put_positions(part: &mut [u32], n: usize, work: &[u32])
     requires { (2 * n ≤ length part.old) × (3 * n ≤ length work.now) }
     ensures { part.new ≡ pairs_in (stretch work.now 0 (3 * n)) ++ drop (2 * n) part.old }
 {
-    let mut p = 0;
-    while p < n {
+    for p in 0..n {
         let at = 2 * p;
         part[at] = work[3 * p];
         part[at + 1] = work[3 * p + 1];
-        p += 1;
     }
 }
 
@@ -66,6 +63,6 @@ pub fn fill(
     put_header(room, n, c, p, nodes);
     let at = HEADER + WIDTH * nodes;
     put_positions(&mut room[at..], n, work);
-    clear_words(work, work.len());
+    work.fill(0);
     nodes
 }

@@ -2,14 +2,17 @@
 // A question is a query's numbers, not a row's number: so a row, a label's row and values typed in are one call.
 #![tactic(auto)]
 
-ghost use Rattle.finder.specs.Calls.{Finds, Near};
-ghost use Rattle.std.specs.Prelude.{◌≡◌};
+ghost use Rattle.build.specs.Calls.{Builds, nodes_of, words_of};
+ghost use Rattle.finder.specs.Calls.{Finds, Near, centres, leaf_rows};
+ghost use Rattle.limits.specs.Refusal.{outcome};
+ghost use Rattle.nearest.specs.Given.{given_of, measured_of as measured_given};
+ghost use Rattle.radius.specs.Calls.{inside_of, measured_of as measured_found};
 
-use buffers::clear_bytes;
+use build::Built;
 use circular_columns::off_circle;
-use limits::Params;
+use limits::{Params, Refusal};
 use nearest::Given;
-use query_refusals::why_not;
+use query_refusals::test_queries;
 use radius::Found;
 use set_refusals::set_bad;
 use several_queries::mark_each;
@@ -20,26 +23,27 @@ const CENTRES: usize = 2;
 
 const LEAF: usize = 1024;
 
-// Nothing was marked: the number, and zero counts.
-fn none_marked(number: u32) -> Found
-    ensures { (result.number ≡ number) × (result.inside ≡ 0) × (result.measured ≡ 0) }
+// The index of the table, built into the room.
+fn index_over(
+    table: &[u16],
+    c: usize,
+    circles: u32,
+    room: &mut [u32],
+    work: &mut [u32],
+) -> Result<Built, Refusal>
+    ensures { Builds table.now c circles 2 centres leaf_rows room.old work.old
+        room.new work.new (outcome result).0 (words_of result) (nodes_of result) }
 {
-    Found {
-        number,
-        inside: 0,
-        measured: 0,
-    }
-}
-
-// Nothing was found: the number, and zero counts.
-fn none_given(number: u32) -> Given
-    ensures { (result.number ≡ number) × (result.given ≡ 0) × (result.measured ≡ 0) }
-{
-    Given {
-        number,
-        given: 0,
-        measured: 0,
-    }
+    build::build(
+        table,
+        c,
+        CENTRES,
+        LEAF,
+        circles,
+        Params::LAST_EDITION,
+        room,
+        work,
+    )
 }
 
 // Marks every row that is not withdrawn and is within r of one query at least. The queries stand one after the other, as the table's rows do.
@@ -54,35 +58,19 @@ pub fn mark_near(
     work: &mut [u32],
     how: &mut [u8],
     marks: &mut [u8],
-) -> Found
+) -> Result<Found, Refusal>
     ensures { Near table.now c circles queries.now r withdrawn.now room.old room.new
         work.old work.new how.old how.new marks.old marks.new
-        result.number result.inside result.measured }
+        (outcome result).0 (inside_of result) (measured_found result) }
 {
-    let built = build::build(
-        table,
-        c,
-        CENTRES,
-        LEAF,
-        circles,
-        Params::LAST_EDITION,
-        room,
-        work,
-    );
-    let number = built.number;
-    if number != 0 {
-        return none_marked(number);
-    }
+    let built = index_over(table, c, circles, room, work)?;
     let n = table.len() / c;
     let off = off_circle(queries, c, circles);
     let bad = set_bad(withdrawn, n);
-    let why = why_not(n, c, queries.len(), how.len(), marks.len(), off, bad);
-    if why != 0 {
-        return none_marked(why);
-    }
+    test_queries(n, c, queries.len(), how.len(), marks.len(), off, bad)?;
     let words = built.words;
-    clear_bytes(marks, n);
-    mark_each(table, c, &room[..words], queries, r, withdrawn, how, marks)
+    marks[..n].fill(0);
+    Ok(mark_each(table, c, &room[..words], queries, r, withdrawn, how, marks))
 }
 
 // Puts the w nearest to the query of those that are not withdrawn, nearest first.
@@ -98,25 +86,12 @@ pub fn find_nearest(
     how: &mut [u8],
     rows: &mut [u32],
     distances: &mut [u32],
-) -> Given
+) -> Result<Given, Refusal>
     ensures { Finds table.now c circles query.now w withdrawn.now room.old room.new
         work.old work.new how.old how.new rows.old rows.new distances.old
-        distances.new result.number result.given result.measured }
+        distances.new (outcome result).0 (given_of result) (measured_given result) }
 {
-    let built = build::build(
-        table,
-        c,
-        CENTRES,
-        LEAF,
-        circles,
-        Params::LAST_EDITION,
-        room,
-        work,
-    );
-    let number = built.number;
-    if number != 0 {
-        return none_given(number);
-    }
+    let built = index_over(table, c, circles, room, work)?;
     let words = built.words;
     nearest::nearest(
         table,

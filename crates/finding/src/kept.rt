@@ -1,26 +1,17 @@
 // The rows that are marked, kept with their distances in row order.
 ghost use Rattle.std.specs.Prelude.{◌≤◌, length};
 
-use asking::pieces::least;
-use queries::numbers_part;
 use row_distances::distance;
 
 // No distance is as great.
-const FAR: u32 = 0xffff_ffff;
+const FAR: u32 = u32::MAX;
 
 // The library's limit.
 const MOST_ROWS: usize = 1_048_576;
 
-fn lesser(a: u32, b: u32) -> u32 {
-    if a < b { a } else { b }
-}
-
 // The distance of two rows of the same columns.
 fn apart(a: &[u16], b: &[u16], circles: u32) -> u32 {
-    if a.len() != b.len() {
-        return FAR;
-    }
-    if 16 < a.len() {
+    if a.len() != b.len() || 16 < a.len() {
         return FAR;
     }
     distance(a, b, circles)
@@ -41,12 +32,10 @@ fn row_end(length: usize, at: usize, c: usize) -> usize
 fn least_distance(row: &[u16], c: usize, circles: u32, queries: &[u16], count: usize) -> u32 {
     let mut least = FAR;
     let mut at = 0;
-    let mut i = 0;
-    while i < count {
+    for _ in 0..count {
         let end = row_end(queries.len(), at, c);
-        least = lesser(least, apart(row, numbers_part(queries, at, end), circles));
+        least = least.min(apart(row, &queries[at..end], circles));
         at = end;
-        i += 1;
     }
     least
 }
@@ -63,13 +52,7 @@ fn keep_row(
     requires { (kept ≤ length rows.old) × (kept ≤ length distances.old) × (row ≤ 1048576) }
     ensures { (result ≤ length rows.old) × (result ≤ length distances.old) }
 {
-    if mark != 1 {
-        return kept;
-    }
-    if rows.len() <= kept {
-        return kept;
-    }
-    if distances.len() <= kept {
+    if mark != 1 || rows.len() <= kept || distances.len() <= kept {
         return kept;
     }
     rows[kept] = row as u32;
@@ -105,24 +88,14 @@ pub(crate) fn keep_marked(
 ) -> usize
     ensures { (result ≤ length rows.old) × (result ≤ length distances.old) }
 {
-    let last = least(marks.len(), MOST_ROWS);
     let mut kept = 0;
     let mut at = 0;
-    let mut i = 0;
-    while i < last {
+    for i in 0..marks.len().min(MOST_ROWS) {
         let end = row_end(table.len(), at, c);
-        let mark = marks[i];
-        let away = marked_distance(
-            mark,
-            numbers_part(table, at, end),
-            c,
-            circles,
-            queries,
-            count,
-        );
-        kept = keep_row(i, mark, away, rows, distances, kept);
+        let row = &table[at..end];
+        let away = marked_distance(marks[i], row, c, circles, queries, count);
+        kept = keep_row(i, marks[i], away, rows, distances, kept);
         at = end;
-        i += 1;
     }
     kept
 }

@@ -11,7 +11,6 @@ ghost use Rattle.words.specs.Words.{nodes#, count#, first#, n#, start#};
 
 use crate::workspace::DISTANCES;
 use bounds::{kid_bound, place_bound};
-use numbers::smaller;
 use queue::pack;
 use queue_push::push;
 use words::places::{node_count, node_first, node_start, pair_at};
@@ -51,12 +50,10 @@ fn queue_rows(
     // The positions' words do not move as entries are queued, which the compiler cannot tell.
     let base = pair_at(index, 0);
     let mut size = len;
-    let mut p = s + 1;
-    while p < e {
+    for p in s + 1..e {
         let stored = index[base + 2 * p + 1];
         let key = place_bound(b, x, stored);
         size = push_due(work, size, last, key, (2 * n + p) as u32);
-        p += 1;
     }
     size
 }
@@ -90,11 +87,9 @@ pub fn nearest_centre(index: &[u32], work: &[u32], n: usize, a: usize, e: usize)
 {
     let f = node_first(index, a);
     let mut y = work[DISTANCES * n + f];
-    let mut j = a + 1;
-    while j < e {
+    for j in a + 1..e {
         let r = node_first(index, j);
-        y = smaller(y, work[DISTANCES * n + r]);
-        j += 1;
+        y = y.min(work[DISTANCES * n + r]);
     }
     y
 }
@@ -117,13 +112,11 @@ pub fn queue_children(
         last result }
 {
     let mut size = len;
-    let mut j = a;
-    while j < e {
+    for j in a..e {
         let r = node_first(index, j);
         let x = work[DISTANCES * n + r];
         let key = kid_bound(index, j, b, y, x);
         size = push_due(work, size, last, key, j as u32);
-        j += 1;
     }
     size
 }

@@ -5,11 +5,10 @@ ghost use Rattle.groups.specs.Groups.{Gatherable, Gathered, Picked, Picking};
 ghost use Rattle.laws.specs.Lists.{lower};
 ghost use Rattle.std.specs.Prelude.{◌≡◌};
 
-use numbers::larger;
 use rounds::put_entry;
 
-// A group: how many members, the greatest distance to its centre, and the least of a member other than the centre, 0 where there is none. Both are
-// at hand where a run is shared out, so that the inner reach costs no distance more.
+// A group: how many members, the greatest distance to its centre, and the least of a member other than the centre, 0 where there is none, which is
+// what the node's word says then. Both are at hand where a run is shared out, so that the inner reach costs no distance more.
 #[derive(Clone, Copy)]
 pub struct Group {
     pub count: usize,
@@ -21,10 +20,7 @@ pub struct Group {
 pub fn least_of(k: usize, low: u32, d: u32) -> u32
     ensures { result ≡ lower k low d }
 {
-    if k <= 1 {
-        return d;
-    }
-    if d < low { d } else { low }
+    if k <= 1 { d } else { d.min(low) }
 }
 
 // Writes from word `to` on those of the entries from lo to hi whose centre is `centre`.
@@ -45,7 +41,7 @@ pub fn pick(work: &mut [u32], lo: usize, hi: usize, centre: u32, to: usize) -> G
             let q = to + 3 * count;
             put_entry(&mut work[q..], row, least, centre);
             count += 1;
-            radius = larger(radius, least);
+            radius = radius.max(least);
             inner = least_of(count, inner, least);
         }
     }
@@ -65,7 +61,6 @@ pub fn gather(work: &mut [u32], lo: usize, hi: usize, centre: u32, to: usize) ->
     let g = pick(work, lo, hi, centre, to + 3);
     Group {
         count: g.count + 1,
-        radius: g.radius,
-        inner: g.inner,
+        ..g
     }
 }

@@ -1,7 +1,7 @@
 -- Level after level: the nodes and leaves that are still to come make up the whole with those that are there. Assumes nothing.
 use Prim.Native.Nat.{◌+◌, ◌-◌, ◌<◌, ◌≤◌, suc, zero, ℕ}
 use Rattle.growing.proofs.Tiles.{runs_few}
-use Rattle.growing.specs.Rooted.{Layered, Planted, Rooted, root_item}
+use Rattle.growing.specs.Rooted.{Layered, Planted, root_item}
 use Rattle.growing.specs.Levels.{Item, all_nodes, leaf_node, leaves, level_out_lem, next_level, opened}
 use Rattle.growing.specs.Stages.{Fit, Level, Stage, Staged, with_nodes}
 use Rattle.laws.proofs.Joins.{each_append}
@@ -70,19 +70,6 @@ pub record Growing (t : List ℕ) (c o m l n : ℕ) (origin room work : List ℕ
   pub stage : Stage (between t c o) m l n origin before items tiles room work lo hi
   pub nodes : before ++ all_nodes (between t c o) m l (max_depth - depth) hi items ≡ all_nodes (between t c o) m l max_depth 1 (root_item n ∷ [])
   pub below : each (leaves (between t c o) m l (max_depth - depth)) tiles ≡ leaves (between t c o) m l max_depth (range 0 n)
-
--- the root stands alone
-pub growing_start : (t : List ℕ) (c o m l n : ℕ) (origin room work : List ℕ) → Rooted (between t c o) m l n origin room work
-    → Growing t c o m l n origin room work 0 1 0
-growing_start t c o m l n origin room work s =
-    record {
-      before = [];
-      items = root_item n ∷ [];
-      tiles = range 0 n ∷ [];
-      stage = s;
-      nodes = refl;
-      below = append-nil (leaves (between t c o) m l max_depth (range 0 n));
-    }
 
 module _ {t : List ℕ} {c o m l n : ℕ} {origin room work : List ℕ} {lo hi depth : ℕ} (inv : Growing t c o m l n origin room work lo hi depth) where
   -- how far two rows are apart

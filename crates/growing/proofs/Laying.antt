@@ -1,6 +1,6 @@
 -- The root's entries, row after row, with the greatest and the least distance so far. Assumes nothing.
 use Prim.Native.Nat.{◌*◌, ◌+◌, ◌-◌, ◌<◌, ◌≤◌, max, suc, zero, ℕ}
-use Rattle.growing.specs.Rooted.{RootLaid, entry_of0}
+use Rattle.growing.specs.Rooted.{entry_of0}
 use Rattle.laws.proofs.Joins.{each_append}
 use Rattle.laws.proofs.Lists.{lowest-last, map-append}
 use Rattle.laws.proofs.Parts.{put_more}
@@ -68,14 +68,4 @@ module _ {d : ℕ → ℕ → ℕ} {n : ℕ} {w₀ w : List ℕ} {radius inner i
             ∙ ap (λ (y : List ℕ). y ++ drop (3 * (i + 1)) w₀) (sym (rows_next d i));
         far = g ∙ ap₂ max inv.far q ∙ sym (most-next (d 0) i);
         near = b ∙ ap₂ (lower i) inv.near q ∙ sym (inner-next (d 0) z i);
-      }
-
-  -- all n rows are laid
-  pub laying-done : n ≤ i → RootLaid d n w₀ w radius inner
-  laying-done h =
-      let k : i ≡ n = omega (arith, inv.some) in
-      record {
-        far = inv.far ∙ ap (most_to (d 0)) k;
-        near = inv.near ∙ ap (λ (j : ℕ). lowest (map (d 0) (rest (range 0 j)))) k;
-        words = inv.wrote ∙ ap (λ (j : ℕ). each (entry_of0 d) (range 0 j) ++ drop (3 * j) w₀) k;
       }

@@ -14,7 +14,7 @@ use Rattle.measure.specs.Table.{between}
 use Rattle.split.proofs.Laid.{laid-long}
 use Rattle.split.specs.Runs.{laid}
 use Rattle.tree.specs.Build.{Run, inner_reach, radius}
-use Rattle.tree.specs.Encode.{node_words, nodes}
+use Rattle.tree.specs.Encode.{node_words}
 use borrow.Rule.Slice.PartMut.{mid_of, put_mid}
 use lib.ListN.{drop, length, take, take-append-drop}
 use lib.Seq.{length-take-le, take_at}

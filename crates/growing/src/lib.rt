@@ -10,14 +10,14 @@ ghost use Rattle.measure.specs.Table.{between};
 
 use groups::least_of;
 use limits::Params;
-use numbers::larger;
 use rounds::put_entry;
 use row_distances::row_distance;
 use split::{WIDTH, split_run};
 use words::places::{HEADER, word};
 use words::writing::put_node;
 
-// How far a run reaches: the greatest distance from its first, and the least of a member other than the first, 0 where there is none.
+// How far a run reaches: the greatest distance from its first, and the least of a member other than the first, 0 where there is none, which is what
+// the node's word says then.
 #[derive(Clone, Copy)]
 pub struct Reach {
     pub radius: u32,
@@ -31,14 +31,12 @@ fn lay(table: &[u16], c: usize, circles: u32, n: usize, work: &mut [u32]) -> Rea
 {
     let mut radius: u32 = 0;
     let mut inner: u32 = 0;
-    let mut i = 0;
-    while i < n {
+    for i in 0..n {
         let d = row_distance(table, c, circles, 0, i);
-        radius = larger(radius, d);
+        radius = radius.max(d);
         inner = least_of(i, inner, d);
         let at = 3 * i;
         put_entry(&mut work[at..], i as u32, d, 0);
-        i += 1;
     }
     Reach { radius, inner }
 }
@@ -114,10 +112,8 @@ fn level(
         room.new work.new result }
 {
     let mut made = hi;
-    let mut k = lo;
-    while k < hi {
+    for k in lo..hi {
         made = open_node(table, c, circles, m, l, n, room, work, k, made);
-        k += 1;
     }
     made
 }
@@ -140,12 +136,10 @@ pub fn levels(
 {
     let mut lo: usize = 0;
     let mut hi: usize = 1;
-    let mut depth = 0;
-    while depth < Params::MOST_DEPTH {
+    for _depth in 0..Params::MOST_DEPTH {
         let made = level(table, c, circles, m, l, n, room, work, lo, hi);
         lo = hi;
         hi = made;
-        depth += 1;
     }
     hi
 }

@@ -1,15 +1,16 @@
 -- A changed word, and a block at another block's place, are found. Assumes nothing.
 use Prim.Native.Nat.{◌%◌, ◌*◌, ◌+◌, ◌/◌, ◌<◌, ◌^◌, suc, zero, ℕ}
 use Rattle.blocks.proofs.Checks.{check_append, check_place, from_lt, step_state, step_word}
-use Rattle.blocks.proofs.Wrong.{lowest-is, lowest_le, wrong_at}
+use Rattle.blocks.proofs.Wrong.{lowest-is, lowest_le, wrong_at, wrong_some}
 use Rattle.blocks.specs.Blocks.{block_good_lem, check_from, check_word, step, word_at, words_at}
-use Rattle.blocks.specs.Lowest.{lowest, wrong_blocks}
+use Rattle.blocks.specs.Lowest.{wrong_blocks}
 use Rattle.image.proofs.Refusals.{fifteen}
 use Rattle.image.specs.Below.{Below}
 use Rattle.image.specs.Changed.{Changed, Moved, block_word}
 use Rattle.image.specs.Image.{image_faults}
 use Rattle.laws.proofs.Tests.{is_true, refute}
 use Rattle.laws.specs.First.{First}
+use Rattle.laws.specs.Lists.{head}
 use Rattle.limits.specs.Said.{said}
 use borrow.Author.Tests.{eqb-true, leb-false, leb-true}
 use lib.Dec.{leb}
@@ -110,14 +111,12 @@ one_block i i' a b ha hb mv good =
 -- ---- an image of whole blocks whose block b is wrong
 module _ (i : List ℕ) (b : ℕ) (whole : length i % 512 ≡ 0) (inside : b < length i / 512) (wrong : block_good_lem i b ≡ false) where
   -- ITS FIRST FAULT IS 15, AND NAMES THE LOWEST WRONG BLOCK
-  pub wrong-said : said (image_faults i) ≡ (15, lowest (length i / 512) (wrong_blocks i 0 (length i / 512)), 0)
-  wrong-said =
-      let l = lowest_le i (length i / 512) b wrong in
-      fifteen i (λ e. omega arith) whole (omega arith)
+  pub wrong-said : said (image_faults i) ≡ (15, head (wrong_blocks i 0 (length i / 512)), 0)
+  wrong-said = fifteen i (λ e. omega arith) whole _ (lowest_le i (length i / 512) b inside wrong).0
 
   -- WHERE EVERY LOWER BLOCK IS GOOD, IT IS THE BLOCK NAMED
   pub wrong_first : ((a : ℕ) → a < b → block_good_lem i a ≡ true) → said (image_faults i) ≡ (15, b, 0)
   wrong_first f =
       let F : First (wrong_at i) 0 (length i / 512) b =
       record { from = omega arith; to = omega arith; none = λ a _ h. ap not (f a h); here = λ _. ap not wrong } in
-      wrong-said ∙ ap (λ (p : ℕ). (15, p, 0)) (lowest-is i (length i / 512) b F)
+      fifteen i (λ e. omega arith) whole b (wrong_some (wrong_blocks i 0 (length i / 512)) b (lowest-is i (length i / 512) b inside F))

@@ -1,4 +1,5 @@
 pub mod Blocks
+pub mod Filled
 pub mod Refusals
 pub mod Calls
 pub mod Found

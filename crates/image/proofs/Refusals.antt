@@ -1,12 +1,12 @@
 -- What is wrong with an image: one law for each return of the code. Assumes nothing.
-use Prim.Native.Nat.{◌%◌, ◌/◌, ◌<◌, ◌≤◌, ℕ}
-use Rattle.blocks.proofs.Wrong.{wrong_some}
+use Prim.Native.Nat.{◌%◌, ◌/◌, ◌≤◌, ℕ}
 use Rattle.blocks.specs.Blocks.{blocks_for_lem, image_words}
-use Rattle.blocks.specs.Lowest.{lowest, wrong_blocks}
+use Rattle.blocks.specs.Lowest.{wrong_blocks}
 use Rattle.image.specs.Image.{image_faults, image_total}
 use Rattle.image.specs.Sound.{Sound, held_faults, rest_zero_lem}
 use Rattle.laws.proofs.Every.{every-all, every_append, every_map}
 use Rattle.laws.proofs.Tests.{or_l, or_none, or_r}
+use Rattle.laws.specs.Lists.{rest}
 use Rattle.limits.proofs.Faults.{Numbered, fault-first, fault-next, fault-numbered, number_of}
 use Rattle.limits.specs.Said.{Said, fault, said}
 use Rattle.words.specs.Words.{card_ok_lem}
@@ -100,9 +100,8 @@ module _ (i : List ℕ) where
     even = or_none (eqb (length i) 0) (not (eqb (length i % 512) 0)) (ne_eqb (length i) 0 some) (ap not (eq-eqb (length i % 512) 0 whole))
 
     -- a check word is wrong: the lowest block's
-    pub fifteen : lowest (length i / 512) wrongs < length i / 512 → said (image_faults i) ≡ (15, lowest (length i / 512) wrongs, 0)
-    fifteen h =
-        sym (fault-next 14 next even ∙ ap said in_turn_lem) ∙ ap (λ bs. said (map named bs ++ held_faults i)) (wrong_some (length i / 512) wrongs h)
+    pub fifteen : (b : ℕ) → wrongs ≡ b ∷ rest wrongs → said (image_faults i) ≡ (15, b, 0)
+    fifteen b e = sym (fault-next 14 next even ∙ ap said in_turn_lem) ∙ ap (λ bs. said (map named bs ++ held_faults i)) e
 
     -- no check word is: what the blocks hold decides
     pub by-held : wrongs ≡ [] → image_faults i ≡ held_faults i
@@ -139,21 +138,16 @@ faults_placed i h =
     go false [] false false h = refl
 
 -- ---- the ends, as what the code promises
-module _ (i : List ℕ) (fs : List Said) (number place words : ℕ) where
+module _ (i : List ℕ) (fs : List Said) where
   -- a refusal, with the place that 15 names
-  pub sound-refused : (n p : ℕ) → (n ≡ 0 → ⊥) → said fs ≡ (n, p, 0) → number ≡ n → place ≡ p → words ≡ 0 → Sound i fs number place words
-  sound-refused n p h e a b d =
+  pub sound-refused : (n p : ℕ) → (n ≡ 0 → ⊥) → said fs ≡ (n, p, 0) → Sound i fs n p 0
+  sound-refused n p h e =
       record {
-        found = a ∙ sym (ap number_of e);
-        placed = b ∙ sym (ap (λ (t : Said). t.1) e);
-        counted = d ∙ sym (ap (λ t. cond t (image_total i) 0) (ne_eqb number 0 (λ q. h (sym a ∙ q))));
+        found = sym (ap number_of e);
+        placed = sym (ap (λ (t : Said). t.1) e);
+        counted = sym (ap (λ t. cond t (image_total i) 0) (ne_eqb n 0 h));
       }
 
   -- none
-  pub sound-found : said fs ≡ (0, 0, 0) → number ≡ 0 → place ≡ 0 → words ≡ image_total i → Sound i fs number place words
-  sound-found e a b d =
-      record {
-        found = a ∙ sym (ap number_of e);
-        placed = b ∙ sym (ap (λ (t : Said). t.1) e);
-        counted = d ∙ sym (ap (λ t. cond t (image_total i) 0) (eq-eqb number 0 a));
-      }
+  pub sound-found : (words : ℕ) → said fs ≡ (0, 0, 0) → words ≡ image_total i → Sound i fs 0 0 words
+  sound-found words e d = record { found = sym (ap number_of e); placed = sym (ap (λ (t : Said). t.1) e); counted = d }

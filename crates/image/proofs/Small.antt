@@ -6,7 +6,6 @@ use Rattle.image.proofs.Only.{write-only}
 use Rattle.image.proofs.RoundTrip.{written_ok}
 use Rattle.image.specs.Calls.{Writes}
 use Rattle.limits.specs.Limits.{max_rows}
-use Rattle.limits.specs.Said.{said}
 use Rattle.words.proofs.Headers.{words-whole}
 use Rattle.words.proofs.InShape.{whole}
 use Rattle.words.proofs.Strides.{words-few}

@@ -1,5 +1,5 @@
 -- The image of an index, and what is wrong with one: 01, The image and Numbers given back. Assumes nothing.
-use Rattle.std.specs.Prelude.{◌%◌, ◌*◌, ◌+◌, ◌-◌, ◌/◌, ℕ, eqb, ltb, length, take, ◌||◌, not, List, ◌++◌, map}
+use Rattle.std.specs.Prelude.{◌%◌, ◌*◌, ◌-◌, ◌/◌, ℕ, eqb, ltb, length, take, ◌||◌, not, List, ◌++◌, map}
 use Rattle.blocks.specs.Blocks.{block_good_lem, blocks, blocks_for_lem, image_word_lem, image_words}
 use Rattle.laws.specs.Lists.{all, keep, range}
 use Rattle.limits.specs.Said.{Said, fault, said}

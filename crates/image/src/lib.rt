@@ -2,39 +2,28 @@
 #![tactic(auto)]
 
 ghost use Rattle.image.specs.Calls.{Writes};
+ghost use Rattle.limits.specs.Refusal.{count_of, outcome};
 
 use crate::writing::put_blocks;
 use blocks::word::{BLOCK, blocks_for, words_of};
 use header_test::words_ok;
+use limits::Refusal;
 
 pub mod reading;
 mod writing;
 
-// What writing says: a number, and how many blocks it wrote.
-#[derive(Clone, Copy)]
-pub struct Written {
-    pub number: u32,
-    pub blocks: usize,
-}
-
-// Writes the index at the front of the words to the front of the image.
-pub fn write_image(index: &[u32], image: &mut [u8]) -> Written
-    ensures { Writes index.now image.old image.new result.number result.blocks }
+// Writes the index at the front of the words to the front of the image, and says how many blocks it wrote.
+pub fn write_image(index: &[u32], image: &mut [u8]) -> Result<usize, Refusal>
+    ensures { Writes index.now image.old image.new (outcome result).0 (count_of result) }
 {
     if !words_ok(index) {
-        return Written {
-            number: 16,
-            blocks: 0,
-        };
+        return Err(Refusal::Header);
     }
     let words = words_of(index);
     let blocks = blocks_for(words);
     if image.len() < BLOCK * blocks {
-        return Written {
-            number: 5,
-            blocks: 0,
-        };
+        return Err(Refusal::Room);
     }
     put_blocks(&index[..words], blocks, image);
-    Written { number: 0, blocks }
+    Ok(blocks)
 }

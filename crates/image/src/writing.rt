@@ -1,52 +1,37 @@
 // Writing the blocks.
-ghost use Rattle.std.specs.Prelude.{◌*◌, ◌<◌, ◌≤◌, drop, length, true, ◌++◌, ◌≡◌};
+ghost use Rattle.std.specs.Prelude.{◌*◌, ◌+◌, ◌<◌, ◌≤◌, drop, length, ◌++◌, ◌≡◌};
 ghost use Rattle.blocks.specs.Blocks.{block, blocks};
-ghost use Rattle.words.specs.Words.{at};
 
 use blocks::check::{check_start, stepped};
-use blocks::word::{BLOCK, HELD, put_word, word_or_zero};
+use blocks::word::{BLOCK, HELD, put_word};
 
-// Word j of the index, zero after the last; where a block is whole, none is after the last, and nothing is asked.
-fn word_of(index: &[u32], whole: bool, j: usize) -> u32
-    requires { whole ≡ true → j < length index.now }
-    ensures { result ≡ at index.now j }
-{
-    if whole {
-        index[j]
-    } else {
-        word_or_zero(index, j)
-    }
-}
-
-// Block b of the index, its check reckoned as the words are written. Whether all its words are there is asked once, so that the loop has no test.
+// Block b of the index, zero after the last word, its check reckoned as the words are written.
 fn put_block(index: &[u32], b: usize, part: &mut [u8])
-    requires { (b < 4294967296) × (length part.old ≡ 512) }
+    requires { (b < 4294967296) × (127 * b ≤ length index.now) × (length part.old ≡ 512) }
     ensures { part.new ≡ block index.now b }
 {
     let first = HELD * b;
-    let whole = first + HELD <= index.len();
+    let last = index.len().min(first + HELD);
+    let words = &index[first..last];
     let mut check = check_start(b);
-    let mut i = 0;
-    while i < HELD {
-        let x = word_of(index, whole, first + i);
+    for (i, &x) in words.iter().enumerate() {
         check = stepped(check, x);
-        let from = 4 * i;
-        put_word(&mut part[from..], x);
-        i += 1;
+        put_word(&mut part[4 * i..], x);
+    }
+    for i in words.len()..HELD {
+        check = stepped(check, 0);
+        put_word(&mut part[4 * i..], 0);
     }
     put_word(&mut part[508..], check);
 }
 
-// The first blocks of the index to the front of the image.
+// The first blocks of the index, each with a word at least, to the front of the image.
 pub fn put_blocks(index: &[u32], count: usize, image: &mut [u8])
-    requires { (count < 4294967296) × (512 * count ≤ length image.old) }
+    requires { (count < 4294967296) × (127 * count < length index.now + 127) × (512 * count ≤ length image.old) }
     ensures { image.new ≡ blocks index.now count ++ drop (512 * count) image.old }
 {
-    let mut b = 0;
-    while b < count {
+    for b in 0..count {
         let from = BLOCK * b;
-        let to = from + BLOCK;
-        put_block(index, b, &mut image[from..to]);
-        b += 1;
+        put_block(index, b, &mut image[from..from + BLOCK]);
     }
 }

@@ -7,6 +7,7 @@ ghost use Rattle.io.specs.Counts.{IsPrefixLen};
 
 use card::read_image;
 use files::read_front;
+use limits::Refusal;
 use lines::print_lines;
 use listing::list_node;
 use samples::{FIVE_ROWS, five_index};
@@ -17,7 +18,7 @@ use std::rt::Files;
 
 // Two numbers on a line.
 fn print_pair(a: u32, b: usize) {
-    io::print_decimal(STDOUT_FILENO, a as u64);
+    io::print_decimal(STDOUT_FILENO, u64::from(a));
     io::write_all(STDOUT_FILENO, b" ");
     io::print_decimal(STDOUT_FILENO, b as u64);
     io::write_all(STDOUT_FILENO, b"\n");
@@ -26,17 +27,27 @@ fn print_pair(a: u32, b: usize) {
 // What reading says of the image over a table of one column, into a room that the five-row index fits: the number and its place.
 fn print_said(image: &[u8], table: &[u16]) {
     let mut room = [0u32; 43];
-    let read = read_image(image, table, 1, &mut room);
-    print_pair(read.number, read.place);
+    match read_image(image, table, 1, &mut room) {
+        Ok(_) => print_pair(0, 0),
+        Err(refusal) => print_pair(refusal.number(), refusal.place()),
+    }
+}
+
+// What writing or reading gives: 0 and a count, or the number of what refuses it and none.
+fn print_counted(counted: Result<usize, Refusal>) {
+    match counted {
+        Ok(count) => print_pair(0, count),
+        Err(refusal) => print_pair(refusal.number(), 0),
+    }
 }
 
 // The same with byte p turned, and turned back.
 fn print_turned(image: &mut [u8], table: &[u16], p: usize)
     requires { p < length image.old }
 {
-    image[p] = std::num::wrapping_add_u8(image[p], 1);
+    image[p] = image[p].wrapping_add(1);
     print_said(image, table);
-    image[p] = std::num::wrapping_sub_u8(image[p], 1);
+    image[p] = image[p].wrapping_sub(1);
 }
 
 // The same with a word after the last. It is the block's last, so that its check word differs by the same number.
@@ -44,7 +55,7 @@ fn print_late(image: &mut [u8], table: &[u16])
     requires { 512 ≤ length image.old }
 {
     image[504] = 1;
-    image[508] = std::num::wrapping_add_u8(image[508], 1);
+    image[508] = image[508].wrapping_add(1);
     print_said(image, table);
 }
 
@@ -90,14 +101,12 @@ fn print_members(index: &[u32], k: u32) {
 // is not there.
 fn trip<R: Files + Eprint>(rt: &R, image: &mut [u8], table: &[u16]) {
     let index = five_index();
-    let written = image::write_image(&index, image);
-    print_pair(written.number, written.blocks);
+    print_counted(image::write_image(&index, image));
     save(rt, "five", image);
     let mut back = [0u8; 512];
     let n = load(rt, "five", &mut back);
     let mut room = [0u32; 43];
-    let read = read_image(&back[..n], table, 1, &mut room);
-    print_pair(read.number, read.words);
+    print_counted(read_image(&back[..n], table, 1, &mut room));
     print_index(&room);
     print_members(&room, 2);
     print_members(&room, 5);
@@ -114,8 +123,7 @@ fn write_three(image: &mut [u8]) {
     index[5] = 1;
     index[6] = 1;
     index[9] = 150;
-    let written = image::write_image(&index, image);
-    print_pair(written.number, written.blocks);
+    print_counted(image::write_image(&index, image));
 }
 
 fn main(rt: HostRuntime) {

@@ -60,9 +60,9 @@ fn open_inner(
     );
     let y = nearest_centre(index, work, n, a, e);
     let far = last(work, ANSWERS * n, w, seen.held);
-    let now_len = queue_children(index, work, n, len, a, e, b, y, far);
+    let len = queue_children(index, work, n, len, a, e, b, y, far);
     Sizes {
-        len: now_len,
+        len,
         held: seen.held,
         next: seen.next,
     }
@@ -97,12 +97,8 @@ fn open_node(
 {
     if node_child(index, k) == 0 {
         let far = last(work, ANSWERS * n, w, held);
-        let now_len = open_leaf(index, work, n, len, k, b, far);
-        return Sizes {
-            len: now_len,
-            held: held,
-            next: next,
-        };
+        let len = open_leaf(index, work, n, len, k, b, far);
+        return Sizes { len, held, next };
     }
     open_inner(
         table, c, query, index, n, w, withdrawn, how, work, len, held, next, k, b,
@@ -162,7 +158,7 @@ pub fn take_item(
         table, c, o, query, n, w, withdrawn, how, work, held, next, r,
     );
     Sizes {
-        len: len,
+        len,
         held: seen.held,
         next: seen.next,
     }

@@ -8,23 +8,19 @@ ghost use Rattle.joined_marks.specs.Joins.{fresh, merged, sum_fresh, united};
 const IN: u8 = 2;
 
 // A row's mark after one search more.
+#[tactic(auto, unfolding(crate::specs::Joins::merged))]
 fn merge(mark: u8, how: u8) -> u8
     ensures { result ≡ merged mark how }
 {
-    if how < IN {
-        return mark;
-    }
-    1
+    if how < IN { mark } else { 1 }
 }
 
 // 1 for a row that no search before found, else 0.
+#[tactic(auto, unfolding(crate::specs::Joins::fresh))]
 fn newly(mark: u8, how: u8) -> usize
     ensures { (result ≡ fresh mark how) × (result ≤ 1) }
 {
-    if how < IN {
-        return 0;
-    }
-    if mark == 0 { 1 } else { 0 }
+    if how >= IN && mark == 0 { 1 } else { 0 }
 }
 
 // The rows that a search found join those marked before. Gives how many are new.
@@ -34,11 +30,9 @@ pub fn join(how: &[u8], marks: &mut [u8], n: usize) -> usize
         × (result ≡ sum_fresh how.now marks.old n) × (result ≤ n) }
 {
     let mut new = 0;
-    let mut i = 0;
-    while i < n {
+    for i in 0..n {
         new += newly(marks[i], how[i]);
         marks[i] = merge(marks[i], how[i]);
-        i += 1;
     }
     new
 }

@@ -1,64 +1,75 @@
 -- Rows that have a label, counted. Assumes nothing.
-use Prim.Native.Nat.{◌+◌, ◌≤◌, suc, zero, ℕ}
-use Rattle.asking.proofs.Saying.{same-told}
+use Prim.Native.Nat.{◌+◌, ◌-◌, ◌≤◌, ℕ}
+use Rattle.asking.proofs.Saying.{same-pointwise}
+use Rattle.asking.specs.Pieces.{part_of}
 use Rattle.laws.specs.Lists.{same}
 use Rattle.labels.specs.Labels.{hits_to, labelled, last_to}
-use Rattle.line_fields.specs.Fields.{field_in}
+use Rattle.line_fields.specs.Fields.{field_in, span_of}
 use Rattle.text_lines.specs.Lines.{line_from_lem}
-use lib.ListN.{get_or}
+use lib.Dec.{eqb}
+use lib.ListN.{get_or, take}
+use lib.Pointwise.{pointwise}
 use mathlib.Core.Bool.{Bool, cond, false, true}
-use mathlib.Core.List.{List}
-use mathlib.Core.Path.{◌∙◌, ◌≡◌, ap, refl}
+use mathlib.Core.List.{List, []}
+use mathlib.Core.Path.{◌∙◌, ◌≡◌, ap, refl, sym}
 use native.Mathlib.Numerals.{add-one}
 use native.Mathlib.Omega.{arith}
 
 -- a line's field is compared
 pub labelled-told : (t starts : List ℕ) (column : ℕ) (label : List ℕ) (i : ℕ) (line field : List ℕ) (r : Bool) → line ≡ line_from_lem t (get_or starts i 0)
-    → field ≡ field_in line column → (r ≡ true → field ≡ label) × (field ≡ label → r ≡ true) → r ≡ labelled t starts column label i
+    → field ≡ field_in line column → r ≡ pointwise eqb field label → r ≡ labelled t starts column label i
 unfolding labelled
 labelled-told t starts column label i line field r l f h =
-    same-told r field label h ∙ ap (λ (x : List ℕ). same x label) (f ∙ ap (λ (x : List ℕ). field_in x column) l)
+    h ∙ same-pointwise field label ∙ ap (λ (x : List ℕ). same x label) (f ∙ ap (λ (x : List ℕ). field_in x column) l)
 
--- one row more, which is none or is one
-pub hit_none : (count row i : ℕ) (hit : Bool) → hit ≡ false → (count ≡ count + cond hit 1 0) × (row ≡ cond hit i row)
-hit_none count row i hit e = rw e (omega arith, refl)
+-- none of a list
+empty_take : (n : ℕ) (xs : List ℕ) → n ≡ 0 → take n xs ≡ []
+empty_take n xs e = rw e refl
 
-pub hit_some : (count row i : ℕ) (hit : Bool) → hit ≡ true → (count + 1 ≡ count + cond hit 1 0) × (i ≡ cond hit i row)
-hit_some count row i hit e = rw e (refl, refl)
+-- no field is read as nothing
+pub field-none : (l : List ℕ) (column : ℕ) → (span_of l (column - 1)).1 ≤ (span_of l (column - 1)).0 → part_of l 0 0 ≡ field_in l column
+unfolding field_in part_of
+field-none l column h = empty_take _ _ (omega arith) ∙ sym (empty_take _ _ (omega arith))
+
+-- the first i rows were looked at
+pub record Counted (f : ℕ → Bool) (count row# i : ℕ) : Type 0 where
+  pub hits : count ≡ hits_to f i
+  pub last : row# ≡ last_to f i
+  pub few : count ≤ i
 
 module _ (f : ℕ → Bool) where
-  -- one row more
-  pub hits_next : (i count row : ℕ) (hit : Bool) → hit ≡ f i → count ≡ hits_to f i → row ≡ last_to f i
-      → (count + cond hit 1 0 ≡ hits_to f (i + 1)) × (cond hit i row ≡ last_to f (i + 1))
+  -- none
+  pub counted-none : Counted f 0 0 0
   unfolding hits_to last_to
-  hits_next i count row hit h c r = rw (add-one, h, c, r) (refl, refl)
+  counted-none = record { hits = refl; last = refl; few = omega arith }
 
-  -- no more hits than rows
-  pub hits_few : (i : ℕ) → hits_to f i ≤ i
+  -- one row more, by its test
+  hits_more : (i : ℕ) → hits_to f (i + 1) ≡ hits_to f i + cond (f i) 1 0
   unfolding hits_to
-  hits_few zero = omega arith
-  hits_few (suc i) = omega (arith, hits_few i, one (f i))
-    where
-      one : (b : Bool) → cond {A = ℕ} b 1 0 ≤ 1
-      one true = omega arith
-      one false = omega arith
+  hits_more i = rw add-one refl
 
-  -- of a count that is known
-  pub hits-under : (i count : ℕ) → count ≡ hits_to f i → count ≤ i
-  hits-under i count e = omega (arith, hits_few i)
+  last_more : (i : ℕ) → last_to f (i + 1) ≡ cond (f i) i (last_to f i)
+  unfolding last_to
+  last_more i = rw add-one refl
 
-  -- no row
-  pub hits-none : (0 ≡ hits_to f 0) × (0 ≡ last_to f 0)
-  unfolding hits_to last_to
-  hits-none = (refl, refl)
+  module _ {count row# i : ℕ} (c : Counted f count row# i) where
+    -- which is none or is one
+    pub counted-other : f i ≡ false → Counted f count row# (i + 1)
+    counted-other n =
+        record {
+          hits = omega (arith, c.hits, hits_more i ∙ ap (λ (b : Bool). hits_to f i + cond b 1 0) n);
+          last = c.last ∙ sym (last_more i ∙ ap (λ (b : Bool). cond b i (last_to f i)) n);
+          few = omega (arith, c.few);
+        }
 
-  -- told by what comes out
-  pub hits-step : (i count row count' row' : ℕ) (hit : Bool) → hit ≡ f i → (count ≡ hits_to f i) × (row ≡ last_to f i)
-      → (count' ≡ count + cond hit 1 0) × (row' ≡ cond hit i row) → (count' ≡ hits_to f (i + 1)) × (row' ≡ last_to f (i + 1))
-  hits-step i count row count' row' hit h a b =
-      let n = hits_next i count row hit h a.0 a.1 in
-      (b.0 ∙ n.0, b.1 ∙ n.1)
+    pub counted-hit : f i ≡ true → Counted f (count + 1) i (i + 1)
+    counted-hit y =
+        record {
+          hits = omega (arith, c.hits, hits_more i ∙ ap (λ (b : Bool). hits_to f i + cond b 1 0) y);
+          last = sym (last_more i ∙ ap (λ (b : Bool). cond b i (last_to f i)) y);
+          few = omega (arith, c.few);
+        }
 
-  -- all rows
-  pub hits-all : (i k count row : ℕ) → (count ≡ hits_to f i) × (row ≡ last_to f i) → i ≡ k → (count ≡ hits_to f k) × (row ≡ last_to f k)
-  hits-all i k count row h e = (h.0 ∙ ap (hits_to f) e, h.1 ∙ ap (last_to f) e)
+    -- all rows
+    pub counted_all : (k : ℕ) → i ≡ k → (count ≡ hits_to f k) × (row# ≡ last_to f k)
+    counted_all k e = (c.hits ∙ ap (hits_to f) e, c.last ∙ ap (last_to f) e)

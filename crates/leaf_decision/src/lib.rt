@@ -5,10 +5,8 @@ ghost use Rattle.std.specs.Prelude.{◌≤◌, ◌≡◌};
 ghost use Rattle.leaf_decision.specs.Decision.{decision};
 ghost use Rattle.limits.specs.Limits.{max_distance};
 
-use numbers::apart;
-
 // What the stored distance says of a row.
-#[derive(Clone, Copy)]
+#[derive(Clone, Copy, PartialEq, Eq)]
 pub enum Verdict {
     In,
     Out,
@@ -20,10 +18,9 @@ pub fn decide(x: u32, s: u32, r: u32) -> Verdict
     requires { (x ≤ max_distance) × (s ≤ max_distance) }
     ensures { result ≡ decision x s r }
 {
-    if r < apart(x, s) {
-        return Verdict::Out;
-    }
-    if x + s <= r {
+    if r < x.abs_diff(s) {
+        Verdict::Out
+    } else if x + s <= r {
         Verdict::In
     } else {
         Verdict::Measure

@@ -59,15 +59,14 @@ pub fn leaf_row(
         list.old list.new }
 {
     let row = word(index, base + 2 * p);
-    let verdict = decide(x, index[base + 2 * p + 1], r);
-    let Verdict::Measure = verdict else {
-        if let Verdict::In = verdict {
+    match decide(x, index[base + 2 * p + 1], r) {
+        Verdict::Out => {}
+        Verdict::In => {
             if !is_in(withdrawn, row) {
                 put(how, row, 2);
                 enter(list, UNMEASURED, row);
             }
         }
-        return;
-    };
-    measure_to(table, c, circles, query, row, r, withdrawn, how, list);
+        Verdict::Measure => measure_to(table, c, circles, query, row, r, withdrawn, how, list),
+    }
 }

@@ -30,13 +30,10 @@ pub fn closest_child(table: &[u16], c: usize, index: &[u32], k: usize, z: usize)
     let set = circles(index);
     let mut at = 0;
     let mut least = row_distance(table, c, set, node_first(index, child), z);
-    let mut j = 1;
-    while j < m {
+    for j in 1..m {
         let d = row_distance(table, c, set, node_first(index, child + j), z);
-        let here = j;
-        j += 1;
         if d < least {
-            at = here;
+            at = j;
             least = d;
         }
     }

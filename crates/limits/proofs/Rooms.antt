@@ -3,7 +3,7 @@ use Prim.Native.Nat.{◌*◌, ◌/◌, ◌<◌, ◌≤◌, ℕ}
 use borrow.Author.Tests.{le-ltb, lt-ltb, ltb-false, ltb-true}
 use lib.Dec.{ltb}
 use mathlib.Core.Bool.{Bool, false, true}
-use mathlib.Core.Path.{◌≡◌, ap, refl, sym}
+use mathlib.Core.Path.{◌≡◌, refl, sym}
 use native.Mathlib.Nat.{div-lt_iff_lt-mul, div-zero, mul_comm}
 use native.Mathlib.Omega.{arith}
 

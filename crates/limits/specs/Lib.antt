@@ -1,3 +1,4 @@
 pub mod Limits
 pub mod Said
 pub mod Chosen
+pub mod Refusal

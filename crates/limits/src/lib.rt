@@ -4,7 +4,12 @@
 ghost use Rattle.std.specs.Prelude.{◌*◌, ◌/◌, ◌≤◌, ltb, ◌≡◌};
 ghost use Rattle.limits.specs.Chosen.{chosen, told};
 ghost use Rattle.limits.specs.Limits.{circles_ok_lem, columns_ok_lem, edition_ok_lem, share_ok_lem, within};
+ghost use Rattle.limits.specs.Refusal.{outcome};
 ghost use Rattle.limits.specs.Said.{number_faults, said};
+
+mod refusal;
+
+pub use refusal::Refusal;
 
 // What an index is built with: the centres of an inner node, the rows that a leaf may have, and the columns that are circles, a bit for each.
 #[derive(Clone, Copy)]
@@ -12,13 +17,6 @@ pub struct Params {
     pub centres: usize,
     pub leaf: usize,
     pub circles: u32,
-}
-
-// What the constructor answers.
-#[derive(Clone, Copy)]
-pub enum Chosen {
-    Taken(Params),
-    Refused,
 }
 
 impl Params {
@@ -41,23 +39,29 @@ impl Params {
     pub const LAST_EDITION: usize = 2;
 
     // Centres, leaf size and circles, where they are in range and the edition is the one that is built.
-    pub fn new(columns: usize, centres: usize, leaf: usize, circles: u32, edition: usize) -> Chosen
+    pub fn new(
+        columns: usize,
+        centres: usize,
+        leaf: usize,
+        circles: u32,
+        edition: usize,
+    ) -> Option<Params>
         ensures { told result ≡ chosen columns centres leaf circles edition }
     {
         if !share_ok(centres, leaf) {
-            return Chosen::Refused;
+            return None;
         }
         if !circles_ok(columns, circles) {
-            return Chosen::Refused;
+            return None;
         }
         if edition == Params::LAST_EDITION {
-            return Chosen::Taken(Params {
+            return Some(Params {
                 centres,
                 leaf,
                 circles,
             });
         }
-        Chosen::Refused
+        None
     }
 }
 
@@ -65,10 +69,7 @@ impl Params {
 pub fn is_within(low: usize, high: usize, x: usize) -> bool
     ensures { result ≡ within low high x }
 {
-    if x < low {
-        return false;
-    }
-    x <= high
+    low <= x && x <= high
 }
 
 // A table may have c columns.
@@ -82,10 +83,8 @@ pub fn columns_ok(c: usize) -> bool
 pub fn share_ok(centres: usize, leaf: usize) -> bool
     ensures { result ≡ share_ok_lem centres leaf }
 {
-    if !is_within(Params::LEAST_CENTRES, Params::MOST_CENTRES, centres) {
-        return false;
-    }
-    is_within(centres, Params::MOST_LEAF, leaf)
+    is_within(Params::LEAST_CENTRES, Params::MOST_CENTRES, centres)
+        && is_within(centres, Params::MOST_LEAF, leaf)
 }
 
 // A table of c columns may have these circles: no bit at or above c is on. (A set has 32 bits.)
@@ -140,30 +139,31 @@ pub fn is_short(room: usize, each: usize, n: usize) -> bool
     room / each < n
 }
 
-// The first number that applies of those that numbers decide, or 0.
-pub fn number_of(asked: Asked) -> u32
-    ensures { result ≡ (said (number_faults asked)).0 }
+// The first refusal that applies of those that numbers decide.
+#[tactic(auto, unfolding(crate::specs::Said::number_faults))]
+pub fn test_numbers(asked: Asked) -> Result<(), Refusal>
+    ensures { outcome result ≡ said (number_faults asked) }
 {
     if !columns_ok(asked.columns) {
-        return 1;
+        return Err(Refusal::Columns);
     }
     if asked.unfit {
-        return 2;
+        return Err(Refusal::Parameters);
     }
     if asked.length % asked.columns != 0 {
-        return 3;
+        return Err(Refusal::Ragged);
     }
     if Params::MOST_ROWS < asked.length / asked.columns {
-        return 4;
+        return Err(Refusal::Rows);
     }
     if asked.short {
-        return 5;
+        return Err(Refusal::Room);
     }
     if asked.unlike {
-        return 6;
+        return Err(Refusal::Query);
     }
     if asked.none {
-        return 7;
+        return Err(Refusal::NoneWanted);
     }
-    0
+    Ok(())
 }

@@ -1,6 +1,7 @@
 -- Where the fields of a line stand. A line is a list of bytes. Assumes nothing.
-use Rattle.std.specs.Prelude.{◌-◌, suc, zero, ℕ, eqb, Bool, ◌||◌, cond, false, not, true, List}
+use Rattle.std.specs.Prelude.{◌-◌, ◌<◌, ◌≤◌, suc, zero, ℕ, eqb, Bool, ◌||◌, cond, false, not, true, length, List, ◌≡◌}
 use Rattle.asking.specs.Pieces.{part_of, place_from}
+use Rattle.asking.specs.declared.pieces.Piece.{Piece}
 
 -- a comma, a semicolon, a tab or a blank stands between two fields
 unfoldable pub between : ℕ → Bool
@@ -22,3 +23,10 @@ span_of l (suc j) = span_from l (span_of l j).1
 -- what stands in a column, from 1 on
 unfoldable pub field_in : List ℕ → ℕ → List ℕ
 field_in l column = part_of l (span_of l (column - 1)).0 (span_of l (column - 1)).1
+
+-- p is where the field of a column stands, from 1 on, and it is not empty
+pub record IsField (l : List ℕ) (column : ℕ) (p : Piece) : Type 0 where
+  pub starts : p.start ≡ (span_of l (column - 1)).0
+  pub ends : p.end ≡ (span_of l (column - 1)).1
+  pub some : p.start < p.end
+  pub inside : p.end ≤ length l

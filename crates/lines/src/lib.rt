@@ -4,24 +4,11 @@
 
 ghost use Rattle.std.specs.Prelude.{◌+◌, ◌≤◌, length, ◌≡◌};
 ghost use Rattle.lines.specs.Told.{Told};
-ghost use Rattle.std.proofs.Math.Seq.{paste};
 
 use saying::STDOUT_FILENO;
 
 // How many bytes a number and the byte behind it take at most.
 pub const MOST: usize = 21;
-
-// Copies some bytes into the text, from byte `at` on.
-fn copy(from: &[u8], text: &mut [u8], at: usize)
-    requires { at + length from.now ≤ length text.old }
-    ensures { text.new ≡ paste text.old at from.now (length from.now) }
-{
-    let mut i = 0;
-    while i < from.len() {
-        text[at + i] = from[i];
-        i += 1;
-    }
-}
 
 // Puts n in decimal into the text, from byte `at` on, and `mark` behind it. Gives where that ends.
 pub fn put_number(text: &mut [u8], at: usize, n: u64, mark: u8) -> usize
@@ -30,8 +17,8 @@ pub fn put_number(text: &mut [u8], at: usize, n: u64, mark: u8) -> usize
 {
     let mut digits = [0u8; 20];
     let k = io::decimal(n, &mut digits);
-    copy(&digits[..k], text, at);
     let end = at + k;
+    text[at..end].copy_from_slice(&digits[..k]);
     text[end] = mark;
     end + 1
 }
@@ -61,9 +48,10 @@ pub fn put_bytes(file: i32, text: &mut [u8], at: usize, from: &[u8], mark: u8) -
         return 1;
     }
     let to = make_room(file, text, at, n + 1);
-    copy(from, text, to);
-    text[to + n] = mark;
-    to + n + 1
+    let behind = to + n;
+    text[to..behind].copy_from_slice(from);
+    text[behind] = mark;
+    behind + 1
 }
 
 // Puts a word into the text, if its place in the line is below `shown`, and behind it a space, or a newline behind the last. Gives where that ends.
@@ -75,10 +63,8 @@ fn put_word(text: &mut [u8], at: usize, word: u32, place: usize, shown: usize) -
     if shown <= place {
         return from;
     }
-    if place + 1 == shown {
-        return put_number(text, from, word as u64, b'\n');
-    }
-    put_number(text, from, word as u64, b' ')
+    let mark = if place + 1 == shown { b'\n' } else { b' ' };
+    put_number(text, from, u64::from(word), mark)
 }
 
 // Prints the words, `width` to a line, but of each line only the first `shown`. Gives how many words there were.
@@ -88,11 +74,9 @@ pub fn print_lines(words: &[u32], width: usize, shown: usize) -> usize
 {
     let mut text = io::buffer();
     let mut at = 0;
-    let mut i = 0;
-    while i < words.len() {
-        at = put_word(&mut text, at, words[i], i % width, shown);
-        i += 1;
+    for (i, word) in words.iter().enumerate() {
+        at = put_word(&mut text, at, *word, i % width, shown);
     }
     io::write_all(STDOUT_FILENO, &text[..at]);
-    i
+    words.len()
 }

@@ -2,5 +2,6 @@
 #![tactic(auto)]
 
 fn main(rt: HostRuntime) {
-    lister::run(&rt);
+    // what refused was printed
+    let _ = lister::run(&rt);
 }

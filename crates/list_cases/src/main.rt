@@ -11,7 +11,8 @@ fn list<R: Files + Eprint>(rt: &R, name: &str) {
     io::write_all(STDOUT_FILENO, b"\n");
     match fs::open(rt, name) {
         Ok(mut file) => {
-            lister::run_on(&mut file);
+            // what refused was printed
+            let _ = lister::run_on(&mut file);
         }
         Err(error) => files::fail(rt, name, error),
     }

@@ -1,4 +1,3 @@
-pub mod Keeping
 pub mod Index
 pub mod Low
 pub mod Listed

@@ -15,16 +15,6 @@ use mathlib.Core.Path.{◌∙◌, ◌≡◌, ap, refl, sym}
 use native.Mathlib.Decide.{ℕ_discrete}
 use native.Mathlib.Omega.{arith}
 
--- the part behind the first three, as it is lent
-pub part_behind : (ns : List ℕ) → take (length ns - 3) (drop 3 ns) ≡ drop 3 ns
-part_behind ns = take_all (length ns - 3) (drop 3 ns) (omega (arith, length-drop 3 ns))
-
--- the build was handed the numbers in their order
-pub lists : {ns t room room' work work' : List ℕ} {c m l made number words nodes : ℕ}
-    → Builds t c 0 2 m l room work room' work' made words nodes → t ≡ drop 3 ns
-    → c ≡ get_or ns 0 0 → m ≡ get_or ns 1 0 → l ≡ get_or ns 2 0 → number ≡ made → Lists ns room room' work work' number
-lists {words = words} {nodes} b et ec em el en = record { words = words; nodes = nodes; built = rw (← et, ← ec, ← em, ← el, en) b }
-
 module _ {text numbers numbers' room work : List ℕ} {kept reading count : ℕ} (i : kept ≤ length text)
     (r : Reads (take kept text) numbers numbers' reading count) where
   -- the text can't be read

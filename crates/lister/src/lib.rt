@@ -1,12 +1,13 @@
 // The listing program: the text of a file or of standard input, read as c, m, l and a table; the table's index; its nodes and positions as lines of numbers.
 #![tactic(auto)]
 
-ghost use Rattle.std.specs.Prelude.{◌*◌, ◌+◌, ◌≤◌, min, length, ◌≡◌};
+ghost use Rattle.std.specs.Prelude.{◌*◌, ◌+◌, ◌≤◌, length, ◌≡◌};
+ghost use Rattle.limits.specs.Refusal.{outcome};
 ghost use Rattle.lister.specs.Keeps.{Keeps};
 ghost use Rattle.lister.specs.Listing.{Lists, Runs};
 ghost use Rattle.words.specs.Words.{width};
 
-use limits::Params;
+use limits::{Params, Refusal};
 use lines::print_lines;
 use saying::STDOUT_FILENO;
 use std::io::{Input, Read};
@@ -30,24 +31,15 @@ const ROOM: usize = 12_296;
 
 const WORK: usize = 6_144;
 
-fn least(a: usize, b: usize) -> usize
-    ensures { result ≡ min a b }
-{
-    if a < b { a } else { b }
-}
-
 // Keeps what fits of the bytes that came, behind what is kept already. Gives how many bytes are kept then.
 fn keep(came: &[u8], text: &mut [u8], kept: usize) -> usize
     requires { kept ≤ length text.old }
     ensures { Keeps came.now text.old kept text.new result }
 {
-    let n = least(came.len(), text.len() - kept);
-    let mut i = 0;
-    while i < n {
-        text[kept + i] = came[i];
-        i += 1;
-    }
-    kept + n
+    let n = came.len().min(text.len() - kept);
+    let end = kept + n;
+    text[kept..end].copy_from_slice(&came[..n]);
+    end
 }
 
 // Reads a file to its end, and keeps the front of it. Gives how many bytes are kept; a text that can't be read to its end counts as too long.
@@ -77,26 +69,23 @@ fn print_index(index: &[u32], nodes: usize, words: usize)
     print_lines(&index[at..words], 2, 2);
 }
 
-fn print_refused(number: u32) {
-    io::write_all(STDOUT_FILENO, b"refused ");
-    io::print_decimal(STDOUT_FILENO, number as u64);
-    io::write_all(STDOUT_FILENO, b"\n");
+// Prints the number of what was refused, if anything was.
+fn print_refused(listed: Result<(), Refusal>) {
+    if let Err(refusal) = listed {
+        io::write_all(STDOUT_FILENO, b"refused ");
+        io::print_decimal(STDOUT_FILENO, u64::from(refusal.number()));
+        io::write_all(STDOUT_FILENO, b"\n");
+    }
 }
 
-fn wide(x: u16) -> usize
-    ensures { result ≡ x }
-{
-    x as usize
-}
-
-// Builds the index of the numbers behind the first three, and prints it. Gives the number of the build.
-fn list(numbers: &[u16], room: &mut [u32], work: &mut [u32]) -> u32
+// Builds the index of the numbers behind the first three, and prints it, unless the build is refused.
+fn list(numbers: &[u16], room: &mut [u32], work: &mut [u32]) -> Result<(), Refusal>
     requires { 3 ≤ length numbers.now }
-    ensures { Lists numbers.now room.old room.new work.old work.new result }
+    ensures { Lists numbers.now room.old room.new work.old work.new (outcome result).0 }
 {
-    let c = wide(numbers[0]);
-    let m = wide(numbers[1]);
-    let l = wide(numbers[2]);
+    let c = usize::from(numbers[0]);
+    let m = usize::from(numbers[1]);
+    let l = usize::from(numbers[2]);
     let built = build::build(
         &numbers[3..],
         c,
@@ -106,35 +95,24 @@ fn list(numbers: &[u16], room: &mut [u32], work: &mut [u32]) -> u32
         Params::LAST_EDITION,
         room,
         work,
-    );
-    let number = built.number;
-    if number != 0 {
-        print_refused(number);
-        return number;
-    }
+    )?;
     print_index(room, built.nodes, built.words);
-    0
+    Ok(())
 }
 
-// Reads the text as numbers, and lists them. Gives the number of what refused, or 0.
+// Reads the text as numbers, and lists them.
 fn run_in<F: Read>(
     file: &mut F,
     text: &mut [u8],
     numbers: &mut [u16],
     room: &mut [u32],
     work: &mut [u32],
-) -> u32
+) -> Result<(), Refusal>
     ensures { Runs text.new numbers.old numbers.new room.old room.new
-        work.old work.new result }
+        work.old work.new (outcome result).0 }
 {
     let n = read_text(file, text);
-    let read = text::read_numbers(&text[..n], numbers);
-    let number = read.number;
-    if number != 0 {
-        print_refused(number);
-        return number;
-    }
-    let count = read.count;
+    let count = text::read_numbers(&text[..n], numbers)?;
     list(&numbers[..count], room, work)
 }
 
@@ -163,21 +141,23 @@ fn workspace() -> [u32; WORK]
     [0; WORK]
 }
 
-// The whole program on an open file. Gives the number that it printed behind `refused`, or 0 where it printed an index: of that
-// a contract can speak, and not of standard output.
-pub fn run_on<F: Read>(file: &mut F) -> u32
-    ensures { result ≤ 18 }
+// The whole program on an open file. Gives what it was refused for, whose number it printed behind `refused`, or nothing where it printed an index:
+// of that a contract can speak, and not of standard output.
+pub fn run_on<F: Read>(file: &mut F) -> Result<(), Refusal>
+    ensures { (outcome result).0 ≤ 18 }
 {
     let mut text = text_buffer();
     let mut numbers = number_buffer();
     let mut room = index_room();
     let mut work = workspace();
-    run_in(file, &mut text, &mut numbers, &mut room, &mut work)
+    let listed = run_in(file, &mut text, &mut numbers, &mut room, &mut work);
+    print_refused(listed);
+    listed
 }
 
 // The whole program on standard input.
-pub fn run<R: Input>(rt: &R) -> u32
-    ensures { result ≤ 18 }
+pub fn run<R: Input>(rt: &R) -> Result<(), Refusal>
+    ensures { (outcome result).0 ≤ 18 }
 {
     run_on(&mut rt.reader())
 }

@@ -1,5 +1,6 @@
 -- The listing of a node. Assumes nothing.
-use Rattle.std.specs.Prelude.{◌*◌, ◌+◌, ◌<◌, ◌≤◌, ℕ, ltb, drop, length, take, Bool, ◌&&◌, cond, false, List, [], ◌≡◌}
+use Rattle.std.specs.Prelude.{◌*◌, ◌+◌, ◌<◌, ◌≤◌, ℕ, ltb, drop, length, take, Bool, ◌&&◌, cond, false, List, [], ◌≡◌, Option, Some, None}
+use Rattle.listing.specs.declared.Part.{Part}
 use Rattle.words.specs.Shape.{shape_ok_lem}
 use Rattle.words.specs.Words.{nodes#, count#, header_ok_lem, pair_at, start#, words_of_lem, words_ok_lem}
 
@@ -7,13 +8,22 @@ use Rattle.words.specs.Words.{nodes#, count#, header_ok_lem, pair_at, start#, wo
 abbrev pub pairs : List ℕ → ℕ → List ℕ
 pairs w k = take (2 * count# w k) (drop (pair_at w (start# w k)) w)
 
--- 01, Which rows are measured, Listing a node: words, header and shape are right, and k is a node's number
+-- words, header and shape are right, and k is a node's number
 unfoldable pub lists : List ℕ → ℕ → Bool
 lists w k = words_ok_lem w && shape_ok_lem w && ltb k (nodes# w)
 
 -- the part that is listed: a node's pairs, or nothing
 unfoldable pub listed : List ℕ → ℕ → List ℕ
 listed w k = cond (lists w k) (pairs w k) []
+
+-- where a part starts, and how many words it has; 0 and 0 where there is none
+abbrev pub start_of : Option Part → ℕ
+start_of (Some p) = p.start
+start_of None = 0
+
+abbrev pub long_of : Option Part → ℕ
+long_of (Some p) = p.length
+long_of None = 0
 
 -- the listing told as numbers, for every w and k: where in the index words the part starts, and how many words it has
 pub record Lists (w : List ℕ) (k start long : ℕ) : Type 0 where

@@ -1,7 +1,7 @@
 // The listing of a node.
 #![tactic(auto)]
 
-ghost use Rattle.listing.specs.Calls.{Lists, listed};
+ghost use Rattle.listing.specs.Calls.{Lists, listed, lists, long_of, start_of};
 ghost use Rattle.std.specs.Prelude.{◌≡◌};
 
 use header_test::words_ok;
@@ -15,40 +15,36 @@ pub struct Part {
     pub length: usize,
 }
 
-// Node k's pairs as a part; 0 words at 0 where words are missing, the header is impossible, the shape is wrong, or k is no node's number.
-pub fn part_of(index: &[u32], k: usize) -> Part
-    ensures { Lists index.now k result.start result.length }
+// The words and the shape are right, and k is a node's number.
+#[tactic(auto, unfolding(crate::specs::Calls::lists))]
+fn is_listed(index: &[u32], k: usize) -> bool
+    ensures { result ≡ lists index.now k }
 {
-    if !words_ok(index) {
-        return Part {
-            start: 0,
-            length: 0,
-        };
-    }
-    if !shape_ok(index) {
-        return Part {
-            start: 0,
-            length: 0,
-        };
-    }
-    if nodes(index) <= k {
-        return Part {
-            start: 0,
-            length: 0,
-        };
-    }
-    Part {
-        start: pair_at(index, node_start(index, k)),
-        length: 2 * node_count(index, k),
-    }
+    words_ok(index) && shape_ok(index) && k < nodes(index)
 }
 
-// Node k's pairs; none where `part_of` has 0 words.
+// Node k's pairs as a part; `None` where words are missing, the header is impossible, the shape is wrong, or k is no node's number.
+pub fn part_of(index: &[u32], k: usize) -> Option<Part>
+    ensures { Lists index.now k (start_of result) (long_of result) }
+{
+    if !is_listed(index, k) {
+        return None;
+    }
+    Some(Part {
+        start: pair_at(index, node_start(index, k)),
+        length: 2 * node_count(index, k),
+    })
+}
+
+// Node k's pairs; none where `part_of` has none.
 pub fn list_node(index: &[u32], k: usize) -> &[u32]
     ensures { result.now ≡ listed index.now k }
 {
-    let part = part_of(index, k);
-    let start = part.start;
-    let end = start + part.length;
-    &index[start..end]
+    match part_of(index, k) {
+        Some(part) => {
+            let end = part.start + part.length;
+            &index[part.start..end]
+        }
+        None => &[],
+    }
 }

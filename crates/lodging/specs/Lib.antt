@@ -1,2 +1,3 @@
 pub mod Sorts
 pub mod Standing
+pub mod Marks

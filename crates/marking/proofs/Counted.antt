@@ -8,7 +8,7 @@ use lib.ListN.{get_or, length, length-set, set}
 use lib.Seq.{get_or-set_same}
 use mathlib.Core.Bool.{Bool, cond, false, true}
 use mathlib.Core.List.{List, [], ◌∷◌}
-use mathlib.Core.Path.{◌∙◌, ◌≡◌, ap, refl, sym}
+use mathlib.Core.Path.{◌∙◌, ◌≡◌, refl}
 use native.Mathlib.Omega.{arith}
 
 -- one entry more

@@ -6,16 +6,16 @@ use Rattle.laws.specs.Lists.{each, range}
 use Rattle.limits.specs.Limits.{max_distance}
 use Rattle.marking.proofs.Written.{marked-same, shown_append}
 use Rattle.marking.specs.Listed.{Leaves, entered, listed, room_for, span, told, unmeasured}
-use Rattle.marking.specs.Written.{byte, mark, marked, write}
+use Rattle.marking.specs.Written.{byte, marked, write}
 use Rattle.measure.specs.Distance.{capped}
 use Rattle.tree.proofs.Veiled.{veiled-append}
 use Rattle.tree.specs.Radius.{by_distance, shown, veiled}
-use borrow.Author.Tests.{le-leb, le-ltb, leb-false, leb-true, lt-leb, lt-ltb, ne_eqb}
-use lib.Dec.{eqb, leb, ltb}
-use lib.ListN.{get_or, length, length-set, set}
+use borrow.Author.Tests.{le-ltb, leb-false, leb-true, lt-leb, lt-ltb, ne_eqb}
+use lib.Dec.{eqb, leb}
+use lib.ListN.{get_or, length, set}
 use mathlib.Core.Bool.{Bool, cond, false, true}
-use mathlib.Core.List.{List, [], ◌++◌, ◌∷◌, append-nil, map}
-use mathlib.Core.Path.{◌∙◌, ◌≡◌, ap, ap₂, refl, subst, sym}
+use mathlib.Core.List.{List, [], ◌++◌, ◌∷◌, append-nil}
+use mathlib.Core.Path.{◌∙◌, ◌≡◌, ap, refl, subst, sym}
 use native.Mathlib.Omega.{arith}
 
 -- ---- a store beyond the end changes nothing

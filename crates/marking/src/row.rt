@@ -7,7 +7,7 @@ ghost use Rattle.rowset.specs.Sets.{is_in_lem};
 use limits::Params;
 use rows_withdrawn::is_in;
 
-// What stands in the list for the distance of a row that was not measured.
+// What stands in the list for the distance of a row that was not measured: a word of the list, in which an Option would take two.
 pub const UNMEASURED: u32 = 4294967295;
 
 // A row's how-byte, where how-bytes are lent.
@@ -24,16 +24,14 @@ pub fn enter(list: &mut [u32], d: u32, row: usize)
     requires { row < max_rows }
     ensures { list.new ≡ entered d row list.old }
 {
-    if list.len() == 0 {
+    if list.is_empty() {
         return;
     }
     let k = list[0] as usize;
-    if k < (list.len() - 1) / 2 {
-        if k < Params::MOST_ROWS {
-            list[2 * k + 1] = d;
-            list[2 * k + 2] = row as u32;
-            list[0] = (k + 1) as u32;
-        }
+    if k < ((list.len() - 1) / 2).min(Params::MOST_ROWS) {
+        list[2 * k + 1] = d;
+        list[2 * k + 2] = row as u32;
+        list[0] = (k + 1) as u32;
     }
 }
 
@@ -50,13 +48,9 @@ pub fn mark_measured(
     ensures { Leaves (is_in_lem withdrawn.now) (λ (i : ℕ). x) ((row, cond (leb x r) 3 1) ∷ []) how.old how.new
         list.old list.new }
 {
-    if x <= r {
-        if is_in(withdrawn, row) {
-            put(how, row, 1);
-        } else {
-            put(how, row, 3);
-            enter(list, x, row);
-        }
+    if x <= r && !is_in(withdrawn, row) {
+        put(how, row, 3);
+        enter(list, x, row);
     } else {
         put(how, row, 1);
     }

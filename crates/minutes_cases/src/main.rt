@@ -1,12 +1,24 @@
 // The analyst's program on the texts of data/: each question behind a question mark, what is written to either file, and the status.
 #![tactic(auto)]
 
-mod rooms;
-
-use analyst::Ends;
+use analyst::{Ends, filled};
+use asking::pieces::{bytes_of, piece_at};
 use saying::STDOUT_FILENO;
+use statuses::Status;
 use std::io::Input;
 use std::rt::Files;
+
+// Small rooms, for 3,072 rows of 6 columns.
+const TEXT: usize = 131_072;
+
+const TABLE: usize = 18_432;
+
+// Room and workspace for the index of as many rows.
+const ROOM: usize = 36_872;
+
+const WORK: usize = 18_432;
+
+const ROWS: usize = 3_072;
 
 fn say(text: &[u8]) {
     io::write_all(STDOUT_FILENO, text);
@@ -14,16 +26,14 @@ fn say(text: &[u8]) {
 
 // Writes the words of a question with a blank before each.
 fn say_words(words: &[u8]) {
-    let mut i = 0;
-    while i < 32 {
-        let word = asking::pieces::piece_at(words, 0, i);
-        if word.end < words.len() {
-            if word.there {
+    for i in 0..32 {
+        match piece_at(words, 0, i) {
+            Some(word) if word.end < words.len() => {
                 say(b" ");
-                say(asking::pieces::bytes_of(words, word));
+                say(bytes_of(words, word));
             }
+            _ => {}
         }
-        i += 1;
     }
 }
 
@@ -35,11 +45,11 @@ fn answer_in<R: Files + Input>(
     table: &mut [u16],
     room: &mut [u32],
     work: &mut [u32],
-) -> u32 {
-    let mut how = rooms::byte_room();
-    let mut marks = rooms::byte_room();
-    let mut rows = rooms::answer_room();
-    let mut distances = rooms::answer_room();
+) -> Status {
+    let mut how: [u8; ROWS] = filled(0);
+    let mut marks: [u8; ROWS] = filled(0);
+    let mut rows: [u32; ROWS] = filled(0);
+    let mut distances: [u32; ROWS] = filled(0);
     analyst::run(
         rt,
         words,
@@ -59,11 +69,11 @@ fn answer_in<R: Files + Input>(
 }
 
 // Answers in rooms of its own.
-fn answer<R: Files + Input>(rt: &R, words: &[u8]) -> u32 {
-    let mut text = rooms::text_room();
-    let mut table = rooms::table_room();
-    let mut room = rooms::index_room();
-    let mut work = rooms::workspace();
+fn answer<R: Files + Input>(rt: &R, words: &[u8]) -> Status {
+    let mut text: [u8; TEXT] = filled(0);
+    let mut table: [u16; TABLE] = filled(0);
+    let mut room: [u32; ROOM] = filled(0);
+    let mut work: [u32; WORK] = filled(0);
     answer_in(rt, words, &mut text, &mut table, &mut room, &mut work)
 }
 
@@ -74,21 +84,17 @@ fn ask<R: Files + Input>(rt: &R, words: &[u8]) {
     say(b"\n");
     let status = answer(rt, words);
     say(b"status ");
-    io::print_decimal(STDOUT_FILENO, status as u64);
+    io::print_decimal(STDOUT_FILENO, u64::from(status.number()));
     say(b"\n");
 }
 
 // Asks each question of a list, in which a newline stands behind each.
 fn ask_each<R: Files + Input>(rt: &R, list: &[u8]) {
-    let mut i = 0;
-    while i < 32 {
-        let question = asking::pieces::piece_at(list, b'\n', i);
-        if question.end < list.len() {
-            if question.there {
-                ask(rt, asking::pieces::bytes_of(list, question));
-            }
+    for i in 0..32 {
+        match piece_at(list, b'\n', i) {
+            Some(question) if question.end < list.len() => ask(rt, bytes_of(list, question)),
+            _ => {}
         }
-        i += 1;
     }
 }
 

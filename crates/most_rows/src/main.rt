@@ -31,14 +31,12 @@ fn tell(what: &[u8], r: Reader) {
 // Feeds 16 rows as often.
 fn feed_rows(reader: Reader, times: usize, table: &mut [u16]) -> Reader {
     let mut r = reader;
-    let mut i = 0;
-    while i < times {
+    for _ in 0..times {
         r = sheet::feed(
             r,
             b"7\n7\n7\n7\n7\n7\n7\n7\n7\n7\n7\n7\n7\n7\n7\n7\n",
             table,
         );
-        i += 1;
     }
     r
 }

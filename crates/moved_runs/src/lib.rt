@@ -16,10 +16,7 @@ pub fn holds_run(index: &[u32], v: usize, k: usize) -> bool
     requires v_bound { (v < nodes# index.now) × (k < nodes# index.now) }
     ensures { result ≡ holds index.now v k }
 {
-    if node_start(index, v) < node_start(index, k) {
-        return false;
-    }
-    node_end(index, v) <= node_end(index, k)
+    node_start(index, k) <= node_start(index, v) && node_end(index, v) <= node_end(index, k)
 }
 
 // Node k's start when `added` rows have come to the end of node v's run.
@@ -30,9 +27,10 @@ pub fn start_of(index: &[u32], v: usize, added: usize, k: usize) -> usize
 {
     let s = node_start(index, k);
     if node_end(index, v) <= s {
-        return s + added;
+        s + added
+    } else {
+        s
     }
-    s
 }
 
 // Node k's count then.
@@ -43,9 +41,10 @@ pub fn count_of(index: &[u32], v: usize, added: usize, k: usize) -> usize
 {
     let count = node_count(index, k);
     if holds_run(index, v, k) {
-        return count + added;
+        count + added
+    } else {
+        count
     }
-    count
 }
 
 // Node k's first child in the old index; node v has none yet.
@@ -54,8 +53,5 @@ pub fn child_of(index: &[u32], v: usize, k: usize) -> usize
     requires k_bound { k < nodes# index.now }
     ensures { (result ≡ new_child index.now v k) × (result < 4294967296) }
 {
-    if k == v {
-        return 0;
-    }
-    node_child(index, k)
+    if k == v { 0 } else { node_child(index, k) }
 }

@@ -1,3 +1,4 @@
 pub mod Calls
+pub mod Given
 pub mod Ranked
 pub mod Cases

@@ -1,76 +1,21 @@
 // The nearest call: refused, or the search.
 #![tactic(auto)]
 
-ghost use Rattle.std.specs.Prelude.{◌≤◌, min, length};
+ghost use Rattle.std.specs.Prelude.{min, length};
+ghost use Rattle.limits.specs.Refusal.{outcome};
 ghost use Rattle.nearest_steps.specs.Asked.{asks, lends};
 ghost use Rattle.nearest.specs.Calls.{Answered};
+ghost use Rattle.nearest.specs.Given.{given_of, measured_of};
 
-use nearest_refusals::{least, nearest_number};
+use limits::Refusal;
+use nearest_refusals::test_nearest;
 use nearest_search::find;
 
-// What a call gives: 0 or why it was refused; on success how many answers, and how many rows were measured.
-#[derive(Clone, Copy)]
+// What a call gives: how many answers, and how many rows were measured.
+#[derive(Clone, Copy, PartialEq, Eq)]
 pub struct Given {
-    pub number: u32,
     pub given: usize,
     pub measured: usize,
-}
-
-// The rows nearest to the query, as `nearest` gives them, where there is room for so many.
-fn answer(
-    table: &[u16],
-    c: usize,
-    index: &[u32],
-    query: &[u16],
-    wanted: usize,
-    withdrawn: &[u32],
-    room: usize,
-    rows: &mut [u32],
-    distances: &mut [u32],
-    how: &mut [u8],
-    work: &mut [u32],
-) -> Given
-    requires { (room ≤ length rows.old) × (room ≤ length distances.old) }
-    ensures { Answered (asks table.now c index.now query.now wanted withdrawn.now) room
-        (lends rows.old distances.old how.old work.old)
-        (lends rows.new distances.new how.new work.new) result.number result.given result.measured }
-{
-    let number = nearest_number(
-        table,
-        c,
-        index,
-        query,
-        wanted,
-        withdrawn,
-        room,
-        how.len(),
-        work.len(),
-    );
-    if number != 0 {
-        return Given {
-            number: number,
-            given: 0,
-            measured: 0,
-        };
-    }
-    let n = words::places::rows(index);
-    let found = find(
-        table,
-        c,
-        index,
-        query,
-        least(wanted, n),
-        withdrawn,
-        rows,
-        distances,
-        how,
-        work,
-    );
-    Given {
-        number: 0,
-        given: found.given,
-        measured: found.measured,
-    }
 }
 
 // The rows nearest to the query, so many as are wanted or remain, by the index: each a row number and its distance, ordered by distance, then row
@@ -87,15 +32,16 @@ pub fn nearest(
     distances: &mut [u32],
     how: &mut [u8],
     work: &mut [u32],
-) -> Given
+) -> Result<Given, Refusal>
     ensures { Answered (asks table.now c index.now query.now wanted withdrawn.now)
         (min (length rows.old) (length distances.old))
         (lends rows.old distances.old how.old work.old)
-        (lends rows.new distances.new how.new work.new) result.number result.given result.measured }
+        (lends rows.new distances.new how.new work.new)
+        (outcome result).0 (given_of result) (measured_of result) }
 {
-    let room = least(rows.len(), distances.len());
-    answer(
-        table, c, index, query, wanted, withdrawn, room, rows, distances, how, work,
+    let own = rows.len();
+    within(
+        table, c, index, query, wanted, withdrawn, own, rows, distances, how, work,
     )
 }
 
@@ -112,14 +58,40 @@ pub fn within(
     distances: &mut [u32],
     how: &mut [u8],
     work: &mut [u32],
-) -> Given
+) -> Result<Given, Refusal>
     ensures { Answered (asks table.now c index.now query.now wanted withdrawn.now)
         (min own (min (length rows.old) (length distances.old)))
         (lends rows.old distances.old how.old work.old)
-        (lends rows.new distances.new how.new work.new) result.number result.given result.measured }
+        (lends rows.new distances.new how.new work.new)
+        (outcome result).0 (given_of result) (measured_of result) }
 {
-    let room = least(own, least(rows.len(), distances.len()));
-    answer(
-        table, c, index, query, wanted, withdrawn, room, rows, distances, how, work,
-    )
+    let room = own.min(rows.len()).min(distances.len());
+    test_nearest(
+        table,
+        c,
+        index,
+        query,
+        wanted,
+        withdrawn,
+        room,
+        how.len(),
+        work.len(),
+    )?;
+    let n = words::places::rows(index);
+    let found = find(
+        table,
+        c,
+        index,
+        query,
+        wanted.min(n),
+        withdrawn,
+        rows,
+        distances,
+        how,
+        work,
+    );
+    Ok(Given {
+        given: found.given,
+        measured: found.measured,
+    })
 }

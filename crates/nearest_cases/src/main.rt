@@ -1,12 +1,12 @@
 // The nearest call, run. A line for each case: its number in two digits, how many answers there are, how many rows were measured; six row numbers,
-// which are 9
-// before; six distances, which are 99 before; eight how-bytes, which are 9 before; and words 0, 29 and 30 of the workspace, which are 9 before.
+// which are 9 before; six distances, which are 99 before; eight how-bytes, which are 9 before; and words 0, 29 and 30 of the workspace, which are 9 before.
 #![tactic(auto)]
 
-ghost use Rattle.std.specs.Prelude.{length, ◌≡◌};
+ghost use Rattle.std.specs.Prelude.{◌≤◌, length, ◌≡◌};
 
+use limits::Refusal;
 use nearest::Given;
-use samples::{FIVE_ROWS, count, digit, five_index, many, pairs_index, put};
+use samples::{FIVE_ROWS, digit, five_index, many, pairs_index, put};
 
 // The index of the rows 6 9 5 3 0.
 fn odd_index() -> [u32; 53]
@@ -40,66 +40,79 @@ fn sevens_index() -> [u32; 41]
     index
 }
 
-fn byte(h: u8) -> u8 {
-    digit(h as u32)
+// One digit.
+fn one(x: usize) {
+    io::write_all(1, &[digit(x)]);
 }
 
-fn numbers(found: Given, rows: [u32; 6]) {
-    let text = [
-        digit(found.number / 10),
-        digit(found.number % 10),
-        b' ',
-        count(found.given),
-        b' ',
-        count(found.measured),
-        b' ',
-        digit(rows[0]),
-        digit(rows[1]),
-        digit(rows[2]),
-        digit(rows[3]),
-        digit(rows[4]),
-        digit(rows[5]),
-        b' ',
-    ];
-    io::write_all(1, &text);
+// A word as one digit.
+fn one_word(x: u32) {
+    one(x as usize);
 }
 
-fn distance(d: u32) {
-    let text = [digit(d / 10), digit(d % 10), b' '];
-    io::write_all(1, &text);
+// Two digits.
+fn two(x: usize) {
+    io::write_all(1, &[digit(x / 10), digit(x % 10)]);
 }
 
-fn bytes(how: [u8; 8], work: [u32; 32]) {
-    let text = [
-        byte(how[0]),
-        byte(how[1]),
-        byte(how[2]),
-        byte(how[3]),
-        byte(how[4]),
-        byte(how[5]),
-        byte(how[6]),
-        byte(how[7]),
-        b' ',
-        digit(work[0]),
-        digit(work[29]),
-        digit(work[30]),
-        b'\n',
-    ];
-    io::write_all(1, &text);
+fn space() {
+    io::write_all(1, b" ");
 }
 
-fn line(found: Given, rows: [u32; 6], distances: [u32; 6], how: [u8; 8], work: [u32; 32]) {
-    numbers(found, rows);
-    distance(distances[0]);
-    distance(distances[1]);
-    distance(distances[2]);
-    distance(distances[3]);
-    distance(distances[4]);
-    distance(distances[5]);
-    bytes(how, work);
+// What a call says: its number, how many answers there are, and how many rows were measured.
+fn said(found: Result<Given, Refusal>) -> (usize, usize, usize) {
+    match found {
+        Ok(found) => (0, found.given, found.measured),
+        Err(refusal) => (refusal.number() as usize, 0, 0),
+    }
 }
 
-fn show(table: &[u16], c: usize, index: &[u32], query: &[u16], wanted: usize, withdrawn: &[u32]) {
+fn line(
+    found: Result<Given, Refusal>,
+    rows: &[u32; 6],
+    distances: &[u32; 6],
+    how: &[u8; 8],
+    work: &[u32; 32],
+) {
+    let (number, given, measured) = said(found);
+    two(number);
+    space();
+    one(given);
+    space();
+    one(measured);
+    space();
+    for row in rows {
+        one_word(*row);
+    }
+    space();
+    for d in distances {
+        two(*d as usize);
+        space();
+    }
+    for h in how {
+        one(usize::from(*h));
+    }
+    space();
+    one_word(work[0]);
+    one_word(work[29]);
+    one_word(work[30]);
+    io::write_all(1, b"\n");
+}
+
+// A call that is lent so many places for rows, so many how-bytes and so many words.
+fn show_in(
+    table: &[u16],
+    c: usize,
+    index: &[u32],
+    query: &[u16],
+    wanted: usize,
+    withdrawn: &[u32],
+    places: usize,
+    bytes: usize,
+    words: usize,
+)
+    requires { (places ≤ 6) × (bytes ≤ 8) × (words ≤ 32) }
+{
     let mut rows = [9u32; 6];
     let mut distances = [99u32; 6];
     let mut how = [9u8; 8];
@@ -111,12 +124,16 @@ fn show(table: &[u16], c: usize, index: &[u32], query: &[u16], wanted: usize, wi
         query,
         wanted,
         withdrawn,
-        &mut rows,
+        &mut rows[..places],
         &mut distances,
-        &mut how,
-        &mut work,
+        &mut how[..bytes],
+        &mut work[..words],
     );
-    line(found, rows, distances, how, work);
+    line(found, &rows, &distances, &how, &work);
+}
+
+fn show(table: &[u16], c: usize, index: &[u32], query: &[u16], wanted: usize, withdrawn: &[u32]) {
+    show_in(table, c, index, query, wanted, withdrawn, 6, 8, 32);
 }
 
 fn five(query: u16, wanted: usize, withdrawn: &[u32]) {
@@ -198,69 +215,21 @@ fn too_many() {
 fn short_answers() {
     let index = five_index();
     let table = FIVE_ROWS;
-    let mut rows = [9u32; 6];
-    let mut distances = [99u32; 6];
-    let mut how = [9u8; 8];
-    let mut work = [9u32; 32];
-    let found = nearest::nearest(
-        &table,
-        1,
-        &index,
-        &[9, 9],
-        2,
-        &[],
-        &mut rows[..1],
-        &mut distances,
-        &mut how,
-        &mut work,
-    );
-    line(found, rows, distances, how, work);
+    show_in(&table, 1, &index, &[9, 9], 2, &[], 1, 8, 32);
 }
 
 // 5: four how-bytes for five rows, and a query of two columns.
 fn short_bytes() {
     let index = five_index();
     let table = FIVE_ROWS;
-    let mut rows = [9u32; 6];
-    let mut distances = [99u32; 6];
-    let mut how = [9u8; 8];
-    let mut work = [9u32; 32];
-    let found = nearest::nearest(
-        &table,
-        1,
-        &index,
-        &[9, 9],
-        2,
-        &[],
-        &mut rows,
-        &mut distances,
-        &mut how[..4],
-        &mut work,
-    );
-    line(found, rows, distances, how, work);
+    show_in(&table, 1, &index, &[9, 9], 2, &[], 6, 4, 32);
 }
 
 // 5: a word of workspace too few.
 fn short_work() {
     let index = five_index();
     let table = FIVE_ROWS;
-    let mut rows = [9u32; 6];
-    let mut distances = [99u32; 6];
-    let mut how = [9u8; 8];
-    let mut work = [9u32; 32];
-    let found = nearest::nearest(
-        &table,
-        1,
-        &index,
-        &[9],
-        2,
-        &[],
-        &mut rows,
-        &mut distances,
-        &mut how,
-        &mut work[..29],
-    );
-    line(found, rows, distances, how, work);
+    show_in(&table, 1, &index, &[9], 2, &[], 6, 8, 29);
 }
 
 // 6: a query of two columns, and none wanted. 7: none wanted, and no index. 8: no index.
@@ -296,8 +265,7 @@ fn wrong_index() {
 }
 
 // 0: row 1 stands twice and row 4 not at all, which no table fits. Shown is what is settled even so: the number, how many are given, what lies
-// beyond,
-// and the zero workspace. With row 1 withdrawn there are three positions whose rows remain, though four rows do.
+// beyond, and the zero workspace. With row 1 withdrawn there are three positions whose rows remain, though four rows do.
 fn row_twice(wanted: usize, withdrawn: u32) {
     let mut index = five_index();
     let table = FIVE_ROWS;
@@ -318,21 +286,18 @@ fn row_twice(wanted: usize, withdrawn: u32) {
         &mut how,
         &mut work,
     );
-    let text = [
-        digit(found.number / 10),
-        digit(found.number % 10),
-        b' ',
-        count(found.given),
-        b' ',
-        digit(rows[5]),
-        byte(how[5]),
-        b' ',
-        digit(work[0]),
-        digit(work[29]),
-        digit(work[30]),
-        b'\n',
-    ];
-    io::write_all(1, &text);
+    let (number, given, _) = said(found);
+    two(number);
+    space();
+    one(given);
+    space();
+    one_word(rows[5]);
+    one(usize::from(how[5]));
+    space();
+    one_word(work[0]);
+    one_word(work[29]);
+    one_word(work[30]);
+    io::write_all(1, b"\n");
 }
 
 fn main() {

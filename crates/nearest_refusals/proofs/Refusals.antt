@@ -1,7 +1,10 @@
 -- Why a nearest call is refused: one law for each return of the code, what it lends where nothing refuses it, and when that is so. Assumes nothing.
 use Prim.Native.Nat.{◌*◌, ◌≤◌, min, ℕ}
 use Rattle.laws.proofs.Tests.{or_none, or_parts}
-use Rattle.limits.proofs.Faults.{Numbered, early_numbered, fault-not, number_of, says_first, says-next, says_none}
+use Rattle.limits.proofs.Faults.{Numbered, early_numbered, fault-not, none-listed, number_of, says-next, says_none}
+use Rattle.limits.proofs.Outcomes.{refused_first}
+use Rattle.limits.specs.Refusal.{said_by}
+use Rattle.limits.specs.declared.refusal.Refusal.{Refusal}
 use Rattle.limits.specs.Said.{Said, fault, number_faults, said, tabled}
 use Rattle.limits.specs.declared.Asked.{Asked}
 use Rattle.measure.specs.Table.{rows_of}
@@ -12,7 +15,7 @@ use Rattle.rowset.specs.Sets.{set_bad_lem}
 use Rattle.words.specs.Index.{fit_faults}
 use Rattle.words.specs.Words.{words_ok_lem}
 use borrow.Author.Tests.{eq-eqb, le-ltb, ltb-false, ne_eqb}
-use lib.Dec.{eqb, ltb}
+use lib.Dec.{ltb}
 use lib.ListN.{length}
 use mathlib.Core.Bool.{Bool, ◌||◌, false, not, true}
 use mathlib.Core.List.{List, [], ◌∷◌}
@@ -38,6 +41,10 @@ rooms_of n wanted room how work a b d =
     or_none (ltb room (min wanted n) || ltb how n) (ltb work (6 * n))
     (or_none (ltb room (min wanted n)) (ltb how n) (le-ltb room (min wanted n) a) (le-ltb how n b)) (le-ltb work (6 * n) d)
 
+-- where the number is 0 nothing is said
+nothing-said : (fs : List Said) → Numbered fs → 0 ≡ (said fs).0 → (0, 0, 0) ≡ said fs
+nothing-said fs k z = ap said (sym (none-listed fs k (sym z)))
+
 module _ (t : List ℕ) (c : ℕ) (w q : List ℕ) (wanted : ℕ) (s : List ℕ) (room how work : ℕ) where
   -- what is asked of numbers
   abbrev asked : Asked
@@ -56,30 +63,16 @@ module _ (t : List ℕ) (c : ℕ) (w q : List ℕ) (wanted : ℕ) (s : List ℕ)
   numbered = early_numbered call (call_early asked t w q)
 
   -- ---- one law for each return of the code
-  -- numbers or the index refuse the call
-  pub by_call : {v : ℕ} → v ≡ (said (call_faults (nearest_asks t c q wanted room how work) t w q)).0 → (v ≡ 0 → ⊥)
-      → v ≡ (said_nearest t c w q wanted s room how work).0
+  -- what numbers, the index or the circles refuse is what the call says
+  pub call_says : (r : Refusal) → said_by r ≡ said (call_faults (nearest_asks t c q wanted room how work) t w q) → said_by r ≡ said_nearest t c w q wanted s room how work
   unfolding said_nearest
-  by_call e h = e ∙ ap number_of (says_first call last (λ z. h (e ∙ z)))
+  call_says r e = refused_first r call last e
 
-  -- they do not, and the set decides
-  by-set : {v n : ℕ} {b : Bool} → v ≡ (said (call_faults (nearest_asks t c q wanted room how work) t w q)).0 → v ≡ 0 → n ≡ rows_of t c → b ≡ set_bad_lem s n
-      → (said (fault 20 b)).0 ≡ (said_nearest t c w q wanted s room how work).0
+  -- they refuse nothing, and the set decides
+  pub set-says : (0, 0, 0) ≡ said (call_faults (nearest_asks t c q wanted room how work) t w q) → {n : ℕ} {b : Bool} → n ≡ rows_of t c
+      → set_bad_lem s n ≡ b → said (fault 20 b) ≡ said_nearest t c w q wanted s room how work
   unfolding said_nearest
-  by-set {v} {n} {b} e z en eb =
-      ap (λ (b : Bool). (said (fault 20 b)).0) (eb ∙ ap (set_bad_lem s) en) ∙ ap number_of (says-next call last numbered (sym e ∙ z))
-
-  -- it is wrong
-  pub by-wrong-set : {v n : ℕ} {b : Bool} → v ≡ (said (call_faults (nearest_asks t c q wanted room how work) t w q)).0 → v ≡ 0 → n ≡ rows_of t c
-      → b ≡ set_bad_lem s n
-      → b ≡ true → 20 ≡ (said_nearest t c w q wanted s room how work).0
-  by-wrong-set e z en eb wrong = sym (ap (λ (b : Bool). (said (fault 20 b)).0) wrong) ∙ by-set e z en eb
-
-  -- it is right
-  pub by-right-set : {v n : ℕ} {b : Bool} → v ≡ (said (call_faults (nearest_asks t c q wanted room how work) t w q)).0 → v ≡ 0 → n ≡ rows_of t c
-      → b ≡ set_bad_lem s n
-      → b ≡ false → 0 ≡ (said_nearest t c w q wanted s room how work).0
-  by-right-set e z en eb right = sym (ap (λ (b : Bool). (said (fault 20 b)).0) right) ∙ by-set e z en eb
+  set-says z rows bad = ap (λ b. said (fault 20 b)) (sym bad ∙ ap (set_bad_lem s) rows) ∙ says-next call last numbered (sym (ap number_of z))
 
   -- ---- with 0
   -- nothing refuses the call
@@ -97,9 +90,9 @@ module _ (t : List ℕ) (c : ℕ) (w q : List ℕ) (wanted : ℕ) (s : List ℕ)
       (e : length q ≡ c)
       (k : wanted ≢ 0) where
     -- only the set can refuse the call
-    no_other : 0 ≡ (said (call_faults (nearest_asks t c q wanted room how work) t w q)).0
+    no_other : (0, 0, 0) ≡ said (call_faults (nearest_asks t c q wanted room how work) t w q)
     no_other =
-        clear_none asked t w q
+        nothing-said call numbered (clear_none asked t w q
         (record {
           numbers =
               record {
@@ -115,12 +108,12 @@ module _ (t : List ℕ) (c : ℕ) (w q : List ℕ) (wanted : ℕ) (s : List ℕ)
           shape = C.shape;
           table = C.table;
           query = C.query;
-        })
+        }))
 
     -- a right set does not
     pub taken : set_bad_lem s (rows_of t c) ≡ false → 0 ≡ (said_nearest t c w q wanted s room how work).0
-    taken right = by-right-set no_other refl refl refl right
+    taken right = ap number_of (set-says (no_other) refl right)
 
     -- another does
     pub twenty : set_bad_lem s (rows_of t c) ≡ true → 20 ≡ (said_nearest t c w q wanted s room how work).0
-    twenty wrong = by-wrong-set no_other refl refl refl wrong
+    twenty wrong = ap number_of (set-says (no_other) refl wrong)

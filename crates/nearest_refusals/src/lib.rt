@@ -3,20 +3,14 @@
 
 ghost use Rattle.std.specs.Prelude.{min, ◌≡◌};
 ghost use Rattle.nearest_refusals.specs.Numbers.{said_nearest};
+ghost use Rattle.limits.specs.Refusal.{outcome};
 
-use limits::{Asked, is_short, rows_in};
-use refusals::refusal;
+use limits::{Asked, Refusal, is_short, rows_in};
+use refusals::test_call;
 use set_refusals::set_bad;
 
-// The lesser of two.
-pub fn least(a: usize, b: usize) -> usize
-    ensures { result ≡ min a b }
-{
-    if b < a { b } else { a }
-}
-
-// Why a call is refused, or 0: of several, the lowest number. Lent are room for so many answers, how-bytes and words.
-pub fn nearest_number(
+// Why a call is refused, if it is: of several refusals, that of the lowest number. Lent are room for so many answers, how-bytes and words.
+pub fn test_nearest(
     table: &[u16],
     c: usize,
     index: &[u32],
@@ -26,25 +20,22 @@ pub fn nearest_number(
     room: usize,
     how: usize,
     work: usize,
-) -> u32
-    ensures { result ≡ (said_nearest table.now c index.now query.now wanted
-        withdrawn.now room how work).0 }
+) -> Result<(), Refusal>
+    ensures { outcome result ≡ said_nearest table.now c index.now query.now wanted
+        withdrawn.now room how work }
 {
     let n = rows_in(table.len(), c);
     let asked = Asked {
         length: table.len(),
         columns: c,
         unfit: false,
-        short: (room < least(wanted, n)) | (how < n) | is_short(work, 6, n),
+        short: (room < wanted.min(n)) | (how < n) | is_short(work, 6, n),
         unlike: query.len() != c,
         none: wanted == 0,
     };
-    let number = refusal(asked, table, index, query);
-    if number != 0 {
-        return number;
-    }
+    test_call(asked, table, index, query)?;
     if set_bad(withdrawn, n) {
-        return 20;
+        return Err(Refusal::Set);
     }
-    0
+    Ok(())
 }

@@ -57,10 +57,7 @@ pub fn search(
     while 0 < len {
         let e = pop(work, 0, len);
         if last(work, ANSWERS * n, w, held) < key_of(e) {
-            return Seen {
-                held: held,
-                next: next,
-            };
+            return Seen { held, next };
         }
         let sizes = take_item(
             table,
@@ -82,8 +79,5 @@ pub fn search(
         held = sizes.held;
         next = sizes.next;
     }
-    Seen {
-        held: held,
-        next: next,
-    }
+    Seen { held, next }
 }

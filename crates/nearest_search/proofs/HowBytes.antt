@@ -1,5 +1,5 @@
 -- How-bytes: wiped before a search, and as many as there are rows. Assumes nothing.
-use Prim.Native.Nat.{◌+◌, ◌-◌, ◌≤◌, suc, zero, ℕ}
+use Prim.Native.Nat.{◌+◌, ◌≤◌, suc, zero, ℕ}
 use Rattle.buffers.specs.Wiped.{wiped}
 use Rattle.laws.proofs.Ranges.{range_length}
 use Rattle.laws.specs.Lists.{has, look, range}

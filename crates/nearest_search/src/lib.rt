@@ -7,7 +7,6 @@ ghost use Rattle.rows_listed.specs.Listed.{Blank};
 ghost use Rattle.words.specs.Words.{n#};
 
 use answers_held::give;
-use buffers::{clear_bytes, clear_words};
 use frontier::workspace::{ANSWERS, END, MET};
 use nearest_rounds::search;
 
@@ -49,10 +48,9 @@ pub fn find_blank(
     }
     let seen = search(table, c, query, index, wanted, withdrawn, how, work);
     give(rows, distances, how, work, ANSWERS * n, seen.held);
-    let measured = seen.next - MET * n;
     Counts {
         given: seen.held,
-        measured: measured,
+        measured: seen.next - MET * n,
     }
 }
 
@@ -76,10 +74,10 @@ pub fn find(
         (lends rows.new distances.new how.new work.new) result.given result.measured }
 {
     let n = words::places::rows(index);
-    clear_bytes(how, n);
+    how[..n].fill(0);
     let counts = find_blank(
         table, c, index, query, wanted, withdrawn, rows, distances, how, work,
     );
-    clear_words(work, END * n);
+    work[..END * n].fill(0);
     counts
 }

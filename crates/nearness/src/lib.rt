@@ -1,4 +1,4 @@
-// 13 of the full check: a member is closer to the centre of another child of its node.
+// The full check's pass over centres: a member is closer to the centre of another child of its node.
 #![tactic(auto)]
 
 ghost use Rattle.std.specs.Prelude.{◌+◌, ◌<◌, ◌≤◌, true, ◌≡◌};
@@ -15,13 +15,12 @@ ghost use Rattle.words.specs.Words.{nodes#, child#, circles#, m#};
 
 use child_strays::child_stray;
 use limits::Params;
-use reach::{lesser, node_end};
+use reach::node_end;
 use words::places::{centres, node_child, node_first, nodes};
 
-// 13 with the lowest node that has a member closer to another centre and the lowest such position there, or zeros.
+// The lowest node that has a member closer to another centre, and the lowest such position there.
 #[derive(Clone, Copy)]
 pub struct Stray {
-    pub number: u32,
     pub node: usize,
     pub position: usize,
 }
@@ -32,13 +31,9 @@ fn firsts(index: &[u32], child: usize) -> [usize; Params::MOST_CENTRES]
     requires index_bound { child + m# index.now ≤ nodes# index.now }
     ensures { Firsts index.now child result }
 {
-    let m = centres(index);
     let mut fs = [0usize; Params::MOST_CENTRES];
-    let mut i = 0;
-    while i < m {
-        let f = node_first(index, child + i);
-        fs[i] = f;
-        i += 1;
+    for i in 0..centres(index) {
+        fs[i] = node_first(index, child + i);
     }
     fs
 }
@@ -57,10 +52,11 @@ fn child_first(
     ensures { FirstIn index.now k (kid_strays (between table.now c (circles# index.now)) index.now k
         (child# index.now k + a)) result }
 {
-    if (words::places::circles(index) == 0) & (c <= 6) {
-        return few_columns::child_stray(table, c, index, fs, k, a);
+    if words::places::circles(index) == 0 && c <= 6 {
+        few_columns::child_stray(table, c, index, fs, k, a)
+    } else {
+        child_stray(table, c, index, fs, k, a)
     }
-    child_stray(table, c, index, fs, k, a)
 }
 
 // In node k: the lowest position whose row is closer to another child's centre, or the end of its run.
@@ -75,37 +71,23 @@ fn first_stray(table: &[u16], c: usize, index: &[u32], k: usize) -> usize
     if child == 0 {
         return low;
     }
-    let m = centres(index);
     let fs = firsts(index, child);
-    let mut a = 0;
-    while a < m {
-        low = lesser(low, child_first(table, c, index, &fs, k, a));
-        a += 1;
+    for a in 0..centres(index) {
+        low = low.min(child_first(table, c, index, &fs, k, a));
     }
     low
 }
 
 // The first member that is closer to another centre: by node, then by position.
-pub fn closeness(table: &[u16], c: usize, index: &[u32]) -> Stray
+pub fn closeness(table: &[u16], c: usize, index: &[u32]) -> Option<Stray>
     requires { Tested index.now table.now c × Space (between table.now c (circles# index.now)) }
     ensures { told result ≡ said (all_strays (between table.now c (circles# index.now)) index.now) }
 {
-    let total = nodes(index);
-    let mut k = 0;
-    while k < total {
-        let p = first_stray(table, c, index, k);
-        if p < node_end(index, k) {
-            return Stray {
-                number: 13,
-                node: k,
-                position: p,
-            };
+    for node in 0..nodes(index) {
+        let position = first_stray(table, c, index, node);
+        if position < node_end(index, node) {
+            return Some(Stray { node, position });
         }
-        k += 1;
     }
-    Stray {
-        number: 0,
-        node: 0,
-        position: 0,
-    }
+    None
 }

@@ -63,12 +63,9 @@ pub fn open_inner(
     let base = pair_at(index, 0);
     let round = circles(index);
     let mut ds = [x; Params::MOST_CENTRES];
-    let mut j = 1;
-    while j < m {
+    for j in 1..m {
         let row = word(index, base + 2 * node_start(index, ch + j));
-        let d = measure_row(table, c, round, query, row, r, withdrawn, how, list);
-        ds[j] = d;
-        j += 1;
+        ds[j] = measure_row(table, c, round, query, row, r, withdrawn, how, list);
     }
     ds
 }
@@ -79,13 +76,8 @@ pub fn least_of(distances: [u32; Params::MOST_CENTRES], m: usize) -> u32
     ensures { result ≡ least (get_or distances 0 0) (take m distances) }
 {
     let mut y = distances[0];
-    let mut j = 0;
-    while j < m {
-        let d = distances[j];
-        if d < y {
-            y = d;
-        }
-        j += 1;
+    for d in &distances[..m] {
+        y = y.min(*d);
     }
     y
 }

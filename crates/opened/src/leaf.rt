@@ -52,11 +52,9 @@ pub fn open_leaf(
         );
         return;
     }
-    let mut p = start + 1;
-    while p < end {
+    for p in start + 1..end {
         leaf_row(
             table, c, round, index, query, base, p, x, r, withdrawn, how, list,
         );
-        p += 1;
     }
 }

@@ -72,12 +72,13 @@ module _ {t w : List ℕ} {n deep : ℕ} {origin : List ℕ} {fore rear : List N
 
   -- ---- an old node
   pub path-old : (q : Piece) → Waiting t w n deep q origin fore rear lead ws tail room work k made → {mark s count : ℕ} → s ≡ start# room k
-      → count ≡ count# room k → mark ≡ child# room k → (mark ≡ 4294967295 → ⊥) → (mark ≡ 0 → ⊥)
-      → OldAsk t w n (set room (node_at_lem k + 2) made) work (mark - 1) s count made
-  path-old (settled s R es) g es' ec em stay none = absurd (marked_either (leb (length es) (l# w)) (em ∙ mark-is g) stay none)
-  path-old (grown s R run) g es ec em stay none = absurd (none (em ∙ mark-is g))
-  path-old (old s o zs) g {mark} es ec em stay none =
-      let eo : mark - 1 ≡ o = omega (arith, mark-is g) in
+      → count ≡ count# room k → mark ≡ child# room k → {i : ℕ} → i + 1 ≡ mark → (i + 1 ≡ 4294967295 → ⊥)
+      → OldAsk t w n (set room (node_at_lem k + 2) made) work i s count made
+  path-old (settled s R es) g es' ec em ei apart =
+      absurd (marked_either (leb (length es) (l# w)) (em ∙ mark-is g) (λ e. apart (ei ∙ e)) (λ z. absurd (omega (arith, ei ∙ z))))
+  path-old (grown s R run) g es ec em ei apart = absurd (omega (arith, mark-is g))
+  path-old (old s o zs) g es ec em {i} ei apart =
+      let eo : i ≡ o = omega (arith, mark-is g) in
       rw (eo, es, ec, start_is g, count-is g)
       record {
         zs = zs;
@@ -94,18 +95,19 @@ module _ {t w : List ℕ} {n deep : ℕ} {origin : List ℕ} {fore rear : List N
       }
 
   pub path-old-done : (q : Piece) → Waiting t w n deep q origin fore rear lead ws tail room work k made → {mark s count : ℕ} → s ≡ start# room k
-      → count ≡ count# room k → mark ≡ child# room k → (mark ≡ 4294967295 → ⊥) → (mark ≡ 0 → ⊥) → {m : ℕ} → m ≡ m# w
+      → count ≡ count# room k → mark ≡ child# room k → {i : ℕ} → i + 1 ≡ mark → (i + 1 ≡ 4294967295 → ⊥) → {m : ℕ} → m ≡ m# w
       → {last : Bool} {room' work' : List ℕ}
-      → OldOpens t w n last (set room (node_at_lem k + 2) made) work (mark - 1) s count made room' work'
+      → OldOpens t w n last (set room (node_at_lem k + 2) made) work i s count made room' work'
       → PieceOpened t w n last q origin fore rear lead tail made room' work' (made + m)
-  path-old-done (settled s R es) g es' ec em stay none fan got = absurd (marked_either (leb (length es) (l# w)) (em ∙ mark-is g) stay none)
-  path-old-done (grown s R run) g es ec em stay none fan got = absurd (none (em ∙ mark-is g))
-  path-old-done (old s o zs) g {mark} {s = s₁} {count} es ec em stay none {m} fan {last} {room'} {work'} got =
-      let eo : mark - 1 ≡ o = omega (arith, mark-is g) in
+  path-old-done (settled s R es) g es' ec em ei apart fan got =
+      absurd (marked_either (leb (length es) (l# w)) (em ∙ mark-is g) (λ e. apart (ei ∙ e)) (λ z. absurd (omega (arith, ei ∙ z))))
+  path-old-done (grown s R run) g es ec em ei apart fan got = absurd (omega (arith, mark-is g))
+  path-old-done (old s o zs) g {mark} {s = s₁} {count} es ec em {i} ei apart {m} fan {last} {room'} {work'} got =
+      let eo : i ≡ o = omega (arith, mark-is g) in
       let d : ℕ → ℕ → ℕ = between t (c# w) (circles# w) in
       let R : List ℕ = set room (node_at_lem k + 2) made in
       let got₁ : OldOpens t w n last R work o s₁ count made room' work' =
-      subst (λ (i : ℕ). OldOpens t w n last R work i s₁ count made room' work') eo got in
+      subst (λ (j : ℕ). OldOpens t w n last R work j s₁ count made room' work') eo got in
       let got₂ : OldOpens t w n last R work o s count made room' work' =
       subst (λ (i : ℕ). OldOpens t w n last R work o i count made room' work') (es ∙ start_is g) got₁ in
       let got₃ : OldOpens t w n last R work o s (words.count# w o + length zs) made room' work' =

@@ -5,7 +5,7 @@
 ghost use Rattle.opening.specs.Opened.{OldAsk, OldOpens, PieceAsk, PieceOpens};
 
 use dealing::{Deal, deal_out, mark_rows};
-use lodging::STAYS;
+use lodging::Mark;
 use split::{WIDTH, copy_back, split_run};
 use words::places::{HEADER, centres, circles, columns, leaf_size, node_count, word};
 
@@ -60,33 +60,35 @@ pub fn open_piece(
     let s = word(room, HEADER + WIDTH * k);
     let count = word(room, HEADER + WIDTH * k + 1);
     let mark = word(room, HEADER + WIDTH * k + 2);
-    if mark == STAYS as usize {
-        room[HEADER + WIDTH * k + 2] = 0;
-        return made;
-    }
     let m = centres(index);
-    if mark != 0 {
-        room[HEADER + WIDTH * k + 2] = made as u32;
-        open_old(table, index, n, last, room, work, mark - 1, s, count, made);
-        return made + m;
-    }
     let l = leaf_size(index);
-    if count <= l {
-        return made;
+    match Mark::of(mark) {
+        Mark::Stays => {
+            room[HEADER + WIDTH * k + 2] = 0;
+            made
+        }
+        Mark::Old(o) => {
+            room[HEADER + WIDTH * k + 2] = made as u32;
+            open_old(table, index, n, last, room, work, o, s, count, made);
+            made + m
+        }
+        Mark::Run if count <= l => made,
+        Mark::Run => {
+            room[HEADER + WIDTH * k + 2] = made as u32;
+            split_run(
+                table,
+                columns(index),
+                circles(index),
+                m,
+                l + 1,
+                n,
+                room,
+                work,
+                s,
+                count,
+                made,
+            );
+            made + m
+        }
     }
-    room[HEADER + WIDTH * k + 2] = made as u32;
-    split_run(
-        table,
-        columns(index),
-        circles(index),
-        m,
-        l + 1,
-        n,
-        room,
-        work,
-        s,
-        count,
-        made,
-    );
-    made + m
 }

@@ -35,6 +35,15 @@ module _ (s : List ℕ) (n r : ℕ) where
   pub none_said : set_bad_lem s n ≡ false → r < n → 0 ≡ (said_order s n r).0
   none_said e h = rw (lt-leb n r h) at (by_row e)
 
+  -- the same with the places, of which none is named
+  pub set_says : set_bad_lem s n ≡ true → (20, 0, 0) ≡ said_order s n r
+  unfolding said_order
+  set_says e = fault-first 20 (fault 26 (leb n r)) e
+
+  pub row_says : set_bad_lem s n ≡ false → {b : Bool} → leb n r ≡ b → said (fault 26 b) ≡ said_order s n r
+  unfolding said_order
+  row_says e h = ap (λ b. said (fault 26 b)) (sym h) ∙ fault-next 20 (fault 26 (leb n r)) e
+
   -- with 0 nothing is wrong
   pub clear : (said_order s n r).0 ≡ 0 → (set_bad_lem s n ≡ false) × (r < n)
   unfolding said_order

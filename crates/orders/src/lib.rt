@@ -3,43 +3,39 @@
 
 ghost use Rattle.orders.specs.Orders.{Orders, restoring, said_order, striking};
 ghost use Rattle.std.specs.Prelude.{◌≡◌};
+ghost use Rattle.limits.specs.Refusal.{outcome};
 
+use limits::Refusal;
 use rowset::{restore_row, strike_row};
 use set_refusals::set_bad;
 
-// What refuses an order on row r of n rows: 20, 26, or 0 for nothing.
-fn order_number(set: &[u32], n: usize, r: usize) -> u32
-    ensures { result ≡ (said_order set.now n r).0 }
+// What refuses an order on row r of n rows, if anything does.
+fn test_order(set: &[u32], n: usize, r: usize) -> Result<(), Refusal>
+    ensures { outcome result ≡ said_order set.now n r }
 {
     if set_bad(set, n) {
-        return 20;
+        return Err(Refusal::Set);
     }
     if n <= r {
-        return 26;
+        return Err(Refusal::NoRow);
     }
-    0
+    Ok(())
 }
 
 // Strikes a row of n: it is withdrawn from now on.
-pub fn strike(set: &mut [u32], n: usize, row: usize) -> u32
-    ensures { Orders set.old set.new n (striking row) result }
+pub fn strike(set: &mut [u32], n: usize, row: usize) -> Result<(), Refusal>
+    ensures { Orders set.old set.new n (striking row) (outcome result).0 }
 {
-    let number = order_number(set, n, row);
-    if number != 0 {
-        return number;
-    }
+    test_order(set, n, row)?;
     strike_row(set, row);
-    0
+    Ok(())
 }
 
 // Restores a row of n: it is withdrawn no longer.
-pub fn restore(set: &mut [u32], n: usize, row: usize) -> u32
-    ensures { Orders set.old set.new n (restoring row) result }
+pub fn restore(set: &mut [u32], n: usize, row: usize) -> Result<(), Refusal>
+    ensures { Orders set.old set.new n (restoring row) (outcome result).0 }
 {
-    let number = order_number(set, n, row);
-    if number != 0 {
-        return number;
-    }
+    test_order(set, n, row)?;
     restore_row(set, row);
-    0
+    Ok(())
 }

@@ -1,13 +1,13 @@
 // What is asked about, as the numbers of one query or of several: rows, or the row that has a label.
 #![tactic(auto)]
 
-ghost use Rattle.std.specs.Prelude.{◌*◌, ◌+◌, ◌<◌, ◌≤◌, length, ◌≡◌};
+ghost use Rattle.std.specs.Prelude.{◌*◌, ◌<◌, ◌≤◌, length, IfOk, ◌≡◌};
 ghost use Rattle.limits.specs.Limits.{max_columns};
 ghost use Rattle.measure.specs.Table.{row as Table·row};
 ghost use Rattle.std.proofs.Math.Seq.{paste};
 
-use asking::pieces::{least, piece_at};
-use asking::word_number::{NO_NUMBER, number};
+use asking::pieces::piece_at;
+use asking::word_number::number;
 use row_distances::row_of;
 
 // As many queries as a question may have, and the numbers that these are at most.
@@ -16,50 +16,22 @@ pub const MOST_QUERIES: usize = 64;
 pub const QUERY_ROOM: usize = 1_024;
 
 // What is wrong with the rows or the values.
-pub const NO_ROW: u32 = 21;
-
-pub const NOT_A_ROW: u32 = 22;
-
-pub const TOO_MANY_ROWS: u32 = 23;
-
-pub const NOT_A_VALUE: u32 = 24;
-
-pub const TOO_FEW_VALUES: u32 = 25;
-
-pub const NOT_ONE: u32 = 26;
-
-pub const NO_LABEL: u32 = 27;
-
-pub const OFF_CIRCLE: u32 = 28;
-
-// How many queries were put, or what is wrong, and a number that says more of it.
 #[derive(Clone, Copy)]
-pub struct Named {
-    pub wrong: u32,
-    pub more: usize,
-    pub count: usize,
-}
-
-pub fn named_wrong(wrong: u32, more: usize) -> Named
-    ensures { (result.wrong ≡ wrong) × (result.more ≡ more) × (result.count ≡ 0) }
-{
-    Named {
-        wrong,
-        more,
-        count: 0,
-    }
-}
-
-// Copies some numbers to place `at` of the queries.
-fn copy(from: &[u16], queries: &mut [u16], at: usize)
-    requires { at + length from.now ≤ length queries.old }
-    ensures { queries.new ≡ paste queries.old at from.now (length from.now) }
-{
-    let mut i = 0;
-    while i < from.len() {
-        queries[at + i] = from[i];
-        i += 1;
-    }
+pub enum Fault {
+    // The text has no such row.
+    NoRow(usize),
+    // Neither a row, values nor what one row has.
+    NotARow,
+    TooManyRows,
+    // This value, from 1 on, is more than a table holds.
+    NotAValue(usize),
+    // So many values are there, or from this one on there are more than columns.
+    TooFewValues(usize),
+    // So many rows have the label, and one is needed.
+    NotOne(usize),
+    NoLabel,
+    // This value, from 1 on, is more than a circle has.
+    OffCircle(usize),
 }
 
 // Puts the numbers of a row of c columns at query i.
@@ -68,57 +40,53 @@ fn put_row(table: &[u16], c: usize, n: usize, row: usize, queries: &mut [u16], i
     ensures { queries.new ≡ paste queries.old (c * i) (Table·row table.now c row) c }
 {
     let from = row_of(table, c, row);
-    copy(from, queries, c * i);
+    let at = c * i;
+    queries[at..at + c].copy_from_slice(from);
 }
 
 // Puts the row that a word says at query i.
-fn put_said(table: &[u16], c: usize, n: usize, word: &[u8], queries: &mut [u16], i: usize) -> Named
+fn put_said(
+    table: &[u16],
+    c: usize,
+    n: usize,
+    word: &[u8],
+    queries: &mut [u16],
+    i: usize,
+) -> Result<(), Fault>
     requires { (c * n ≤ length table.now) × (c ≤ max_columns) × (length queries.old ≡ 1024) × (i ≤ 63) }
-    ensures { result.count ≤ 64 }
 {
-    let said = number(word);
-    if NO_NUMBER <= said {
-        return named_wrong(NOT_A_ROW, 0);
-    }
-    let row = said as usize;
+    let row = number(word).ok_or(Fault::NotARow)? as usize;
     if n <= row {
-        return named_wrong(NO_ROW, row);
+        return Err(Fault::NoRow(row));
     }
     put_row(table, c, n, row, queries, i);
-    Named {
-        wrong: 0,
-        more: row,
-        count: i + 1,
-    }
+    Ok(())
 }
 
-// Puts the rows of a list, parted by commas.
-pub fn put_rows(table: &[u16], c: usize, n: usize, list: &[u8], queries: &mut [u16]) -> Named
+// Puts the rows of a list, parted by commas. Gives how many.
+pub fn put_rows(
+    table: &[u16],
+    c: usize,
+    n: usize,
+    list: &[u8],
+    queries: &mut [u16],
+) -> Result<usize, Fault>
     requires { (c * n ≤ length table.now) × (c ≤ max_columns) × (length queries.old ≡ 1024) }
-    ensures { result.count ≤ 64 }
+    ensures { IfOk result (λ count. count ≤ 64) }
 {
-    let mut named = named_wrong(0, 0);
-    let mut i = 0;
-    while i < MOST_QUERIES {
-        let item = piece_at(list, b',', i);
-        if !item.there {
-            return named;
-        }
-        let start = item.start;
-        let end = item.end;
-        named = put_said(table, c, n, &list[start..end], queries, i);
-        if named.wrong != 0 {
-            return named;
-        }
-        i += 1;
+    for i in 0..MOST_QUERIES {
+        let Some(item) = piece_at(list, b',', i) else {
+            return Ok(i);
+        };
+        put_said(table, c, n, &list[item.start..item.end], queries, i)?;
     }
-    if piece_at(list, b',', MOST_QUERIES).there {
-        return named_wrong(TOO_MANY_ROWS, 0);
+    match piece_at(list, b',', MOST_QUERIES) {
+        Some(_) => Err(Fault::TooManyRows),
+        None => Ok(MOST_QUERIES),
     }
-    named
 }
 
-// Puts the row that was found, if it is the only one.
+// Puts the row that was found, if it is the only one. Gives how many are put.
 pub fn put_only(
     table: &[u16],
     c: usize,
@@ -126,28 +94,24 @@ pub fn put_only(
     hits: usize,
     row: usize,
     queries: &mut [u16],
-) -> Named
+) -> Result<usize, Fault>
     requires { (c * n ≤ length table.now) × (c ≤ max_columns) × (length queries.old ≡ 1024) }
-    ensures { result.count ≤ 64 }
+    ensures { IfOk result (λ count. count ≤ 64) }
 {
     if hits != 1 {
-        return named_wrong(NOT_ONE, hits);
+        return Err(Fault::NotOne(hits));
     }
     if n <= row {
-        return named_wrong(NO_ROW, row);
+        return Err(Fault::NoRow(row));
     }
     put_row(table, c, n, row, queries, 0);
-    Named {
-        wrong: 0,
-        more: row,
-        count: 1,
-    }
+    Ok(1)
 }
 
 // The numbers from `start` up to `end`, as far as they are there.
 pub fn numbers_part(t: &[u16], start: usize, end: usize) -> &[u16] {
-    let to = least(end, t.len());
-    let from = least(start, to);
+    let to = end.min(t.len());
+    let from = start.min(to);
     &t[from..to]
 }
 

@@ -3,12 +3,13 @@
 
 ghost use Rattle.std.specs.Prelude.{◌≤◌, ◌≡◌};
 ghost use Rattle.query_refusals.specs.Numbers.{said_near};
+ghost use Rattle.limits.specs.Refusal.{outcome};
 
-use limits::Params;
+use limits::{Params, Refusal};
 
-// Why the queries can't be searched for, or 0: rooms too short for n rows; none, a part of one, or more than an index has rows; numbers off their
+// Why the queries can't be searched for: rooms too short for n rows; none, a part of one, or more than an index has rows; numbers off their
 // circles, or a set of rows withdrawn that is none of n rows.
-pub fn why_not(
+pub fn test_queries(
     n: usize,
     c: usize,
     asked: usize,
@@ -16,30 +17,30 @@ pub fn why_not(
     marks: usize,
     off: bool,
     bad: bool,
-) -> u32
+) -> Result<(), Refusal>
     requires { 1 ≤ c }
-    ensures { result ≡ said_near n c asked how marks off bad }
+    ensures { (outcome result).0 ≡ said_near n c asked how marks off bad }
 {
     if how < n {
-        return 5;
+        return Err(Refusal::Room);
     }
     if marks < n {
-        return 5;
+        return Err(Refusal::Room);
     }
     if asked % c != 0 {
-        return 6;
+        return Err(Refusal::Query);
     }
     if asked / c == 0 {
-        return 6;
+        return Err(Refusal::Query);
     }
     if Params::MOST_ROWS < asked / c {
-        return 6;
+        return Err(Refusal::Query);
     }
     if off {
-        return 19;
+        return Err(Refusal::OffCircle);
     }
     if bad {
-        return 20;
+        return Err(Refusal::Set);
     }
-    0
+    Ok(())
 }

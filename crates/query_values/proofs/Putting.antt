@@ -1,15 +1,16 @@
 -- Values put one after the other, up to the first item with which something is wrong. Assumes nothing.
 use Prim.Native.Nat.{◌*◌, ◌+◌, ◌<◌, ◌≤◌, ℕ}
-use Rattle.asking.specs.Pieces.{Found, cut, end_at, has_piece, piece_of}
+use Rattle.asking.specs.Pieces.{Stands, cut, end_at, has_piece, piece_of}
+use Rattle.asking.specs.declared.pieces.Piece.{Piece}
 use Rattle.asking.specs.Worth.{worth}
 use Rattle.column_products.proofs.Firsts.{first-here, first-none, first_on}
-use Rattle.column_products.proofs.Items.{items_long, items_stored}
+use Rattle.column_products.proofs.Items.{items_stored}
 use Rattle.column_products.specs.Chosen.{items_of, most}
 use Rattle.query_values.specs.Values.{PutsValues, beyond, first_wrong, item_says, item_trouble_lem, times_of, value_of}
 use borrow.Author.Tests.{le-ltb, lt-ltb, ne_eqb}
 use lib.Dec.{eqb, ltb}
 use lib.ListN.{drop, get_or, length, set}
-use mathlib.Core.Bool.{Bool, cond, false, true}
+use mathlib.Core.Bool.{cond, false}
 use mathlib.Core.List.{List, ◌++◌}
 use mathlib.Core.Path.{◌∙◌, ◌≡◌, ap, ap₂, refl, subst, sym}
 use native.Mathlib.Omega.{arith}
@@ -39,41 +40,41 @@ module _ (value factor : ℕ) where
       times-small h = rw (le-ltb 65_535 value v, le-ltb 65_535 factor f, le-ltb 65_535 (value * factor) h) refl
 
 -- ---- one item
-module _ {list : List ℕ} {i : ℕ} {there : Bool} {start end : ℕ} (f : Found 44 list i there start end) where
-  -- its bytes
-  item-cut : there ≡ true → cut list start end ≡ piece_of 44 list i
-  unfolding piece_of
-  item-cut e = let s = f.spot e in ap₂ (λ (a b : ℕ). cut list a b) s.0 (s.1 ∙ ap (λ (a : ℕ). end_at 44 list a) s.0)
+-- it is missing
+item-none : (list : List ℕ) (i o : ℕ) (factors : List ℕ) → has_piece 44 list i ≡ false → item_trouble_lem list o factors i ≡ 25
+unfolding item_trouble_lem
+item-none list i o factors e = rw e refl
 
-  -- it is missing
-  pub item-none : (o : ℕ) (factors : List ℕ) → there ≡ false → item_trouble_lem list o factors i ≡ 25
-  unfolding item_trouble_lem
-  item-none o factors e = rw (sym f.has ∙ e) refl
+module _ {list : List ℕ} {i : ℕ} where
+  module _ {p : Piece} (f : Stands 44 list i p) (factors : List ℕ) (value : ℕ) (v : value ≡ times_of (worth (cut list p.start p.end)) (get_or factors i 0)) where
+    -- its bytes
+    item-cut : cut list p.start p.end ≡ piece_of 44 list i
+    unfolding piece_of
+    item-cut = ap₂ (λ (a b : ℕ). cut list a b) f.starts (f.ends ∙ ap (λ (a : ℕ). end_at 44 list a) f.starts)
 
-  module _ (factors : List ℕ) (said value : ℕ) (e : there ≡ true) (s : said ≡ worth (cut list start end)) (v : value ≡ times_of said (get_or factors i 0)) where
     -- its value
     pub item-value : value ≡ value_of list factors i
     unfolding value_of item_says
-    item-value = v ∙ ap (λ (x : ℕ). times_of x (get_or factors i 0)) (s ∙ ap (λ (x : List ℕ). worth x) (item-cut e))
+    item-value = v ∙ ap (λ (x : List ℕ). times_of (worth x) (get_or factors i 0)) item-cut
 
     -- more than a table holds
     pub item-great : (o : ℕ) → 65535 < value → item_trouble_lem list o factors i ≡ 24
     unfolding item_trouble_lem
-    item-great o h = rw (sym f.has ∙ e, lt-ltb 65_535 (value_of list factors i) (omega (arith, item-value))) refl
+    item-great o h = rw (f.has, lt-ltb 65_535 (value_of list factors i) (omega (arith, item-value))) refl
 
     module _ (o m : ℕ) (h : value ≤ 65535) (q : m ≡ most o i) where
       -- more than a circle has
       pub item-off : m < value → item_trouble_lem list o factors i ≡ 28
       unfolding item_trouble_lem
       item-off g =
-          rw (sym f.has ∙ e, le-ltb 65_535 (value_of list factors i) (omega (arith, item-value)), ← q, lt-ltb m (value_of list factors i) (omega (arith, item-value)))
+          rw (f.has, le-ltb 65_535 (value_of list factors i) (omega (arith, item-value)), ← q, lt-ltb m (value_of list factors i) (omega (arith, item-value)))
           refl
 
       -- nothing is wrong
       pub item-sound : value ≤ m → item_trouble_lem list o factors i ≡ 0
       unfolding item_trouble_lem
       item-sound g =
-          rw (sym f.has ∙ e, le-ltb 65_535 (value_of list factors i) (omega (arith, item-value)), ← q, le-ltb m (value_of list factors i) (omega (arith, item-value)))
+          rw (f.has, le-ltb 65_535 (value_of list factors i) (omega (arith, item-value)), ← q, le-ltb m (value_of list factors i) (omega (arith, item-value)))
           refl
 
 -- ---- the items so far
@@ -93,10 +94,6 @@ putting_start {list} {o} {factors} a b =
     record { bound = omega arith; few = a; slots = b; sound = first-none (λ (i : ℕ). ltb 0 (item_trouble_lem list o factors i)); content = refl }
 
 module _ {list : List ℕ} {o : ℕ} {factors : List ℕ} {k : ℕ} {queries₀ queries : List ℕ} {i : ℕ} (P : Putting list o factors k queries₀ queries i) where
-  -- the queries are as long as they were
-  pub putting-long : length queries ≡ 1024
-  putting-long = items_long (value_of list factors) i queries queries₀ (omega (arith, P.bound, P.few, P.slots)) P.content ∙ P.slots
-
   -- one more
   pub putting-next : (value : ℕ) → i < k → value ≡ value_of list factors i → item_trouble_lem list o factors i ≡ 0
       → Putting list o factors k queries₀ (set queries i value) (i + 1)
@@ -123,12 +120,12 @@ module _ {list : List ℕ} {o : ℕ} {factors : List ℕ} {k : ℕ} {queries₀ 
         content = P.content ∙ ap (λ (x : ℕ). items_of (value_of list factors) x ++ drop x queries₀) (q ∙ sym e);
       }
 
-  module _ {there : Bool} {start end : ℕ} (f : Found 44 list i there start end) (wrong more count : ℕ) where
+  module _ (l : i < k) where
     -- something is wrong with the next
-    stopped : i < k → 0 < wrong → item_trouble_lem list o factors i ≡ wrong → more ≡ cond there (i + 1) i → count ≡ 0
+    stopped : (wrong more count : ℕ) → 0 < wrong → item_trouble_lem list o factors i ≡ wrong → more ≡ cond (has_piece 44 list i) (i + 1) i → count ≡ 0
         → PutsValues list o factors k queries₀ queries wrong more count
     unfolding first_wrong
-    stopped l h t m z =
+    stopped wrong more count h t m z =
         puts i
         (first-here (λ (j : ℕ). ltb 0 (item_trouble_lem list o factors j)) k P.sound (lt-ltb 0 (item_trouble_lem list o factors i) (omega (arith, t))) l)
         refl
@@ -136,47 +133,14 @@ module _ {list : List ℕ} {o : ℕ} {factors : List ℕ} {k : ℕ} {queries₀ 
         more
         count
         (rw (lt-ltb i k l) (sym t))
-        (rw (sym f.has, lt-ltb i k l) m)
+        (rw (lt-ltb i k l) m)
         (rw (ne_eqb wrong 0 (λ (q : wrong ≡ 0). omega arith)) z)
 
     -- it is missing
-    pub puts_none : i < k → there ≡ false → (wrong ≡ 25) × (more ≡ i) × (count ≡ 0) → PutsValues list o factors k queries₀ queries wrong more count
-    puts_none l e w = stopped l (omega (arith, w.0)) (item-none f o factors e ∙ sym w.0) (rw e w.1) w.2
+    pub puts_none : has_piece 44 list i ≡ false → PutsValues list o factors k queries₀ queries 25 i 0
+    puts_none e = stopped 25 i 0 (omega arith) (item-none list i o factors e) (rw e refl) refl
 
     -- it is there, and too great
-    pub puts-wrong : (t : ℕ) → i < k → there ≡ true → item_trouble_lem list o factors i ≡ t → 0 < t → (wrong ≡ t) × (more ≡ i + 1) × (count ≡ 0)
-        → PutsValues list o factors k queries₀ queries wrong more count
-    puts-wrong t l e q h w = stopped l (omega (arith, w.0)) (q ∙ sym w.0) (rw e w.1) w.2
-
-  module _ {there : Bool} {start end : ℕ} (f : Found 44 list k there start end) (wrong more count : ℕ) (l : k ≤ i) where
-    -- all were put
-    all : i ≡ k
-    all = omega (arith, l, P.bound)
-
-    -- there is one more
-    pub puts-more : there ≡ true → (wrong ≡ 25) × (more ≡ k + 1) × (count ≡ 0) → PutsValues list o factors k queries₀ queries wrong more count
-    puts-more e w =
-        puts
-        k
-        (subst (λ (x : ℕ). first_wrong list o factors x ≡ x) all P.sound)
-        all
-        wrong
-        more
-        count
-        (rw (le-ltb k k (omega arith), sym f.has ∙ e) w.0)
-        (rw (sym f.has ∙ e) w.1)
-        (rw (ne_eqb wrong 0 (λ (z : wrong ≡ 0). omega (arith, w.0))) w.2)
-
-    -- there is none
-    pub puts-all : there ≡ false → (wrong ≡ 0) × (more ≡ 0) × (count ≡ 1) → PutsValues list o factors k queries₀ queries wrong more count
-    puts-all e w =
-        puts
-        k
-        (subst (λ (x : ℕ). first_wrong list o factors x ≡ x) all P.sound)
-        all
-        wrong
-        more
-        count
-        (rw (le-ltb k k (omega arith), sym f.has ∙ e) w.0)
-        (rw (sym f.has ∙ e, le-ltb k k (omega arith)) w.1)
-        (rw w.0 w.2)
+    pub puts-wrong : {p : Piece} → Stands 44 list i p → (t : ℕ) → 0 < t → item_trouble_lem list o factors i ≡ t
+        → PutsValues list o factors k queries₀ queries t (i + 1) 0
+    puts-wrong f t h q = stopped t (i + 1) 0 h q (rw f.has refl) refl

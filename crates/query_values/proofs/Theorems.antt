@@ -1,9 +1,9 @@
 -- What the contract on values says. Assumes nothing.
-use Prim.Native.Nat.{◌*◌, ◌+◌, ◌<◌, ◌≤◌, ℕ}
+use Prim.Native.Nat.{◌*◌, ◌<◌, ◌≤◌, ℕ}
 use Rattle.asking.specs.Pieces.{has_piece}
 use Rattle.column_products.proofs.Firsts.{first_below, first_passes}
 use Rattle.column_products.proofs.Items.{items_at}
-use Rattle.column_products.specs.Chosen.{items_of, most}
+use Rattle.column_products.specs.Chosen.{most}
 use Rattle.query_values.specs.Values.{PutsValues, beyond, first_wrong, item_says, item_trouble_lem, times_of, value_of}
 use borrow.Author.Tests.{ltb-false, ltb-true}
 use lib.Dec.{eqb, ltb}

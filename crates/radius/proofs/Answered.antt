@@ -1,5 +1,6 @@
--- What the code did is what the contract says: a refusal, and a search. Assumes nothing.
+-- What the code did is what the contract says: a search. Assumes nothing.
 use Prim.Native.Nat.{ℕ}
+use Rattle.limits.specs.Said.{Said}
 use Rattle.measure.specs.Table.{from}
 use Rattle.radius.proofs.How.{written_is}
 use Rattle.radius.specs.Calls.{Searched}
@@ -16,12 +17,11 @@ use lib.ListN.{length, take}
 use mathlib.Core.List.{List}
 use mathlib.Core.Path.{◌∙◌, ◌≡◌, ap, refl, sym}
 
-module _ (T : List ℕ) (c : ℕ) (w q : List ℕ) (r : ℕ) (s h : List ℕ) {number : ℕ} (said-is : number ≡ (said_radius T c w q s (length h)).0) where
-  -- a refusal that changed nothing
-  pub refused_is : (number ≡ 0 → ⊥) → Searched T c w q r s h h number 0 0
-  refused_is n =
-      record { said = said-is; refused = λ k. (refl, refl, refl); written = λ z. absurd (n z); counts = λ z. absurd (n z) }
+-- a call that says nothing has the number 0
+pub none_said : {s : Said} → (0, 0, 0) ≡ s → s.0 ≡ 0
+none_said e = sym (ap (λ (s : Said). s.0) e)
 
+module _ (T : List ℕ) (c : ℕ) (w q : List ℕ) (r : ℕ) (s h : List ℕ) {number : ℕ} (said-is : number ≡ (said_radius T c w q s (length h)).0) where
   -- a search that wrote the tree's marks, as far as they are shown, on cleared how-bytes, and counted them
   pub done-is : {k i m : ℕ} (h' : List ℕ) → number ≡ 0 → InShape w → k ≡ n# w
       → h' ≡ write (veiled (is_in_lem s) (marks (from T c (circles# w) q) r (tree_of w))) (wiped (n# w) h)

@@ -5,16 +5,17 @@ use Rattle.laws.proofs.Ranges.{every-at}
 use Rattle.laws.proofs.Tests.{and_l, and_r, is_true}
 use Rattle.laws.specs.Lists.{all, range, same}
 use Rattle.laws.specs.Upto.{sum_to}
+use Rattle.limits.proofs.Faults.{early_numbered, none-listed, number_of}
 use Rattle.limits.specs.Said.{number_faults, said}
 use Rattle.limits.specs.declared.Asked.{Asked}
 use Rattle.measure.specs.Distance.{l1}
 use Rattle.measure.specs.Table.{between, from, off_circle_lem, rows_of}
 use Rattle.radius.proofs.Promises.{first-bytes, radius-call-marks}
-use Rattle.radius_refusals.proofs.Refusals.{none_said, right_call, twenty}
+use Rattle.radius_refusals.proofs.Refusals.{right_call, set-says}
 use Rattle.radius.specs.Cases.{Gives, Refuses}
 use Rattle.radius_refusals.specs.Numbers.{radius_asks}
 use Rattle.radius.specs.Once.{Once}
-use Rattle.refusals.proofs.Refusals.{clear}
+use Rattle.refusals.proofs.Refusals.{call_early, clear}
 use Rattle.refusals.specs.Refused.{call_faults, circle_faults}
 use Rattle.rowset.specs.Sets.{bit_of, is_in_lem, set_bad_lem}
 use Rattle.tree.specs.Build.{build, choose, grow, split}
@@ -87,13 +88,17 @@ module _ (t : List ℕ) (o q : ℕ) (f : T (fit t o q)) where
       )
 
   -- nothing but the set may refuse a call with how-bytes enough
-  taken : (how : ℕ) → length t ≤ how → 0 ≡ (said (call_faults (radius_asks t 1 (q ∷ []) how) t w (q ∷ []))).0
-  taken how room = right_call t 1 w (q ∷ []) (length t) how (clear asks t w (q ∷ []) tests.3) (omega (arith, tests.0))
+  taken : (how : ℕ) → length t ≤ how → (0, 0, 0) ≡ said (call_faults (radius_asks t 1 (q ∷ []) how) t w (q ∷ []))
+  taken how room =
+      let a = radius_asks t 1 (q ∷ []) how in
+      ap said
+      (sym (none-listed (call_faults a t w (q ∷ [])) (early_numbered (call_faults a t w (q ∷ [])) (call_early a t w (q ∷ [])))
+      (sym (right_call t 1 w (q ∷ []) (length t) how (clear asks t w (q ∷ []) tests.3) (omega (arith, tests.0))))))
 
   -- a set that is not one of the rows refuses the call
   refuses : (s : List ℕ) → set_bad_lem s (length t) ≡ true → Refuses t o q s 20
   refuses s bad r before after number in# met room c =
-      let z = c.said ∙ sym (twenty t 1 w (q ∷ []) s (length before) (taken (length before) room) refl (sym tests.0) refl bad) in
+      let z : number ≡ 20 = c.said ∙ sym (ap number_of (set-says t 1 w (q ∷ []) s (length before) (taken (length before) room) (sym tests.0) bad)) in
       let none = c.refused (λ n. absurd (omega arith)) in
       (z, none.0, none.1, none.2)
 
@@ -119,7 +124,7 @@ module _ (t : List ℕ) (o q : ℕ) (f : T (fit t o q)) where
         let f = and_l (a && b && d) set ok in
         let ab = and_l (a && b) d f in
         let fine : set_bad_lem s (length t) ≡ false = not-true (set_bad_lem s (length t)) (is_true set (and_r (a && b && d) set ok)) in
-        let z : number ≡ 0 = c.said ∙ sym (none_said t 1 w (q ∷ []) s (length before) (taken (length before) room) refl (sym ts.0) refl fine) in
+        let z : number ≡ 0 = c.said ∙ sym (ap number_of (set-says t 1 w (q ∷ []) s (length before) (taken (length before) room) (sym ts.0) fine)) in
         let same_bytes : radius_how (from t 1 (circles# w) (q ∷ [])) r (is_in_lem s) (n# w) (tree_of w) ≡ bytes =
         ap₂ (λ (o n : ℕ). radius_how (from t 1 o (q ∷ [])) r (is_in_lem s) n (tree_of w)) ts.2 ts.1 in
         let first = first-bytes c z once ∙ same_bytes in (

@@ -1,13 +1,24 @@
 -- What the radius call promises, for every input. Assumes nothing.
-use Rattle.std.specs.Prelude.{ℕ, drop, length, replicate, take, List, ◌++◌, ◌≡◌}
+use Rattle.std.specs.Prelude.{ℕ, drop, length, replicate, take, List, ◌++◌, ◌≡◌, Result, Ok, Err}
+use Rattle.limits.specs.declared.refusal.Refusal.{Refusal}
 use Rattle.measure.specs.Table.{from}
 use Rattle.marking.specs.Written.{write}
+use Rattle.radius.specs.declared.Found.{Found}
 use Rattle.radius_refusals.specs.Numbers.{said_radius}
 use Rattle.rowset.specs.Sets.{is_in_lem}
 use Rattle.tree.specs.Grove.{tree_of}
 use Rattle.tree.specs.Nearest.{measured}
 use Rattle.tree.specs.Radius.{inside, marks, veiled}
 use Rattle.words.specs.Words.{circles#, n#}
+
+-- how many rows are in, and how many were measured: none where the call is refused
+abbrev pub inside_of : Result Found Refusal → ℕ
+inside_of (Ok found) = found.inside
+inside_of (Err r) = 0
+
+abbrev pub measured_of : Result Found Refusal → ℕ
+measured_of (Ok found) = found.measured
+measured_of (Err r) = 0
 
 -- the table T of c columns, the index w, the query q, r and the set s of the rows withdrawn; the how-bytes before and after; the call's number, and its
 -- two counts

@@ -1,19 +1,19 @@
 // The radius call: refused, or the search and its counts.
 #![tactic(auto)]
 
-ghost use Rattle.radius.specs.Calls.{Searched};
+ghost use Rattle.limits.specs.Refusal.{outcome};
+ghost use Rattle.radius.specs.Calls.{Searched, inside_of, measured_of};
 
-use buffers::clear_bytes;
 use descent::search;
-use radius_refusals::radius_number;
+use limits::Refusal;
+use radius_refusals::test_radius;
 use rows_withdrawn::words_asked;
 use tallies::tally;
 use words::places::rows;
 
-// What a call gives: 0 or why it was refused; on success how many rows are in, and how many were measured.
+// What a call gives: how many rows are in, and how many were measured.
 #[derive(Clone, Copy)]
 pub struct Found {
-    pub number: u32,
     pub inside: usize,
     pub measured: usize,
 }
@@ -28,20 +28,13 @@ pub fn radius(
     r: u32,
     withdrawn: &[u32],
     how: &mut [u8],
-) -> Found
+) -> Result<Found, Refusal>
     ensures { Searched table.now c index.now query.now r withdrawn.now
-        how.old how.new result.number result.inside result.measured }
+        how.old how.new (outcome result).0 (inside_of result) (measured_of result) }
 {
-    let number = radius_number(table, c, index, query, withdrawn, how.len());
-    if number != 0 {
-        return Found {
-            number,
-            inside: 0,
-            measured: 0,
-        };
-    }
+    test_radius(table, c, index, query, withdrawn, how.len())?;
     let n = rows(index);
-    clear_bytes(how, n);
+    how[..n].fill(0);
     let end = words_asked(withdrawn);
     let mut unlisted = [0; 1];
     search(
@@ -55,9 +48,8 @@ pub fn radius(
         &mut unlisted[..0],
     );
     let counts = tally(how, n);
-    Found {
-        number: 0,
+    Ok(Found {
         inside: counts.inside,
         measured: counts.measured,
-    }
+    })
 }

@@ -4,8 +4,9 @@
 
 ghost use Rattle.std.specs.Prelude.{length, ◌≡◌};
 
+use limits::Refusal;
 use radius::Found;
-use samples::{FIVE_ROWS, count, digit, five_index, many, pairs_index, put};
+use samples::{FIVE_ROWS, digit, five_index, many, pairs_index, put};
 
 // The index of the rows 4 2 2 6 7.
 fn odd_index() -> [u32; 43]
@@ -22,36 +23,31 @@ fn odd_index() -> [u32; 43]
     index
 }
 
-fn byte(h: u8) -> u8 {
-    digit(h as u32)
-}
-
-fn line(found: Found, how: [u8; 8]) {
-    let text = [
-        digit(found.number / 10),
-        digit(found.number % 10),
+fn line(found: Result<Found, Refusal>, how: &[u8; 8]) {
+    let (number, inside, measured) = match found {
+        Ok(found) => (0, found.inside, found.measured),
+        Err(refusal) => (refusal.number() as usize, 0, 0),
+    };
+    let counts = [
+        digit(number / 10),
+        digit(number % 10),
         b' ',
-        count(found.inside),
+        digit(inside),
         b' ',
-        count(found.measured),
+        digit(measured),
         b' ',
-        byte(how[0]),
-        byte(how[1]),
-        byte(how[2]),
-        byte(how[3]),
-        byte(how[4]),
-        byte(how[5]),
-        byte(how[6]),
-        byte(how[7]),
-        b'\n',
     ];
-    io::write_all(1, &text);
+    io::write_all(1, &counts);
+    for h in how {
+        io::write_all(1, &[digit(usize::from(*h))]);
+    }
+    io::write_all(1, b"\n");
 }
 
 fn show(table: &[u16], c: usize, index: &[u32], query: &[u16], r: u32, withdrawn: &[u32]) {
     let mut how = [9u8; 8];
     let found = radius::radius(table, c, index, query, r, withdrawn, &mut how);
-    line(found, how);
+    line(found, &how);
 }
 
 // A search of the five rows with this word as the set of those withdrawn.
@@ -161,9 +157,9 @@ fn wrong_query() {
 fn short_room() {
     let index = five_index();
     let table = FIVE_ROWS;
-    let mut how = [9u8; 4];
-    let found = radius::radius(&table, 1, &index, &[9, 9], 1, &[], &mut how);
-    line(found, [how[0], how[1], how[2], how[3], 9, 9, 9, 9]);
+    let mut how = [9u8; 8];
+    let found = radius::radius(&table, 1, &index, &[9, 9], 1, &[], &mut how[..4]);
+    line(found, &how);
 }
 
 // 8: another n, and another c.

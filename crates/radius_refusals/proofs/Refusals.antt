@@ -1,6 +1,9 @@
 -- Why a radius call is refused: one law for each return of the code; what it lends where nothing refuses it, and when that is so. Assumes nothing.
 use Prim.Native.Nat.{◌≤◌, ℕ}
-use Rattle.limits.proofs.Faults.{Numbered, early_numbered, fault-not, number_of, says_first, says-next, says_none}
+use Rattle.limits.proofs.Faults.{Numbered, early_numbered, fault-not, number_of, says-next, says_none}
+use Rattle.limits.proofs.Outcomes.{refused_first}
+use Rattle.limits.specs.Refusal.{said_by}
+use Rattle.limits.specs.declared.refusal.Refusal.{Refusal}
 use Rattle.limits.specs.Said.{Said, fault, said}
 use Rattle.limits.specs.declared.Asked.{Asked}
 use Rattle.marking.specs.Lent.{Lent}
@@ -15,7 +18,7 @@ use Rattle.words.specs.Words.{circles#, n#}
 use borrow.Author.Tests.{eqb-true, le-ltb, ltb-false, not-false}
 use lib.Dec.{eqb}
 use lib.ListN.{length}
-use mathlib.Core.Bool.{Bool, false, true}
+use mathlib.Core.Bool.{Bool, false}
 use mathlib.Core.List.{List}
 use mathlib.Core.Path.{◌∙◌, ◌≡◌, ap, refl, sym}
 use native.Mathlib.Omega.{arith}
@@ -36,24 +39,16 @@ module _ (T : List ℕ) (c : ℕ) (w q s : List ℕ) (how : ℕ) where
   abbrev last : List Said
   last = fault 20 (set_bad_lem s (rows_of T c))
 
-  -- one of these refuses the call
-  pub by_call : {v : ℕ} → v ≡ (said early).0 → (v ≡ 0 → ⊥) → v ≡ (said_radius T c w q s how).0
+  -- what one of these refuses is what the call says
+  pub call_says : (r : Refusal) → said_by r ≡ said early → said_by r ≡ said_radius T c w q s how
   unfolding said_radius
-  by_call e h = e ∙ ap number_of (says_first early last (λ z. h (e ∙ z)))
+  call_says r e = refused_first r early last e
 
-  module _ {v n : ℕ} {b : Bool} (e : v ≡ (said early).0) (z : v ≡ 0) (rows : n ≡ rows_of T c) (bad : b ≡ set_bad_lem s n) where
-    -- none does, and the set decides
-    by-set : (said (fault 20 b)).0 ≡ (said_radius T c w q s how).0
-    unfolding said_radius
-    by-set = ap (λ b. (said (fault 20 b)).0) (bad ∙ ap (set_bad_lem s) rows) ∙ ap number_of (says-next early last numbered (sym e ∙ z))
-
-    -- the set refuses the call
-    pub twenty : b ≡ true → 20 ≡ (said_radius T c w q s how).0
-    twenty t = ap (λ b. (said (fault 20 b)).0) (sym t) ∙ by-set
-
-    -- nothing does
-    pub none_said : b ≡ false → 0 ≡ (said_radius T c w q s how).0
-    none_said f = ap (λ b. (said (fault 20 b)).0) (sym f) ∙ by-set
+  -- past them the set decides
+  pub set-says : (0, 0, 0) ≡ said early → {n : ℕ} {b : Bool} → n ≡ rows_of T c → set_bad_lem s n ≡ b → said (fault 20 b) ≡ said_radius T c w q s how
+  unfolding said_radius
+  set-says z rows bad =
+      ap (λ b. said (fault 20 b)) (sym bad ∙ ap (set_bad_lem s) rows) ∙ says-next early last numbered (sym (ap number_of z))
 
   -- with 0 nothing refuses the call
   pub not-refused : (said_radius T c w q s how).0 ≡ 0 → Clear asks T w q × (set_bad_lem s (rows_of T c) ≡ false)

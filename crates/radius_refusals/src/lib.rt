@@ -3,21 +3,22 @@
 
 ghost use Rattle.radius_refusals.specs.Numbers.{said_radius};
 ghost use Rattle.std.specs.Prelude.{◌≡◌};
+ghost use Rattle.limits.specs.Refusal.{outcome};
 
-use limits::{Asked, rows_in};
-use refusals::refusal;
+use limits::{Asked, Refusal, rows_in};
+use refusals::test_call;
 use set_refusals::set_bad;
 
-// Why a call is refused, or 0: of several, the lowest number. `room` is how many how-bytes are lent.
-pub fn radius_number(
+// Why a call is refused, if it is: of several refusals, that of the lowest number. `room` is how many how-bytes are lent.
+pub fn test_radius(
     table: &[u16],
     c: usize,
     index: &[u32],
     query: &[u16],
     withdrawn: &[u32],
     room: usize,
-) -> u32
-    ensures { result ≡ (said_radius table.now c index.now query.now withdrawn.now room).0 }
+) -> Result<(), Refusal>
+    ensures { outcome result ≡ said_radius table.now c index.now query.now withdrawn.now room }
 {
     let n = rows_in(table.len(), c);
     let asked = Asked {
@@ -28,12 +29,9 @@ pub fn radius_number(
         unlike: query.len() != c,
         none: false,
     };
-    let early = refusal(asked, table, index, query);
-    if early != 0 {
-        return early;
-    }
+    test_call(asked, table, index, query)?;
     if set_bad(withdrawn, n) {
-        return 20;
+        return Err(Refusal::Set);
     }
-    0
+    Ok(())
 }

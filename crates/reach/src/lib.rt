@@ -1,14 +1,13 @@
 // How far a node's members are from its first: the farthest of them, and the nearest other than the first.
 #![tactic(auto)]
 
-ghost use Rattle.std.specs.Prelude.{◌+◌, ◌<◌, min, ◌≡◌};
+ghost use Rattle.std.specs.Prelude.{◌+◌, ◌<◌, ◌≡◌};
 ghost use Rattle.measure.specs.Table.{between};
 ghost use Rattle.reach.specs.Runs.{Reaches};
 ghost use Rattle.tree.specs.Tested.{Tested};
 ghost use Rattle.words.specs.InShape.{Whole};
 ghost use Rattle.words.specs.Words.{nodes#, circles#, count#, n#, row#, start#};
 
-use numbers::{larger, smaller};
 use row_distances::row_distance;
 use words::places::{node_count, node_first, node_start, row_at};
 
@@ -19,13 +18,6 @@ pub mod radii;
 pub struct Reached {
     pub far: u32,
     pub near: u32,
-}
-
-// The lesser of two positions.
-pub fn lesser(a: usize, b: usize) -> usize
-    ensures { result ≡ min a b }
-{
-    if a < b { a } else { b }
 }
 
 // The position after the last of node k's run.
@@ -61,12 +53,10 @@ pub fn reaches(table: &[u16], c: usize, index: &[u32], k: usize) -> Reached
     let circles = words::places::circles(index);
     let mut far = apart(table, c, circles, index, f, second);
     let mut near = far;
-    let mut p = second + 1;
-    while p < end {
+    for p in second + 1..end {
         let x = apart(table, c, circles, index, f, p);
-        far = larger(far, x);
-        near = smaller(near, x);
-        p += 1;
+        far = far.max(x);
+        near = near.min(x);
     }
     Reached { far, near }
 }

@@ -1,5 +1,5 @@
-// 12 of the full check: a radius or an inner reach is wrong.
-ghost use Rattle.std.specs.Prelude.{◌<◌, ◌≡◌};
+// The full check's pass over reaches: a radius or an inner reach is wrong.
+ghost use Rattle.std.specs.Prelude.{◌<◌, ◌≡◌, IfSome, unwrap_or};
 ghost use Rattle.laws.specs.First.{First};
 ghost use Rattle.measure.specs.Table.{between};
 ghost use Rattle.tree.specs.Check.{wrong_reach_lem};
@@ -16,25 +16,20 @@ fn wrong_reach(table: &[u16], c: usize, index: &[u32], k: usize) -> bool
     ensures { result ≡ wrong_reach_lem (between table.now c (circles# index.now)) index.now k }
 {
     let found = reaches(table, c, index, k);
-    if node_radius(index, k) != found.far {
-        return true;
-    }
-    node_inner(index, k) != found.near
+    node_radius(index, k) != found.far || node_inner(index, k) != found.near
 }
 
-// The lowest node with a wrong radius or a wrong inner reach, or the number of nodes.
-pub fn first_wrong_reach(table: &[u16], c: usize, index: &[u32]) -> usize
+// The lowest node with a wrong radius or a wrong inner reach.
+pub fn first_wrong_reach(table: &[u16], c: usize, index: &[u32]) -> Option<usize>
     requires { Tested index.now table.now c }
-    ensures { First (wrong_reach_lem (between table.now c (circles# index.now)) index.now) 0
-        (nodes# index.now) result }
+    ensures first { First (wrong_reach_lem (between table.now c (circles# index.now)) index.now) 0
+        (nodes# index.now) (unwrap_or result (nodes# index.now)) }
+    ensures inside { IfSome result (λ k. k < nodes# index.now) }
 {
-    let total = nodes(index);
-    let mut k = 0;
-    while k < total {
+    for k in 0..nodes(index) {
         if wrong_reach(table, c, index, k) {
-            return k;
+            return Some(k);
         }
-        k += 1;
     }
-    k
+    None
 }

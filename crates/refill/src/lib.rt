@@ -20,11 +20,7 @@ fn copy_words(part: &mut [u32], from: &[u32], k: usize)
     requires { (k ≤ length part.old) × (k ≤ length from.now) }
     ensures { part.new ≡ take k from.now ++ drop k part.old }
 {
-    let mut i = 0;
-    while i < k {
-        part[i] = from[i];
-        i += 1;
-    }
+    part[..k].copy_from_slice(&from[..k]);
 }
 
 // The positions: the old ones before node v's run, those of the workspace where it stands, and the old ones behind it.
@@ -54,14 +50,11 @@ pub fn refill(table: &[u16], index: &[u32], p: Growth, room: &mut [u32], work: &
         room.new work.new result }
 {
     let made = regrow::regrow(table, index, p, room, work);
-    let centres = centres(index);
-    let leaf = leaf_size(index);
-    let circles = circles(index);
     let n = rows(index) + p.added;
     let params = Params {
-        centres,
-        leaf,
-        circles,
+        centres: centres(index),
+        leaf: leaf_size(index),
+        circles: circles(index),
     };
     header_words::put_header(room, n, columns(index), params, made);
     let at = HEADER + WIDTH * made;

@@ -1,7 +1,5 @@
 -- From the levels to the index with all rows in it: header and positions are written. Assumes nothing.
 use Prim.Native.Nat.{◌*◌, ◌+◌, ◌-◌, ◌≤◌, ℕ}
-use Rattle.buffers.proofs.Whole.{wiped-whole}
-use Rattle.buffers.specs.Wiped.{wiped}
 use Rattle.filling.proofs.Framed.{framed}
 use Rattle.header_words.specs.Header.{header_of}
 use Rattle.deepening.specs.Stages.{Layered, Leveled, Planted}
@@ -116,7 +114,7 @@ module _ {t : List ℕ} {c : ℕ} {w room work : List ℕ} (J : RowsJoinable t c
       pub rows-joined : {o m l k at : ℕ} {room₃ ys work' : List ℕ} → o ≡ circles# w → m ≡ m# w → l ≡ l# w → k ≡ made → length room₃ ≡ length room
           → room₃ ≡ header_of n c o m l k ++ drop 8 room₂ → at ≡ node_at_lem made
           → ys ≡ pairs_in (stretch work₂ 0 (3 * n)) ++ drop (2 * n) (mid_of at (length room₃ - at) room₃)
-          → length work₂ ≡ length work → work' ≡ wiped (length work₂) work₂
+          → length work₂ ≡ length work → work' ≡ replicate (length work₂) 0
           → RowsJoin t c w room work (put_mid at (length room₃ - at) room₃ ys) work' made
       rows-joined {o} {m} {l} {k} {at} {room₃} {ys} eo em el ek same head place f half cleared =
           let z : 3 * n - 0 ≡ 3 * n = omega arith in
@@ -134,5 +132,5 @@ module _ {t : List ℕ} {c : ℕ} {w room work : List ℕ} (J : RowsJoinable t c
             count = ap nodes# words_are;
             few = omega (arith, layered.few);
             long = words_long ∙ ap (λ (i : ℕ). 8 + 5 * made + 2 * i) rows;
-            cleared = cleared ∙ wiped-whole work₂ ∙ ap (λ (i : ℕ). replicate i 0) half;
+            cleared = cleared ∙ ap (λ (i : ℕ). replicate i 0) half;
           }

@@ -8,7 +8,6 @@ ghost use Rattle.refilling.specs.Joining.{RowsJoin, RowsJoinable};
 ghost use Rattle.refilling.specs.Rooted.{RootAsk, Rooted, TakenIn};
 ghost use Rattle.words.specs.Words.{n#};
 
-use buffers::clear_words;
 use dealing::settle;
 use deepening::deepen;
 use filling::put_positions;
@@ -16,7 +15,6 @@ use groups::least_of;
 use growing::Reach;
 use header_words::put_header;
 use limits::{Params, rows_in};
-use numbers::larger;
 use rounds::put_entry;
 use row_distances::row_distance;
 use split::WIDTH;
@@ -36,14 +34,12 @@ fn take_in(table: &[u16], index: &[u32], n: usize, work: &mut [u32]) -> Reach
     let first = node_first(index, 0);
     let mut radius = node_radius(index, 0);
     let mut inner = node_inner(index, 0);
-    let mut z = rows(index);
-    while z < n {
+    for z in rows(index)..n {
         let d = row_distance(table, c, set, first, z);
-        radius = larger(radius, d);
+        radius = radius.max(d);
         inner = least_of(z, inner, d);
         let at = 3 * z;
         put_entry(&mut work[at..], z as u32, d, 0);
-        z += 1;
     }
     Reach { radius, inner }
 }
@@ -60,7 +56,7 @@ fn root(table: &[u16], index: &[u32], n: usize, room: &mut [u32], work: &mut [u3
         &mut room[HEADER..],
         0,
         n as u32,
-        mark,
+        mark.word(),
         reach.radius,
         reach.inner,
     );
@@ -81,17 +77,14 @@ pub fn fill_rows(
     let n = rows_in(table.len(), c);
     root(table, index, n, room, work);
     let nodes = deepen(table, index, n, room, work);
-    let centres = centres(index);
-    let leaf = leaf_size(index);
-    let circles = circles(index);
     let params = Params {
-        centres,
-        leaf,
-        circles,
+        centres: centres(index),
+        leaf: leaf_size(index),
+        circles: circles(index),
     };
     put_header(room, n, c, params, nodes);
     let at = HEADER + WIDTH * nodes;
     put_positions(&mut room[at..], n, work);
-    clear_words(work, work.len());
+    work.fill(0);
     nodes
 }

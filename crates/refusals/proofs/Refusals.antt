@@ -1,9 +1,12 @@
 -- One law for each return of a call's refusal, and what 0 says. Assumes nothing.
-use Prim.Native.Nat.{◌*◌, ◌/◌, ◌≤◌, ℕ}
+use Prim.Native.Nat.{◌/◌, ℕ}
 use Rattle.laws.proofs.Every.{every_append}
 use Rattle.laws.specs.Every.{Every}
 use Rattle.limits.proofs.Faults.{Early, early_numbered, fault_early, fault-not, number_of, says_first, says-next, says_none}
 use Rattle.limits.proofs.Numbers.{Passed, numbers_early, numbers-numbered, passed, passed_none}
+use Rattle.limits.proofs.Outcomes.{refused_first}
+use Rattle.limits.specs.Refusal.{said_by}
+use Rattle.limits.specs.declared.refusal.Refusal.{Refusal}
 use Rattle.limits.specs.Said.{Said, fault, number_faults, said}
 use Rattle.limits.specs.declared.Asked.{Asked}
 use Rattle.measure.specs.Table.{off_circle_lem}
@@ -17,7 +20,7 @@ use Rattle.words.specs.Shape.{shape_ok_lem}
 use Rattle.words.specs.Words.{c#, circles#, edition#, n#, words_ok_lem}
 use lib.Dec.{T}
 use mathlib.Core.Bool.{Bool, ◌||◌, false, true}
-use mathlib.Core.List.{List, [], ◌++◌}
+use mathlib.Core.List.{List, ◌++◌}
 use mathlib.Core.Path.{◌∙◌, ◌≡◌, ap, ap₂, refl, subst, sym}
 use native.Mathlib.Omega.{arith}
 
@@ -47,6 +50,11 @@ module _ (c o : ℕ) (T q : List ℕ) where
   pub circle-none : off_circle_lem c o T ≡ false → off_circle_lem c o q ≡ false → 0 ≡ (said (circle_faults c o T q)).0
   unfolding circle_faults
   circle-none e f = rw (e, f)
+
+  -- what is said where one of the two decides
+  pub circles-say : {b : Bool} → (off_circle_lem c o T || off_circle_lem c o q) ≡ b → said (fault 19 b) ≡ said (circle_faults c o T q)
+  unfolding circle_faults
+  circles-say e = ap (λ b. said (fault 19 b)) (sym e)
 
 -- ---- the whole call
 -- NOTHING REFUSES THE CALL: not what numbers decide, nor what the index decides, nor what the circles decide
@@ -97,6 +105,29 @@ module _ (a : Asked) (T w q : List ℕ) where
       by-circles y g k =
           past-numbers (k ∙ ap₂ (λ (c o : ℕ). (said (circle_faults c o T q)).0) r g
           ∙ ap number_of (says-next second third (early_numbered second second_early) (sym fit ∙ y)))
+
+  -- ---- the same, return by return of the code
+  -- what numbers refuse is what the call says
+  pub numbers-say : (r : Refusal) → said_by r ≡ said (number_faults a) → said_by r ≡ said (call_faults a T w q)
+  unfolding call_faults
+  numbers-say r e = refused_first r (number_faults a) (second ++ third) e
+
+  module _ {n c : ℕ} (z : (0, 0, 0) ≡ said (number_faults a)) (p : n ≡ a.length / a.columns) (r : c ≡ a.columns) where
+    -- past the numbers
+    numbers-past : {s : Said} → s ≡ said (second ++ third) → s ≡ said (call_faults a T w q)
+    unfolding call_faults
+    numbers-past h = h ∙ says-next (number_faults a) (second ++ third) (numbers-numbered a) (sym (ap number_of z))
+
+    -- what the index refuses
+    pub index_says : (r : Refusal) → said_by r ≡ said (index_faults w n c) → said_by r ≡ said (call_faults a T w q)
+    index_says x e = numbers-past (refused_first x second third (e ∙ ap₂ (λ (n c : ℕ). said (index_faults w n c)) p r))
+
+    -- and past the index, what the circles say
+    pub circles-last : {o : ℕ} {s : Said} → (0, 0, 0) ≡ said (index_faults w n c) → o ≡ circles# w → s ≡ said (circle_faults c o T q)
+        → s ≡ said (call_faults a T w q)
+    circles-last y g k =
+        numbers-past (k ∙ ap₂ (λ (c o : ℕ). said (circle_faults c o T q)) r g
+        ∙ says-next second third (early_numbered second second_early) (sym (ap number_of (y ∙ ap₂ (λ (n c : ℕ). said (index_faults w n c)) p r))))
 
   -- none is found by a full check, and none names a place
   pub call_early : Every Early (call_faults a T w q)

@@ -1,5 +1,5 @@
 -- What a call has tested, once nothing refuses it, is what a search or a pass may assume. Assumes nothing.
-use Prim.Native.Nat.{◌*◌, ◌/◌, ◌≤◌, ℕ}
+use Prim.Native.Nat.{◌*◌, ◌≤◌, ℕ}
 use Rattle.limits.specs.declared.Asked.{Asked}
 use Rattle.measure.proofs.Metric.{metric, query_point}
 use Rattle.measure.proofs.OnCircle.{round_query}

@@ -63,10 +63,8 @@ fn level(
         lo hi room.new work.new result }
 {
     let mut made = hi;
-    let mut k = lo;
-    while k < hi {
+    for k in lo..hi {
         made = open_piece(table, index, p, room, work, k, made);
-        k += 1;
     }
     made
 }
@@ -77,14 +75,12 @@ fn levels(table: &[u16], index: &[u32], p: Growth, room: &mut [u32], work: &mut 
     ensures { Leveled table.now index.now p.node p.added p.limit room.old work.old
         room.new work.new result }
 {
-    let mut lo: usize = 0;
-    let mut hi: usize = 1;
-    let mut depth = 0;
-    while depth < Params::MOST_DEPTH {
+    let mut lo = 0;
+    let mut hi = 1;
+    for _ in 0..Params::MOST_DEPTH {
         let made = level(table, index, p, room, work, lo, hi);
         lo = hi;
         hi = made;
-        depth += 1;
     }
     hi
 }

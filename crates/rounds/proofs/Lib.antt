@@ -2,5 +2,4 @@ pub mod Parts
 pub mod Entries
 pub mod Nearing
 pub mod Seeking
-pub mod Shifted
 pub mod Choosing

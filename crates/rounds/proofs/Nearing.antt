@@ -3,12 +3,11 @@ use Prim.Native.Nat.{◌+◌, ◌-◌, ◌<◌, ◌≤◌, ℕ}
 use Rattle.laws.proofs.Parts.{put_part}
 use Rattle.rounds.proofs.Entries.{Front, entries_front, near_front}
 use Rattle.rounds.specs.Entries.{Entries, near_all}
-use borrow.Author.Tests.{le-ltb, lt-ltb}
 use borrow.Rule.Slice.PartMut.{mid_of, put_mid}
 use lib.Dec.{ltb}
 use lib.ListN.{drop, drop_of_length-le, get_or, length, length-append, length-drop, set, take, take-append-drop}
 use lib.Seq.{drop_at, drop-drop, get_or-take, length-take-le, take_all, take_at}
-use mathlib.Core.Bool.{Bool, cond, false, true}
+use mathlib.Core.Bool.{cond}
 use mathlib.Core.List.{List, [], ◌++◌, ◌∷◌, append_assoc, append-nil}
 use mathlib.Core.Path.{◌∙◌, ◌≡◌, ap, ap₂, refl, subst, sym}
 use native.Mathlib.Omega.{arith}

@@ -2,21 +2,14 @@
 use Prim.Native.Nat.{◌+◌, ◌-◌, ◌<◌, ◌≤◌, suc, ℕ}
 use Rattle.rounds.specs.Stretch.{stretch}
 use borrow.Rule.Slice.PartMut.{mid_of, post_of, put_mid}
-use lib.ListN.{get_or-append, drop, drop_of_length-le, get_or, length, length-drop, set, take, take-append-drop}
+use lib.ListN.{get_or-append, drop, drop_of_length-le, get_or, length, length-drop, take, take-append-drop}
 use lib.Seq.{drop-append-le, drop-cons, get_or-take, length-take-le, take_all, take-append-le}
 use mathlib.Core.List.{List, [], ◌++◌, ◌∷◌, append-nil}
 use mathlib.Core.Logic.{by_cases}
-use mathlib.Core.Path.{◌∙◌, ◌≡◌, ap, ap₂, refl, sym}
+use mathlib.Core.Path.{◌∙◌, ◌≡◌, ap, ap₂, sym}
 use native.Mathlib.Decide.{dec_le}
 use native.Mathlib.Numerals.{add-one}
 use native.Mathlib.Omega.{arith}
-
--- three stores at the front
-pub three_sets : (l : List ℕ) (a b c : ℕ) → 3 ≤ length l → set (set (set l 0 a) 1 b) 2 c ≡ a ∷ b ∷ c ∷ drop 3 l
-three_sets [] a b c h = absurd (omega arith)
-three_sets (x ∷ []) a b c h = absurd (omega arith)
-three_sets (x ∷ y ∷ []) a b c h = absurd (omega arith)
-three_sets (x ∷ y ∷ z ∷ l) a b c h = refl
 
 -- ---- the part from n to the end
 -- it is lent

@@ -9,13 +9,6 @@ ghost use Rattle.rounds.specs.Entries.{Entries, InTable, ahead, all_but, far, ne
 
 use row_distances::row_distance;
 
-// A row number of the workspace, as one to measure by.
-fn wide(x: u32) -> usize
-    ensures { result ≡ x }
-{
-    x as usize
-}
-
 // What an entry keeps, now that it is d away from a new centre and was x away from the closest: the new or the old. A value that is chosen is no
 // branch; one would be guessed wrong as often as a row changes its centre, which costs more than the distance.
 fn kept(d: u32, x: u32, new: u32, old: u32) -> u32
@@ -30,7 +23,7 @@ fn nearer_one(table: &[u16], c: usize, circles: u32, centre: u32, entry: &mut [u
         × InTable table.now c (get_or entry.old 0 0) }
     ensures { entry.new ≡ near_all (between table.now c circles) centre entry.old }
 {
-    let d = row_distance(table, c, circles, wide(centre), wide(entry[0]));
+    let d = row_distance(table, c, circles, centre as usize, entry[0] as usize);
     let x = entry[1];
     let a = entry[2];
     entry[1] = kept(d, x, d, x);
@@ -56,13 +49,7 @@ fn precedes(part: &[u32], p: usize, b: usize) -> bool
     ensures { result ≡ ahead (get_or part.now p 0) (get_or part.now (p + 1) 0)
         (get_or part.now b 0) (get_or part.now (b + 1) 0) }
 {
-    if part[b + 1] < part[p + 1] {
-        return true;
-    }
-    if part[p + 1] < part[b + 1] {
-        return false;
-    }
-    part[p] <= part[b]
+    part[b + 1] < part[p + 1] || (part[p + 1] == part[b + 1] && part[p] <= part[b])
 }
 
 // Where the entry stands that is chosen next.
@@ -96,11 +83,7 @@ fn shift(part: &mut [u32], b: usize)
     requires { b + 3 ≤ length part.old }
     ensures { part.new ≡ take 3 part.old ++ all_but b part.old }
 {
-    let mut k = b;
-    while 0 < k {
-        k -= 1;
-        part[k + 3] = part[k];
-    }
+    part.copy_within(..b, 3);
 }
 
 // One round: of the entries in the first `bound` words the one that is farthest from the centres becomes a centre and moves to the front; all
@@ -125,10 +108,8 @@ pub fn choose(table: &[u16], c: usize, circles: u32, m: usize, early: usize, run
     ensures { run.new ≡ take 3 run.old
         ++ rounds_of (between table.now c circles) (m - 1) (3 * early - 3) (drop 3 run.old) }
 {
-    let mut r = 1;
-    while r < m {
+    for r in 1..m {
         let at = 3 * r;
         round(table, c, circles, 3 * early - at, &mut run[at..]);
-        r += 1;
     }
 }

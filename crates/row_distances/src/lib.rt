@@ -15,8 +15,7 @@ pub fn row_of(table: &[u16], c: usize, i: usize) -> &[u16]
     ensures { (result.now ≡ row table.now c i) × (length result.now ≡ c) }
 {
     let start = c * i;
-    let end = start + c;
-    &table[start..end]
+    &table[start..start + c]
 }
 
 // ---- two rows
@@ -37,10 +36,8 @@ pub fn columns(a: &[u16], b: &[u16], before: u32, from: usize, c: usize) -> u32
     ensures { (result ≡ l1 c 0 a.now b.now) × (result ≤ 65535 * c) }
 {
     let mut sum = before;
-    let mut i = from;
-    while i < c {
+    for i in from..c {
         sum += differ(a[i], b[i]);
-        i += 1;
     }
     sum
 }
@@ -52,10 +49,8 @@ pub fn round_columns(a: &[u16], b: &[u16], circles: u32, before: u32, from: usiz
     ensures { (result ≡ l1 c circles a.now b.now) × (result ≤ 65535 * c) }
 {
     let mut sum = before;
-    let mut i = from;
-    while i < c {
+    for i in from..c {
         sum += shorter(turn(circles, i), a[i], b[i]);
-        i += 1;
     }
     sum
 }
@@ -67,18 +62,16 @@ pub fn plain(a: &[u16], b: &[u16]) -> u32
     ensures { (result ≡ l1 (length a.now) 0 a.now b.now) × (result ≤ max_distance) }
 {
     let c = a.len();
-    if 4 <= c {
-        if c <= 6 {
-            let four = columns(a, b, 0, 0, 4);
-            if c == 4 {
-                return four;
-            }
-            let five = columns(a, b, four, 4, 5);
-            if c == 5 {
-                return five;
-            }
-            return columns(a, b, five, 5, 6);
+    if 4 <= c && c <= 6 {
+        let four = columns(a, b, 0, 0, 4);
+        if c == 4 {
+            return four;
         }
+        let five = columns(a, b, four, 4, 5);
+        if c == 5 {
+            return five;
+        }
+        return columns(a, b, five, 5, 6);
     }
     columns(a, b, 0, 0, c)
 }

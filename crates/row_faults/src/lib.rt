@@ -9,6 +9,7 @@ use row_numbers::no_trouble;
 use sheet_reading::{MOST_ROWS, TABLE_SHORT, TOO_MANY_ROWS, UNEVEN};
 
 // The row has another count than there are columns, if that is known.
+#[tactic(auto, unfolding(sheet_reading::specs::Says::differs))]
 fn uneven(columns: usize, count: usize) -> bool
     ensures { result ≡ differs columns count }
 {
@@ -40,6 +41,7 @@ fn uneven_column(columns: usize, count: usize) -> usize
 }
 
 // Why a row of `count` numbers can't be put behind the rows that were.
+#[tactic(auto, unfolding(sheet_reading::specs::Says::row_trouble_lem))]
 pub fn row_trouble(columns: usize, rows: usize, put: usize, count: usize, room: usize) -> Trouble
     ensures { result ≡ row_trouble_lem columns rows put count room }
 {

@@ -1,8 +1,6 @@
 -- From the index to the index that a row has joined: the leaf is found, its run is laid, and the tree is written anew with it. Assumes nothing.
 use Prim.Native.Nat.{◌*◌, ◌+◌, ◌<◌, ◌≤◌, ℕ}
 use Rattle.appending.specs.Append.{appended}
-use Rattle.buffers.proofs.Whole.{wiped-whole}
-use Rattle.buffers.specs.Wiped.{wiped}
 use Rattle.laws.specs.Lists.{times}
 use Rattle.laying.proofs.Handing.{ready-long, ready-rows}
 use Rattle.laying.specs.Lay.{Laying, Lays, ready}
@@ -113,7 +111,7 @@ module _ {t : List ℕ} {c : ℕ} {w room work : List ℕ} (J : Joinable t c w r
           ∙ ap (λ (i : ℕ). appended t i w) J.columns
 
       -- THE ROW HAS JOINED
-      pub joins : {made : ℕ} {room' work₂ work' : List ℕ} → Refilled t w v 1 limit regrowable.run room work₁ room' work₂ made → work' ≡ wiped (length work₂) work₂
+      pub joins : {made : ℕ} {room' work₂ work' : List ℕ} → Refilled t w v 1 limit regrowable.run room work₁ room' work₂ made → work' ≡ replicate (length work₂) 0
           → Joins t c w room work room' work' made
       unfolding regrowable
       joins {made} {work₂ = work₂} R zeros =
@@ -122,5 +120,5 @@ module _ {t : List ℕ} {c : ℕ} {w room work : List ℕ} (J : Joinable t c w r
             count = R.count ∙ nodes_are (c# w) (circles# w) (m# w) (l# w) (regrown_of t w v 1 limit run) ∙ ap nodes# words_are;
             few = omega (arith, R.few);
             long = ap length (sym words_are) ∙ R.words;
-            cleared = zeros ∙ wiped-whole work₂ ∙ ap (λ (i : ℕ). replicate i 0) (R.long ∙ L.long);
+            cleared = zeros ∙ ap (λ (i : ℕ). replicate i 0) (R.long ∙ L.long);
           }

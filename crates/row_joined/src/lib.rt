@@ -6,7 +6,6 @@ ghost use Rattle.std.specs.Prelude.{◌≤◌, length, cond, ◌≡◌};
 ghost use Rattle.limits.specs.Limits.{max_rows};
 ghost use Rattle.words.specs.Words.{l#};
 
-use buffers::clear_words;
 use copies::Growth;
 use laying::lay_leaf;
 use leafward::leaf_for;
@@ -42,6 +41,6 @@ pub fn join_row(table: &[u16], c: usize, index: &[u32], room: &mut [u32], work: 
         limit,
     };
     let nodes = refill(table, index, growth, room, work);
-    clear_words(work, work.len());
+    work.fill(0);
     nodes
 }

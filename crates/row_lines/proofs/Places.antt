@@ -10,20 +10,26 @@ use Rattle.laws.specs.Lists.{any, range}
 use Rattle.text_lines.specs.Lines.{line_at, line_start, next_line_lem, text_start_lem}
 use Rattle.row_lines.specs.Lines.{any_full, is_blank_lem, is_full, line_of, line_says, past_blanks_lem, place_of, word_end}
 use Rattle.row_lines.specs.Rows.{row_trouble_lem}
-use borrow.Author.Tests.{le-ltb, lt-ltb, ltb-false}
-use lib.Dec.{ltb}
+use Rattle.std.specs.Prelude.{MatchOption, Option}
+use borrow.Author.Tests.{eq-eqb, le-ltb, lt-ltb, ltb-false, ne_eqb}
+use lib.Dec.{eqb, ltb}
 use lib.ListN.{length}
 use mathlib.Core.Bool.{Bool, ◌||◌, cond, false, not, true}
 use mathlib.Core.List.{List}
-use mathlib.Core.Path.{◌∙◌, ◌≡◌, ap, ap₂, refl, sym}
+use mathlib.Core.Path.{◌∙◌, ◌≡◌, ap, ap₂, refl, subst, sym}
+use native.Mathlib.Decide.{ℕ_discrete}
 use native.Mathlib.Numerals.{add-one}
 use native.Mathlib.Omega.{arith}
 
 -- ---- one line
 -- it has nothing but blanks
-pub blank_told : (l : List ℕ) (r : ℕ) → r ≡ past_blanks_lem l 0 → not (ltb r (length l)) ≡ is_blank_lem l
+pub blank_told : (l : List ℕ) (r : ℕ) → r ≡ past_blanks_lem l 0 → r ≤ length l → eqb r (length l) ≡ is_blank_lem l
 unfolding is_blank_lem
-blank_told l r e = ap (λ (x : ℕ). not (ltb x (length l))) e
+blank_told l r e h = go (ℕ_discrete r (length l)) ∙ ap (λ (x : ℕ). not (ltb x (length l))) e
+  where
+    go : Dec (r ≡ length l) → eqb r (length l) ≡ not (ltb r (length l))
+    go (yes q) = eq-eqb r (length l) q ∙ sym (ap not (le-ltb r (length l) (omega arith)))
+    go (no q) = ne_eqb r (length l) q ∙ sym (ap not (lt-ltb r (length l) (omega (arith, q))))
 
 -- more than one word
 pub says_none : (l : List ℕ) (start end past : ℕ) → start ≡ past_blanks_lem l 0 → end ≡ end_at 32 l start → past ≡ past_blanks_lem l end → past < length l
@@ -35,12 +41,17 @@ says_none l start end past s e p h =
 
 -- one word, or none
 pub says_word : (l : List ℕ) (start end past : ℕ) → start ≡ past_blanks_lem l 0 → end ≡ end_at 32 l start → past ≡ past_blanks_lem l end → length l ≤ past
-    → (w : List ℕ) (v : ℕ) → w ≡ part_of l start end → v ≡ worth w → v ≡ line_says l
+    → (w : List ℕ) → w ≡ part_of l start end → worth w ≡ line_says l
 unfolding line_says word_end
-says_word l start end past s e p h w v a b =
+says_word l start end past s e p h w a =
     let q : past ≡ past_blanks_lem l (end_at 32 l (past_blanks_lem l 0)) = p ∙ ap (past_blanks_lem l) (e ∙ ap (end_at 32 l) s) in
     rw (le-ltb (past_blanks_lem l (end_at 32 l (past_blanks_lem l 0))) (length l) (omega (arith, q)))
-    (b ∙ ap worth (a ∙ ap₂ (part_of l) s (e ∙ ap (end_at 32 l) s)))
+    (ap worth (a ∙ ap₂ (part_of l) s (e ∙ ap (end_at 32 l) s)))
+
+-- a number that it says, or none, by the number of its only word
+pub said_told : (o : Option ℕ) {v w : ℕ} → MatchOption o (10_000_000 ≡ v) (λ n. (n ≡ v) × (n < 10_000_000)) → v ≡ w
+    → MatchOption o (10_000_000 ≡ w) (λ n. (n ≡ w) × (n < 10_000_000))
+said_told o m e = subst (λ (x : ℕ). MatchOption o (10_000_000 ≡ x) (λ n. (n ≡ x) × (n < 10_000_000))) e m
 
 -- its number is judged
 module _ (n v : ℕ) where

@@ -15,6 +15,7 @@ pub fn no_trouble() -> Trouble
 }
 
 // The first thing that is wrong is kept.
+#[tactic(auto, unfolding(line_reading::specs::InLine::marked))]
 fn mark(t: Trouble, kind: u32, column: usize) -> Trouble
     ensures { result ≡ marked t kind column }
 {
@@ -28,6 +29,7 @@ fn mark(t: Trouble, kind: u32, column: usize) -> Trouble
 }
 
 // A name may be anything but empty.
+#[tactic(auto, unfolding(line_reading::specs::InLine::only_empty))]
 fn name_trouble(kind: u32) -> u32
     ensures { result ≡ only_empty kind }
 {
@@ -48,6 +50,7 @@ fn is_label(label: usize, count: usize) -> bool
 }
 
 // A field has ended, with what is wrong with it in a row and in names: its number is kept behind the others, at most 16 in a line.
+#[tactic(auto, unfolding(line_reading::specs::InLine::added_as))]
 fn add_field(line: Line, kind: u32, named: u32, v: u16) -> Line
     ensures { result ≡ added_as line kind named v }
 {
@@ -77,6 +80,7 @@ fn add_field(line: Line, kind: u32, named: u32, v: u16) -> Line
 }
 
 // A field has ended: a label may be anything but empty, and counts as 0.
+#[tactic(auto, unfolding(line_reading::specs::InLine::added))]
 pub fn add(line: Line, kind: u32, v: u16) -> Line
     ensures { result ≡ added line kind v }
 {
@@ -88,6 +92,7 @@ pub fn add(line: Line, kind: u32, v: u16) -> Line
 }
 
 // The digit d goes behind the number v, which may then be too great.
+#[tactic(auto, unfolding(line_reading::specs::InLine::grown))]
 pub fn grow(v: u16, d: u8) -> Place
     ensures { result ≡ grown v d }
 {

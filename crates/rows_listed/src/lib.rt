@@ -28,10 +28,7 @@ pub fn unmark(how: &mut [u8], work: &[u32], n: usize, met: usize)
     ensures { how.new ≡ wiped n how.old }
 {
     let first = MET * n;
-    let mut i = 0;
-    while i < met {
-        let r = work[first + i] as usize;
-        how[r] = 0;
-        i += 1;
+    for i in 0..met {
+        how[work[first + i] as usize] = 0;
     }
 }

@@ -70,13 +70,10 @@ pub fn measure_centre(
         × (ListedTo n how.new work.new result.next) }
 {
     let d = query_distance(table, c, circles, query, r);
-    let now_next = mark_row(how, work, n, next, r);
-    let now_held = enter_row(n, w, withdrawn, work, held, r, d);
+    let next = mark_row(how, work, n, next, r);
+    let held = enter_row(n, w, withdrawn, work, held, r, d);
     work[DISTANCES * n + r] = d;
-    Seen {
-        held: now_held,
-        next: now_next,
-    }
+    Seen { held, next }
 }
 
 // Measures row r of a leaf, as far as the last distance: beyond that it is no answer. At the last distance itself it may be one, before a
@@ -103,18 +100,12 @@ pub fn measure_row(
 {
     let far = last(work, ANSWERS * n, w, held);
     let d = distance_to(query, row_of(table, c, r), circles, far);
-    let now_next = mark_row(how, work, n, next, r);
+    let next = mark_row(how, work, n, next, r);
     if far < d {
-        return Seen {
-            held: held,
-            next: now_next,
-        };
+        return Seen { held, next };
     }
-    let now_held = enter_row(n, w, withdrawn, work, held, r, d);
-    Seen {
-        held: now_held,
-        next: now_next,
-    }
+    let held = enter_row(n, w, withdrawn, work, held, r, d);
+    Seen { held, next }
 }
 
 // Measures the firsts of the nodes from a + 1 up to e: the first child shares its parent's first, which is measured.
@@ -143,20 +134,12 @@ pub fn measure_centres(
         × (ListedTo n how.new work.new result.next) }
 {
     let o = circles(index);
-    let mut now_held = held;
-    let mut now_next = next;
-    let mut j = a + 1;
-    while j < e {
+    let mut seen = Seen { held, next };
+    for j in a + 1..e {
         let r = node_first(index, j);
-        let seen = measure_centre(
-            table, c, o, query, n, w, withdrawn, how, work, now_held, now_next, r,
+        seen = measure_centre(
+            table, c, o, query, n, w, withdrawn, how, work, seen.held, seen.next, r,
         );
-        now_held = seen.held;
-        now_next = seen.next;
-        j += 1;
     }
-    Seen {
-        held: now_held,
-        next: now_next,
-    }
+    seen
 }

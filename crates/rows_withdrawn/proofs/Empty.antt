@@ -1,14 +1,12 @@
 -- A set in which no row is: its words are zeros, and no word of it need be asked. Assumes nothing.
 use Prim.Native.Nat.{◌+◌, ◌/◌, ◌<◌, ◌≤◌, suc, zero, ℕ}
-use Rattle.rowset.specs.Sets.{SameRows, bit_of, is_in_lem}
+use Rattle.rowset.specs.Sets.{SameRows, bit_of}
 use borrow.Author.Tests.{eqb-false, eqb-true}
 use lib.Dec.{T, eqb}
-use lib.ListN.{get_or, length, take}
-use lib.Seq.{take-length}
+use lib.ListN.{get_or, length}
 use mathlib.Core.Bool.{Bool, ◌||◌, false, not, true}
 use mathlib.Core.List.{List, [], ◌∷◌}
-use mathlib.Core.Path.{◌∙◌, ◌≡◌, ap, refl, subst, sym}
-use native.Mathlib.Nat.{zero-div}
+use mathlib.Core.Path.{◌∙◌, ◌≡◌, ap, refl, subst}
 use native.Mathlib.Omega.{arith}
 
 -- so far every word is zero, and this one is
@@ -39,7 +37,3 @@ off-beyond (v ∷ s) (suc i) l h (suc k) = off-beyond s i (omega arith) (λ k q.
 pub none_in : (s : List ℕ) → ((k : ℕ) → get_or s k 0 ≡ 0) → SameRows [] s
 unfolding bit_of
 none_in s h i = rw (h (i / 32)) refl
-
--- all words have the rows that they have
-pub all_asked : (s : List ℕ) → SameRows (take (length s) s) s
-all_asked s i = ap (λ (t : List ℕ). is_in_lem t i) (take-length s)

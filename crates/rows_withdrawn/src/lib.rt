@@ -11,11 +11,7 @@ pub fn is_in(set: &[u32], r: usize) -> bool
     ensures { result ≡ is_in_lem set.now r }
 {
     let at = r / 32;
-    if set.len() <= at {
-        return false;
-    }
-    let bit = mask_of(r);
-    set[at] & bit != 0
+    at < set.len() && set[at] & mask_of(r) != 0
 }
 
 // Whether a word of the set has a bit on. It looks at every word, without a branch.
@@ -23,10 +19,8 @@ fn some_on(set: &[u32]) -> bool
     ensures { AllOff result set.now }
 {
     let mut on = false;
-    let mut i = 0;
-    while i < set.len() {
-        on = on | (set[i] != 0);
-        i += 1;
+    for word in set {
+        on |= *word != 0;
     }
     on
 }
@@ -35,8 +29,5 @@ fn some_on(set: &[u32]) -> bool
 pub fn words_asked(set: &[u32]) -> usize
     ensures { (result ≤ length set.now) × SameRows (take result set.now) set.now }
 {
-    if some_on(set) {
-        return set.len();
-    }
-    0
+    if some_on(set) { set.len() } else { 0 }
 }

@@ -1,21 +1,17 @@
 -- A row's bit by shift and mask, as the code takes it: what the code computes is told by equations. Assumes nothing.
-use Prim.Native.Nat.{◌%◌, ◌*◌, ◌-◌, ◌/◌, ◌^◌, ◌≤◌, suc, zero, ℕ}
-use Rattle.rowset.proofs.Digits.{digit, masked, one_shifted}
+use Prim.Native.Nat.{◌%◌, ◌*◌, ◌/◌, ◌^◌, ◌≤◌, suc, zero, ℕ}
+use Rattle.rowset.proofs.Digits.{digit, masked}
 use Rattle.rowset.proofs.Refused.{by-last-word}
-use Rattle.rowset.specs.Sets.{Narrow, bit_of, is_in_lem, mask, restored, set_bad_lem, struck, word_of, words_for_lem}
+use Rattle.rowset.specs.Sets.{Narrow, bit_of, is_in_lem, mask, set_bad_lem, word_of, words_for_lem}
 use borrow.Author.Tests.{eq-eqb, ne_eqb}
-use lib.Bits.{bit_and, bit_or}
+use lib.Bits.{bit_and}
 use lib.Dec.{eqb, leb}
-use lib.ListN.{get_or, length, set}
+use lib.ListN.{get_or, length}
 use lib.Pow.{pow_pos}
 use mathlib.Core.Bool.{not}
 use mathlib.Core.List.{List}
 use mathlib.Core.Path.{◌∙◌, ◌≡◌, ap, ap₂}
 use native.Mathlib.Omega.{arith}
-
--- 1 shifted to a row's place is the row's mask
-pub shifted : (r place : ℕ) → place ≡ r % 32 → 1 * 2 ^ place % 4_294_967_296 ≡ mask r
-shifted r place e = one_shifted place (omega arith) ∙ ap (λ (p : ℕ). 2 ^ p) e
 
 module _ (s : List ℕ) (r at bit : ℕ) (word : at ≡ r / 32) (alone : bit ≡ mask r) where
   -- TESTED: what the mask leaves of the word
@@ -29,16 +25,6 @@ module _ (s : List ℕ) (r at bit : ℕ) (word : at ≡ r / 32) (alone : bit ≡
       go zero h = ap not (eq-eqb (0 * 2 ^ (r % 32)) 0 (omega arith))
       go (suc zero) h = ap not (ne_eqb (1 * 2 ^ (r % 32)) 0 (λ e. omega (arith, pow_pos (r % 32))))
       go (suc (suc b)) h = absurd (omega arith)
-
-  -- SET: the word with the mask
-  pub put_on : set s at (bit_or (get_or s at 0) bit) ≡ struck s r
-  unfolding struck
-  put_on = ap₂ (λ (j m : ℕ). set s j (bit_or (get_or s j 0) m)) word alone
-
-  -- CLEARED: the word without it
-  pub put-off : set s at (bit_and (get_or s at 0) (4_294_967_295 - bit)) ≡ restored s r
-  unfolding restored
-  put-off = ap₂ (λ (j m : ℕ). set s j (bit_and (get_or s j 0) (4_294_967_295 - m))) word alone
 
 -- REFUSED: the last word is not below the mask of row n
 pub not-below : (s : List ℕ) (n at bit : ℕ) → at ≡ n / 32 → bit ≡ mask n → Narrow s → length s ≡ words_for_lem n → leb bit (get_or s at 0) ≡ set_bad_lem s n

@@ -14,21 +14,23 @@ pub fn mask_of(r: usize) -> u32
 }
 
 // Row r comes into the set.
+#[tactic(auto, unfolding(crate::specs::Sets::struck))]
 pub fn strike_row(set: &mut [u32], r: usize)
     requires { r / 32 < length set.old }
     ensures { set.new ≡ struck set.old r }
 {
     let at = r / 32;
     let bit = mask_of(r);
-    set[at] = set[at] | bit;
+    set[at] |= bit;
 }
 
 // Row r leaves the set.
+#[tactic(auto, unfolding(crate::specs::Sets::restored))]
 pub fn restore_row(set: &mut [u32], r: usize)
     requires { r / 32 < length set.old }
     ensures { set.new ≡ restored set.old r }
 {
     let at = r / 32;
     let bit = mask_of(r);
-    set[at] = set[at] & !bit;
+    set[at] &= !bit;
 }

@@ -5,7 +5,7 @@ ghost use Rattle.std.specs.Prelude.{◌+◌, ◌≤◌, length, ◌≡◌};
 ghost use Rattle.samples.specs.Digit.{digit_of};
 ghost use Rattle.std.proofs.Math.Seq.{paste};
 
-// 01, The five-row table; its index has m = 2 and l = 2.
+// The five-row table; its index has m = 2 and l = 2.
 pub const FIVE_ROWS: [u16; 5] = [0, 1, 10, 11, 20];
 
 // Puts a line of words into an index that is being laid out.
@@ -13,11 +13,7 @@ pub fn put(line: &[u32], index: &mut [u32], at: usize)
     requires { at + length line.now ≤ length index.old }
     ensures { index.new ≡ paste index.old at line.now (length line.now) }
 {
-    let mut i = 0;
-    while i < line.len() {
-        index[at + i] = line[i];
-        i += 1;
-    }
+    index[at..at + line.len()].copy_from_slice(line);
 }
 
 // The five-row table's index: behind the header a line a node, each with its inner reach last, then the positions.
@@ -54,15 +50,8 @@ pub fn many() -> [u16; 1048577]
 }
 
 // One decimal digit; a question mark for anything greater.
-pub fn digit(x: u32) -> u8
+pub fn digit(x: usize) -> u8
     ensures { result ≡ digit_of x }
 {
-    if x < 10 { (x as u8) + 48 } else { b'?' }
-}
-
-// The same of a count.
-pub fn count(x: usize) -> u8
-    ensures { result ≡ digit_of x }
-{
-    if x < 10 { (x as u8) + 48 } else { b'?' }
+    if x < 10 { b'0' + x as u8 } else { b'?' }
 }

@@ -24,18 +24,18 @@ fn say_three(file: i32, n: usize) {
 
 // A number with a comma before each three digits.
 pub fn say_grouped(file: i32, n: usize) {
-    if n < 1_000 {
-        say_number(file, n);
-        return;
+    match n {
+        0..=999 => say_number(file, n),
+        1_000..=999_999 => {
+            say_number(file, n / 1_000);
+            say_three(file, n);
+        }
+        _ => {
+            say_number(file, n / 1_000_000);
+            say_three(file, n / 1_000);
+            say_three(file, n);
+        }
     }
-    if n < 1_000_000 {
-        say_number(file, n / 1_000);
-        say_three(file, n);
-        return;
-    }
-    say_number(file, n / 1_000_000);
-    say_three(file, n / 1_000);
-    say_three(file, n);
 }
 
 // A count and its noun.
@@ -61,14 +61,13 @@ pub fn say_quoted(file: i32, before: &[u8], quoted: &[u8], behind: &[u8]) {
 // Minutes as she books them: hours and minutes behind the count where there is an hour or more.
 pub fn say_minutes(file: i32, n: usize) {
     say_count(file, n, b"minute");
-    if n < 60 {
-        return;
+    if n >= 60 {
+        say(file, b", ");
+        say_grouped(file, n / 60);
+        say(file, b" h ");
+        say_number(file, n % 60);
+        say(file, b" min");
     }
-    say(file, b", ");
-    say_grouped(file, n / 60);
-    say(file, b" h ");
-    say_number(file, n % 60);
-    say(file, b" min");
 }
 
 // The closing line: how many minutes were found, and how many distances this took.

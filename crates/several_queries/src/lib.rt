@@ -13,7 +13,6 @@ ghost use Rattle.tree.specs.Nearest.{measured};
 ghost use Rattle.tree.specs.Radius.{marks, veiled};
 ghost use Rattle.words.specs.Words.{circles#, n#};
 
-use buffers::clear_bytes;
 use descent::search;
 use joined_marks::join;
 use radius::Found;
@@ -45,7 +44,8 @@ fn mark_one(
         (marks (from table.now c (circles# index.now) query.now) r (tree_of index.now)))
         (wiped (n# index.now) how.old) }
 {
-    clear_bytes(how, rows(index));
+    let n = rows(index);
+    how[..n].fill(0);
     let mut unlisted = [0; 1];
     search(
         table,
@@ -71,23 +71,17 @@ pub fn mark_each(
     marks: &mut [u8],
 ) -> Found
     requires { Fit index.now table.now c queries.now how.old marks.old }
-    ensures { (result.number ≡ 0) × Asked table.now c index.now queries.now r withdrawn.now
+    ensures { Asked table.now c index.now queries.now r withdrawn.now
         (rows_of queries.now c) how.old how.new marks.old marks.new result.inside result.measured }
 {
     let n = rows(index);
     let asked = queries.len() / c;
     let mut inside = 0;
     let mut measured = 0;
-    let mut k = 0;
-    while k < asked {
+    for k in 0..asked {
         mark_one(table, c, index, row_of(queries, c, k), r, withdrawn, how);
         measured += measured_rows(how, n);
         inside += join(how, marks, n);
-        k += 1;
     }
-    Found {
-        number: 0,
-        inside,
-        measured,
-    }
+    Found { inside, measured }
 }

@@ -5,11 +5,11 @@ use Rattle.limits.specs.Limits.{max_depth, max_distance}
 use Rattle.shape_test.specs.Pass.{fits, roomy}
 use Rattle.words.specs.Shape.{brood, node_fits, root_fits_lem, tile}
 use Rattle.words.specs.Words.{nodes#, child#, count#, inner#, l#, m#, n#, radius#, start#}
-use borrow.Author.Tests.{eq-eqb, eqb-true, le-leb, leb-true, lt-leb, ne_eqb}
+use borrow.Author.Tests.{eq-eqb, le-leb, leb-true, lt-leb, ne_eqb}
 use lib.Dec.{eqb, leb}
-use mathlib.Core.Bool.{Bool, and-false, false, true}
+use mathlib.Core.Bool.{and-false, false, true}
 use mathlib.Core.List.{List}
-use mathlib.Core.Path.{◌∙◌, ◌≡◌, refl}
+use mathlib.Core.Path.{◌∙◌, ◌≡◌}
 
 module _ (w : List ℕ) where
   -- a leaf has no children
@@ -46,27 +46,11 @@ module _ (w : List ℕ) (k next : ℕ) where
   pub room_is : roomy w k next ≡ true → (child# w k ≡ 0 → ⊥) → next + m# w ≤ nodes# w
   room_is e h = leb-true (next + m# w) (nodes# w) (room-inner h ∙ e)
 
-  -- a node without room for its children is no leaf
-  pub room-none : roomy w k next ≡ false → eqb (child# w k) 0 ≡ false
-  room-none e = go (eqb (child# w k) 0) refl
-    where
-      go : (b : Bool) → eqb (child# w k) 0 ≡ b → b ≡ false
-      go true q = room-leaf (eqb-true (child# w k) 0 q) ∙ e
-      go false q = refl
-
 -- ---- a node's test, by its ends in the code's order
 module _ (w : List ℕ) (k next depth : ℕ) where
   -- there is no room for its children
   pub fit-crowd : roomy w k next ≡ false → false ≡ fits w k next depth
   fit-crowd e = stop (node_fits w k next (leb max_depth depth)) e
-
-  -- it fails without the room that was not looked at
-  pub fit-anyway : {b : Bool} → (roomy w k next ≡ false → b ≡ false) → (roomy w k next ≡ true → b ≡ fits w k next depth) → b ≡ fits w k next depth
-  fit-anyway {b} without with-room = go (roomy w k next) refl
-    where
-      go : (r : Bool) → roomy w k next ≡ r → b ≡ fits w k next depth
-      go true e = with-room e
-      go false e = without e ∙ fit-crowd e
 
   module _ (room : roomy w k next ≡ true) where
     -- its run is empty

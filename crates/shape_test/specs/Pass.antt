@@ -1,13 +1,17 @@
 -- The shape test as one pass over the nodes in number order, with counters for the levels. A working notion, on which no promise rests. Assumes
 -- nothing.
 use Rattle.std.specs.Prelude.{◌+◌, ◌<◌, ◌≤◌, suc, ℕ, leb, Bool, ◌&&◌, ◌||◌, not, List, ◌≡◌}
-use Rattle.limits.specs.Limits.{max_depth}
+use Rattle.limits.specs.Limits.{max_depth, max_distance}
 use Rattle.words.specs.Shape.{born, inner, level, node_fits}
-use Rattle.words.specs.Words.{nodes#, m#}
+use Rattle.words.specs.Words.{nodes#, count#, inner#, m#, radius#}
 
 -- the children of node k, if it is inner, have numbers below N
 abbrev pub roomy : List ℕ → ℕ → ℕ → Bool
 roomy w k next = not (inner w k) || leb (next + m# w) (nodes# w)
+
+-- node k has a row, and its radius and its inner reach are in range
+abbrev pub ranged : List ℕ → ℕ → Bool
+ranged w k = leb 1 (count# w k) && leb (radius# w k) max_distance && leb (inner# w k) max_distance
 
 -- node k fits, by what the counters say: the number that its first child must have, and its depth
 abbrev pub fits : List ℕ → ℕ → ℕ → ℕ → Bool

@@ -1,13 +1,13 @@
 // The shape test: one pass over the nodes, one over the positions, with no workspace.
 #![tactic(auto)]
 
-ghost use Rattle.std.specs.Prelude.{◌*◌, ◌+◌, ◌<◌, ◌≤◌, true, ◌≡◌};
+ghost use Rattle.std.specs.Prelude.{◌*◌, ◌+◌, ◌<◌, ◌≤◌, ◌||◌, leb, length, true, ◌≡◌};
 ghost use Rattle.laws.specs.Lists.{all, range};
-ghost use Rattle.limits.specs.Limits.{max_centres};
+ghost use Rattle.limits.specs.Limits.{max_centres, max_depth};
 ghost use Rattle.words.specs.InShape.{Whole};
-ghost use Rattle.shape_test.specs.Pass.{fits, roomy};
+ghost use Rattle.shape_test.specs.Pass.{fits, ranged, roomy};
 ghost use Rattle.words.specs.Shape.{brood, position_ok, root_fits_lem, shape_ok_lem, tile, tree_fits_lem};
-ghost use Rattle.words.specs.Words.{nodes#, edition#, n#, node_at_lem, words_ok_lem};
+ghost use Rattle.words.specs.Words.{nodes#, edition#, header_words, l#, n#, node_at_lem, words_ok_lem};
 
 use limits::Params;
 use words::places::{
@@ -22,13 +22,11 @@ fn tiles(index: &[u32], j: usize, m: usize, s: usize, e: usize) -> bool
     ensures { result ≡ tile index.now j m s e }
 {
     let mut at = s;
-    let mut i = 0;
-    while i < m {
+    for i in 0..m {
         if node_start(index, j + i) != at {
             return false;
         }
         at += node_count(index, j + i);
-        i += 1;
     }
     at == e
 }
@@ -39,10 +37,26 @@ fn has_room(index: &[u32], k: usize, next: usize) -> bool
     requires k_bound { (k < nodes# index.now) × (next ≤ max_centres * k + 1) }
     ensures { result ≡ roomy index.now k next }
 {
-    if node_child(index, k) == 0 {
-        return true;
-    }
-    next + centres(index) <= nodes(index)
+    node_child(index, k) == 0 || next + centres(index) <= nodes(index)
+}
+
+// Node k, whose words stand from `here` on, has a row, and its radius and its inner reach are in range.
+fn in_range(index: &[u32], k: usize, here: usize) -> bool
+    requires whole { Whole index.now }
+    requires k_bound { (k < nodes# index.now) × (here ≡ node_at_lem index.now k) × (edition# index.now ≡ 2) }
+    ensures { result ≡ ranged index.now k }
+{
+    1 <= word(index, here + 1)
+        && index[here + 3] <= Params::MOST_DISTANCE
+        && node_inner(index, k) <= Params::MOST_DISTANCE
+}
+
+// A node of so many rows must be a leaf: it has no more than a leaf may have, or no level is left below it.
+fn must_be_leaf(index: &[u32], count: usize, depth: usize) -> bool
+    requires { header_words ≤ length index.now }
+    ensures { result ≡ (leb count (l# index.now) || leb max_depth depth) }
+{
+    count <= leaf_size(index) || Params::MOST_DEPTH <= depth
 }
 
 // Node k, whose words stand from `here` on, fits, at the given depth, if `next` is the number that its first child must have.
@@ -52,27 +66,15 @@ fn node_fits(index: &[u32], k: usize, here: usize, next: usize, depth: usize) ->
         × (edition# index.now ≡ 2) }
     ensures { result ≡ fits index.now k next depth }
 {
+    if !in_range(index, k, here) {
+        return false;
+    }
     let count = word(index, here + 1);
     let child = word(index, here + 2);
-    if count < 1 {
-        return false;
-    }
-    if Params::MOST_DISTANCE < index[here + 3] {
-        return false;
-    }
-    if Params::MOST_DISTANCE < node_inner(index, k) {
-        return false;
-    }
-    if count <= leaf_size(index) {
+    if must_be_leaf(index, count, depth) {
         return child == 0;
     }
-    if Params::MOST_DEPTH <= depth {
-        return child == 0;
-    }
-    if child != next {
-        return false;
-    }
-    if !has_room(index, k, next) {
+    if child != next || !has_room(index, k, next) {
         return false;
     }
     let start = word(index, here);
@@ -86,9 +88,10 @@ fn brood_of(index: &[u32], k: usize, here: usize) -> usize
     ensures { result ≡ brood index.now k }
 {
     if word(index, here + 2) == 0 {
-        return 0;
+        0
+    } else {
+        centres(index)
     }
-    centres(index)
 }
 
 // The root's run is everything.
@@ -97,10 +100,7 @@ fn root_fits(index: &[u32]) -> bool
     requires bound { 1 ≤ nodes# index.now }
     ensures { result ≡ root_fits_lem index.now }
 {
-    if node_start(index, 0) != 0 {
-        return false;
-    }
-    node_count(index, 0) == rows(index)
+    node_start(index, 0) == 0 && node_count(index, 0) == rows(index)
 }
 
 // The nodes in number order: `next` is the number that the next first child must have, `edge` where the next level starts, `here` where the node's
@@ -120,10 +120,9 @@ fn tree_fits(index: &[u32]) -> bool
     let mut next: usize = 1;
     let mut edge: usize = 1;
     let mut depth: usize = 0;
-    let mut k: usize = 0;
     let step = width(index);
     let mut here: usize = HEADER;
-    while k < total {
+    for k in 0..total {
         if next <= k {
             return false;
         }
@@ -131,9 +130,8 @@ fn tree_fits(index: &[u32]) -> bool
             return false;
         }
         next += brood_of(index, k, here);
-        k += 1;
         here += step;
-        if k == edge {
+        if k + 1 == edge {
             edge = next;
             depth += 1;
         }
@@ -150,12 +148,10 @@ fn positions_fit(index: &[u32]) -> bool
     let over = n as u32;
     let base = pair_at(index, 0);
     let mut wrong = false;
-    let mut p = 0;
-    while p < n {
+    for p in 0..n {
         wrong = wrong
             | (over <= index[base + 2 * p])
             | (Params::MOST_DISTANCE < index[base + 2 * p + 1]);
-        p += 1;
     }
     !wrong
 }
@@ -165,8 +161,5 @@ pub fn shape_ok(index: &[u32]) -> bool
     requires { words_ok_lem index.now ≡ true }
     ensures { result ≡ shape_ok_lem index.now }
 {
-    if !tree_fits(index) {
-        return false;
-    }
-    positions_fit(index)
+    tree_fits(index) && positions_fit(index)
 }

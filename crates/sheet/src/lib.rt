@@ -19,6 +19,7 @@ const MOST_LINES: u64 = 18_446_744_073_709_551_615;
 const PAST: u32 = 3;
 
 // Before the first byte of a text. The column `label` (from 1) holds a label, which may be anything but empty and is read as 0; 0: there is none.
+#[tactic(auto, unfolding(sheet_reading::specs::Reading::begun))]
 pub fn start(label: usize) -> Reader
     ensures { result ≡ begun label }
 {
@@ -38,6 +39,7 @@ pub fn start(label: usize) -> Reader
 }
 
 // What is wrong in a field comes before what is wrong with the row.
+#[tactic(auto, unfolding(sheet_reading::specs::Says::or_row))]
 fn field_or_row(
     t: Trouble,
     columns: usize,
@@ -55,6 +57,7 @@ fn field_or_row(
 }
 
 // What is wrong with names.
+#[tactic(auto, unfolding(sheet_reading::specs::Closing::or_wide))]
 fn name_or_wide(t: Trouble, count: usize) -> Trouble
     ensures { result ≡ or_wide t count }
 {
@@ -71,16 +74,15 @@ fn name_or_wide(t: Trouble, count: usize) -> Trouble
 }
 
 // The line is the first, and names.
+#[tactic(auto, unfolding(sheet_reading::specs::Closing::titles))]
 fn has_titles(r: Reader, ended: Line) -> bool
     ensures { result ≡ titles r ended }
 {
-    if r.line != 1 {
-        return false;
-    }
-    !ended.figure
+    r.line == 1 && !ended.figure
 }
 
 // Why the line can't be taken.
+#[tactic(auto, unfolding(sheet_reading::specs::Closing::end_trouble))]
 fn line_trouble(r: Reader, ended: Line, room: usize) -> Trouble
     ensures { result ≡ end_trouble r ended room }
 {
@@ -97,14 +99,11 @@ fn put_row(row: [u16; 16], n: usize, table: &mut [u16], at: usize)
     requires { (n ≤ 16) × (at + n ≤ length table.old) }
     ensures { table.new ≡ paste table.old at row n }
 {
-    let mut i = 0;
-    while i < n {
-        table[at + i] = row[i];
-        i += 1;
-    }
+    table[at..at + n].copy_from_slice(&row[..n]);
 }
 
 // The next line's number.
+#[tactic(auto, unfolding(sheet_reading::specs::Closing::counted))]
 fn count_line(line: u64) -> u64
     ensures { result ≡ counted line }
 {
@@ -115,6 +114,7 @@ fn count_line(line: u64) -> u64
 }
 
 // The first of blank lines.
+#[tactic(auto, unfolding(sheet_reading::specs::Closing::first_blank_lem))]
 fn first_blank(blank: u64, line: u64) -> u64
     ensures { result ≡ first_blank_lem blank line }
 {
@@ -125,6 +125,7 @@ fn first_blank(blank: u64, line: u64) -> u64
 }
 
 // Behind a line, with so many columns, rows and numbers.
+#[tactic(auto, unfolding(sheet_reading::specs::Closing::onward))]
 fn go_onward(r: Reader, blank: u64, columns: usize, rows: usize, put: usize) -> Reader
     ensures { result ≡ onward r blank columns rows put }
 {
@@ -152,6 +153,7 @@ fn take_row(r: Reader, n: usize, room: usize) -> Reader
 }
 
 // At a line that can't be taken.
+#[tactic(auto, unfolding(sheet_reading::specs::Closing::failed))]
 fn fail(r: Reader, ended: Line, line: u64, trouble: Trouble) -> Reader
     ensures { result ≡ failed r ended line trouble }
 {
@@ -171,6 +173,7 @@ fn fail(r: Reader, ended: Line, line: u64, trouble: Trouble) -> Reader
 }
 
 // A line that has ended is names, or a row that is put behind the others, or can't be taken.
+#[tactic(auto, unfolding(sheet_reading::specs::Closing::weighed, sheet_reading::specs::Closing::decided, sheet_reading::specs::Closing::accepted))]
 fn decide(r: Reader, ended: Line, table: &mut [u16]) -> Reader
     ensures { (result ≡ (weighed r ended table.old).0) × (table.new ≡ (weighed r ended table.old).1) }
 {
@@ -190,6 +193,7 @@ fn decide(r: Reader, ended: Line, table: &mut [u16]) -> Reader
 }
 
 // A line that is not blank: it may not stand below a blank one.
+#[tactic(auto, unfolding(sheet_reading::specs::Closing::judged))]
 fn judge(r: Reader, ended: Line, table: &mut [u16]) -> Reader
     ensures { (result ≡ (judged r ended table.old).0) × (table.new ≡ (judged r ended table.old).1) }
 {
@@ -208,6 +212,7 @@ fn judge(r: Reader, ended: Line, table: &mut [u16]) -> Reader
 }
 
 // At a newline.
+#[tactic(auto, unfolding(sheet_reading::specs::Closing::closed))]
 fn close(r: Reader, table: &mut [u16]) -> Reader
     ensures { (result ≡ (closed r table.old).0) × (table.new ≡ (closed r table.old).1) }
 {
@@ -218,6 +223,7 @@ fn close(r: Reader, table: &mut [u16]) -> Reader
 }
 
 // Inside a line.
+#[tactic(auto, unfolding(sheet_reading::specs::Reading::inside))]
 fn stay(r: Reader, mark: u32, held: bool, here: Line) -> Reader
     ensures { result ≡ inside r mark held here }
 {
@@ -237,6 +243,7 @@ fn stay(r: Reader, mark: u32, held: bool, here: Line) -> Reader
 }
 
 // A carriage return that was held back is a byte as any other, since no newline follows it.
+#[tactic(auto, unfolding(sheet_reading::specs::Reading::released))]
 fn release(r: Reader) -> Line
     ensures { result ≡ released r }
 {
@@ -247,6 +254,7 @@ fn release(r: Reader) -> Line
 }
 
 // One byte more of a text whose start was looked at.
+#[tactic(auto, unfolding(sheet_reading::specs::Reading::read))]
 fn read_byte(r: Reader, b: u8, table: &mut [u16]) -> Reader
     ensures { (result ≡ (read (r, table.old) b).0) × (table.new ≡ (read (r, table.old) b).1) }
 {
@@ -266,6 +274,7 @@ fn read_byte(r: Reader, b: u8, table: &mut [u16]) -> Reader
 }
 
 // The bytes of the mark.
+#[tactic(auto, unfolding(sheet_reading::specs::Reading::mark_byte_lem))]
 fn mark_byte(k: u32) -> u8
     ensures { result ≡ mark_byte_lem k }
 {
@@ -279,6 +288,7 @@ fn mark_byte(k: u32) -> u8
 }
 
 // The start was not the mark: what came of it is bytes as any other.
+#[tactic(auto, unfolding(sheet_reading::specs::Reading::unmarking))]
 fn unmark(r: Reader) -> Reader
     ensures { result ≡ unmarking r }
 {
@@ -289,6 +299,7 @@ fn unmark(r: Reader) -> Reader
 }
 
 // One byte more of the text's start.
+#[tactic(auto, unfolding(sheet_reading::specs::Reading::marking))]
 fn begin(r: Reader, b: u8, table: &mut [u16]) -> Reader
     requires { r.mark + 1 ≤ 3 }
     ensures { (result ≡ (marking (r, table.old) b).0) × (table.new ≡ (marking (r, table.old) b).1) }
@@ -300,6 +311,7 @@ fn begin(r: Reader, b: u8, table: &mut [u16]) -> Reader
 }
 
 // One byte more. Behind a fault nothing changes.
+#[tactic(auto, unfolding(sheet_reading::specs::Reading::next))]
 fn step(r: Reader, b: u8, table: &mut [u16]) -> Reader
     ensures { (result ≡ (next (r, table.old) b).0) × (table.new ≡ (next (r, table.old) b).1) }
 {
@@ -318,10 +330,8 @@ pub fn feed(reader: Reader, text: &[u8], table: &mut [u16]) -> Reader
         × (table.new ≡ (run (reader, table.old) text.now).1) }
 {
     let mut r = reader;
-    let mut i = 0;
-    while i < text.len() {
-        r = step(r, text[i], table);
-        i += 1;
+    for b in text {
+        r = step(r, *b, table);
     }
     r
 }

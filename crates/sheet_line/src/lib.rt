@@ -10,6 +10,7 @@ use row_numbers::{add, grow, no_trouble};
 use sheet_fields::Kind;
 
 // Before the first byte of a line.
+#[tactic(auto, unfolding(line_reading::specs::InLine::emptied))]
 pub fn fresh(label: usize) -> Line
     ensures { result ≡ emptied label }
 {
@@ -109,6 +110,7 @@ fn has_figure(before: bool, figure: bool, leads: bool) -> bool
 }
 
 // A byte of a field leads to a place; the first one of a field may make a figure of it.
+#[tactic(auto, unfolding(line_reading::specs::InLine::moved))]
 fn go_on(line: Line, place: Place, figure: bool) -> Line
     ensures { result ≡ moved line place figure }
 {
@@ -143,6 +145,7 @@ fn at_blank(line: Line) -> Line
 }
 
 // Behind a byte that parts a field is open.
+#[tactic(auto, unfolding(line_reading::specs::InLine::opened))]
 fn open(line: Line) -> Line
     ensures { result ≡ opened line }
 {
@@ -176,6 +179,7 @@ pub fn along(line: Line, kind: Kind) -> Line
 }
 
 // No field of the line has begun.
+#[tactic(auto, unfolding(line_reading::specs::InLine::bare))]
 pub fn is_bare(here: Line) -> bool
     ensures { result ≡ bare here }
 {

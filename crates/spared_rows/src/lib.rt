@@ -9,7 +9,6 @@ ghost use Rattle.tree.specs.Tested.{Tested};
 ghost use Rattle.words.specs.Words.{circles#, m#, n#};
 
 use limits::Params;
-use numbers::smaller;
 use row_distances::row_distance;
 use words::places::centres;
 
@@ -20,9 +19,10 @@ fn halfway(table: &[u16], c: usize, index: &[u32], g: usize, f: usize) -> u32
     ensures { Safe (between table.now c (circles# index.now)) g f result }
 {
     if f == g {
-        return Params::MOST_DISTANCE;
+        Params::MOST_DISTANCE
+    } else {
+        row_distance(table, c, 0, g, f) / 2
     }
-    row_distance(table, c, 0, g, f) / 2
 }
 
 // How far a row can be from the first of child a, whose run has `count` positions, and is still closer to none of fs, so that it need not be measured
@@ -44,13 +44,10 @@ pub fn safe_within(
     if (count < 32) | (c <= 4) & (count < 128) {
         return 0;
     }
-    let m = centres(index);
     let g = fs[a];
     let mut least = Params::MOST_DISTANCE;
-    let mut i = 0;
-    while i < m {
-        least = smaller(least, halfway(table, c, index, g, fs[i]));
-        i += 1;
+    for f in &fs[..centres(index)] {
+        least = least.min(halfway(table, c, index, g, *f));
     }
     least
 }

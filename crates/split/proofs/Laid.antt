@@ -73,7 +73,3 @@ module _ (d : ℕ → ℕ → ℕ) where
   pub split-joined : (m : ℕ) (run : List ℕ) → 1 ≤ m → m ≤ length run → Run run → length (joined (split d m run)) ≡ length run
   split-joined m run h l r =
       sym (tally_length (joined (split d m run))) ∙ split-tally d m m h (omega arith) (λ i. true) run r l ∙ tally_length run
-
-  -- and as many words
-  pub split-long : (m : ℕ) (run : List ℕ) → 1 ≤ m → m ≤ length run → Run run → length (each (laid d) (split d m run)) ≡ 3 * length run
-  split-long m run h l r = runs-long (split d m run) ∙ ap (λ (k : ℕ). 3 * k) (split-joined m run h l r)

@@ -2,7 +2,6 @@ pub mod Closest
 pub mod Held
 pub mod Laid
 pub mod Sharing
-pub mod Copied
 pub mod Parted
 pub mod Among
 pub mod SplitWords

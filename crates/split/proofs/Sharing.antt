@@ -54,26 +54,6 @@ module _ {room₀ work₀ : List ℕ} {n m s count made : ℕ} (asked : Sharable
   all_nodes_lem : length N ≡ 5 * m
   all_nodes_lem = nodes_long s W (centres work₀ (3 * s) m) ∙ ap (λ (k : ℕ). 5 * k) (centres_long work₀ (3 * s) m)
 
-  -- no group is written
-  pub sharing_start : Sharing room₀ work₀ n m s count made room₀ work₀ s 0
-  sharing_start =
-      let z : 3 * (s - s) ≡ 0 = omega arith in
-      let y : 3 * (n + s) + 3 * (s - s) ≡ 3 * (n + s) = omega arith in
-      let x : s + 0 ≡ s = omega arith in
-      let v : made + 0 ≡ made = omega arith in
-      let u : m - 0 ≡ m = omega arith in
-      record {
-        some = omega arith;
-        from = omega arith;
-        upto = omega arith;
-        long = refl;
-        wide = refl;
-        left = rw (z, x, u);
-        wrote = sym (rw (y, z, append-nil) (take-append-drop (3 * (n + s)) work₀));
-        nodes_left = rw (x, u);
-        nodes_wrote = sym (rw (v, append-nil) (take-append-drop (node_at_lem made) room₀));
-      }
-
   module _ {room work : List ℕ} {at t : ℕ} (inv : Sharing room₀ work₀ n m s count made room work at t) where
     -- the workspace as far as it is written
     abbrev front : List ℕ

@@ -20,11 +20,7 @@ pub fn copy_back(work: &mut [u32], lo: usize, hi: usize, over: usize)
     ensures { work.new ≡ take lo work.old
         ++ (stretch work.old (lo + over) (hi + over) ++ drop hi work.old) }
 {
-    let mut p = lo;
-    while p < hi {
-        work[p] = work[p + over];
-        p += 1;
-    }
+    work.copy_within(lo + over..hi + over, lo);
 }
 
 // Shares out the run of `count` positions from s on, whose m centres are at its front: its children are the nodes from `made` on.
@@ -41,8 +37,7 @@ fn share(
     ensures { Shared room.old work.old n m s count made room.new work.new }
 {
     let mut at = s;
-    let mut t = 0;
-    while t < m {
+    for t in 0..m {
         let first = work[3 * (s + t)];
         let g = gather(work, 3 * (s + m), 3 * (s + count), first, 3 * (n + at));
         let node = HEADER + WIDTH * (made + t);
@@ -55,7 +50,6 @@ fn share(
             g.inner,
         );
         at += g.count;
-        t += 1;
     }
 }
 

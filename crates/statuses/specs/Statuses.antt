@@ -1,5 +1,7 @@
 -- The statuses that the analyst's program ends with (docs/statements/minutes.md). Assumes nothing.
 use Rattle.std.specs.Prelude.{◌≤◌, ℕ}
+use Rattle.statuses.specs.declared.Status.TheVariants.{Answered, NothingFound, AskedWrongly, TextFaulty, NoRoom}
+use Rattle.statuses.specs.declared.Status.{Status}
 
 -- there is an answer
 abbrev pub answered : ℕ
@@ -20,6 +22,14 @@ text_faulty_lem = 3
 -- there is no room
 abbrev pub no_room_lem : ℕ
 no_room_lem = 4
+
+-- the number of a status
+abbrev pub number_of : Status → ℕ
+number_of Answered = answered
+number_of NothingFound = nothing_found_lem
+number_of AskedWrongly = asked_wrongly_lem
+number_of TextFaulty = text_faulty_lem
+number_of NoRoom = no_room_lem
 
 -- the launcher knows the status: it takes any other for a program that broke off
 abbrev pub Known : ℕ → Type 0

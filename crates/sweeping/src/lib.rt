@@ -21,11 +21,9 @@ fn sweep_all(index: &[u32], base: usize, lo: usize, hi: usize, how: &mut [u8])
     requires lo_le_hi { (lo ≤ hi) × (hi ≤ n# index.now) × (n# index.now ≤ length how.old) }
     ensures { how.new ≡ marked (λ (i : ℕ). false) (swept_at index.now) lo hi how.old }
 {
-    let mut p = lo;
-    while p < hi {
+    for p in lo..hi {
         let row = word(index, base + 2 * p);
         how[row] = 2;
-        p += 1;
     }
 }
 
@@ -35,10 +33,8 @@ fn sweep_shown(index: &[u32], base: usize, lo: usize, hi: usize, withdrawn: &[u3
     requires lo_le_hi { (lo ≤ hi) × (hi ≤ n# index.now) × (n# index.now ≤ length how.old) }
     ensures { how.new ≡ marked (is_in_lem withdrawn.now) (swept_at index.now) lo hi how.old }
 {
-    let mut p = lo;
-    while p < hi {
+    for p in lo..hi {
         let row = word(index, base + 2 * p);
-        p += 1;
         if !is_in(withdrawn, row) {
             how[row] = 2;
         }
@@ -51,10 +47,10 @@ fn sweep_bytes(index: &[u32], base: usize, lo: usize, hi: usize, withdrawn: &[u3
     requires lo_le_hi { (lo ≤ hi) × (hi ≤ n# index.now) × Bytes index.now how.old }
     ensures { how.new ≡ marked (is_in_lem withdrawn.now) (swept_at index.now) lo hi how.old }
 {
-    if how.len() == 0 {
+    if how.is_empty() {
         return;
     }
-    if withdrawn.len() == 0 {
+    if withdrawn.is_empty() {
         sweep_all(index, base, lo, hi, how);
     } else {
         sweep_shown(index, base, lo, hi, withdrawn, how);
@@ -68,10 +64,8 @@ fn sweep_list(index: &[u32], base: usize, lo: usize, hi: usize, withdrawn: &[u32
     ensures { list.new ≡ told (λ (i : ℕ). 0) (veiled (is_in_lem withdrawn.now) (span (swept_at index.now) lo hi))
         list.old }
 {
-    let mut p = lo;
-    while p < hi {
+    for p in lo..hi {
         let row = word(index, base + 2 * p);
-        p += 1;
         if !is_in(withdrawn, row) {
             enter(list, UNMEASURED, row);
         }
@@ -90,7 +84,7 @@ pub fn sweep(index: &[u32], k: usize, withdrawn: &[u32], how: &mut [u8], list: &
     let end = start + node_count(index, k);
     let base = pair_at(index, 0);
     sweep_bytes(index, base, start + 1, end, withdrawn, how);
-    if list.len() != 0 {
+    if !list.is_empty() {
         sweep_list(index, base, start + 1, end, withdrawn, list);
     }
 }

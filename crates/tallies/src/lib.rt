@@ -12,44 +12,35 @@ pub struct Counts {
     pub measured: usize,
 }
 
-// The same of so few rows that a byte holds each count.
-#[derive(Clone, Copy)]
-pub struct Few {
-    pub inside: u8,
-    pub measured: u8,
-}
-
 // 1 for a how-byte that says in, else 0.
 fn one_in(h: u8) -> u8
     ensures { result ≡ cond (leb 2 h) 1 0 }
 {
-    if h >= 2 { 1 } else { 0 }
+    u8::from(h >= 2)
 }
 
 // 1 for a how-byte that says measured, else 0.
 fn one_measured(h: u8) -> u8
     ensures { result ≡ cond (is_measured h) 1 0 }
 {
-    if h == 1 {
-        return 1;
-    }
-    if h == 3 { 1 } else { 0 }
+    u8::from(h == 1 || h == 3)
 }
 
 // The counts over a block of how-bytes: in bytes, so that as many are counted at once as a register holds.
-fn count_block(block: &[u8]) -> Few
+fn count_block(block: &[u8]) -> Counts
     requires { length block.now ≤ 240 }
     ensures { (result.inside ≡ inside block.now) × (result.measured ≡ measured block.now) }
 {
     let mut inside: u8 = 0;
     let mut measured: u8 = 0;
-    let mut i = 0;
-    while i < block.len() {
-        inside += one_in(block[i]);
-        measured += one_measured(block[i]);
-        i += 1;
+    for how in block {
+        inside += one_in(*how);
+        measured += one_measured(*how);
     }
-    Few { inside, measured }
+    Counts {
+        inside: usize::from(inside),
+        measured: usize::from(measured),
+    }
 }
 
 // Where the block that begins at byte i of n ends.
@@ -57,7 +48,7 @@ fn block_end(i: usize, n: usize) -> usize
     requires { i < n }
     ensures { (i < result) × (result ≤ n) × (result ≤ i + 240) }
 {
-    if n - i < 240 { n } else { i + 240 }
+    i + (n - i).min(240)
 }
 
 // The counts over the first n how-bytes.
@@ -71,8 +62,8 @@ pub fn tally(how: &[u8], n: usize) -> Counts
     while i < n {
         let end = block_end(i, n);
         let block = count_block(&how[i..end]);
-        inside += block.inside as usize;
-        measured += block.measured as usize;
+        inside += block.inside;
+        measured += block.measured;
         i = end;
     }
     Counts { inside, measured }

@@ -1,9 +1,7 @@
 // What is wrong with a text, with the line and the column.
-ghost use Rattle.std.specs.Prelude.{◌≤◌};
-
 use saying::{say, say_count, say_number};
 use sheet_reading::Reader;
-use statuses::{no_room, text_faulty};
+use statuses::Status;
 
 // A row that has another count than the rows above, or than the names if it is the first row.
 fn say_uneven(file: i32, count: usize, columns: usize, rows: usize) {
@@ -56,15 +54,11 @@ pub fn say_fault(file: i32, r: Reader) {
     say_line_fault(file, r);
 }
 
-// The status of a text with this fault: 4 where there is no room for its rows, else 3.
-pub fn status_of(fault: u32) -> u32
-    ensures { result ≤ 4 }
-{
-    if fault == sheet_reading::TOO_MANY_ROWS {
-        return no_room();
+// The status of a text with this fault: another where there is no room for its rows.
+pub fn status_of(fault: u32) -> Status {
+    if fault == sheet_reading::TOO_MANY_ROWS || fault == sheet_reading::TABLE_SHORT {
+        Status::NoRoom
+    } else {
+        Status::TextFaulty
     }
-    if fault == sheet_reading::TABLE_SHORT {
-        return no_room();
-    }
-    text_faulty()
 }

@@ -3,13 +3,14 @@
 
 pub mod faults;
 
-ghost use Rattle.std.specs.Prelude.{◌≤◌};
-
-use asking::Question;
+use asking::Wrong;
 use asking::pieces::bytes_of;
-use queries::{NO_LABEL, NO_ROW, NOT_A_VALUE, NOT_ONE, OFF_CIRCLE, TOO_FEW_VALUES, TOO_MANY_ROWS};
+use circle_columns::CircleFault;
+use column_choice::{ChoiceFault, ItemFault};
+use column_names::NameFault;
+use queries::Fault;
 use saying::{say, say_count, say_number, say_quoted};
-use statuses::no_room;
+use statuses::Status;
 
 // The usage in two lines.
 fn say_usage(file: i32) {
@@ -58,176 +59,166 @@ pub fn tells(words: &[u8], out: i32) -> bool {
 }
 
 // What is wrong with the words of the question.
-pub fn say_asked_wrong(file: i32, words: &[u8], q: Question) {
-    let word = bytes_of(words, q.place);
-    if q.wrong == asking::NO_OPTION {
-        say_quoted(
+pub fn say_asked_wrong(file: i32, words: &[u8], wrong: Wrong) {
+    match wrong {
+        Wrong::NoWords | Wrong::TooFew => say_usage(file),
+        Wrong::OneMore(w) => say_quoted(
+            file,
+            b"",
+            bytes_of(words, w),
+            b" is one word too many: FILE, like or nearest, WHAT, and DISTANCE or HOW_MANY",
+        ),
+        Wrong::NoOption(w) => say_quoted(
             file,
             b"there is no option ",
-            word,
+            bytes_of(words, w),
             b"; there are --columns, --circle, --without, --label, --count, --csv, --lines, --by, --help and --version",
-        );
-    } else if q.wrong == asking::NO_VALUE {
-        say_quoted(
+        ),
+        Wrong::NoValue(w) => say_quoted(
             file,
             b"",
-            word,
+            bytes_of(words, w),
             b" needs a value: --columns speed,fan_pressure*2, --circle heading, --without struck.txt, --label time, --by distance",
-        );
-    } else if q.wrong == asking::TWICE {
-        say_quoted(file, b"", word, b" is given twice");
-    } else if q.wrong == asking::NO_ORDER {
-        say_quoted(
+        ),
+        Wrong::Twice(w) => say_quoted(file, b"", bytes_of(words, w), b" is given twice"),
+        Wrong::NoOrder(w) => say_quoted(
             file,
             b"answers do not come by ",
-            word,
+            bytes_of(words, w),
             b", but by distance, or in row order without --by",
-        );
-    } else {
-        say_words_wrong(file, words, q);
-    }
-}
-
-// What is wrong with the four plain words.
-fn say_words_wrong(file: i32, words: &[u8], q: Question) {
-    let word = bytes_of(words, q.place);
-    if q.wrong == asking::ONE_MORE {
-        say_quoted(
-            file,
-            b"",
-            word,
-            b" is one word too many: FILE, like or nearest, WHAT, and DISTANCE or HOW_MANY",
-        );
-    } else if q.wrong == asking::NO_WAY {
-        say_quoted(
+        ),
+        Wrong::NoWay(w) => say_quoted(
             file,
             b"behind FILE stands like or nearest, and not ",
-            word,
+            bytes_of(words, w),
             b"",
-        );
-    } else if q.wrong == asking::NO_AMOUNT {
-        say_quoted(
+        ),
+        Wrong::NoAmount(w) => say_quoted(
             file,
             b"DISTANCE is a whole number below 10,000,000, HOW_MANY one from 1 on, and not ",
-            word,
+            bytes_of(words, w),
             b"",
-        );
-    } else {
-        say_usage(file);
+        ),
     }
 }
 
-// What is wrong with an item of the list of columns, or with the label's name; `names` are the columns that there are.
-pub fn say_columns_wrong(file: i32, wrong: u32, item: &[u8], names: &[u8]) {
-    if wrong == column_choice::NO_FACTOR {
-        say_quoted(
+// What is wrong with a name of a column; `names` are the columns that there are.
+pub fn say_name_wrong(file: i32, fault: NameFault, name: &[u8], names: &[u8]) {
+    match fault {
+        NameFault::NoColumn => {
+            say_quoted(file, b"there is no column ", name, b"");
+            say_quoted(file, b"the text's first line is ", names, b"");
+        }
+        NameFault::TwoColumns => say_quoted(
+            file,
+            b"two columns have the name of ",
+            name,
+            b": ask by number",
+        ),
+    }
+}
+
+// What is wrong with an item of the list of columns.
+fn say_item_wrong(file: i32, fault: ItemFault, item: &[u8], names: &[u8]) {
+    match fault {
+        ItemFault::Name(fault) => say_name_wrong(file, fault, item, names),
+        ItemFault::NoFactor => say_quoted(
             file,
             b"a factor is a whole number from 1 to 65,535, unlike that of ",
             item,
             b"",
-        );
-    } else if wrong == column_names::TWO_COLUMNS {
-        say_quoted(
-            file,
-            b"two columns have the name of ",
-            item,
-            b": ask by number",
-        );
-    } else if wrong == column_choice::LABEL_COUNTS {
-        say_quoted(
+        ),
+        ItemFault::LabelCounts => say_quoted(
             file,
             b"labels do not count, and ",
             item,
             b" is their column",
-        );
-    } else if wrong == column_names::TOO_MANY {
-        say(
+        ),
+    }
+}
+
+// What is wrong with the list of columns.
+pub fn say_columns_wrong(file: i32, fault: ChoiceFault, list: &[u8], names: &[u8]) {
+    match fault {
+        ChoiceFault::TooMany => say(
             file,
             b"at most 16 columns can be chosen, and one at least\n",
-        );
-    } else {
-        say_quoted(file, b"there is no column ", item, b"");
-        say_quoted(file, b"the text's first line is ", names, b"");
+        ),
+        ChoiceFault::Item(fault, item) => {
+            say_item_wrong(file, fault, bytes_of(list, item), names)
+        }
     }
 }
 
 // What is wrong with an item of the list of circles.
-pub fn say_circles_wrong(file: i32, wrong: u32, item: &[u8], names: &[u8]) {
-    if wrong == circle_columns::NOT_COUNTED {
-        say_quoted(
+pub fn say_circles_wrong(file: i32, fault: CircleFault, item: &[u8], names: &[u8]) {
+    match fault {
+        CircleFault::Name(fault) => say_name_wrong(file, fault, item, names),
+        CircleFault::TooMany => say(file, b"at most 16 circles can be named\n"),
+        CircleFault::NotCounted => say_quoted(
             file,
             b"a circle is one of the columns that count, and ",
             item,
             b" is not",
-        );
-    } else if wrong == column_names::TOO_MANY {
-        say(file, b"at most 16 circles can be named\n");
-    } else {
-        say_columns_wrong(file, wrong, item, names);
+        ),
     }
 }
 
-// What is wrong with what is asked about; `more` says which row, which value or how many.
-pub fn say_named_wrong(file: i32, wrong: u32, more: usize, what: &[u8], n: usize, k: usize) {
-    if wrong == NO_ROW {
-        say(file, b"there is no row ");
-        say_number(file, more);
-        say(file, b": the text has ");
-        say_count(file, n, b"row");
-        say(file, b", from row 0 on\n");
-    } else if wrong == TOO_MANY_ROWS {
-        say(
-            file,
-            b"at most 64 rows can be asked about, and by nearest one\n",
-        );
-    } else if wrong == NOT_A_VALUE {
-        say(file, b"value ");
-        say_number(file, more);
-        say(file, b" times its factor is no whole number up to 65,535\n");
-    } else if wrong == OFF_CIRCLE {
-        say(file, b"value ");
-        say_number(file, more);
-        say(
-            file,
-            b" times its factor is no number of a circle, which has 3,600\n",
-        );
-    } else if wrong == TOO_FEW_VALUES {
-        say(file, b"there are ");
-        say_count(file, k, b"column");
-        say_quoted(file, b", and not as many values in ", what, b"");
-    } else {
-        say_label_wrong(file, wrong, more, what);
-    }
-}
-
-// What is wrong with a label, or with a word that is neither row, values nor label.
-fn say_label_wrong(file: i32, wrong: u32, more: usize, what: &[u8]) {
-    if wrong == NOT_ONE {
-        say_count(file, more, b"row");
-        say_quoted(file, b" have ", what, b": one is needed");
-    } else if wrong == NO_LABEL {
-        say_quoted(
-            file,
-            b"no column has the name before the sign in ",
-            what,
-            b"",
-        );
-    } else {
-        say_quoted(
+// What is wrong with what is asked about, by a question to a text of n rows, of which k columns count.
+pub fn say_named_wrong(file: i32, fault: Fault, what: &[u8], n: usize, k: usize) {
+    match fault {
+        Fault::NoRow(row) => {
+            say(file, b"there is no row ");
+            say_number(file, row);
+            say(file, b": the text has ");
+            say_count(file, n, b"row");
+            say(file, b", from row 0 on\n");
+        }
+        Fault::NotARow => say_quoted(
             file,
             b"",
             what,
             b" is neither a row (1046), rows (1046,899), values (=0,0,88,4) nor what one row has (tender_distance=3284)",
-        );
+        ),
+        Fault::TooManyRows => say(
+            file,
+            b"at most 64 rows can be asked about, and by nearest one\n",
+        ),
+        Fault::NotAValue(value) => {
+            say(file, b"value ");
+            say_number(file, value);
+            say(file, b" times its factor is no whole number up to 65,535\n");
+        }
+        Fault::TooFewValues(_) => {
+            say(file, b"there are ");
+            say_count(file, k, b"column");
+            say_quoted(file, b", and not as many values in ", what, b"");
+        }
+        Fault::NotOne(hits) => {
+            say_count(file, hits, b"row");
+            say_quoted(file, b" have ", what, b": one is needed");
+        }
+        Fault::NoLabel => say_quoted(
+            file,
+            b"no column has the name before the sign in ",
+            what,
+            b"",
+        ),
+        Fault::OffCircle(value) => {
+            say(file, b"value ");
+            say_number(file, value);
+            say(
+                file,
+                b" times its factor is no number of a circle, which has 3,600\n",
+            );
+        }
     }
 }
 
 // Writes that the library refused, which the rooms that were tested do not meet.
-pub fn refuse(file: i32, number: u32) -> u32
-    ensures { result ≤ 4 }
-{
+pub fn refuse(file: i32, number: u32) -> Status {
     say(file, b"refused ");
     say_number(file, number as usize);
     say(file, b"\n");
-    no_room()
+    Status::NoRoom
 }

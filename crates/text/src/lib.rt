@@ -2,19 +2,13 @@
 #![tactic(auto)]
 
 ghost use Rattle.std.specs.Prelude.{◌≤◌, drop, length, ◌++◌, ◌≡◌};
+ghost use Rattle.limits.specs.Refusal.{count_of, outcome};
 ghost use Rattle.text_reading.specs.Calls.{Reads};
 ghost use Rattle.text_reading.specs.Reading.{how_many, numbers};
 
-use limits::is_within;
+use limits::{Refusal, is_within};
 use text_bytes::{NEWLINE, ended, may_end, put_ended, step};
 use text_reading::Place;
-
-// What the reading says: the number, and how many numbers were read.
-#[derive(Clone, Copy)]
-pub struct Numbers {
-    pub number: u32,
-    pub count: usize,
-}
 
 const LEAST_NUMBERS: usize = 3;
 
@@ -26,21 +20,16 @@ fn count(text: &[u8]) -> usize
 {
     let mut place = Place::Start;
     let mut count = 0;
-    let mut i = 0;
-    while i < text.len() {
-        let b = text[i];
-        count += ended(place, b);
-        place = step(place, b);
-        i += 1;
+    for b in text {
+        count += ended(place, *b);
+        place = step(place, *b);
     }
     count += ended(place, NEWLINE);
-    if !may_end(place) {
-        return 0;
+    if may_end(place) && is_within(LEAST_NUMBERS, MOST_NUMBERS, count) {
+        count
+    } else {
+        0
     }
-    if !is_within(LEAST_NUMBERS, MOST_NUMBERS, count) {
-        return 0;
-    }
-    count
 }
 
 // Puts the numbers of a text at the front of the room.
@@ -50,33 +39,24 @@ fn fill(text: &[u8], room: &mut [u16])
 {
     let mut place = Place::Start;
     let mut at = 0;
-    let mut i = 0;
-    while i < text.len() {
-        let b = text[i];
-        at = put_ended(place, b, room, at);
-        place = step(place, b);
-        i += 1;
+    for b in text {
+        at = put_ended(place, *b, room, at);
+        place = step(place, *b);
     }
     put_ended(place, NEWLINE, room, at);
 }
 
-// Reads a whole text as numbers into a lent room. A room of 1,027 is enough for any text.
-pub fn read_numbers(text: &[u8], room: &mut [u16]) -> Numbers
-    ensures { Reads text.now room.old room.new result.number result.count }
+// Reads a whole text as numbers into a lent room, and gives how many there are. A room of 1,027 is enough for any text.
+pub fn read_numbers(text: &[u8], room: &mut [u16]) -> Result<usize, Refusal>
+    ensures { Reads text.now room.old room.new (outcome result).0 (count_of result) }
 {
     let count = count(text);
     if count == 0 {
-        return Numbers {
-            number: 18,
-            count: 0,
-        };
+        return Err(Refusal::Text);
     }
     if room.len() < count {
-        return Numbers {
-            number: 5,
-            count: 0,
-        };
+        return Err(Refusal::Room);
     }
     fill(text, room);
-    Numbers { number: 0, count }
+    Ok(count)
 }

@@ -2,26 +2,40 @@
 use Prim.Native.Nat.{◌+◌, ◌-◌, ◌<◌, ◌≤◌, suc, zero, ℕ}
 use Rattle.asking.specs.Pieces.{end_at}
 use Rattle.laws.proofs.Parts.{store_more}
-use Rattle.text_lines.specs.Lines.{body_end_lem, keeps, kept, line_start, line_starts, marked, next_line_lem, text_start_lem}
+use Rattle.text_lines.specs.Lines.{body_end_lem, keeps, kept, line_start, line_starts, marked, next_line_lem}
 use borrow.Author.Tests.{eq-eqb, le-leb, le-ltb, lt-leb, lt-ltb, ne_eqb}
-use lib.ListN.{drop, get_or, length, length-append, length-set, set}
-use mathlib.Core.Bool.{Bool, cond, false, true}
-use mathlib.Core.List.{List, [], ◌++◌, ◌∷◌}
+use lib.Dec.{eqb, leb}
+use lib.ListN.{drop, drop_of_length-le, get_or, length, length-append, length-set, set, take}
+use lib.Pointwise.{pointwise}
+use native.Mathlib.Decide.{ℕ_discrete}
+use mathlib.Core.Bool.{Bool, ◌&&◌, and-false, and-true, false, true}
+use mathlib.Core.List.{List, [], ◌++◌, ◌∷◌, append-nil}
 use mathlib.Core.Path.{◌∙◌, ◌≡◌, ap, refl, sym}
 use native.Mathlib.Numerals.{add-one}
 use native.Mathlib.Omega.{arith}
 
 -- ---- lines
-module _ (t : List ℕ) where
-  -- a text that is too short for the mark
-  pub start-short : length t < 3 → 0 ≡ text_start_lem t
-  unfolding text_start_lem
-  start-short h = rw (lt-leb 3 (length t) h)
+-- equal either way round
+eqb_turn : (a b : ℕ) → eqb a b ≡ eqb b a
+eqb_turn a b = go (ℕ_discrete a b)
+  where
+    go : Dec (a ≡ b) → eqb a b ≡ eqb b a
+    go (yes e) = eq-eqb a b e ∙ sym (eq-eqb b a (sym e))
+    go (no n) = ne_eqb a b n ∙ sym (ne_eqb b a (λ e. n (sym e)))
 
-  -- with the mark, or without it
-  pub start-told : 3 ≤ length t → (r b : Bool) → r ≡ marked t → r ≡ b → cond b 3 0 ≡ text_start_lem t
-  unfolding text_start_lem
-  start-told h r b e q = rw (le-leb 3 (length t) h, ← e, q)
+module _ (t : List ℕ) where
+  -- whether it begins with the mark
+  pub start-told : pointwise eqb (239 ∷ 187 ∷ 191 ∷ []) (take 3 t) ≡ (leb 3 (length t) && marked t)
+  unfolding marked
+  start-told = go t
+    where
+      go : (t : List ℕ) → pointwise eqb (239 ∷ 187 ∷ 191 ∷ []) (take 3 t) ≡ (leb 3 (length t) && (eqb (get_or t 0 0) 239 && (eqb (get_or t 1 0) 187 && eqb (get_or t 2 0) 191)))
+      go [] = refl
+      go (x ∷ []) = and-false (eqb 239 x)
+      go (x ∷ y ∷ []) = ap (λ (b : Bool). eqb 239 x && b) (and-false (eqb 187 y)) ∙ and-false (eqb 239 x)
+      go (x ∷ y ∷ z ∷ r) =
+          rw (le-leb 3 (length (x ∷ y ∷ z ∷ r)) (omega arith), eqb_turn 239 x, eqb_turn 187 y, eqb_turn 191 z)
+          (ap (λ (b : Bool). eqb x 239 && (eqb y 187 && b)) (and-true (eqb z 191)))
 
   module _ (at : ℕ) (end : ℕ) (e : end ≡ end_at 10 t at) where
     -- an empty line
@@ -90,9 +104,11 @@ module _ (t : List ℕ) (from : ℕ) where
           long = rw (length-set room i at) l.long;
         }
 
-    -- all
-    pub listing-end : (room : List ℕ) (n i at : ℕ) → Listing room₀ room i at → i ≡ n → room ≡ line_starts t from n ++ drop n room₀
-    listing-end room n i at l e = l.content ∙ ap (λ (k : ℕ). line_starts t from k ++ drop k room₀) e
+    -- all that the room holds
+    pub listing-all : (room : List ℕ) (i at : ℕ) → Listing room₀ room i at → i ≡ length room₀ → room ≡ line_starts t from (length room₀)
+    listing-all room i at l e =
+        l.content ∙ ap (λ (k : ℕ). line_starts t from k ++ drop k room₀) e
+        ∙ ap (λ (xs : List ℕ). line_starts t from (length room₀) ++ xs) (drop_of_length-le room₀ (omega arith)) ∙ append-nil (line_starts t from (length room₀))
 
   module _ (room : List ℕ) (n : ℕ) where
     -- they are kept

@@ -1,27 +1,19 @@
 // Where the lines of a text stand, and those of its rows.
 #![tactic(auto)]
 
-ghost use Rattle.std.specs.Prelude.{◌≤◌, drop, length, ◌++◌, ◌≡◌};
-ghost use Rattle.text_lines.specs.Lines.{body_end_lem, keeps, kept, line_at, line_from_lem, line_starts, marked, next_line_lem, text_start_lem};
+ghost use Rattle.std.specs.Prelude.{◌≤◌, length, ◌≡◌};
+ghost use Rattle.text_lines.specs.Lines.{body_end_lem, keeps, kept, line_at, line_from_lem, line_starts, next_line_lem, text_start_lem};
 
-use asking::pieces::{end_from, least};
+use asking::pieces::end_from;
 
-// The text begins with the mark EF BB BF.
-fn has_mark(t: &[u8]) -> bool
-    requires { 3 ≤ length t.now }
-    ensures { result ≡ marked t.now }
-{
-    (t[0] == 0xef) & ((t[1] == 0xbb) & (t[2] == 0xbf))
-}
+// The bytes that a text may begin with, as a mark of its encoding.
+const MARK: [u8; 3] = [0xef, 0xbb, 0xbf];
 
 // Behind the mark, if the text begins with it.
 pub fn text_start(t: &[u8]) -> usize
     ensures { (result ≡ text_start_lem t.now) × (result ≤ length t.now) }
 {
-    if t.len() < 3 {
-        return 0;
-    }
-    if has_mark(t) { 3 } else { 0 }
+    if t.starts_with(&MARK) { MARK.len() } else { 0 }
 }
 
 // Where the line behind the one at `at` starts: behind its newline, or at the text's end.
@@ -39,14 +31,11 @@ fn body_end(t: &[u8], at: usize) -> usize
     ensures { (result ≡ body_end_lem t.now at) × (at ≤ result) × (result ≤ length t.now) }
 {
     let end = end_from(t, b'\n', at);
-    if end <= at {
-        return end;
+    if at < end && t[end - 1] == b'\r' {
+        end - 1
+    } else {
+        end
     }
-    let last = end - 1;
-    if t[last] == b'\r' {
-        return last;
-    }
-    end
 }
 
 // The line at `at`.
@@ -54,8 +43,7 @@ pub fn line_at(t: &[u8], at: usize) -> &[u8]
     requires { at ≤ length t.now }
     ensures { result.now ≡ line_at t.now at }
 {
-    let end = body_end(t, at);
-    &t[at..end]
+    &t[at..body_end(t, at)]
 }
 
 // The text's first line, without the mark.
@@ -68,17 +56,16 @@ pub fn first_line(t: &[u8]) -> &[u8]
 // Offsets of a longer text are not kept.
 pub const LONGEST: usize = 4_294_967_295;
 
-// Puts where each of n lines from `from` on starts.
-fn find_lines(t: &[u8], from: usize, starts: &mut [u32], n: usize)
-    requires { (from ≤ length t.now) × (length t.now ≤ 4294967295) × (n ≤ length starts.old) }
-    ensures { starts.new ≡ line_starts t.now from n ++ drop n starts.old }
+// Puts where each line from `from` on starts, of as many as there is room for.
+fn find_lines(t: &[u8], from: usize, starts: &mut [u32])
+    requires start { from ≤ length t.now }
+    requires short { length t.now ≤ 4294967295 }
+    ensures { starts.new ≡ line_starts t.now from (length starts.old) }
 {
     let mut at = from;
-    let mut i = 0;
-    while i < n {
-        starts[i] = at as u32;
+    for start in starts.iter_mut() {
+        *start = at as u32;
         at = next_line(t, at);
-        i += 1;
     }
 }
 
@@ -86,7 +73,7 @@ fn find_lines(t: &[u8], from: usize, starts: &mut [u32], n: usize)
 pub fn line_from(t: &[u8], start: u32) -> &[u8]
     ensures { result.now ≡ line_from_lem t.now start }
 {
-    line_at(t, least(start as usize, t.len()))
+    line_at(t, (start as usize).min(t.len()))
 }
 
 // Puts where each of n lines from `from` on starts, if there is room for that.
@@ -94,15 +81,9 @@ pub fn keep_lines(t: &[u8], from: usize, starts: &mut [u32], n: usize) -> bool
     ensures { (result ≡ keeps t.now from (length starts.old) n)
         × (starts.new ≡ kept t.now from starts.old n) }
 {
-    if t.len() < from {
+    if t.len() < from || LONGEST < t.len() || starts.len() < n {
         return false;
     }
-    if LONGEST < t.len() {
-        return false;
-    }
-    if starts.len() < n {
-        return false;
-    }
-    find_lines(t, from, starts, n);
+    find_lines(t, from, &mut starts[..n]);
     true
 }

@@ -15,7 +15,9 @@ use Rattle.rowset.proofs.Rows.{in_struck, struck-length}
 use Rattle.rowset.specs.Sets.{is_in_lem, set_bad_lem, struck, words_for_lem}
 use Rattle.row_lines.proofs.Places.{any-over, full-here, full-none, next-far, place-first, place-next}
 use Rattle.row_lines.specs.Lines.{any_full, is_blank_lem, is_full, line_of, line_says, place_of}
-use Rattle.row_lines.specs.Rows.{row_trouble_lem}
+use Rattle.row_lines.specs.Rows.{code_of, row_trouble_lem}
+use Rattle.row_lines.specs.declared.LineFault.TheVariants.{Blank, NoRow, NotANumber}
+use Rattle.row_lines.specs.declared.LineFault.{LineFault}
 use Rattle.withdrawing.specs.Withdrawn.{Withdraws, is_said_lem, line_trouble, says_row, set_words, wrong_line}
 use borrow.Author.Tests.{eq-eqb, le-ltb, lt-ltb, ltb-true, ne_eqb}
 use lib.Dec.{T, eqb, ltb}
@@ -128,10 +130,11 @@ reading_start {t} {n} {s} b e h =
       rows = λ r. sym (or-false (is_in_lem s r));
     }
 
--- the same by what was told
-pub as_told : {t : List ℕ} {n : ℕ} {s s' : List ℕ} {w v l m : ℕ} → Withdraws t n s s' w l → v ≡ w → m ≡ l → Withdraws t n s s' v m
-as_told {t} {n} {s} {s'} {w} {v} {l} {m} x e f =
-    subst (λ (y : ℕ). Withdraws t n s s' y m) (sym e) (subst (λ (y : ℕ). Withdraws t n s s' w y) (sym f) x)
+-- a fault of a line is something
+pub code_of-some : (f : LineFault) → code_of f ≡ 0 → ⊥
+code_of-some NotANumber z = omega arith
+code_of-some NoRow z = omega arith
+code_of-some Blank z = omega arith
 
 -- a set that is right is not wrong
 not-both : {a : Bool} {A : Type 0} → a ≡ false → a ≡ true → A

@@ -1,10 +1,10 @@
--- The header test, word by word: any one bad word makes it impossible. Assumes nothing.
-use Prim.Native.Nat.{◌*◌, ◌+◌, ◌-◌, ◌<◌, ◌≤◌, suc, zero, ℕ}
+-- The header test: what a bad part of it says, and what the good ones do. Assumes nothing.
+use Prim.Native.Nat.{◌*◌, ◌<◌, ◌≤◌, ℕ}
 use Rattle.laws.proofs.Tests.{and_l, and_r, holds, is_true}
 use Rattle.limits.proofs.Ranges.{within_both}
-use Rattle.limits.specs.Limits.{circles_ok_lem, columns_ok_lem, edition_ok_lem, max_rows, share_ok_lem, within}
+use Rattle.limits.specs.Limits.{circles_ok_lem, columns_ok_lem, edition_ok_lem, max_rows, share_ok_lem}
 use Rattle.words.specs.Words.{nodes#, c#, card_ok_lem, circles#, edition#, header_ok_lem, kind#, l#, m#, n#, nodes_ok_lem, whole_ok, width, words_of_lem, words_ok_lem}
-use borrow.Author.Tests.{eq-eqb, le-leb, lt-leb, ne_eqb}
+use borrow.Author.Tests.{eq-eqb, le-leb, lt-leb}
 use lib.Dec.{T, eqb, eqb→eq, leb}
 use lib.ListN.{length}
 use mathlib.Core.Bool.{Bool, ◌&&◌, and-false, false, true}
@@ -13,47 +13,12 @@ use mathlib.Core.Path.{◌∙◌, ◌≡◌, ap₂, refl, subst, sym}
 use native.Mathlib.Nat.{mul-le-mul_right}
 use native.Mathlib.Omega.{arith}
 
--- ---- the node count
--- no rows have no nodes
-pub nodes-none : (n N : ℕ) → n ≡ 0 → eqb N 0 ≡ nodes_ok_lem n N
-nodes-none n N e = rw e
-
--- n rows have 1 to 2n - 1
-pub nodes-some : (n N : ℕ) → (n ≡ 0 → ⊥) → within 1 (2 * n - 1) N ≡ nodes_ok_lem n N
-nodes-some zero N h = absurd (h refl)
-nodes-some (suc n) N h = refl
-
 -- ---- the header
 module _ (w : List ℕ) where
   -- the edition is neither 1 nor 2
   pub bad-edition : edition_ok_lem (edition# w) ≡ false → false ≡ card_ok_lem w
   unfolding card_ok_lem
   bad-edition e = simp e
-
-  -- there are too many rows
-  pub bad-rows : max_rows < n# w → false ≡ card_ok_lem w
-  unfolding card_ok_lem
-  bad-rows h = simp (lt-leb (n# w) max_rows h, and-false)
-
-  -- the columns are out of range
-  pub bad-columns : columns_ok_lem (c# w) ≡ false → false ≡ card_ok_lem w
-  unfolding card_ok_lem
-  bad-columns e = simp (e, and-false)
-
-  -- m or l is out of range
-  pub bad-share : share_ok_lem (m# w) (l# w) ≡ false → false ≡ card_ok_lem w
-  unfolding card_ok_lem
-  bad-share e = simp (e, and-false)
-
-  -- the rows cannot have so many nodes
-  pub bad-nodes : nodes_ok_lem (n# w) (nodes# w) ≡ false → false ≡ card_ok_lem w
-  unfolding card_ok_lem
-  bad-nodes e = simp (e, and-false)
-
-  -- the distance kind is not 1
-  pub bad_kind : (kind# w ≡ 1 → ⊥) → false ≡ card_ok_lem w
-  unfolding card_ok_lem
-  bad_kind h = simp (ne_eqb (kind# w) 1 h, and-false)
 
   -- all these are right: the circles decide
   pub good-header : edition_ok_lem (edition# w) ≡ true → n# w ≤ max_rows → columns_ok_lem (c# w) ≡ true → share_ok_lem (m# w) (l# w) ≡ true → nodes_ok_lem (n# w) (nodes# w) ≡ true
@@ -74,11 +39,6 @@ module _ (w : List ℕ) where
   nodes-words {a} {b} h p q = (ap₂ (λ (x y : ℕ). x * y) p q, mul-le-mul_right b (omega (arith, p, (edition-is h).1)))
 
   -- ---- in memory the edition is 2
-  -- any other makes a header impossible
-  pub other-edition : (edition# w ≡ 2 → ⊥) → false ≡ header_ok_lem w
-  unfolding header_ok_lem
-  other-edition h = rw (ne_eqb (edition# w) 2 h)
-
   -- with 2 it is possible where it is on a card
   pub edition-two : edition# w ≡ 2 → card_ok_lem w ≡ header_ok_lem w
   unfolding header_ok_lem

@@ -1,12 +1,12 @@
 -- Where nodes' words stand, by the record width. Assumes nothing.
 use Prim.Native.Nat.{◌*◌, ◌+◌, ◌<◌, ◌≤◌, ℕ}
 use Rattle.words.specs.InShape.{Whole}
-use Rattle.words.specs.Words.{nodes#, at, edition#, inner#, n#, node_at_lem, pair_at, width, words_of_lem}
+use Rattle.words.specs.Words.{nodes#, at, edition#, inner#, n#, node_at_lem, width, words_of_lem}
 use borrow.Author.Tests.{eq-eqb, ne_eqb}
 use lib.ListN.{length}
 use mathlib.Core.List.{List}
 use mathlib.Core.Path.{◌≡◌, subst}
-use native.Mathlib.Nat.{add-mul, mul_assoc, mul_left_comm, mul-le-mul_left, mul-le-mul_right, mul-suc}
+use native.Mathlib.Nat.{mul-le-mul_left, mul-le-mul_right, mul-suc}
 use native.Mathlib.Numerals.{add-one}
 use native.Mathlib.Omega.{arith}
 
@@ -32,13 +32,6 @@ module _ (w : List ℕ) (k : ℕ) where
   pub inner-some : edition# w ≡ 2 → at w (node_at_lem w k + 4) ≡ inner# w k
   inner-some e = rw (eq-eqb (edition# w) 2 e)
 
--- the room's product, taken apart
-pub spread : (e n : ℕ) → width e * (2 * n) + 2 * n ≡ (8 + 2 * e) * n
-spread e n =
-    let a : width e * (2 * n) ≡ 3 * (2 * n) + e * (2 * n) = add-mul 3 e (2 * n) in
-    let b : (8 + 2 * e) * n ≡ 8 * n + 2 * e * n = add-mul 8 (2 * e) n in
-    omega (arith, a, b, mul_assoc 2 e n, mul_left_comm e 2 n)
-
 module _ (w : List ℕ) (W : Whole w) where
   -- the header's words are there
   pub header-in : 8 ≤ length w
@@ -56,19 +49,8 @@ module _ (w : List ℕ) (W : Whole w) where
   pub nodes-there : (k : ℕ) → k ≤ nodes# w → node_at_lem w k ≤ length w
   nodes-there k h = omega (arith, mul-le-mul_left (width (edition# w)) h, W.words)
 
-  -- the words are at most as many as the edition's room has
-  pub words-room : words_of_lem w ≤ (8 + 2 * edition# w) * n# w + 8
-  words-room =
-      let a : width (edition# w) * nodes# w ≤ width (edition# w) * (2 * n# w) = mul-le-mul_left (width (edition# w)) W.nodes in
-      let b : width (edition# w) * (2 * n# w) + 2 * n# w ≡ (8 + 2 * edition# w) * n# w = spread (edition# w) (n# w) in
-      omega (arith, a, b)
-
   -- and in either edition no more than 12n + 8
   pub words-few : words_of_lem w ≤ 12 * n# w + 8
   words-few =
       let a : width (edition# w) * nodes# w ≤ 5 * nodes# w = mul-le-mul_right (nodes# w) (omega (arith, W.edition.1)) in
       omega (arith, a, W.nodes)
-
-  -- the words of each position are there
-  pub pair-there : (p : ℕ) → p < n# w → pair_at w p + 1 < length w
-  pair-there p h = omega (arith, W.words)

@@ -112,8 +112,7 @@ pub fn node_radius(index: &[u32], k: usize) -> u32
     requires k_bound { k < nodes# index.now }
     ensures { result ≡ radius# index.now k }
 {
-    let at = node_at(index, k) + 3;
-    index[at]
+    index[node_at(index, k) + 3]
 }
 
 // Node k's inner reach, in edition 2.
@@ -123,8 +122,7 @@ pub fn node_inner(index: &[u32], k: usize) -> u32
     requires index_value { edition# index.now ≡ 2 }
     ensures { result ≡ inner# index.now k }
 {
-    let at = node_at(index, k) + 4;
-    index[at]
+    index[node_at(index, k) + 4]
 }
 
 // Where position p's words stand.
@@ -148,8 +146,7 @@ pub fn stored_at(index: &[u32], p: usize) -> u32
     requires { pair_at index.now p + 1 < length index.now }
     ensures { result ≡ dist# index.now p }
 {
-    let at = pair_at(index, p) + 1;
-    index[at]
+    index[pair_at(index, p) + 1]
 }
 
 // The row at the start of node k's run.

@@ -1,5 +1,5 @@
 -- A child has a level less left; and after j turns the first j children's rows are marked behind the centres'. Assumes nothing.
-use Rattle.std.proofs.Common.{length, ℕ, ◌+◌, ◌-◌, ◌<◌, ◌≡◌, ◌≤◌}
+use Rattle.std.proofs.Common.{length, ℕ, ◌+◌, ◌-◌, ◌≡◌, ◌≤◌}
 use Rattle.descending.proofs.+descend.Given as goal
 use Rattle.descending.proofs.Below.{Below}
 use Rattle.descending.specs.Descent.{kid_marks}
@@ -19,6 +19,3 @@ invariant-loop-j l =
     × Distances (from l.table l.c (circles# l.index) l.query) l.index l.ch l.ds × (l.y ≡ least_from (from l.table l.c (circles# l.index) l.query) l.index l.ch)
     × Leaves (is_in_lem l.withdrawn) (from l.table l.c (circles# l.index) l.query)
     (span (λ (i : ℕ). kid_marks (from l.table l.c (circles# l.index) l.query) l.r l.index (l.levels - 1) l.bound l.ch (l.ch + i)) 0 l.j) l.initial.how l.how l.initial.list l.list
-
-abbrev pub decreases-loop-j : goal.decreases-loop-j
-decreases-loop-j l = l.m - l.j

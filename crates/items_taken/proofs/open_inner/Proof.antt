@@ -56,7 +56,7 @@ last-requires c κs =
     let m = c in
     omega (arith, m.measure_centres-seen.ensures.0.alone.grew.stands.room, m.measure_centres-seen.ensures.0.alone.grew.stands.wanted)
 
-queue-children-requires : tie.Need-queue_children-now_len-requires
+queue-children-requires : tie.Need-queue_children-len-requires
 queue-children-requires c κs =
     let m = c.before.before.before.before.before.before.before in
     let e = read m in
@@ -75,7 +75,7 @@ same_length c =
 same-length-2 : tie.Need-shape_of-work
 same-length-2 c =
     let m = c in
-    c.queue_children-now_len.ensures.outside.same ∙ m.measure_centres-seen.ensures.0.alone.grew.since.words
+    c.queue_children-len.ensures.outside.same ∙ m.measure_centres-seen.ensures.0.alone.grew.since.words
 
 returns : tie.Need-returns
 returns c =
@@ -83,7 +83,7 @@ returns c =
     let e = read m in
     let pre = (start e).requires in
     let child = e.node_child-a.ensures.0 in
-    let q = c.queue_children-now_len.ensures in
+    let q = c.queue_children-len.ensures in
     let r = inner-then _ _ _ _ _ _ _ _ _ _ _ _ pre.0 pre.1.1 _ _ _ _ _ _ pre.1.0 child e.centres.ensures.0
     m.measure_centres-seen.ensures.0 in (
       inner-done _ _ _ _ _ _ _ _ _ _ _ _ pre.0 pre.1.1 _ _ _ _ _ _ _ _ _ _ _ pre.1.0 child

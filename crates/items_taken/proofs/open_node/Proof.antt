@@ -23,13 +23,13 @@ last-requires c κs =
     let pre = c.requires in
     omega (arith, pre.1.0, pre.0.ready.stands.room, pre.0.ready.stands.wanted)
 
-open-leaf-requires : tie.Need-open_leaf-now_len-requires
+open-leaf-requires : tie.Need-open_leaf-len-requires
 open-leaf-requires c κs =
     let pre = c.requires in
     (room_at _ _ _ _ _ pre.1.0 pre.0.room, node-there _ _ _ _ _ _ _ _ _ _ _ _ pre.0)
 
 same_length : tie.Need-shape_of-work-then-node_child-eq0
-same_length c = c.open_leaf-now_len.ensures.outside.same
+same_length c = c.open_leaf-len.ensures.outside.same
 
 returns : tie.Need-returns-then-node_child-eq0
 returns c =
@@ -37,7 +37,7 @@ returns c =
     let node-child = c.node_child in
     let if1 = c.if-node_child-eq0 in
     let last = c.last-far in
-    let open-leaf = c.open_leaf-now_len in
+    let open-leaf = c.open_leaf-len in
     let room = room_at _ _ _ _ _ pre.1.0 pre.0.room in (
       taken-leaf _ _ _ _ _ _ _ _ _ _ _ _ pre.0 (sym node-child.ensures.0 ∙ if1.true) _ _ _ _ pre.1.0 last.ensures open-leaf.ensures,
       listed-front _ _ _ _ pre.1.1 _ _ _ (omega (arith, room.fits)) open-leaf.ensures.outside,

@@ -3,4 +3,4 @@ use Rattle.lister.proofs.Listed.{runs_low}
 use Rattle.lister.proofs.run_on.Goals as goal
 
 pub returns : goal.returns
-returns g c = runs_low c.run_in.ensures
+returns g c = runs_low c.run_in-listed.ensures

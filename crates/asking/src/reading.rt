@@ -1,0 +1,170 @@
+// The words of a question, read one after the other.
+ghost use Rattle.std.specs.Prelude.{IfOk};
+ghost use Rattle.asking.specs.Words.{Answerable};
+
+use super::pieces::{Piece, bytes_of};
+use super::word_number::number;
+use super::{Question, Way, Wrong};
+
+// An option whose value is the next word.
+#[derive(Clone, Copy)]
+enum Valued {
+    Columns,
+    By,
+    Label,
+    Circle,
+    Without,
+}
+
+// What an option's word says: some stand for themselves.
+#[derive(Clone, Copy)]
+enum Setting {
+    Valued(Valued),
+    Count,
+    Csv,
+    Lines,
+}
+
+impl Setting {
+    fn said_by(word: &[u8]) -> Option<Setting> {
+        match word {
+            b"--columns" => Some(Setting::Valued(Valued::Columns)),
+            b"--by" => Some(Setting::Valued(Valued::By)),
+            b"--label" => Some(Setting::Valued(Valued::Label)),
+            b"--circle" => Some(Setting::Valued(Valued::Circle)),
+            b"--without" => Some(Setting::Valued(Valued::Without)),
+            b"--count" => Some(Setting::Count),
+            b"--csv" => Some(Setting::Csv),
+            b"--lines" => Some(Setting::Lines),
+            _ => None,
+        }
+    }
+}
+
+// What the words so far say: the plain ones (the file, like or nearest, what is asked about, the distance or how many), the values of the options, which
+// were given, and the option that waits for its value, with its place.
+#[derive(Clone, Copy)]
+pub(crate) struct Reading {
+    plain: [Option<Piece>; 4],
+    columns: Option<Piece>,
+    label: Option<Piece>,
+    circle: Option<Piece>,
+    without: Option<Piece>,
+    by_distance: bool,
+    count: bool,
+    csv: bool,
+    lines: bool,
+    waiting: Option<(Valued, Piece)>,
+}
+
+impl Reading {
+    // No words are read.
+    pub(crate) fn start() -> Reading {
+        Reading {
+            plain: [None; 4],
+            columns: None,
+            label: None,
+            circle: None,
+            without: None,
+            by_distance: false,
+            count: false,
+            csv: false,
+            lines: false,
+            waiting: None,
+        }
+    }
+
+    // One word more.
+    pub(crate) fn put_word(&mut self, words: &[u8], w: Piece) -> Result<(), Wrong> {
+        let word = bytes_of(words, w);
+        let is_option = word.starts_with(b"--");
+        match self.waiting {
+            Some((_, option)) if is_option => Err(Wrong::NoValue(option)),
+            Some((option, _)) => self.put_value(option, word, w),
+            None if is_option => self.put_option(word, w),
+            None => self.put_plain(w),
+        }
+    }
+
+    // A word that is neither an option nor its value.
+    fn put_plain(&mut self, w: Piece) -> Result<(), Wrong> {
+        for place in self.plain.iter_mut() {
+            if place.is_none() {
+                *place = Some(w);
+                return Ok(());
+            }
+        }
+        Err(Wrong::OneMore(w))
+    }
+
+    fn put_option(&mut self, word: &[u8], w: Piece) -> Result<(), Wrong> {
+        match Setting::said_by(word).ok_or(Wrong::NoOption(w))? {
+            Setting::Valued(option) if self.has_value(option) => return Err(Wrong::Twice(w)),
+            Setting::Valued(option) => self.waiting = Some((option, w)),
+            Setting::Count => self.count = true,
+            Setting::Csv => self.csv = true,
+            Setting::Lines => self.lines = true,
+        }
+        Ok(())
+    }
+
+    // The option was given before, and has a value already.
+    fn has_value(&self, option: Valued) -> bool {
+        match option {
+            Valued::Columns => self.columns.is_some(),
+            Valued::By => self.by_distance,
+            Valued::Label => self.label.is_some(),
+            Valued::Circle => self.circle.is_some(),
+            Valued::Without => self.without.is_some(),
+        }
+    }
+
+    // The value of the option before it.
+    fn put_value(&mut self, option: Valued, word: &[u8], w: Piece) -> Result<(), Wrong> {
+        self.waiting = None;
+        match option {
+            Valued::Columns => self.columns = Some(w),
+            Valued::By if matches!(word, b"distance") => self.by_distance = true,
+            Valued::By => return Err(Wrong::NoOrder(w)),
+            Valued::Label => self.label = Some(w),
+            Valued::Circle => self.circle = Some(w),
+            Valued::Without => self.without = Some(w),
+        }
+        Ok(())
+    }
+
+    // The question that all words ask.
+    pub(crate) fn question(self, words: &[u8]) -> Result<Question, Wrong>
+        ensures { IfOk result (Answerable words.now) }
+    {
+        if let Some((_, option)) = self.waiting {
+            return Err(Wrong::NoValue(option));
+        }
+        let (file, way_said, what, number_said) = match self.plain {
+            [Some(file), Some(way), Some(what), Some(number)] => (file, way, what, number),
+            [None, ..] => return Err(Wrong::NoWords),
+            _ => return Err(Wrong::TooFew),
+        };
+        let way = Way::said_by(bytes_of(words, way_said)).ok_or(Wrong::NoWay(way_said))?;
+        let number = number(bytes_of(words, number_said)).ok_or(Wrong::NoAmount(number_said))?;
+        if number < way.least_number() {
+            return Err(Wrong::NoAmount(number_said));
+        }
+        Ok(Question {
+            file,
+            way,
+            way_said,
+            what,
+            number,
+            number_said,
+            columns: self.columns,
+            label: self.label,
+            circle: self.circle,
+            without: self.without,
+            by_distance: self.by_distance,
+            count: self.count,
+            csv: self.csv,
+            lines: self.lines,
+        })
+    }
+}

@@ -1,9 +1,0 @@
--- 32 words are looked at.
-use Rattle.std.proofs.Common.{◌-◌, ◌≤◌}
-use Rattle.minutes_cases.proofs.say_words.Given as goal
-
-abbrev pub invariant-loop-i : goal.invariant-loop-i
-invariant-loop-i l = l.i ≤ 32
-
-abbrev pub decreases-loop-i : goal.decreases-loop-i
-decreases-loop-i l = 32 - l.i

@@ -1,9 +1,0 @@
--- The measure is what is left to be fed.
-use Rattle.std.proofs.Common.{◌-◌, ◌≤◌}
-use Rattle.most_rows.proofs.feed_rows.Given as goal
-
-abbrev pub invariant-loop-i : goal.invariant-loop-i
-invariant-loop-i l = l.i ≤ l.times
-
-abbrev pub decreases-loop-i : goal.decreases-loop-i
-decreases-loop-i l = l.times - l.i
