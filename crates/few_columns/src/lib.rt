@@ -60,7 +60,7 @@ fn closer_to_other(
 }
 
 // In child a of inner node k, whose children's firsts are fs: the lowest position whose row is closer to another child's centre, or the end of k's
-// run.
+// run, since the caller takes the least of all children.
 pub fn child_stray(
     table: &[u16],
     c: usize,

@@ -17,7 +17,8 @@ fn apart(a: &[u16], b: &[u16], circles: u32) -> u32 {
     distance(a, b, circles)
 }
 
-// Where the row of c columns behind place `at` ends; the end where there is none.
+// Where the row of c columns behind place `at` ends; the end where there is none. The rows are walked by this, and not by `chunks`, which asks for a
+// column at least: no contract here promises one.
 fn row_end(length: usize, at: usize, c: usize) -> usize
     requires { at ≤ length }
     ensures { (at ≤ result) × (result ≤ length) }

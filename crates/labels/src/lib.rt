@@ -19,7 +19,7 @@ pub fn label_in(line: &[u8], column: usize) -> &[u8]
     }
 }
 
-// How many rows have a label, and the last of them.
+// How many rows have a label, and the last of them. Both are told where a question names a label that several rows have, so that this is no Result.
 #[derive(Clone, Copy)]
 pub struct Hits {
     pub count: usize,

@@ -59,7 +59,7 @@ fn child_first(
     }
 }
 
-// In node k: the lowest position whose row is closer to another child's centre, or the end of its run.
+// In node k: the lowest position whose row is closer to another child's centre, or the end of its run, so that the least of all children is one `min`.
 fn first_stray(table: &[u16], c: usize, index: &[u32], k: usize) -> usize
     requires tested { Tested index.now table.now c × Space (between table.now c (circles# index.now)) }
     requires k_bound { k < nodes# index.now }

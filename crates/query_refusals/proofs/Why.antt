@@ -1,59 +1,12 @@
--- Why queries are not searched for: one law for each return of the code, and what 0 says. Assumes nothing.
-use Prim.Native.Nat.{◌%◌, ◌/◌, ◌<◌, ◌≤◌, ℕ}
+-- Why queries are not searched for: what 0 says. Assumes nothing.
+use Prim.Native.Nat.{◌%◌, ◌/◌, ◌≤◌, ℕ}
 use Rattle.limits.specs.Limits.{max_rows}
 use Rattle.query_refusals.specs.Numbers.{asks, said_near}
-use borrow.Author.Tests.{eq-eqb, eqb-true, le-leb, le-ltb, leb-true, lt-leb, lt-ltb, ltb-false, ne_eqb}
+use borrow.Author.Tests.{eqb-true, leb-true, ltb-false}
 use lib.Dec.{eqb, leb, ltb}
 use mathlib.Core.Bool.{Bool, ◌&&◌, ◌||◌, cond, false, true}
 use mathlib.Core.Path.{◌∙◌, ◌≡◌, ap₂, refl}
 use native.Mathlib.Omega.{arith}
-
--- ---- the returns
-module _ (n c asked how marks : ℕ) (off bad : Bool) where
-  pub few_bytes : how < n → 5 ≡ said_near n c asked how marks off bad
-  unfolding said_near asks
-  few_bytes h = rw (lt-ltb how n h) refl
-
-  pub few-marks : marks < n → 5 ≡ said_near n c asked how marks off bad
-  unfolding said_near asks
-  few-marks h = go (ltb how n)
-    where
-      go : (b : Bool) → 5 ≡ cond {A = ℕ} (b || ltb marks n) 5 (cond (asks c asked) (cond off 19 (cond bad 20 0)) 6)
-      go true = refl
-      go false = rw (lt-ltb marks n h) refl
-
-  module _ (h : n ≤ how) (m : n ≤ marks) where
-    -- past the rooms the queries decide
-    past : cond {A = ℕ} (asks c asked) (cond off 19 (cond bad 20 0)) 6 ≡ said_near n c asked how marks off bad
-    unfolding said_near
-    past = rw (le-ltb how n h, le-ltb marks n m) refl
-
-    pub part-query : (asked % c ≡ 0 → ⊥) → 6 ≡ said_near n c asked how marks off bad
-    unfolding asks
-    part-query k = rw (← past, ne_eqb (asked % c) 0 k) refl
-
-    pub no-query : asked / c ≡ 0 → 6 ≡ said_near n c asked how marks off bad
-    unfolding asks
-    no-query k = rw (← past) (go (eqb (asked % c) 0))
-      where
-        go : (b : Bool) → 6 ≡ cond {A = ℕ} (b && (leb 1 (asked / c) && leb (asked / c) max_rows)) (cond off 19 (cond bad 20 0)) 6
-        go true = rw (lt-leb 1 (asked / c) (omega arith)) refl
-        go false = refl
-
-    pub too_many : max_rows < asked / c → 6 ≡ said_near n c asked how marks off bad
-    unfolding asks
-    too_many k = rw (← past) (go (eqb (asked % c) 0) (leb 1 (asked / c)))
-      where
-        go : (a b : Bool) → 6 ≡ cond {A = ℕ} (a && (b && leb (asked / c) max_rows)) (cond off 19 (cond bad 20 0)) 6
-        go true true = rw (lt-leb (asked / c) max_rows k) refl
-        go true false = refl
-        go false b = refl
-
-    -- past the queries' length their numbers and the set decide
-    pub decided : asked % c ≡ 0 → 1 ≤ asked / c → asked / c ≤ max_rows → (a b : Bool) → off ≡ a → bad ≡ b
-        → cond a 19 (cond b 20 0) ≡ said_near n c asked how marks off bad
-    unfolding asks
-    decided a b d x y e f = rw (← past, eq-eqb (asked % c) 0 a, le-leb 1 (asked / c) b, le-leb (asked / c) max_rows d, e, f) refl
 
 -- of tests that are known
 pub told_of : (n c asked how marks why : ℕ) (off bad off' bad' : Bool) → why ≡ said_near n c asked how marks off bad → off ≡ off' → bad ≡ bad'

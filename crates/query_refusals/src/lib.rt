@@ -9,6 +9,7 @@ use limits::{Params, Refusal};
 
 // Why the queries can't be searched for: rooms too short for n rows; none, a part of one, or more than an index has rows; numbers off their
 // circles, or a set of rows withdrawn that is none of n rows.
+#[tactic(auto, unfolding(crate::specs::Numbers::said_near, crate::specs::Numbers::asks))]
 pub fn test_queries(
     n: usize,
     c: usize,

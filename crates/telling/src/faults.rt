@@ -54,7 +54,7 @@ pub fn say_fault(file: i32, r: Reader) {
     say_line_fault(file, r);
 }
 
-// The status of a text with this fault: another where there is no room for its rows.
+// The status of a text with this fault: that there is no room for its rows, or that it has a fault.
 pub fn status_of(fault: u32) -> Status {
     if fault == sheet_reading::TOO_MANY_ROWS || fault == sheet_reading::TABLE_SHORT {
         Status::NoRoom
