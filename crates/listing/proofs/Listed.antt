@@ -2,7 +2,10 @@
 use Prim.Native.Nat.{◌*◌, ◌+◌, ◌<◌, ◌≤◌, ℕ}
 use Rattle.laws.proofs.Tests.{and_l, and_r, holds, is_true}
 use Rattle.limits.specs.Limits.{max_rows}
-use Rattle.listing.specs.Calls.{Lists, Unlisted, beyond, impossible, listed, lists, missing, pairs, wrong}
+use Rattle.listing.specs.Calls.{Lists, Unlisted, beyond, impossible, listed, lists, long_of, missing, pairs, start_of, wrong}
+use Rattle.listing.specs.declared.Part.{Part}
+use Rattle.std.specs.Prelude.{Option, None, Some, is_some}
+use Rattle.laws.proofs.Never.{never}
 use Rattle.words.proofs.Headers.{words-whole}
 use Rattle.words.proofs.InShape.{in_shape}
 use Rattle.words.proofs.Strides.{words-few}
@@ -142,6 +145,13 @@ module _ (w : List ℕ) (k : ℕ) where
 -- NO SECOND PART FITS: the listing settles both numbers
 pub list_only : {w : List ℕ} {k start start' long long' : ℕ} → Lists w k start long → Lists w k start' long' → (start ≡ start') × (long ≡ long')
 list_only a b = (a.starts ∙ sym b.starts, a.whole ∙ sym b.whole)
+
+-- nor a second answer of part_of: there is a part exactly where the node is listed, so that none is no empty part
+pub part_only : {w : List ℕ} {k : ℕ} (p q : Option Part) → Lists w k (start_of p) (long_of p) × (is_some p ≡ lists w k) → Lists w k (start_of q) (long_of q) × (is_some q ≡ lists w k) → p ≡ q
+part_only None None a b = refl
+part_only None (Some q) a b = never (a.1 ∙ sym b.1)
+part_only (Some p) None a b = never (sym (a.1 ∙ sym b.1))
+part_only (Some p) (Some q) a b = let e = list_only a.0 b.0 in rw (e.0, e.1) refl
 
 -- both numbers are at most the words of the greatest index, so that 32 bits hold them
 pub part_small : {w : List ℕ} {k start long : ℕ} → Lists w k start long → (start ≤ 12 * max_rows + 8) × (long ≤ 12 * max_rows + 8)

@@ -2,7 +2,7 @@
 #![tactic(auto)]
 
 ghost use Rattle.listing.specs.Calls.{Lists, listed, lists, long_of, start_of};
-ghost use Rattle.std.specs.Prelude.{◌≡◌};
+ghost use Rattle.std.specs.Prelude.{is_some, ◌≡◌};
 
 use header_test::words_ok;
 use shape_test::shape_ok;
@@ -25,7 +25,8 @@ fn is_listed(index: &[u32], k: usize) -> bool
 
 // Node k's pairs as a part; `None` where words are missing, the header is impossible, the shape is wrong, or k is no node's number.
 pub fn part_of(index: &[u32], k: usize) -> Option<Part>
-    ensures { Lists index.now k (start_of result) (long_of result) }
+    ensures part { Lists index.now k (start_of result) (long_of result) }
+    ensures there { is_some result ≡ lists index.now k }
 {
     if !is_listed(index, k) {
         return None;
