@@ -37,7 +37,9 @@ fn label_of(
     err: i32,
     text: &[u8],
     table: &mut [u16],
-) -> Result<usize, Status> {
+) -> Result<usize, Status>
+    ensures { IfOk result (λ column. column ≤ 16) }
+{
     let Some(label) = q.label else {
         return Ok(0);
     };

@@ -1,3 +1,4 @@
 pub mod Parting
 pub mod Saying
+pub mod Waiting
 pub mod Worths

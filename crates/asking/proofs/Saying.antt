@@ -23,7 +23,7 @@ same_self [] = refl
 same_self (x ∷ xs) = rw (eq-eqb x x refl) (same_self xs)
 
 -- two that are the same are equal
-same_equal : (xs ys : List ℕ) → same xs ys ≡ true → xs ≡ ys
+pub same_equal : (xs ys : List ℕ) → same xs ys ≡ true → xs ≡ ys
 same_equal [] [] e = refl
 same_equal [] (y ∷ ys) e = never e
 same_equal (x ∷ xs) [] e = never e
@@ -104,7 +104,7 @@ has_all t w i e l h = e ∙ ap (has_word_lem t w) (omega arith)
 -- ---- the way
 module _ (w : List ℕ) where
   -- a word that is, or is not, one of the two
-  told : (r : Bool) (l m : List ℕ) → l ≡ m → r ≡ pointwise eqb w l → same w m ≡ r
+  pub told : (r : Bool) (l m : List ℕ) → l ≡ m → r ≡ pointwise eqb w l → same w m ≡ r
   told r l m e h = sym (h ∙ same-pointwise w l ∙ ap (same w) e)
 
   module _ {l : List ℕ} (e : l ≡ 108 ∷ 105 ∷ 107 ∷ 101 ∷ []) where

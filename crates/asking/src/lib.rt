@@ -5,8 +5,9 @@ pub mod pieces;
 mod reading;
 pub mod word_number;
 
-ghost use Rattle.std.specs.Prelude.{IfOk, ◌≡◌};
-ghost use Rattle.asking.specs.Words.{Answerable, asked, code, has_word_lem, way_of, word_is};
+ghost use Rattle.std.specs.Prelude.{IfOk, MatchOption, false, true, ◌≡◌};
+ghost use Rattle.asking.specs.Pieces.{Stands};
+ghost use Rattle.asking.specs.Words.{Answerable, asked, code, ended, has_word_lem, way_of, word_is};
 
 use pieces::{Piece, bytes_of, piece_at};
 use reading::Reading;
@@ -90,7 +91,9 @@ pub struct Question {
 }
 
 // Word i, if there is one; one that is not ended by a zero byte is none.
-fn ended_word(words: &[u8], i: usize) -> Option<Piece> {
+fn ended_word(words: &[u8], i: usize) -> Option<Piece>
+    ensures { MatchOption result (ended words.now i ≡ false) (λ p. (ended words.now i ≡ true) × Stands 0 words.now i p) }
+{
     match piece_at(words, 0, i) {
         Some(w) if w.end < words.len() => Some(w),
         _ => None,

@@ -1,6 +1,6 @@
 // The words of a question, read one after the other.
-ghost use Rattle.std.specs.Prelude.{IfOk};
-ghost use Rattle.asking.specs.Words.{Answerable};
+ghost use Rattle.std.specs.Prelude.{IfOk, cond, false, is_some, ◌≡◌};
+ghost use Rattle.asking.specs.Words.{Answerable, said, takes, valued, waits};
 
 use super::pieces::{Piece, bytes_of};
 use super::word_number::number;
@@ -26,17 +26,28 @@ enum Setting {
 }
 
 impl Setting {
-    fn said_by(word: &[u8]) -> Option<Setting> {
-        match word {
-            b"--columns" => Some(Setting::Valued(Valued::Columns)),
-            b"--by" => Some(Setting::Valued(Valued::By)),
-            b"--label" => Some(Setting::Valued(Valued::Label)),
-            b"--circle" => Some(Setting::Valued(Valued::Circle)),
-            b"--without" => Some(Setting::Valued(Valued::Without)),
-            b"--count" => Some(Setting::Count),
-            b"--csv" => Some(Setting::Csv),
-            b"--lines" => Some(Setting::Lines),
-            _ => None,
+    // The option that the word is, if it is one. (A `match` on the bytes would tell a proof their number alone.)
+    fn said_by(word: &[u8]) -> Option<Setting>
+        ensures { takes result ≡ valued word.now }
+    {
+        if word == b"--columns".as_slice() {
+            Some(Setting::Valued(Valued::Columns))
+        } else if word == b"--by".as_slice() {
+            Some(Setting::Valued(Valued::By))
+        } else if word == b"--label".as_slice() {
+            Some(Setting::Valued(Valued::Label))
+        } else if word == b"--circle".as_slice() {
+            Some(Setting::Valued(Valued::Circle))
+        } else if word == b"--without".as_slice() {
+            Some(Setting::Valued(Valued::Without))
+        } else if word == b"--count".as_slice() {
+            Some(Setting::Count)
+        } else if word == b"--csv".as_slice() {
+            Some(Setting::Csv)
+        } else if word == b"--lines".as_slice() {
+            Some(Setting::Lines)
+        } else {
+            None
         }
     }
 }
@@ -59,7 +70,9 @@ pub(crate) struct Reading {
 
 impl Reading {
     // No words are read.
-    pub(crate) fn start() -> Reading {
+    pub(crate) fn start() -> Reading
+        ensures { is_some result.waiting ≡ false }
+    {
         Reading {
             plain: [None; 4],
             columns: None,
@@ -75,7 +88,9 @@ impl Reading {
     }
 
     // One word more.
-    pub(crate) fn put_word(&mut self, words: &[u8], w: Piece) -> Result<(), Wrong> {
+    pub(crate) fn put_word(&mut self, words: &[u8], w: Piece) -> Result<(), Wrong>
+        ensures { IfOk result (λ _. is_some self.new.waiting ≡ cond (is_some self.old.waiting) false (valued (said words.now w))) }
+    {
         let word = bytes_of(words, w);
         let is_option = word.starts_with(b"--");
         match self.waiting {
@@ -87,7 +102,9 @@ impl Reading {
     }
 
     // A word that is neither an option nor its value.
-    fn put_plain(&mut self, w: Piece) -> Result<(), Wrong> {
+    fn put_plain(&mut self, w: Piece) -> Result<(), Wrong>
+        ensures { self.new.waiting ≡ self.old.waiting }
+    {
         for place in self.plain.iter_mut() {
             if place.is_none() {
                 *place = Some(w);
@@ -97,7 +114,10 @@ impl Reading {
         Err(Wrong::OneMore(w))
     }
 
-    fn put_option(&mut self, word: &[u8], w: Piece) -> Result<(), Wrong> {
+    fn put_option(&mut self, word: &[u8], w: Piece) -> Result<(), Wrong>
+        requires { is_some self.old.waiting ≡ false }
+        ensures { IfOk result (λ _. is_some self.new.waiting ≡ valued word.now) }
+    {
         match Setting::said_by(word).ok_or(Wrong::NoOption(w))? {
             Setting::Valued(option) if self.has_value(option) => return Err(Wrong::Twice(w)),
             Setting::Valued(option) => self.waiting = Some((option, w)),
@@ -120,7 +140,9 @@ impl Reading {
     }
 
     // The value of the option before it.
-    fn put_value(&mut self, option: Valued, word: &[u8], w: Piece) -> Result<(), Wrong> {
+    fn put_value(&mut self, option: Valued, word: &[u8], w: Piece) -> Result<(), Wrong>
+        ensures { is_some self.new.waiting ≡ false }
+    {
         self.waiting = None;
         match option {
             Valued::Columns => self.columns = Some(w),
@@ -135,6 +157,7 @@ impl Reading {
 
     // The question that all words ask.
     pub(crate) fn question(self, words: &[u8]) -> Result<Question, Wrong>
+        requires { is_some self.waiting ≡ waits words.now 32 }
         ensures { IfOk result (Answerable words.now) }
     {
         if let Some((_, option)) = self.waiting {

@@ -14,10 +14,11 @@ pub fn number(word: &[u8]) -> Option<u32>
     }
     let mut value = 0;
     for b in word {
-        if !b.is_ascii_digit() {
-            return None;
-        }
-        value = 10 * value + u32::from(*b - b'0');
+        let digit = match b {
+            b'0'..=b'9' => b - b'0',
+            _ => return None,
+        };
+        value = 10 * value + u32::from(digit);
         if value >= NO_NUMBER {
             return None;
         }

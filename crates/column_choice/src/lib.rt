@@ -1,7 +1,7 @@
 // The columns that count: those that a question's list picks, each with its factor, or all.
 #![tactic(auto)]
 
-ghost use Rattle.std.specs.Prelude.{◌≤◌, IfOk};
+ghost use Rattle.std.specs.Prelude.{◌<◌, ◌≤◌, IfOk, IfSome};
 
 use asking::pieces::{Piece, bytes_of, end_from, piece_at};
 use asking::word_number::number;
@@ -72,7 +72,9 @@ impl Choice {
 }
 
 // The factor behind the star, 1 where there is no star.
-fn factor_said(item: &[u8], star: usize) -> Option<u32> {
+fn factor_said(item: &[u8], star: usize) -> Option<u32>
+    ensures { IfSome result (λ factor. factor < 10000000) }
+{
     if star < item.len() {
         number(&item[star + 1..])
     } else {
