@@ -19,8 +19,8 @@
    struck from or restored to) each thread lends of its own.
 
    STACK. Nothing else is taken. Bytes of stack that a call takes at most, measured on x86-64 code of the kit rattle-kit-13f
-   (target/host/stack): strike and restore 8, write 40, list 112, read 260, build 600, append 648, nearest 736, nearest_answers 784,
-   append_rows 1,208, check 1,504, radius 24,280 (25 levels). A loader that binds late may take about 3,500 more in the first call that
+   (target/host/stack): strike and restore 8, list 112, write 152, read 264, build 632, append 648, nearest 848, nearest_answers 896,
+   append_rows 1,256, check 1,600, radius 24,712 (25 levels). A loader that binds late may take about 3,500 more in the first call that
    needs memcpy, memmove or memset.
 
    NUMBERS. Each call but bourascul_list gives a number, first or alone. 0 is done; any other is a refusal, and of several the lowest

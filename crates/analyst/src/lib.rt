@@ -2,7 +2,7 @@
 // answered. Answers go to one file, all else to another; what is given back is how the program ends.
 #![tactic(auto)]
 
-ghost use Rattle.statuses.specs.Statuses.{Known};
+ghost use Rattle.statuses.specs.Statuses.{Known, number_of};
 ghost use Rattle.std.specs.Prelude.{◌≤◌, length, IfSome, ◌≡◌};
 
 use answer_lines::plan::Plan;
@@ -23,7 +23,7 @@ use std::rt::{Env, Files};
 use telling::refuse;
 
 // The descriptor at which the launcher listens for the status, since a program of the kit has no exit status; where nobody does, nothing is written.
-const STATUS_FILE: i32 = 3;
+pub const STATUS_FILE: i32 = 3;
 
 // Where answers go, and where all else.
 #[derive(Clone, Copy)]
@@ -119,16 +119,16 @@ pub fn arguments<R: Env>(rt: &R, room: &mut [u8]) -> Option<usize>
     Some(length)
 }
 
-// Tells the launcher a status that it knows.
-fn tell_launcher(number: u32)
-    requires { Known number }
+// Tells the launcher the number of the status that the program ends with, which it knows.
+fn tell_launcher(status: Status, number: u32)
+    requires { (number ≡ number_of status) × Known number }
 {
     io::print_decimal(STATUS_FILE, u64::from(number));
 }
 
 // The program ends so: the launcher is told the number.
 pub fn end_with(status: Status) {
-    tell_launcher(status.number());
+    tell_launcher(status, status.number());
 }
 
 // The arguments are longer than their room.

@@ -17,9 +17,9 @@ use telling::{refuse, say_asked_wrong, tells};
 
 // A table that is made: the text as it was read, and the columns that were chosen.
 #[derive(Clone, Copy)]
-struct Made {
-    sheet: Sheet,
-    chosen: Chosen,
+pub struct Made {
+    pub sheet: Sheet,
+    pub chosen: Chosen,
 }
 
 // Makes the table: the text is read into it, and its columns are chosen. Else gives the status.
