@@ -205,10 +205,26 @@ fn wrong_columns(c: usize) {
     show(&table, c, &[], &[9], 0, &[]);
 }
 
-// 4: a row too many.
+// 4: a row too many. The call stands here itself: of a table that `show_in` is lent the compiler would clear 2 MiB of stack.
 fn too_many() {
     let table = many();
-    show(&table, 1, &[], &[], 0, &[]);
+    let mut rows = [9u32; 6];
+    let mut distances = [99u32; 6];
+    let mut how = [9u8; 8];
+    let mut work = [9u32; 32];
+    let found = nearest::nearest(
+        &table,
+        1,
+        &[],
+        &[],
+        0,
+        &[],
+        &mut rows,
+        &mut distances,
+        &mut how,
+        &mut work,
+    );
+    line(found, &rows, &distances, &how, &work);
 }
 
 // 5: room for one answer of two, and a query of two columns.
